@@ -1,3 +1,4 @@
 pub mod Cause
 pub mod Disk
+pub mod Runs
 pub mod Told

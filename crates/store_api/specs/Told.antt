@@ -1,5 +1,5 @@
 -- What a store tells before and after a call.
-use Rattle.std.specs.Prelude.{◌≡◌, ◌⊎◌, ℕ, ◌+◌, ◌-◌, ◌≤◌, min, List, [], length, take, drop, Option, None, Some, Result, Ok, Err, MatchResult}
+use Rattle.std.specs.Prelude.{◌≡◌, ◌⊎◌, ℕ, ◌+◌, ◌-◌, ◌≤◌, min, List, [], length, take, drop, Option, None, Some, Result, Ok, Err}
 use Rattle.store_api.specs.declared.store.Failed.{Failed}
 use Rattle.store_api.specs.Disk.{Call, on, idle, write, cut, settle, History, with_call, now, standing, Leaves}
 

@@ -1,0 +1,4 @@
+pub mod Bytes
+pub mod Standings
+pub mod Runs
+pub mod Ranges
