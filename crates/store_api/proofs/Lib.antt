@@ -1,4 +1,6 @@
 pub mod Bytes
-pub mod Standings
-pub mod Runs
+pub mod Images
+pub mod Pieces
 pub mod Ranges
+pub mod Runs
+pub mod Standings

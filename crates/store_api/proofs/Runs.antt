@@ -141,3 +141,8 @@ each_call call h P before after moment image from to here = elim (cases_lt (now 
   | inl late ↦ after image (now_image (with_call call h) image (subst (λ m. ImageAt (with_call call h) m image) (let e : moment ≡ now (with_call call h) = omega arith in e) here))
   | inr early ↦ before image (now_image h image (subst (λ m. ImageAt h m image) (let e : moment ≡ now h = omega arith in e) (image_before (call ∷ []) h moment image early here)))
 ]
+
+-- and the other way
+pub goes_image_after : (mine : ℕ → Type 0) (old new : History) (moment : ℕ) (image : ℕ → List ℕ) → GoesOn mine old new → moment ≤ now old → ImageAt old moment image → ImageAt new moment image
+goes_image_after mine old new moment image a le here =
+    subst (λ n. ImageAt n moment image) (sym a.grew) (subst (λ b. (file : ℕ) → Leaves (standing b file) (image file)) (sym (back_calls a.calls old moment le)) here)

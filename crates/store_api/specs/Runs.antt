@@ -1,5 +1,6 @@
 -- What stands in a file, what a stop can't take away, and what a run of calls did and left alone.
 use Rattle.std.specs.Prelude.{◌≡◌, ◌⊎◌, ℕ, ◌+◌, ◌<◌, ◌≤◌, List, [], ◌∷◌, ◌++◌, length, take, drop, Result, OnOk, IfOk}
+use Rattle.std.specs.List.{slice_index_or}
 use Rattle.store_api.specs.declared.store.Failed.{Failed}
 use Rattle.store_api.specs.Disk.{Standing, IsLoose, Leaves, Call, on, idle, History, standing, reads, now, settled, overwritten, ImageAt}
 use Rattle.store_api.specs.Told.{ReadsFrom}
@@ -76,3 +77,8 @@ pub record ReadWithin (file offset : ℕ) (buffer : List ℕ) (result : Result �
   pub goes : GoesOn (λ other. ⊥) old new
   pub bytes : IfOk result (λ count. ReadsFrom (reads old file) offset buffer count)
   pub piece : IfOk result (λ count. (piece : List ℕ) → length piece ≡ length buffer → Stands (reads old file) offset piece → (count ≡ length buffer) × (buffer ≡ piece))
+
+-- The bytes are at least `stable` long, and below that length they are as they were, outside the range.
+pub record AgreesOutside (at len stable : ℕ) (before after : List ℕ) : Type 0 where
+  pub long : stable ≤ length after
+  pub same : (place : ℕ) → place < stable → (place < at) ⊎ (at + len ≤ place) → slice_index_or after place 0 ≡ slice_index_or before place 0

@@ -1,6 +1,7 @@
 //! The disk as the server sees it: numbered files, moments, counts of faults, and what a stop may leave.
 #![tactic(auto)]
 
+pub mod laws;
 mod steps;
 mod store;
 
