@@ -39,21 +39,21 @@ status_of SinkFault = 4
 status_of (Halted halt) = halt_status halt
 status_of (TooLong n) = 9
 
--- where the run ended at its source, the source's count of faults rose
-abbrev pub SourceRose : End → ℕ → ℕ → Type 0
-SourceRose (Done tally) before after = Unit {0}
-SourceRose SourceFault before after = Rose before after
-SourceRose SinkFault before after = Unit {0}
-SourceRose (Halted halt) before after = Unit {0}
-SourceRose (TooLong n) before after = Unit {0}
+-- The source's count of faults didn't fall, and rose where the run ended at the source.
+abbrev pub SourceCause : End → ℕ → ℕ → Type 0
+SourceCause (Done tally) before after = before ≤ after
+SourceCause SourceFault before after = (before ≤ after) × Rose before after
+SourceCause SinkFault before after = before ≤ after
+SourceCause (Halted halt) before after = before ≤ after
+SourceCause (TooLong n) before after = before ≤ after
 
--- where the run ended at its sink, the sink's count of faults rose
-abbrev pub SinkRose : End → ℕ → ℕ → Type 0
-SinkRose (Done tally) before after = Unit {0}
-SinkRose SourceFault before after = Unit {0}
-SinkRose SinkFault before after = Rose before after
-SinkRose (Halted halt) before after = Unit {0}
-SinkRose (TooLong n) before after = Unit {0}
+-- The sink's count of faults didn't fall, and rose where the run ended at the sink.
+abbrev pub SinkCause : End → ℕ → ℕ → Type 0
+SinkCause (Done tally) before after = before ≤ after
+SinkCause SourceFault before after = before ≤ after
+SinkCause SinkFault before after = (before ≤ after) × Rose before after
+SinkCause (Halted halt) before after = before ≤ after
+SinkCause (TooLong n) before after = before ≤ after
 
 -- where the run was done, nothing is left of the script
 abbrev pub DoneAtEnd : End → Option (List ℕ) → Type 0

@@ -5,3 +5,4 @@ pub mod Limit
 pub mod Runs
 pub mod Reading
 pub mod Places
+pub mod Steps

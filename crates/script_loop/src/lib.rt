@@ -6,10 +6,12 @@ mod answerer;
 mod ends;
 mod reader;
 mod reply;
+mod script;
 mod tally;
 
 pub use answerer::Answerer;
 pub use ends::{End, Halt, put_last};
 pub use reader::{LineReader, Next};
 pub use reply::Reply;
+pub use script::run;
 pub use tally::Tally;
