@@ -6,12 +6,10 @@ ghost use Rattle.script_loop.specs.Ends.{SourceCause, SinkCause, DoneAtEnd};
 ghost use Rattle.script_loop.specs.Runs.{Says};
 ghost use Rattle.script_loop.specs.Steps.{PutsReply, AnswersLine, TakesOne, Stops, StepAtEnd, StepSource, StepSink};
 
-use std::alloc::{AllocError, Global};
-
-use itoa::Buffer;
-use tree_api::{Sink, Source, put_all};
-
 use crate::{Answerer, End, Halt, LineReader, Next, Reply, Tally, put_last};
+use itoa::Buffer;
+use std::alloc::{AllocError, Global};
+use tree_api::{Sink, Source, put_all};
 
 // The number of the last line that is taken.
 const LAST_LINE: u32 = 1048576;
