@@ -1,0 +1,4 @@
+pub mod Ranges
+pub mod Lines
+pub mod Tallies
+pub mod Underway
