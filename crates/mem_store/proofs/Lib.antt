@@ -1,3 +1,4 @@
 mod Added
 mod Pending
+mod Told
 mod Undo

@@ -1,12 +1,11 @@
 -- Which calls are pending, as a list of calls grows at its end.
-use Rattle.std.proofs.Common.{◌≡◌, cond, eqb, not, Bool, true, false, ◌&&◌, ◌||◌, ℕ, zero, ◌+◌, ◌≤◌, List, [], ◌∷◌, ◌++◌, length, refl, sym, ◌∙◌, ap, arith}
-use Rattle.std.specs.List.{list_any}
+use Rattle.std.proofs.Common.{◌≡◌, cond, eqb, not, Bool, true, false, ◌&&◌, ◌||◌, ℕ, zero, ◌+◌, ◌≤◌, List, [], ◌∷◌, ◌++◌, refl, sym, ◌∙◌, ap, arith}
 use Rattle.std.proofs.Common.{inl, inr}
 use Rattle.std.proofs.lemmas.Bool.{cases_Bool, cond-true, cond-false, cond_both, and_from, and_left, and_right}
 use Rattle.mem_store.specs.declared.entry.Kind.{Kind}
 use Rattle.mem_store.specs.declared.entry.Kind.TheVariants.{Write, FailedWrite, Cut, Sync}
 use Rattle.mem_store.specs.declared.entry.Entry.{Entry}
-use Rattle.mem_store.specs.Stops.{is_sync, is_write, has_sync, is_pending, pending_writes, pending_after, pending_next}
+use Rattle.mem_store.specs.Stops.{is_sync, is_write, has_sync, pending_writes, pending_after, pending_next}
 
 -- a sync of the file at the end
 has_sync_end : (es : List Entry) (e : Entry) (file : ℕ) → (is_sync e.kind && eqb e.file file) ≡ true → has_sync (es ++ e ∷ []) file ≡ true

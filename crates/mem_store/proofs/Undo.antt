@@ -1,7 +1,7 @@
 -- A call that is undone leaves the file as it was.
-use Rattle.std.proofs.Common.{◌≡◌, ◌⊎◌, inl, inr, ⊎_elim, ℕ, ◌+◌, ◌-◌, ◌<◌, ◌≤◌, min, List, [], ◌∷◌, ◌++◌, length, get_or, take, drop, refl, sym, ◌∙◌, ap, arith}
+use Rattle.std.proofs.Common.{◌≡◌, ◌⊎◌, inl, inr, ⊎_elim, ℕ, ◌+◌, ◌-◌, ◌<◌, ◌≤◌, min, List, length, get_or, take, drop, sym, ◌∙◌, ap, arith}
 use Rattle.std.proofs.lemmas.Bool.{cases_lt}
-use Rattle.std.proofs.lemmas.List.{length-take, length-drop, length-take-le, get_or-take, get_or-drop, ext_get_or, take_all, drop_all}
+use Rattle.std.proofs.lemmas.List.{length-take, length-drop, length-take-le, get_or-take, get_or-drop, ext_get_or, take_all}
 use Rattle.store_api.specs.Disk.{overwritten}
 use Rattle.store_api.proofs.Bytes.{overwritten_inside, overwritten_outside, overwritten_no_shorter, length-overwritten}
 use Rattle.mem_store.specs.declared.entry.Kind.{Kind}

@@ -1,6 +1,6 @@
 -- The list of calls that a store in memory keeps, and how it stands for a history.
-use Rattle.std.specs.Prelude.{◌≡◌, ℕ, ◌+◌, ◌≤◌, ◌==◌, if◌then◌else◌, List, [], ◌∷◌, ◌++◌, length, take, drop, replicate, All}
-use Rattle.store_api.specs.Disk.{Change, write, cut, settle, Call, on, idle, History, overwritten, standing_after}
+use Rattle.std.specs.Prelude.{◌≡◌, ℕ, ◌≤◌, ◌==◌, if◌then◌else◌, List, [], ◌∷◌, ◌++◌, length, take, drop, replicate, All}
+use Rattle.store_api.specs.Disk.{Change, write, cut, settle, Call, on, idle, overwritten, standing_after}
 use Rattle.mem_store.specs.declared.entry.Kind.{Kind}
 use Rattle.mem_store.specs.declared.entry.Kind.TheVariants.{Write, FailedWrite, Cut, Sync}
 use Rattle.mem_store.specs.declared.entry.Entry.{Entry}

@@ -1,6 +1,6 @@
 -- What a stop of a store in memory leaves of a file: its calls since its last sync are undone, and those that the choice
 -- keeps are done again. Lists of calls have the oldest first.
-use Rattle.std.specs.Prelude.{ℕ, ◌+◌, ◌-◌, ◌/◌, ◌%◌, ◌^◌, ◌==◌, ◌&&◌, not, true, false, Bool, if◌then◌else◌, List, [], ◌∷◌, ◌++◌, length, take, replicate}
+use Rattle.std.specs.Prelude.{ℕ, ◌+◌, ◌-◌, ◌/◌, ◌%◌, ◌==◌, ◌&&◌, not, true, false, Bool, if◌then◌else◌, List, [], ◌∷◌, ◌++◌, length, take, replicate}
 use Rattle.std.specs.List.{list_any}
 use Rattle.std.specs.Int.{bit_at}
 use Rattle.store_api.specs.Disk.{overwritten}
