@@ -1,0 +1,4 @@
+mod Added
+mod Pending
+mod Told
+mod Undo
