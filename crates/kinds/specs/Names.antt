@@ -9,9 +9,13 @@ use Rattle.kinds.specs.declared.refusal.Refusal.TheVariants.{BadValue}
 abbrev pub is_name_byte : ℕ → Bool
 is_name_byte b = is_ascii_uppercase b || is_ascii_digit b || b == byte "_" || b == byte "." || b == byte "-" || b == byte "+" || b == byte "&"
 
--- a name: 1 to `most` such bytes
+-- there are 1 to `most` bytes
+abbrev pub is_within : ℕ → List ℕ → Bool
+is_within most bytes = nat_lt 0 (length bytes) && nat_le (length bytes) most
+
+-- a name: 1 to `most` bytes that may stand in one
 abbrev pub is_name : ℕ → List ℕ → Bool
-is_name most bytes = nat_lt 0 (length bytes) && nat_le (length bytes) most && list_all is_name_byte bytes
+is_name most bytes = is_within most bytes && list_all is_name_byte bytes
 
 -- what is read as a name: the bytes in upper case, where these are one
 abbrev pub read_name : ℕ → List ℕ → Result (List ℕ) Refusal

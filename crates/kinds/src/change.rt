@@ -59,7 +59,10 @@ pub enum PolicyChange {
         class: Name,
     },
     /// The set is copied to the domain's active set.
-    Activate { domain: Name, set: Name },
+    Activate {
+        domain: Name,
+        set: Name,
+    },
 }
 
 /// A change of the client nodes and their filespaces.

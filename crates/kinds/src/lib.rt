@@ -16,6 +16,9 @@ pub use day::{Day, Days};
 pub use name::{Name, NameOf, NodeName};
 pub use path::{FilespaceName, Path, PathOf};
 pub use pool::{Access, Capacity, PoolKind, PoolRule, PoolSettings, SizeLimit};
-pub use refusal::{By, Holder, OpenRefused, Refusal};
+pub use refusal::{By, Holder, OpenRefused, Refusal, foremost, sooner_of};
 pub use rule::{BackupRule, CopyGroup, Limit, RuleFound, Still};
 pub use segment::{Digest, Segment, Segments};
+
+#[cfg(test)]
+mod tests;

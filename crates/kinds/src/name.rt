@@ -1,4 +1,4 @@
-ghost use Rattle.std.specs.Prelude.{◌≡◌, ◌≤◌, List, ℕ, IsTrue, Some, nat_eq};
+ghost use Rattle.std.specs.Prelude.{◌≡◌, ◌≤◌, List, ℕ, IsTrue, Some, None, if◌then◌else◌, nat_eq};
 ghost use Rattle.std.specs.List.{list_all};
 ghost use Rattle.std.specs.Str.{str_to_ascii_uppercase};
 ghost use Rattle.std.specs.Cmp.Lexicographic.{pointwise, slice_cmp, nat_list_eq_equiv, nat_list_cmp_total, texts_ties, texts_po};
@@ -6,7 +6,7 @@ ghost use Rattle.std.specs.Cmp;
 ghost use Rattle.std.specs.Ordering.{nat_cmp};
 ghost use Rattle.std.proofs.Common.{rules};
 ghost use Rattle.kinds.specs.Answers.{Answers};
-ghost use Rattle.kinds.specs.Names.{is_name_byte, is_name, read_name};
+ghost use Rattle.kinds.specs.Names.{is_within, is_name_byte, is_name, read_name};
 
 use crate::refusal::Refusal;
 use std::alloc::{AllocError, Global};
@@ -33,25 +33,49 @@ impl<const MOST: u32> Model for NameOf<MOST> {
     ghost invariant = { λ n. IsTrue (is_name MOST n.bytes.items) };
 }
 
+fn is_within(bytes: &[u8], most: u32) -> bool
+    ensures { result ≡ is_within most bytes.now }
+{
+    !bytes.is_empty() && bytes.len() <= most as usize
+}
+
 fn is_name_byte(byte: u8) -> bool
     ensures { result ≡ is_name_byte byte }
 {
-    byte.is_ascii_uppercase() || byte.is_ascii_digit() || matches!(byte, b'_' | b'.' | b'-' | b'+' | b'&')
+    byte.is_ascii_uppercase()
+        || byte.is_ascii_digit()
+        || matches!(byte, b'_' | b'.' | b'-' | b'+' | b'&')
+}
+
+/// Whether the bytes are a name as they stand.
+fn is_name(bytes: &[u8], most: u32) -> bool
+    ensures { result ≡ is_name most bytes.now }
+{
+    is_within(bytes, most) && all_stand(bytes)
 }
 
 /// Whether the bytes are a name once their letters are in upper case.
 fn folds_to_name(bytes: &[u8], most: u32) -> bool
     ensures { result ≡ is_name most (str_to_ascii_uppercase bytes.now) }
 {
-    let within = !bytes.is_empty() && bytes.len() <= most as usize;
-    within && all_fold(bytes)
+    is_within(bytes, most) && all_fold(bytes)
+}
+
+/// Whether each byte may stand in a name.
+fn all_stand(bytes: &[u8]) -> bool
+    ensures { result ≡ list_all is_name_byte bytes.now }
+{
+    bytes.iter().all(|b| is_name_byte(*b))
 }
 
 /// Whether each byte may stand in a name once it is in upper case.
 fn all_fold(bytes: &[u8]) -> bool
     ensures { result ≡ list_all is_name_byte (str_to_ascii_uppercase bytes.now) }
 {
-    bytes.iter().map(|b| b.to_ascii_uppercase()).all(is_name_byte)
+    bytes
+        .iter()
+        .map(|b| b.to_ascii_uppercase())
+        .all(is_name_byte)
 }
 
 impl<const MOST: u32> NameOf<MOST> {
@@ -66,6 +90,26 @@ impl<const MOST: u32> NameOf<MOST> {
         let mut bytes = Vec::from_slice(alloc, bytes)?;
         bytes.as_mut_slice().make_ascii_uppercase();
         Ok(NameOf { bytes })
+    }
+
+    /// The name with these bytes, which must be in upper case already; none where they are no name. It takes no memory.
+    pub fn from_bytes(bytes: Vec<u8>) -> Option<Self>
+        ensures { result ≡ (if is_name MOST bytes.items then Some bytes.items else None) }
+    {
+        if is_name(bytes.as_slice(), MOST) {
+            Some(NameOf { bytes })
+        } else {
+            None
+        }
+    }
+
+    /// The name's bytes in a vector. It takes no memory.
+    pub fn into_bytes(self) -> Vec<u8>
+        ensures value { result.items ≡ self.entry }
+        ensures grammar { IsTrue (is_name MOST self.entry) }
+    {
+        let NameOf { bytes } = self;
+        bytes
     }
 
     /// The name's bytes.

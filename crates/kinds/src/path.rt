@@ -1,4 +1,4 @@
-ghost use Rattle.std.specs.Prelude.{◌≡◌, List, ℕ, IsTrue, Some, nat_eq};
+ghost use Rattle.std.specs.Prelude.{◌≡◌, List, ℕ, IsTrue, Some, None, if◌then◌else◌, nat_eq};
 ghost use Rattle.std.specs.Cmp.Lexicographic.{pointwise, slice_cmp, nat_list_eq_equiv, nat_list_cmp_total, texts_ties, texts_po};
 ghost use Rattle.std.specs.Cmp;
 ghost use Rattle.std.specs.Ordering.{nat_cmp};
@@ -71,6 +71,26 @@ impl<const MOST: u32> PathOf<MOST> {
         Ok(PathOf {
             bytes: Vec::from_slice(alloc, bytes)?,
         })
+    }
+
+    /// The path with these bytes; none where they are no path. It takes no memory.
+    pub fn from_bytes(bytes: Vec<u8>) -> Option<Self>
+        ensures { result ≡ (if is_path MOST bytes.items then Some bytes.items else None) }
+    {
+        if is_path(bytes.as_slice(), MOST) {
+            Some(PathOf { bytes })
+        } else {
+            None
+        }
+    }
+
+    /// The path's bytes in a vector. It takes no memory.
+    pub fn into_bytes(self) -> Vec<u8>
+        ensures value { result.items ≡ self.entry }
+        ensures grammar { IsTrue (is_path MOST self.entry) }
+    {
+        let PathOf { bytes } = self;
+        bytes
     }
 
     /// The path's bytes.

@@ -1,5 +1,5 @@
-ghost use Rattle.std.specs.Prelude.{◌≡◌, ◌≤◌};
-ghost use Rattle.kinds.specs.Refusals.{number_of, place_of, sooner};
+ghost use Rattle.std.specs.Prelude.{◌≡◌, ◌≤◌, IfSome, Contains, All};
+ghost use Rattle.kinds.specs.Refusals.{number_of, place_of, sooner, sooner_of, foremost};
 
 use crate::segment::Digest;
 use std::alloc::{AllocError, AllocFailed};
@@ -154,6 +154,30 @@ impl Refusal {
             self
         }
     }
+}
+
+/// Of two refusals of which each may hold or not, the one that is answered.
+pub fn sooner_of(first: Option<Refusal>, second: Option<Refusal>) -> Option<Refusal>
+    ensures { result ≡ sooner_of first second }
+{
+    match (first, second) {
+        (Some(first), Some(second)) => Some(first.sooner(second)),
+        (Some(first), None) => Some(first),
+        (None, second) => second,
+    }
+}
+
+/// Of all the refusals that hold when a call starts, the one that is answered; none where none holds.
+pub fn foremost(held: &[Refusal]) -> Option<Refusal>
+    ensures value { result ≡ foremost held.now }
+    ensures one { IfSome result (Contains held.now) }
+    ensures least { IfSome result (λ e. All (λ other. place_of e ≤ place_of other) held.now) }
+{
+    let mut found = None;
+    'held: for refusal in held {
+        found = sooner_of(found, Some(*refusal));
+    }
+    found
 }
 
 impl From<AllocError> for Refusal {

@@ -1,4 +1,5 @@
 ghost use Rattle.std.specs.Prelude.{◌≡◌, ◌<◌, ◌^◌, List, length};
+ghost use Rattle.std.specs.Cmp.Lexicographic.{pointwise, lists_per};
 
 use std::alloc::AllocError;
 use std::marker::Model;
@@ -69,5 +70,17 @@ impl Clone for Segments {
         Ok(Segments {
             items: Vec::from_slice(*self.items.allocator(), self.items.as_slice())?,
         })
+    }
+}
+
+impl PartialEq for Segments {
+    ghost eq = { λ x y. pointwise ⟦<Segment as PartialEq>⟧.eq x y };
+
+    ghost use Rattle.kinds.specs.contracts.segment.SegmentPartialEq.TheImpl.Laws.{laws-law};
+
+    ghost laws = { lists_per laws-law };
+
+    fn eq(&self, other: &Self) -> bool {
+        self.items.as_slice() == other.items.as_slice()
     }
 }
