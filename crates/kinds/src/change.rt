@@ -1,0 +1,239 @@
+ghost use Rattle.std.specs.Prelude.{◌≡◌};
+
+use crate::day::Days;
+use crate::name::{Name, NodeName};
+use crate::path::FilespaceName;
+use crate::pool::{Access, Capacity, PoolKind, PoolSettings};
+use crate::rule::CopyGroup;
+use std::alloc::AllocError;
+
+/// What is done with a row that may be updated.
+#[derive(Clone, Copy, Debug, PartialEq, Eq)]
+pub enum Verb {
+    Define,
+    Update,
+    Delete,
+}
+
+/// What is done with a row that is never updated.
+#[derive(Clone, Copy, Debug, PartialEq, Eq)]
+pub enum DefineOrDelete {
+    Define,
+    Delete,
+}
+
+/// A change of the policy domains.
+#[derive(Debug, Drop, PartialEq, Eq)]
+pub enum PolicyChange {
+    /// Of a domain and its BACKRETENTION.
+    Domain {
+        verb: Verb,
+        domain: Name,
+        back_retention: Days,
+    },
+    /// Of a policy set.
+    Set {
+        verb: DefineOrDelete,
+        domain: Name,
+        set: Name,
+    },
+    /// Of a management class.
+    Class {
+        verb: DefineOrDelete,
+        domain: Name,
+        set: Name,
+        class: Name,
+    },
+    /// Of the backup copy group of a class. A group that is deleted comes with the rule that it has.
+    Group {
+        verb: Verb,
+        domain: Name,
+        set: Name,
+        class: Name,
+        group: CopyGroup,
+    },
+    /// The class becomes its set's default.
+    Assign {
+        domain: Name,
+        set: Name,
+        class: Name,
+    },
+    /// The set is copied to the domain's active set.
+    Activate {
+        domain: Name,
+        set: Name,
+    },
+}
+
+/// A change of the client nodes and their filespaces.
+#[derive(Debug, Drop, PartialEq, Eq)]
+pub enum ObjectChange {
+    /// Of a node, in a domain.
+    Node {
+        verb: DefineOrDelete,
+        node: NodeName,
+        domain: Name,
+    },
+    /// Of a filespace, with its number, of the node with that number.
+    Filespace {
+        verb: DefineOrDelete,
+        node: u32,
+        name: FilespaceName,
+        filespace: u32,
+    },
+}
+
+/// A change of the device classes, storage pools and volumes.
+#[derive(Debug, Drop, PartialEq, Eq)]
+pub enum PoolChange {
+    /// Of a device class of sequential volumes, each with so many bytes.
+    DevClass {
+        verb: DefineOrDelete,
+        class: Name,
+        capacity: Capacity,
+    },
+    /// Of a storage pool, of this device class and kind.
+    Pool {
+        verb: Verb,
+        pool: Name,
+        class: Name,
+        kind: PoolKind,
+        settings: PoolSettings,
+    },
+    /// Of a volume, in the pool with this number, with its file number.
+    Volume {
+        verb: Verb,
+        volume: Name,
+        pool: u32,
+        file: u32,
+        capacity: Capacity,
+        access: Access,
+    },
+}
+
+impl Clone for PolicyChange {
+    ghost is_clone = { λ change copy. copy ≡ change };
+
+    fn clone(&self) -> Result<Self, AllocError> {
+        Ok(match self {
+            PolicyChange::Domain {
+                verb,
+                domain,
+                back_retention,
+            } => PolicyChange::Domain {
+                verb: *verb,
+                domain: domain.clone()?,
+                back_retention: *back_retention,
+            },
+            PolicyChange::Set { verb, domain, set } => PolicyChange::Set {
+                verb: *verb,
+                domain: domain.clone()?,
+                set: set.clone()?,
+            },
+            PolicyChange::Class {
+                verb,
+                domain,
+                set,
+                class,
+            } => PolicyChange::Class {
+                verb: *verb,
+                domain: domain.clone()?,
+                set: set.clone()?,
+                class: class.clone()?,
+            },
+            PolicyChange::Group {
+                verb,
+                domain,
+                set,
+                class,
+                group,
+            } => PolicyChange::Group {
+                verb: *verb,
+                domain: domain.clone()?,
+                set: set.clone()?,
+                class: class.clone()?,
+                group: *group,
+            },
+            PolicyChange::Assign { domain, set, class } => PolicyChange::Assign {
+                domain: domain.clone()?,
+                set: set.clone()?,
+                class: class.clone()?,
+            },
+            PolicyChange::Activate { domain, set } => PolicyChange::Activate {
+                domain: domain.clone()?,
+                set: set.clone()?,
+            },
+        })
+    }
+}
+
+impl Clone for ObjectChange {
+    ghost is_clone = { λ change copy. copy ≡ change };
+
+    fn clone(&self) -> Result<Self, AllocError> {
+        Ok(match self {
+            ObjectChange::Node { verb, node, domain } => ObjectChange::Node {
+                verb: *verb,
+                node: node.clone()?,
+                domain: domain.clone()?,
+            },
+            ObjectChange::Filespace {
+                verb,
+                node,
+                name,
+                filespace,
+            } => ObjectChange::Filespace {
+                verb: *verb,
+                node: *node,
+                name: name.clone()?,
+                filespace: *filespace,
+            },
+        })
+    }
+}
+
+impl Clone for PoolChange {
+    ghost is_clone = { λ change copy. copy ≡ change };
+
+    fn clone(&self) -> Result<Self, AllocError> {
+        Ok(match self {
+            PoolChange::DevClass {
+                verb,
+                class,
+                capacity,
+            } => PoolChange::DevClass {
+                verb: *verb,
+                class: class.clone()?,
+                capacity: *capacity,
+            },
+            PoolChange::Pool {
+                verb,
+                pool,
+                class,
+                kind,
+                settings,
+            } => PoolChange::Pool {
+                verb: *verb,
+                pool: pool.clone()?,
+                class: class.clone()?,
+                kind: *kind,
+                settings: *settings,
+            },
+            PoolChange::Volume {
+                verb,
+                volume,
+                pool,
+                file,
+                capacity,
+                access,
+            } => PoolChange::Volume {
+                verb: *verb,
+                volume: volume.clone()?,
+                pool: *pool,
+                file: *file,
+                capacity: *capacity,
+                access: *access,
+            },
+        })
+    }
+}

@@ -1,0 +1,24 @@
+//! The values that every crate of the server speaks of: names, paths, days, rules, segments, changes and refusals,
+//! and the words in which contracts say what a call answers.
+#![tactic(auto)]
+
+mod change;
+mod day;
+mod name;
+mod path;
+mod pool;
+mod refusal;
+mod rule;
+mod segment;
+
+pub use change::{DefineOrDelete, ObjectChange, PolicyChange, PoolChange, Verb};
+pub use day::{Day, Days};
+pub use name::{Name, NameOf, NodeName};
+pub use path::{FilespaceName, Path, PathOf};
+pub use pool::{Access, Capacity, PoolKind, PoolRule, PoolSettings, SizeLimit};
+pub use refusal::{By, Holder, OpenRefused, Refusal, foremost, sooner_of};
+pub use rule::{BackupRule, CopyGroup, Limit, RuleFound, Still};
+pub use segment::{Digest, Segment, Segments};
+
+#[cfg(test)]
+mod tests;
