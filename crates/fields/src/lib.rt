@@ -2,9 +2,12 @@
 #![tactic(auto)]
 
 mod errors;
+mod formed;
+mod plain;
 mod puts;
 mod reader;
 
-pub use errors::{Memory, Short};
+pub use errors::{Fault, Memory, Short};
+pub use formed::{Formed, decode, encode, take_front};
 pub use puts::{put_digest, put_text, put_u8, put_u16, put_u32, put_u64};
 pub use reader::Reader;

@@ -2,6 +2,7 @@
 
 ghost use Rattle.std.specs.Prelude.{◌≡◌, ◌↔◌, length, IsTrue, IfOk, []};
 ghost use Rattle.std.specs.Int.{w16, w32, w64};
+ghost use Rattle.fields.specs.Forms.{IsBytes};
 ghost use Rattle.fields.specs.Reading.{Cursor, Reads, u8_at, number_at, bytes_at, text_at};
 
 use crate::errors::Short;
@@ -26,6 +27,14 @@ impl<'a> Model for Reader<'a> {
     ghost view = { λ r. record { at = r.at; rest = r.rest.now } };
 
     ghost invariant = { λ r. r.at + length r.rest.now < 2 ^ 64 };
+}
+
+/// The bytes, each of them below 256.
+fn as_bytes(bytes: &[u8]) -> &[u8]
+    ensures same { result.now ≡ bytes.now }
+    ensures bytes { IsBytes bytes.now }
+{
+    bytes
 }
 
 impl<'a> Reader<'a> {
@@ -116,6 +125,14 @@ impl<'a> Reader<'a> {
         let mut digest = [0u8; 32];
         digest.copy_from_slice(bytes);
         Ok(digest)
+    }
+
+    /// The bytes that are left.
+    pub fn rest(&self) -> &'a [u8]
+        ensures rest { result.now ≡ self.now.rest }
+        ensures bytes { IsBytes self.now.rest }
+    {
+        as_bytes(self.rest)
     }
 
     /// Whether no bytes are left.
