@@ -171,12 +171,17 @@ abbrev pub is_behind : {K : Type 0} → (K → K → Ordering) → Option K → 
 is_behind cmp None k = true
 is_behind cmp (Some last) k = is_lt (cmp last k)
 
+-- a key with its value, the key behind the one before it
+abbrev pub entry_at : {K V : Type 0} → (K → K → Ordering) → (List ℕ → Option ((K × V) × List ℕ)) → Option K → List ℕ → Option ((K × V) × List ℕ)
+entry_at cmp read last bytes = read bytes >>= λ e. if is_behind cmp last e.0.0 then Some e else None
+
 -- so many keys with their values, each key behind the one before it
 unfoldable pub ascending_at : {K V : Type 0} → (K → K → Ordering) → (List ℕ → Option ((K × V) × List ℕ)) → Option K → ℕ → List ℕ → Option (List (K × V) × List ℕ)
 ascending_at cmp read last zero bytes = Some ([], bytes)
 ascending_at cmp read last (suc n) bytes = do
-  e ← read bytes
-  if is_behind cmp last e.0.0 then (ascending_at cmp read (Some e.0.0) n e.1 >>= λ es. Some (e.0 ∷ es.0, es.1)) else None
+  e ← entry_at cmp read last bytes
+  es ← ascending_at cmp read (Some e.0.0) n e.1
+  Some (e.0 ∷ es.0, es.1)
 
 -- each key is behind the one before it, the first behind `last`
 abbrev pub is_ascending : {K V : Type 0} → (K → K → Ordering) → Option K → List (K × V) → Bool

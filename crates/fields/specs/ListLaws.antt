@@ -9,7 +9,7 @@ use Rattle.std.proofs.lemmas.Bool.{ltb-false, le-ltb}
 use Rattle.std.proofs.lemmas.List.Concat.{flat_map-cons}
 use Rattle.std.proofs.lemmas.List.{append-nil}
 use Rattle.fields.specs.Reading.{◌>>=◌, number_at}
-use Rattle.fields.specs.Forms.{Form, IsBytes, IsTaken, IsForm, pair, number, items, times_at, ascending, ascending_at, is_ascending, is_behind}
+use Rattle.fields.specs.Forms.{Form, IsBytes, IsTaken, IsForm, pair, number, items, times_at, ascending, entry_at, ascending_at, is_ascending, is_behind}
 use Rattle.fields.specs.FieldLaws.{bind_some, stopped_if, goes_on_if, IsBytes-rest, number_form, wide32}
 use Rattle.fields.specs.FormLaws.{pair_form}
 
@@ -20,8 +20,8 @@ pub record AreTaken {A : Type 0} (f : Form A) (n : ℕ) (bytes : List ℕ) (read
   pub fit : AllByRecursion f.Fits read.0
 
 -- one value in front of others
-AreTaken-cons : {A : Type 0} {f : Form A} {n : ℕ} {bytes : List ℕ} {x : A × List ℕ} {xs : List A × List ℕ} → IsTaken f bytes x → AreTaken f n x.1 xs → AreTaken f (suc n) bytes (x.0 ∷ xs.0, xs.1)
-AreTaken-cons {A} {f} {n} {bytes} {x} {xs} one others = record {
+AreTaken-cons : {A : Type 0} {f : Form A} {n : ℕ} {bytes : List ℕ} (x : A × List ℕ) (xs : List A × List ℕ) → IsTaken f bytes x → AreTaken f n x.1 xs → AreTaken f (suc n) bytes (x.0 ∷ xs.0, xs.1)
+AreTaken-cons {A} {f} {n} {bytes} x xs one others = record {
   parts = one.parts ∙ ap (λ (r : List ℕ). f.spell x.0 ++ r) others.parts ∙ sym (append_assoc (f.spell x.0) (flat_map f.spell xs.0) xs.1) ∙ ap (λ (r : List ℕ). r ++ xs.1) (sym (flat_map-cons f.spell x.0 xs.0));
   count = ap suc others.count;
   fit = (one.fits, others.fit);
@@ -35,7 +35,7 @@ times_taken {A} {f} law (suc n) bytes read h e =
     let b = bind_some (times_at f.read n a.0.1) (λ xs. Some (a.0.0 ∷ xs.0, xs.1)) read a.2 in
     let one = law.takes bytes a.0 h a.1 in
     let others = times_taken law n a.0.1 b.0 (IsBytes-rest bytes (f.spell a.0.0) a.0.1 one.parts h) b.1 in
-    subst (AreTaken f (suc n) bytes) (same_Some (a.0.0 ∷ b.0.0, b.0.1) read b.2) (AreTaken-cons one others)
+    subst (AreTaken f (suc n) bytes) (same_Some (a.0.0 ∷ b.0.0, b.0.1) read b.2) (AreTaken-cons a.0 b.0 one others)
 
 regrouped : {A : Type 0} (f : Form A) (x : A) (xs : List A) (rest : List ℕ) → flat_map f.spell (x ∷ xs) ++ rest ≡ f.spell x ++ (flat_map f.spell xs ++ rest)
 regrouped f x xs rest = ap (λ (r : List ℕ). r ++ rest) (flat_map-cons f.spell x xs) ∙ append_assoc (f.spell x) (flat_map f.spell xs) rest
@@ -78,17 +78,25 @@ both false b e = absurd cc
 joined : (a b : Bool) → a ≡ true → b ≡ true → (a && b) ≡ true
 joined a b p q = rw (p, q) refl
 
+entry_taken : {K V : Type 0} (cmp : K → K → Ordering) (read : List ℕ → Option ((K × V) × List ℕ)) (last : Option K) (bytes : List ℕ) (e : (K × V) × List ℕ) → entry_at cmp read last bytes ≡ Some e → (read bytes ≡ Some e) × (is_behind cmp last e.0.0 ≡ true)
+entry_taken {K} {V} cmp read last bytes e h =
+    let a = bind_some (read bytes) (λ x. if is_behind cmp last x.0.0 then Some x else None) e h in
+    let g = goes_on_if (is_behind cmp last a.0.0.0) (Some a.0) e a.2 in
+    (a.1 ∙ g.1, subst (λ (x : (K × V) × List ℕ). is_behind cmp last x.0.0 ≡ true) (same_Some a.0 e g.1) g.0)
+
 ascending_taken : {K V : Type 0} (cmp : K → K → Ordering) {f : Form (K × V)} (law : IsForm f) (last : Option K) (n : ℕ) (bytes : List ℕ) (read : List (K × V) × List ℕ) → IsBytes bytes → ascending_at cmp f.read last n bytes ≡ Some read → AreTaken f n bytes read × IsTrue (is_ascending cmp last read.0)
 unfolding ascending_at
 ascending_taken {K} {V} cmp {f} law last zero bytes read h e =
     subst (λ (r : List (K × V) × List ℕ). AreTaken f 0 bytes r × IsTrue (is_ascending cmp last r.0)) (same_Some ([], bytes) read e) (record { parts = refl; count = refl; fit = tt }, refl)
 ascending_taken {K} {V} cmp {f} law last (suc n) bytes read h e =
-    let a = bind_some (f.read bytes) (λ x. if is_behind cmp last x.0.0 then (ascending_at cmp f.read (Some x.0.0) n x.1 >>= λ xs. Some (x.0 ∷ xs.0, xs.1)) else None) read e in
-    let g = goes_on_if (is_behind cmp last a.0.0.0) (ascending_at cmp f.read (Some a.0.0.0) n a.0.1 >>= λ xs. Some (a.0.0 ∷ xs.0, xs.1)) read a.2 in
-    let b = bind_some (ascending_at cmp f.read (Some a.0.0.0) n a.0.1) (λ xs. Some (a.0.0 ∷ xs.0, xs.1)) read g.1 in
-    let one = law.takes bytes a.0 h a.1 in
+    let a = bind_some (entry_at cmp f.read last bytes) (λ x. ascending_at cmp f.read (Some x.0.0) n x.1 >>= λ xs. Some (x.0 ∷ xs.0, xs.1)) read e in
+    let b = bind_some (ascending_at cmp f.read (Some a.0.0.0) n a.0.1) (λ xs. Some (a.0.0 ∷ xs.0, xs.1)) read a.2 in
+    let t = entry_taken cmp f.read last bytes a.0 a.1 in
+    let one = law.takes bytes a.0 h t.0 in
     let others = ascending_taken cmp law (Some a.0.0.0) n a.0.1 b.0 (IsBytes-rest bytes (f.spell a.0.0) a.0.1 one.parts h) b.1 in
-    subst (λ (r : List (K × V) × List ℕ). AreTaken f (suc n) bytes r × IsTrue (is_ascending cmp last r.0)) (same_Some (a.0.0 ∷ b.0.0, b.0.1) read b.2) (AreTaken-cons one others.0, joined (is_behind cmp last a.0.0.0) (is_ascending cmp (Some a.0.0.0) b.0.0) g.0 others.1)
+    let made : List (K × V) × List ℕ = (a.0.0 ∷ b.0.0, b.0.1) in
+    subst (λ (r : List (K × V) × List ℕ). AreTaken f (suc n) bytes r × IsTrue (is_ascending cmp last r.0)) {x = made} (same_Some made read b.2)
+      (AreTaken-cons a.0 b.0 one others.0, joined (is_behind cmp last a.0.0.0) (is_ascending cmp (Some a.0.0.0) b.0.0) t.1 others.1)
 
 ascending_again : {K V : Type 0} (cmp : K → K → Ordering) {f : Form (K × V)} (law : IsForm f) (last : Option K) (es : List (K × V)) (rest : List ℕ) → AllByRecursion f.Fits es → IsTrue (is_ascending cmp last es) → ascending_at cmp f.read last (length es) (flat_map f.spell es ++ rest) ≡ Some (es, rest)
 unfolding ascending_at

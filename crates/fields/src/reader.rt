@@ -1,6 +1,6 @@
 //! Fields from the front of some bytes.
 
-ghost use Rattle.std.specs.Prelude.{◌≡◌, ◌↔◌, length, IsTrue, IfOk, []};
+ghost use Rattle.std.specs.Prelude.{◌≡◌, ◌<◌, ◌^◌, ◌↔◌, length, IsTrue, IfOk, []};
 ghost use Rattle.std.specs.Int.{w16, w32, w64};
 ghost use Rattle.fields.specs.Forms.{IsBytes};
 ghost use Rattle.fields.specs.Reading.{Cursor, Reads, u8_at, number_at, bytes_at, text_at};
@@ -103,6 +103,7 @@ impl<'a> Reader<'a> {
     #[tactic(auto, unfolding(crate::specs::Reading::text_at))]
     pub fn text(&mut self) -> Result<&'a [u8], Short>
         ensures reads { Reads (λ b. b.now) result self.old self.new (text_at self.old.rest) }
+        ensures short { IfOk result (λ b. length b.now < 2 ^ 16) }
     {
         let start = self.at;
         let bytes = self.rest;
