@@ -30,21 +30,21 @@ module _ {A : Type 0} (read : List ℕ → Option (A × List ℕ)) (front : List
   pub times_go_on : (x : A) (after : List ℕ) → i < count → read bytes ≡ Some (x, after) → with_front front (times_at read (count - i) bytes) ≡ total → with_front (front ++ x ∷ []) (times_at read (count - (i + 1)) after) ≡ total
   unfolding times_at
   times_go_on x after lt h so_far =
-    let k : count - i ≡ suc (count - (i + 1)) = omega arith in
-    let one : with_front front (times_at read (count - i) bytes) ≡ with_front (front ++ x ∷ []) (times_at read (count - (i + 1)) after) = rw (k, h) (with_front-cons front x (times_at read (count - (i + 1)) after)) in
-    sym one ∙ so_far
+      let k : count - i ≡ suc (count - (i + 1)) = omega arith in
+      let one : with_front front (times_at read (count - i) bytes) ≡ with_front (front ++ x ∷ []) (times_at read (count - (i + 1)) after) = rw (k, h) (with_front-cons front x (times_at read (count - (i + 1)) after)) in
+      sym one ∙ so_far
 
   pub times_end : (fault : Fault) → i < count → Fails fault (read bytes) → with_front front (times_at read (count - i) bytes) ≡ total → Fails fault total
   unfolding times_at
   times_end Memory lt h so_far = tt
   times_end Malformed lt h so_far =
-    let k : count - i ≡ suc (count - (i + 1)) = omega arith in
-    let one : with_front front (times_at read (count - i) bytes) ≡ None = rw (k, h) refl in
-    sym so_far ∙ one
+      let k : count - i ≡ suc (count - (i + 1)) = omega arith in
+      let one : with_front front (times_at read (count - i) bytes) ≡ None = rw (k, h) refl in
+      sym so_far ∙ one
 
   pub times_done : count ≤ i → with_front front (times_at read (count - i) bytes) ≡ total → total ≡ Some (front, bytes)
   unfolding times_at
   times_done le so_far =
-    let k : count - i ≡ 0 = omega arith in
-    let one : with_front front (times_at read (count - i) bytes) ≡ Some (front, bytes) = rw k (ap (λ (all : List A). Some (all, bytes)) (append-nil front)) in
-    sym so_far ∙ one
+      let k : count - i ≡ 0 = omega arith in
+      let one : with_front front (times_at read (count - i) bytes) ≡ Some (front, bytes) = rw k (ap (λ (all : List A). Some (all, bytes)) (append-nil front)) in
+      sym so_far ∙ one

@@ -1,7 +1,8 @@
 -- Forms of bytes as values: how a value is spelled, how it is read from the front of some bytes, and which values have a spelling.
-use Rattle.std.specs.Prelude.{◌≡◌, ℕ, slice_index, zero, suc, ◌+◌, ◌-◌, ◌^◌, ◌<◌, ◌≤◌, List, [], ◌∷◌, ◌++◌, length, map, Bool, true, false, ◌&&◌, Option, Some, None, IfSome, IsTrue, nat_lt, ◌==◌, if◌then◌else◌, unwrap_or}
+use Rattle.std.specs.Prelude.{◌≡◌, ℕ, slice_index, zero, suc, ◌+◌, ◌-◌, ◌^◌, ◌<◌, ◌≤◌, List, [], ◌∷◌, ◌++◌, length, map, Bool, true, false, ◌&&◌, Option, Some, None, IfSome, IsTrue, nat_lt, ◌==◌, if◌then◌else◌, unwrap_or, slice_get}
 use Rattle.std.specs.Int.{Width, w16, w32, byte_len, to_be_bytes}
 use Rattle.std.specs.List.{flat_map, AllByRecursion}
+use Rattle.std.specs.Option.{option_map}
 use Rattle.std.specs.Ordering.{is_lt}
 use Rattle.std.specs.declared.cmp.Ordering.{Ordering}
 use Rattle.fields.specs.Reading.{◌>>=◌, u8_at, bytes_at, number_at, text_at}
@@ -195,3 +196,7 @@ ascending {K} {V} cmp most k v = record {
   read = λ bytes. number_at w32 bytes >>= λ n. if nat_lt most n.0 then None else ascending_at cmp (pair k v).read None n.0 n.1;
   Fits = λ (es : List (K × V)). (items most (pair k v)).Fits es × IsTrue (is_ascending cmp None es);
 }
+
+-- the last key, if there is one
+abbrev pub last_key : {K V : Type 0} → List (K × V) → Option K
+last_key es = option_map (λ e. e.0) (slice_get es (length es - 1))

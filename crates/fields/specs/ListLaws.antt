@@ -96,7 +96,7 @@ ascending_taken {K} {V} cmp {f} law last (suc n) bytes read h e =
     let others = ascending_taken cmp law (Some a.0.0.0) n a.0.1 b.0 (IsBytes-rest bytes (f.spell a.0.0) a.0.1 one.parts h) b.1 in
     let made : List (K × V) × List ℕ = (a.0.0 ∷ b.0.0, b.0.1) in
     subst (λ (r : List (K × V) × List ℕ). AreTaken f (suc n) bytes r × IsTrue (is_ascending cmp last r.0)) {x = made} (same_Some made read b.2)
-      (AreTaken-cons a.0 b.0 one others.0, joined (is_behind cmp last a.0.0.0) (is_ascending cmp (Some a.0.0.0) b.0.0) t.1 others.1)
+    (AreTaken-cons a.0 b.0 one others.0, joined (is_behind cmp last a.0.0.0) (is_ascending cmp (Some a.0.0.0) b.0.0) t.1 others.1)
 
 ascending_again : {K V : Type 0} (cmp : K → K → Ordering) {f : Form (K × V)} (law : IsForm f) (last : Option K) (es : List (K × V)) (rest : List ℕ) → AllByRecursion f.Fits es → IsTrue (is_ascending cmp last es) → ascending_at cmp f.read last (length es) (flat_map f.spell es ++ rest) ≡ Some (es, rest)
 unfolding ascending_at
