@@ -1,16 +1,20 @@
 -- Entries that are added to a map in ascending order of their keys, and reading so many of them as a loop does.
-use Rattle.std.proofs.Common.{◌≡◌, ℕ, suc, length, ◌-◌, ◌+◌, ◌≤◌, ◌<◌, List, [], ◌∷◌, ◌++◌, Option, Some, None, refl, sym, ap, ◌∙◌, arith, All}
-use Rattle.std.specs.Prelude.{slice_get}
+use Rattle.std.proofs.Common.{◌≡◌, ℕ, zero, suc, length, true, ◌-◌, ◌+◌, ◌≤◌, ◌<◌, List, [], ◌∷◌, ◌++◌, Option, Some, None, refl, sym, ap, ◌∙◌, arith, All}
+use Rattle.std.specs.Prelude.{slice_get, IfSome}
+use Rattle.std.specs.List.{AllByRecursion}
+use Rattle.std.specs.List.Sorted.{IsStrictlySortedBy}
+use Rattle.std.proofs.lemmas.Option.{same_Some}
+use Rattle.fields.specs.FieldLaws.{bind_some}
 use Rattle.std.specs.Map.{keys_of}
 use Rattle.std.specs.BTreeMap.{insert_entry}
 use Rattle.std.specs.declared.cmp.Ordering.{Ordering}
-use Rattle.std.specs.declared.cmp.Ordering.TheVariants.{Greater}
+use Rattle.std.specs.declared.cmp.Ordering.TheVariants.{Less, Greater}
 use Rattle.std.proofs.lemmas.List.{append-nil, length-append}
 use Rattle.std.proofs.lemmas.List.Elements.{All-head, All-tail}
 use Rattle.fields.specs.declared.errors.Fault.{Fault}
 use Rattle.fields.specs.declared.errors.Fault.TheVariants.{Malformed, Memory}
 use Rattle.fields.specs.Reading.{◌>>=◌}
-use Rattle.fields.specs.Forms.{entry_at, ascending_at, last_key}
+use Rattle.fields.specs.Forms.{entry_at, ascending_at, is_ascending, last_key}
 use Rattle.fields.specs.Gives.{Fails}
 use Rattle.fields.proofs.Times.{with_front, with_front-cons}
 
@@ -30,6 +34,23 @@ pub last_key-append : {K V : Type 0} (es : List (K × V)) (e : K × V) → last_
 last_key-append {K} {V} es e =
     let n : length (es ++ e ∷ []) - 1 ≡ length es = omega (arith, length-append es (e ∷ [])) in
     rw (n, slice_get-last es e) refl
+
+-- so many entries are read
+pub length-ascending_at : {K V : Type 0} (cmp : K → K → Ordering) (read : List ℕ → Option ((K × V) × List ℕ)) (last : Option K) (n : ℕ) (bytes : List ℕ) (es : List (K × V) × List ℕ) → ascending_at cmp read last n bytes ≡ Some es → length es.0 ≡ n
+unfolding ascending_at
+length-ascending_at {K} {V} cmp read last zero bytes es e = ap (λ (x : List (K × V) × List ℕ). length x.0) (sym (same_Some ([], bytes) es e))
+length-ascending_at {K} {V} cmp read last (suc n) bytes es e =
+    let a = bind_some (entry_at cmp read last bytes) (λ x. ascending_at cmp read (Some x.0.0) n x.1 >>= λ others. Some (x.0 ∷ others.0, others.1)) es e in
+    let b = bind_some (ascending_at cmp read (Some a.0.0.0) n a.0.1) (λ others. Some (a.0.0 ∷ others.0, others.1)) es a.2 in
+    let made : List (K × V) × List ℕ = (a.0.0 ∷ b.0.0, b.0.1) in
+    ap (λ (x : List (K × V) × List ℕ). length x.0) (sym (same_Some made es b.2)) ∙ ap suc (length-ascending_at cmp read (Some a.0.0.0) n a.0.1 b.0 b.1)
+
+-- the entries of a map ascend
+pub sorted_ascends : {K V : Type 0} (cmp : K → K → Ordering) (last : Option K) (es : List (K × V)) → IfSome last (λ l. AllByRecursion (λ q. cmp l q ≡ Less) (keys_of es)) → IsStrictlySortedBy cmp (keys_of es) → is_ascending cmp last es ≡ true
+unfolding IsStrictlySortedBy
+sorted_ascends cmp last [] above sorted = refl
+sorted_ascends cmp None (e ∷ es) above sorted = sorted_ascends cmp (Some e.0) es sorted.0 sorted.1
+sorted_ascends cmp (Some l) (e ∷ es) above sorted = rw (above.0, sorted_ascends cmp (Some e.0) es sorted.0 sorted.1) refl
 
 module _ {K V : Type 0} (cmp : K → K → Ordering) (read : List ℕ → Option ((K × V) × List ℕ)) (front : List (K × V)) (count i : ℕ) (bytes : List ℕ) (total : Option (List (K × V) × List ℕ)) where
   pub ascending_go_on : (e : K × V) (after : List ℕ) (all : List (K × V)) → all ≡ front ++ e ∷ [] → i < count → entry_at cmp read (last_key front) bytes ≡ Some (e, after)

@@ -14,12 +14,12 @@ pub trait Formed: Drop {
     ghost form: { Form Self };
 
     /// Puts the value's spelling at the end. After an `Err` a part of it may stand there.
-    fn put(&self, out: &mut Vec<u8>) -> Result<(), Memory>
+    fn write_to(&self, out: &mut Vec<u8>) -> Result<(), Memory>
         requires { form.Fits self.now }
         ensures { OnOk result (out.new.items ≡ out.old.items ++ form.spell self.now) };
 
     /// Takes the value that the bytes begin with. After an `Err` the reader stands anywhere.
-    fn take(alloc: Global, reader: &mut Reader<'_>) -> Result<Self, Fault>
+    fn read_from(alloc: Global, reader: &mut Reader<'_>) -> Result<Self, Fault>
         ensures { Gives result reader.new.rest (form.read reader.old.rest) };
 
     /// What is read is spelled so, and fits; what fits is read again, whatever follows.
@@ -32,7 +32,7 @@ pub fn take_front<T: Formed>(alloc: Global, reader: &mut Reader<'_>) -> Result<O
     ensures none { IfOk result (λ o. IfNone o ((x : T) (rest : List ℕ) → T.form.Fits x → reader.old.rest ≡ T.form.spell x ++ rest → ⊥)) }
 {
     let _bytes = reader.rest();
-    match T::take(alloc, reader) {
+    match T::read_from(alloc, reader) {
         Ok(value) => Ok(Some(value)),
         Err(Fault::Malformed) => Ok(None),
         Err(Fault::Memory) => Err(Memory),
@@ -56,6 +56,6 @@ pub fn encode<T: Formed>(alloc: Global, value: &T) -> Result<Vec<u8>, Memory>
     ensures alone { IfOk result (λ v. (x : T) (rest : List ℕ) → T.form.Fits x → v.items ++ rest ≡ T.form.spell x → (x ≡ value.now) × (rest ≡ [])) }
 {
     let mut out = Vec::new(alloc);
-    value.put(&mut out)?;
+    value.write_to(&mut out)?;
     Ok(out)
 }

@@ -101,11 +101,11 @@ impl<T: Drop, const MOST: u32> Items<T, MOST> {
 impl<T: Formed, const MOST: u32> Formed for Items<T, MOST> {
     ghost form = { items MOST T.form };
 
-    fn put(&self, out: &mut Vec<u8>) -> Result<(), Memory> {
+    fn write_to(&self, out: &mut Vec<u8>) -> Result<(), Memory> {
         put_items(out, self.as_slice())
     }
 
-    fn take(alloc: Global, reader: &mut Reader<'_>) -> Result<Self, Fault> {
+    fn read_from(alloc: Global, reader: &mut Reader<'_>) -> Result<Self, Fault> {
         let values = take_items(alloc, reader, MOST)?;
         Ok(Items { values })
     }

@@ -17,7 +17,7 @@ fn put_all<T: Formed>(out: &mut Vec<u8>, values: &[T]) -> Result<(), Memory>
     ensures { OnOk result (out.new.items ≡ out.old.items ++ flat_map T.form.spell values.now) }
 {
     'values: for value in values {
-        value.put(out)?;
+        value.write_to(out)?;
     }
     Ok(())
 }
@@ -44,7 +44,7 @@ fn take_times<T: Formed>(
 {
     let mut values = Vec::new(alloc);
     'values: for _ in 0..count {
-        let value = T::take(alloc, reader)?;
+        let value = T::read_from(alloc, reader)?;
         values.push(value)?;
     }
     Ok(values)

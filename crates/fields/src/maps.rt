@@ -1,6 +1,6 @@
 //! Ordered maps: their entries' number in four bytes, and the entries in strictly ascending order of keys.
 
-ghost use Rattle.std.specs.Prelude.{◌≡◌, ◌<◌, ◌≤◌, ◌^◌, ◌++◌, ◌∷◌, [], length, OnOk, IfErr, IsTrue, All, Some, None};
+ghost use Rattle.std.specs.Prelude.{◌≡◌, ◌<◌, ◌≤◌, ◌^◌, ◌++◌, ◌∷◌, [], length, OnOk, IfOk, IfErr, IsTrue, All, Some, None};
 ghost use Rattle.std.specs.List.{flat_map, AllByRecursion};
 ghost use Rattle.std.specs.BTreeMap.{keys};
 ghost use Rattle.std.specs.declared.cmp.Ordering.TheVariants.{Greater};
@@ -18,8 +18,8 @@ fn put_entry<K: Formed, V: Formed>(out: &mut Vec<u8>, key: &K, value: &V) -> Res
     requires { (pair K.form V.form).Fits (key.now, value.now) }
     ensures { OnOk result (out.new.items ≡ out.old.items ++ (pair K.form V.form).spell (key.now, value.now)) }
 {
-    key.put(out)?;
-    value.put(out)?;
+    key.write_to(out)?;
+    value.write_to(out)?;
     Ok(())
 }
 
@@ -71,7 +71,7 @@ fn take_entry<K: Ord + Formed, V: Formed>(
         × (entry_at K.cmp (pair K.form V.form).read (last_key map.old.entries) reader.old.rest ≡ Some (e, reader.new.rest))) }
     ensures err { IfErr result (λ f. Fails f (entry_at K.cmp (pair K.form V.form).read (last_key map.old.entries) reader.old.rest)) }
 {
-    let (key, value) = <(K, V)>::take(alloc, reader)?;
+    let (key, value) = <(K, V)>::read_from(alloc, reader)?;
     if !is_next(map, &key) {
         return Err(Fault::Malformed);
     }
@@ -85,7 +85,8 @@ fn take_entries<K: Ord + Formed, V: Formed>(
     reader: &mut Reader<'_>,
     count: u32,
 ) -> Result<BTreeMap<K, V>, Fault>
-    ensures { GivesBy (λ m. m.entries) result reader.new.rest (ascending_at K.cmp (pair K.form V.form).read None count reader.old.rest) }
+    ensures gives { GivesBy (λ m. m.entries) result reader.new.rest (ascending_at K.cmp (pair K.form V.form).read None count reader.old.rest) }
+    ensures count { IfOk result (λ m. length m.entries ≡ count) }
 {
     let mut map = BTreeMap::new(alloc);
     'entries: for _ in 0..count {
@@ -100,7 +101,8 @@ pub fn take_map<K: Ord + Formed, V: Formed>(
     reader: &mut Reader<'_>,
     most: u32,
 ) -> Result<BTreeMap<K, V>, Fault>
-    ensures { GivesBy (λ m. m.entries) result reader.new.rest ((ascending K.cmp most K.form V.form).read reader.old.rest) }
+    ensures gives { GivesBy (λ m. m.entries) result reader.new.rest ((ascending K.cmp most K.form V.form).read reader.old.rest) }
+    ensures few { IfOk result (λ m. length m.entries ≤ most) }
 {
     let count = reader.u32()?;
     if count > most {

@@ -14,11 +14,11 @@ use std::alloc::Global;
 impl Formed for u8 {
     ghost form = { byte };
 
-    fn put(&self, out: &mut Vec<u8>) -> Result<(), Memory> {
+    fn write_to(&self, out: &mut Vec<u8>) -> Result<(), Memory> {
         put_u8(out, *self)
     }
 
-    fn take(_alloc: Global, reader: &mut Reader<'_>) -> Result<Self, Fault> {
+    fn read_from(_alloc: Global, reader: &mut Reader<'_>) -> Result<Self, Fault> {
         Ok(reader.u8()?)
     }
 
@@ -28,11 +28,11 @@ impl Formed for u8 {
 impl Formed for u16 {
     ghost form = { number w16 };
 
-    fn put(&self, out: &mut Vec<u8>) -> Result<(), Memory> {
+    fn write_to(&self, out: &mut Vec<u8>) -> Result<(), Memory> {
         put_u16(out, *self)
     }
 
-    fn take(_alloc: Global, reader: &mut Reader<'_>) -> Result<Self, Fault> {
+    fn read_from(_alloc: Global, reader: &mut Reader<'_>) -> Result<Self, Fault> {
         Ok(reader.u16()?)
     }
 
@@ -42,11 +42,11 @@ impl Formed for u16 {
 impl Formed for u32 {
     ghost form = { number w32 };
 
-    fn put(&self, out: &mut Vec<u8>) -> Result<(), Memory> {
+    fn write_to(&self, out: &mut Vec<u8>) -> Result<(), Memory> {
         put_u32(out, *self)
     }
 
-    fn take(_alloc: Global, reader: &mut Reader<'_>) -> Result<Self, Fault> {
+    fn read_from(_alloc: Global, reader: &mut Reader<'_>) -> Result<Self, Fault> {
         Ok(reader.u32()?)
     }
 
@@ -56,11 +56,11 @@ impl Formed for u32 {
 impl Formed for u64 {
     ghost form = { number w64 };
 
-    fn put(&self, out: &mut Vec<u8>) -> Result<(), Memory> {
+    fn write_to(&self, out: &mut Vec<u8>) -> Result<(), Memory> {
         put_u64(out, *self)
     }
 
-    fn take(_alloc: Global, reader: &mut Reader<'_>) -> Result<Self, Fault> {
+    fn read_from(_alloc: Global, reader: &mut Reader<'_>) -> Result<Self, Fault> {
         Ok(reader.u64()?)
     }
 
@@ -71,11 +71,11 @@ impl Formed for u64 {
 impl Formed for [u8; 32] {
     ghost form = { block 32 };
 
-    fn put(&self, out: &mut Vec<u8>) -> Result<(), Memory> {
+    fn write_to(&self, out: &mut Vec<u8>) -> Result<(), Memory> {
         put_digest(out, self)
     }
 
-    fn take(_alloc: Global, reader: &mut Reader<'_>) -> Result<Self, Fault> {
+    fn read_from(_alloc: Global, reader: &mut Reader<'_>) -> Result<Self, Fault> {
         Ok(reader.digest()?)
     }
 
@@ -86,11 +86,11 @@ impl Formed for [u8; 32] {
 impl Formed for bool {
     ghost form = { flag };
 
-    fn put(&self, out: &mut Vec<u8>) -> Result<(), Memory> {
+    fn write_to(&self, out: &mut Vec<u8>) -> Result<(), Memory> {
         put_u8(out, if *self { 1 } else { 0 })
     }
 
-    fn take(_alloc: Global, reader: &mut Reader<'_>) -> Result<Self, Fault> {
+    fn read_from(_alloc: Global, reader: &mut Reader<'_>) -> Result<Self, Fault> {
         match reader.u8()? {
             0 => Ok(false),
             1 => Ok(true),
@@ -105,15 +105,15 @@ impl Formed for bool {
 impl<A: Formed, B: Formed> Formed for (A, B) {
     ghost form = { pair A.form B.form };
 
-    fn put(&self, out: &mut Vec<u8>) -> Result<(), Memory> {
-        self.0.put(out)?;
-        self.1.put(out)?;
+    fn write_to(&self, out: &mut Vec<u8>) -> Result<(), Memory> {
+        self.0.write_to(out)?;
+        self.1.write_to(out)?;
         Ok(())
     }
 
-    fn take(alloc: Global, reader: &mut Reader<'_>) -> Result<Self, Fault> {
-        let first = A::take(alloc, reader)?;
-        let second = B::take(alloc, reader)?;
+    fn read_from(alloc: Global, reader: &mut Reader<'_>) -> Result<Self, Fault> {
+        let first = A::read_from(alloc, reader)?;
+        let second = B::read_from(alloc, reader)?;
         Ok((first, second))
     }
 
@@ -124,21 +124,21 @@ impl<A: Formed, B: Formed> Formed for (A, B) {
 impl<T: Formed> Formed for Option<T> {
     ghost form = { option T.form };
 
-    fn put(&self, out: &mut Vec<u8>) -> Result<(), Memory> {
+    fn write_to(&self, out: &mut Vec<u8>) -> Result<(), Memory> {
         match self {
             None => put_u8(out, 0),
             Some(value) => {
                 put_u8(out, 1)?;
-                value.put(out)?;
+                value.write_to(out)?;
                 Ok(())
             }
         }
     }
 
-    fn take(alloc: Global, reader: &mut Reader<'_>) -> Result<Self, Fault> {
+    fn read_from(alloc: Global, reader: &mut Reader<'_>) -> Result<Self, Fault> {
         match reader.u8()? {
             0 => Ok(None),
-            1 => Ok(Some(T::take(alloc, reader)?)),
+            1 => Ok(Some(T::read_from(alloc, reader)?)),
             _ => Err(Fault::Malformed),
         }
     }

@@ -67,12 +67,12 @@ impl Text {
 impl Formed for Text {
     ghost form = { forms.text };
 
-    fn put(&self, out: &mut Vec<u8>) -> Result<(), Memory> {
+    fn write_to(&self, out: &mut Vec<u8>) -> Result<(), Memory> {
         put_text(out, self.as_bytes())
     }
 
     #[tactic(auto, unfolding(crate::specs::Reading::text_at))]
-    fn take(alloc: Global, reader: &mut Reader<'_>) -> Result<Self, Fault> {
+    fn read_from(alloc: Global, reader: &mut Reader<'_>) -> Result<Self, Fault> {
         let bytes = reader.text()?;
         let bytes = Vec::from_slice(alloc, bytes)?;
         Ok(Text { bytes })

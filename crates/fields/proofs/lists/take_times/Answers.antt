@@ -12,7 +12,7 @@ returns-in_err-value-clause-gives g c =
 pub values-preserved : goal.values-preserved
 values-preserved g c =
     let read = g.T.Formed.form.read in
-    rw c.in_ok-push.ensures.items (times_go_on read c.values.values.items c.args.count c.values.counter c.values.reader.rest (times_at read c.args.count c.args.reader.now.rest) c.in_ok-value.value c.take.new.reader.rest c.values-test.true c.in_ok-value.ensures c.values.invariant)
+    rw c.in_ok-push.ensures.items (times_go_on read c.values.values.items c.args.count c.values.counter c.values.reader.rest (times_at read c.args.count c.args.reader.now.rest) c.in_ok-value.value c.read_from.new.reader.rest c.values-test.true c.in_ok-value.ensures c.values.invariant)
 
 pub returns-clause-gives : goal.returns-clause-gives
 returns-clause-gives g c =

@@ -1,11 +1,11 @@
 use Rattle.std.proofs.Common.{None}
 use Rattle.std.proofs.lemmas.Result.{err_from_is_err_and}
 use Rattle.fields.specs.Forms.{pair, ascending_at}
-use Rattle.fields.proofs.Entries.{ascending_go_on, ascending_end, ascending_done}
+use Rattle.fields.proofs.Entries.{ascending_go_on, ascending_end, ascending_done, length-ascending_at}
 use Rattle.fields.proofs.maps.take_entries.Goals as goal
 
-pub returns-in_err-take_entry : goal.returns-in_err-take_entry
-returns-in_err-take_entry g c =
+pub returns-in_err-take_entry-clause-gives : goal.returns-in_err-take_entry-clause-gives
+returns-in_err-take_entry-clause-gives g c =
     let read = (pair g.K.Formed.form g.V.Formed.form).read in
     let all = ascending_at g.K.Ord.cmp read None c.args.count c.args.reader.now.rest in
     let p = err_from_is_err_and c.from_residual.result c.from_residual.ensures.1 in
@@ -18,8 +18,15 @@ entries-preserved g c =
     let e = c.in_ok-take_entry.ensures.ok in
     ascending_go_on g.K.Ord.cmp read c.entries.map.entries c.args.count c.entries.counter c.entries.reader.rest all e.0 c.take_entry.new.reader.rest c.take_entry.new.map.entries e.1 c.entries-test.true e.2 c.entries.invariant
 
-pub returns : goal.returns
-returns g c =
+pub returns-clause-gives : goal.returns-clause-gives
+returns-clause-gives g c =
     let read = (pair g.K.Formed.form g.V.Formed.form).read in
     let all = ascending_at g.K.Ord.cmp read None c.args.count c.args.reader.now.rest in
     ascending_done g.K.Ord.cmp read c.entries.map.entries c.args.count c.entries.counter c.entries.reader.rest all c.entries-test.false c.entries.invariant
+
+pub returns-clause-count : goal.returns-clause-count
+returns-clause-count g c =
+    let read = (pair g.K.Formed.form g.V.Formed.form).read in
+    let all = ascending_at g.K.Ord.cmp read None c.args.count c.args.reader.now.rest in
+    length-ascending_at g.K.Ord.cmp read None c.args.count c.args.reader.now.rest (c.entries.map.entries, c.entries.reader.rest)
+    (ascending_done g.K.Ord.cmp read c.entries.map.entries c.args.count c.entries.counter c.entries.reader.rest all c.entries-test.false c.entries.invariant)
