@@ -43,7 +43,7 @@ length-ascending_at {K} {V} cmp read last (suc n) bytes es e =
     let a = bind_some (entry_at cmp read last bytes) (λ x. ascending_at cmp read (Some x.0.0) n x.1 >>= λ others. Some (x.0 ∷ others.0, others.1)) es e in
     let b = bind_some (ascending_at cmp read (Some a.0.0.0) n a.0.1) (λ others. Some (a.0.0 ∷ others.0, others.1)) es a.2 in
     let made : List (K × V) × List ℕ = (a.0.0 ∷ b.0.0, b.0.1) in
-    ap (λ (x : List (K × V) × List ℕ). length x.0) (sym (same_Some made es b.2)) ∙ ap suc (length-ascending_at cmp read (Some a.0.0.0) n a.0.1 b.0 b.1)
+    sym (ap (λ (x : List (K × V) × List ℕ). length x.0) {x = made} (same_Some made es b.2)) ∙ ap suc (length-ascending_at cmp read (Some a.0.0.0) n a.0.1 b.0 b.1)
 
 -- the entries of a map ascend
 pub sorted_ascends : {K V : Type 0} (cmp : K → K → Ordering) (last : Option K) (es : List (K × V)) → IfSome last (λ l. AllByRecursion (λ q. cmp l q ≡ Less) (keys_of es)) → IsStrictlySortedBy cmp (keys_of es) → is_ascending cmp last es ≡ true

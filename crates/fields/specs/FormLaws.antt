@@ -5,7 +5,7 @@ use Rattle.std.specs.Int.{Width, byte_len, to_be_bytes}
 use Rattle.std.proofs.lemmas.Option.{same_Some}
 use Rattle.std.proofs.lemmas.Bool.{eqb-true, eqb-false, eq-eqb}
 use Rattle.fields.specs.Reading.{◌>>=◌, u8_at, number_at}
-use Rattle.fields.specs.Forms.{Form, IsBytes, IsTaken, IsForm, byte, number, nothing, pair, viewed, partly, variant, spell_part, FitsPart, only, marked, tagged, choose, row, no_more, option, option_tag, none, flag, limit}
+use Rattle.fields.specs.Forms.{Form, IsBytes, IsTaken, IsForm, byte, number, nothing, pair, viewed, partly, variant, spell_part, FitsPart, only, marked, tagged, choose, row, no_more, option, option_tag, none, value_of, coded, flag, limit}
 use Rattle.fields.specs.FieldLaws.{bind_some, goes_on_if, IsBytes-rest, byte_form, number_form, nothing_form, IsWide}
 
 -- ---- one after the other
@@ -165,12 +165,26 @@ none_row {A} = record { form = record { takes = taken; again = again }; tells = 
 pub option_form : {A : Type 0} {f : Form A} → IsForm f → IsForm (option f)
 option_form {A} {f} law = tagged_form (row_table none_row (row_table (variant_row option_tag 1 Some (λ o. o) (λ a. refl) (λ a. refl) (λ b a e. sym e) law) (no_more_table option_tag)))
 
+one_more-value : {X : Type 0} (number_of : X → ℕ) (y : X) (n : ℕ) (others : Option X) (x : X) (b : Bool) → (n == number_of y) ≡ b → (others ≡ Some x → number_of x ≡ n) → (if b then Some y else others) ≡ Some x → number_of x ≡ n
+one_more-value number_of y n others x true p rest e = ap number_of (sym (same_Some y x e)) ∙ sym (eqb-true n (number_of y) p)
+one_more-value number_of y n others x false p rest e = rest e
+
+-- the number of the value that a number has is that number
+value_of-number : {X : Type 0} (number_of : X → ℕ) (xs : List X) (n : ℕ) (x : X) → value_of number_of xs n ≡ Some x → number_of x ≡ n
+value_of-number number_of [] n x e = absurd cc
+value_of-number {X} number_of (y ∷ ys) n x e = one_more-value number_of y n (value_of number_of ys n) x (n == number_of y) refl (value_of-number number_of ys n x) e
+
+pub coded_form : {X : Type 0} (number_of : X → ℕ) (xs : List X) → ((x : X) → value_of number_of xs (number_of x) ≡ Some x) → IsForm (coded number_of xs)
+coded_form {X} number_of xs each = record { takes = taken; again = λ x rest fits. rw (each x) refl } where
+  taken : (bytes : List ℕ) (read : X × List ℕ) → IsBytes bytes → (coded number_of xs).read bytes ≡ Some read → IsTaken (coded number_of xs) bytes read
+  taken [] read h e = absurd cc
+  taken (b ∷ bytes) read h e =
+      let a = bind_some (value_of number_of xs b) (λ x. Some (x, bytes)) read e in
+      let made : X × List ℕ = (a.0, bytes) in
+      subst (IsTaken (coded number_of xs) (b ∷ bytes)) {x = made} (same_Some made read a.2) (record { parts = ap (λ (k : ℕ). k ∷ bytes) (sym (value_of-number number_of xs b a.0 a.1)); fits = tt })
+
 pub flag_form : IsForm flag
-flag_form = partly_form (λ n. if n == 0 then Some false else if n == 1 then Some true else None) (λ b. if b then 1 else 0) (λ n b e. back n b (n == 0) (n == 1) refl refl e) byte_form where
-  back : (n : ℕ) (b : Bool) (is_zero is_one : Bool) → (n == 0) ≡ is_zero → (n == 1) ≡ is_one → (if is_zero then Some false else if is_one then Some true else None) ≡ Some b → (if b then 1 else 0) ≡ n
-  back n b true is_one p q e = ap (λ (x : Bool). if x then 1 else 0) (sym (same_Some false b e)) ∙ sym (eqb-true n 0 p)
-  back n b false true p q e = ap (λ (x : Bool). if x then 1 else 0) (sym (same_Some true b e)) ∙ sym (eqb-true n 1 q)
-  back n b false false p q e = absurd cc
+flag_form = coded_form (λ b. if b then 1 else 0) (false ∷ true ∷ []) (elim [ true ↦ refl | false ↦ refl ])
 
 pub limit_form : (w : Width) → IsWide w → IsForm (limit w)
 limit_form w wide = record { takes = taken; again = again } where

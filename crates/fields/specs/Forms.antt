@@ -135,13 +135,30 @@ option_tag (Some a) = 1
 abbrev pub none : {A : Type 0} → Form (Option A)
 none = record { spell = λ _. []; read = λ bytes. Some (None, bytes); Fits = λ o. o ≡ None }
 
+-- what follows the number in front
+abbrev pub option_body : {A : Type 0} → Form A → ℕ → Form (Option A)
+option_body f = row 0 none (row 1 (variant Some (λ o. o) f) no_more)
+
 -- 0 for none, or 1 and the value
 abbrev pub option : {A : Type 0} → Form A → Form (Option A)
-option f = tagged option_tag (row 0 none (row 1 (variant Some (λ o. o) f) no_more))
+option f = tagged option_tag (option_body f)
+
+-- the value of a number, among these
+abbrev pub value_of : {X : Type 0} → (X → ℕ) → List X → ℕ → Option X
+value_of number_of [] n = None
+value_of number_of (x ∷ xs) n = if n == number_of x then Some x else value_of number_of xs n
+
+-- one of these values, as its number in a byte
+abbrev pub coded : {X : Type 0} → (X → ℕ) → List X → Form X
+coded number_of xs = record {
+  spell = λ x. number_of x ∷ [];
+  read = λ bytes. u8_at bytes >>= λ n. value_of number_of xs n.0 >>= λ x. Some (x, n.1);
+  Fits = λ _. Unit {0};
+}
 
 -- 0 or 1
 abbrev pub flag : Form Bool
-flag = partly (λ n. if n == 0 then Some false else if n == 1 then Some true else None) (λ b. if b then 1 else 0) byte
+flag = coded (λ b. if b then 1 else 0) (false ∷ true ∷ [])
 
 -- a number with no limit as all ones
 abbrev pub limit : Width → Form (Option ℕ)

@@ -1,7 +1,8 @@
 //! The forms of numbers, flags, digests, pairs and options.
 
 ghost use Rattle.std.specs.Int.{w16, w32, w64};
-ghost use Rattle.fields.specs.Forms.{byte, number, block, flag, pair, option};
+ghost use Rattle.fields.specs.Forms.{byte, number, block, flag, pair, option, option_body};
+ghost use Rattle.fields.specs.Gives.{Gives};
 ghost use Rattle.fields.specs.FieldLaws.{byte_form, number_form, block_form, wide16, wide32, wide64};
 ghost use Rattle.fields.specs.FormLaws.{flag_form, pair_form, option_form};
 
@@ -120,6 +121,21 @@ impl<A: Formed, B: Formed> Formed for (A, B) {
     ghost is_form = { pair_form A.is_form B.is_form };
 }
 
+/// What follows the number in front of an option.
+fn read_option<T: Formed>(
+    alloc: Global,
+    tag: u8,
+    reader: &mut Reader<'_>,
+) -> Result<Option<T>, Fault>
+    ensures { Gives result reader.new.rest ((option_body T.form tag).read reader.old.rest) }
+{
+    match tag {
+        0 => Ok(None),
+        1 => Ok(Some(T::read_from(alloc, reader)?)),
+        _ => Err(Fault::Malformed),
+    }
+}
+
 /// 0 for none, or 1 and the value.
 impl<T: Formed> Formed for Option<T> {
     ghost form = { option T.form };
@@ -136,11 +152,8 @@ impl<T: Formed> Formed for Option<T> {
     }
 
     fn read_from(alloc: Global, reader: &mut Reader<'_>) -> Result<Self, Fault> {
-        match reader.u8()? {
-            0 => Ok(None),
-            1 => Ok(Some(T::read_from(alloc, reader)?)),
-            _ => Err(Fault::Malformed),
-        }
+        let tag = reader.u8()?;
+        read_option(alloc, tag, reader)
     }
 
     ghost is_form = { option_form T.is_form };

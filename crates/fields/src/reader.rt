@@ -60,7 +60,7 @@ impl<'a> Reader<'a> {
     }
 
     /// So many bytes.
-    fn bytes(&mut self, count: usize) -> Result<&'a [u8], Short>
+    pub fn bytes(&mut self, count: usize) -> Result<&'a [u8], Short>
         ensures reads { Reads (λ b. b.now) result self.old self.new (bytes_at count self.old.rest) }
         ensures len { IfOk result (λ b. length b.now ≡ count) }
     {
