@@ -1,1 +1,6 @@
 pub mod Reading
+pub mod Forms
+pub mod FieldLaws
+pub mod FormLaws
+pub mod ListLaws
+pub mod Gives

@@ -1,7 +1,8 @@
 //! Fields from the front of some bytes.
 
-ghost use Rattle.std.specs.Prelude.{◌≡◌, ◌↔◌, length, IsTrue, IfOk, []};
+ghost use Rattle.std.specs.Prelude.{◌≡◌, ◌<◌, ◌^◌, ◌↔◌, length, IsTrue, IfOk, []};
 ghost use Rattle.std.specs.Int.{w16, w32, w64};
+ghost use Rattle.fields.specs.Forms.{IsBytes};
 ghost use Rattle.fields.specs.Reading.{Cursor, Reads, u8_at, number_at, bytes_at, text_at};
 
 use crate::errors::Short;
@@ -28,6 +29,14 @@ impl<'a> Model for Reader<'a> {
     ghost invariant = { λ r. r.at + length r.rest.now < 2 ^ 64 };
 }
 
+/// The bytes, each of them below 256.
+fn as_bytes(bytes: &[u8]) -> &[u8]
+    ensures same { result.now ≡ bytes.now }
+    ensures bytes { IsBytes bytes.now }
+{
+    bytes
+}
+
 impl<'a> Reader<'a> {
     /// A reader at the start of these bytes.
     pub fn new(bytes: &'a [u8]) -> Reader<'a>
@@ -51,7 +60,7 @@ impl<'a> Reader<'a> {
     }
 
     /// So many bytes.
-    fn bytes(&mut self, count: usize) -> Result<&'a [u8], Short>
+    pub fn bytes(&mut self, count: usize) -> Result<&'a [u8], Short>
         ensures reads { Reads (λ b. b.now) result self.old self.new (bytes_at count self.old.rest) }
         ensures len { IfOk result (λ b. length b.now ≡ count) }
     {
@@ -94,6 +103,7 @@ impl<'a> Reader<'a> {
     #[tactic(auto, unfolding(crate::specs::Reading::text_at))]
     pub fn text(&mut self) -> Result<&'a [u8], Short>
         ensures reads { Reads (λ b. b.now) result self.old self.new (text_at self.old.rest) }
+        ensures short { IfOk result (λ b. length b.now < 2 ^ 16) }
     {
         let start = self.at;
         let bytes = self.rest;
@@ -116,6 +126,14 @@ impl<'a> Reader<'a> {
         let mut digest = [0u8; 32];
         digest.copy_from_slice(bytes);
         Ok(digest)
+    }
+
+    /// The bytes that are left.
+    pub fn rest(&self) -> &'a [u8]
+        ensures rest { result.now ≡ self.now.rest }
+        ensures bytes { IsBytes self.now.rest }
+    {
+        as_bytes(self.rest)
     }
 
     /// Whether no bytes are left.

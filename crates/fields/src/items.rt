@@ -1,0 +1,114 @@
+//! A list that a contract sees as its values.
+
+ghost use Rattle.std.specs.Prelude.{◌≡◌, ◌<◌, ◌≤◌, ◌++◌, ◌∷◌, [], ◌↔◌, length, OnOk, OnErr, IsTrue};
+ghost use Rattle.fields.specs.Forms.{items};
+ghost use Rattle.fields.specs.ListLaws.{items_form};
+
+use crate::errors::{Fault, Memory};
+use crate::formed::Formed;
+use crate::lists::{put_items, take_items};
+use crate::reader::Reader;
+use std::alloc::Global;
+use std::marker::Model;
+
+/// A list of at most `MOST` values. Contracts see it as the list of them.
+#[derive(Drop)]
+pub struct Items<T, const MOST: u32> {
+    values: Vec<T>,
+}
+
+impl<T, const MOST: u32> Model for Items<T, MOST> {
+    ghost use Rattle.std.specs.Prelude.{List, ◌≤◌, length};
+
+    ghost Value = { List T };
+
+    ghost view = { λ a. a.values.items };
+
+    ghost invariant = { λ a. length a.values.items ≤ MOST };
+}
+
+impl<T, const MOST: u32> Items<T, MOST> {
+    /// No values.
+    pub fn new(alloc: Global) -> Items<T, MOST>
+        ensures { result ≡ [] }
+    {
+        Items {
+            values: Vec::new(alloc),
+        }
+    }
+
+    /// These values.
+    pub fn from_vec(values: Vec<T>) -> Items<T, MOST>
+        requires { length values.items ≤ MOST }
+        ensures { result ≡ values.items }
+    {
+        Items { values }
+    }
+
+    /// The values, which take no new memory.
+    pub fn into_vec(self) -> Vec<T>
+        ensures same { result.items ≡ self }
+        ensures few { length result.items ≤ MOST }
+    {
+        let Items { values } = self;
+        values
+    }
+
+    /// The values in order.
+    pub fn as_slice(&self) -> &[T]
+        ensures same { result.now ≡ self.now }
+        ensures few { length self.now ≤ MOST }
+    {
+        self.values.as_slice()
+    }
+
+    /// How many values there are.
+    pub fn len(&self) -> usize
+        ensures len { result ≡ length self.now }
+        ensures few { result ≤ MOST }
+    {
+        self.values.len()
+    }
+
+    /// Whether there are none.
+    pub fn is_empty(&self) -> bool
+        ensures { IsTrue result ↔ (length self.now ≡ 0) }
+    {
+        self.values.is_empty()
+    }
+
+    /// Whether there is no room for another.
+    pub fn is_full(&self) -> bool
+        ensures { IsTrue result ↔ (length self.now ≡ MOST) }
+    {
+        self.values.len() >= MOST as usize
+    }
+}
+
+impl<T: Drop, const MOST: u32> Items<T, MOST> {
+    /// Adds a value at the end. An `Err` changes nothing.
+    pub fn push(&mut self, value: T) -> Result<(), Memory>
+        requires { length self.old < MOST }
+        ensures ok { OnOk result (self.new ≡ self.old ++ value ∷ []) }
+        ensures err { OnErr result (self.new ≡ self.old) }
+    {
+        self.values.push(value)?;
+        Ok(())
+    }
+}
+
+/// The values' number in four bytes, and the values.
+impl<T: Formed, const MOST: u32> Formed for Items<T, MOST> {
+    ghost form = { items MOST T.form };
+
+    fn write_to(&self, out: &mut Vec<u8>) -> Result<(), Memory> {
+        put_items(out, self.as_slice())
+    }
+
+    fn read_from(alloc: Global, reader: &mut Reader<'_>) -> Result<Self, Fault> {
+        let values = take_items(alloc, reader, MOST)?;
+        Ok(Items { values })
+    }
+
+    ghost is_form = { items_form MOST T.is_form };
+}
