@@ -1,0 +1,10 @@
+mod Joins
+mod Last
+mod Logging
+mod Machines
+mod Opening
+mod Pieces
+mod Served
+mod Serving
+mod Simulation
+mod Words

@@ -1,0 +1,11 @@
+pub mod Answers
+pub mod Books
+pub mod Files
+pub mod Found
+pub mod Journal
+pub mod Line
+pub mod Machine
+pub mod Paths
+pub mod Serve
+pub mod Server
+pub mod Steps

@@ -1,0 +1,17 @@
+//! The server's top call: a script of commands in, reply lines and an exit status out, over any store.
+#![tactic(auto)]
+
+mod book;
+mod device;
+mod entry;
+mod line;
+mod lookup;
+mod prepare;
+mod record;
+mod reply;
+mod server;
+mod text;
+mod top;
+
+pub use entry::{Early, Path};
+pub use top::{Ended, serve};
