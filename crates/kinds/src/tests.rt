@@ -117,34 +117,49 @@ fn paths_have_up_to_1024_bytes(rt: HostRuntime) -> Result<(), Fail> {
 }
 
 #[test]
-fn copies_are_equal(rt: HostRuntime) -> Result<(), Fail> {
-    let alloc = rt.alloc();
-    let domain = Name::read(alloc, b"standard", 30)?;
-    assert_eq!(rt; domain.clone()?, domain);
-    let policy = PolicyChange::Activate {
-        domain: domain.clone()?,
-        set: Name::read(alloc, b"active", 30)?,
+fn a_copied_policy_change_is_equal(rt: HostRuntime) -> Result<(), Fail> {
+    let change = PolicyChange::Activate {
+        domain: Name::read(rt.alloc(), b"standard", 30)?,
+        set: Name::read(rt.alloc(), b"active", 30)?,
     };
-    assert_eq!(rt; policy.clone()?, policy);
-    let filespace = ObjectChange::Filespace {
+    assert_eq!(rt; change.clone()?, change);
+    Ok(())
+}
+
+#[test]
+fn a_copied_filespace_is_equal(rt: HostRuntime) -> Result<(), Fail> {
+    let change = ObjectChange::Filespace {
         verb: DefineOrDelete::Define,
         node: 1,
-        name: FilespaceName::read(alloc, b"/home")?,
+        name: FilespaceName::read(rt.alloc(), b"/home")?,
         filespace: 7,
     };
-    assert_eq!(rt; filespace.clone()?, filespace);
-    let pool = PoolChange::DevClass {
-        verb: DefineOrDelete::Delete,
-        class: domain,
-        capacity: Capacity::new(65536).ok_or("a capacity")?,
+    assert_eq!(rt; change.clone()?, change);
+    Ok(())
+}
+
+#[test]
+fn a_copied_volume_is_equal(rt: HostRuntime) -> Result<(), Fail> {
+    let change = PoolChange::Volume {
+        verb: Verb::Define,
+        volume: Name::read(rt.alloc(), b"disk1", 30)?,
+        pool: 1,
+        file: 4,
+        capacity: Capacity::new(1 << 20).ok_or("a capacity")?,
+        access: Access::ReadWrite,
     };
-    assert_eq!(rt; pool.clone()?, pool);
+    assert_eq!(rt; change.clone()?, change);
+    Ok(())
+}
+
+#[test]
+fn copied_segments_are_equal(rt: HostRuntime) -> Result<(), Fail> {
     let segment = Segment {
         file: 4,
         offset: 4096,
         len: 5,
     };
-    let segments = Segments::new([segment].to_vec(alloc)?);
+    let segments = Segments::new([segment].to_vec(rt.alloc())?);
     assert_eq!(rt; segments.clone()?, segments);
     Ok(())
 }
