@@ -1,4 +1,5 @@
 mod Added
+mod Left
 mod Pending
 mod Told
 mod Undo

@@ -4,7 +4,8 @@ ghost use Rattle.store_api.specs.Told.{ReadsFrom};
 
 use crate::entry::Kind;
 use crate::mem::MemStore;
-use store_api::{Failed, Store};
+use crate::stops::stop_all;
+use store_api::{Failed, Stop, Store};
 
 // Copies what stands from an offset on, as much as the buffer holds, and answers how many bytes that are.
 fn copy_from(bytes: &[u8], offset: usize, into: &mut [u8]) -> usize
@@ -91,6 +92,49 @@ impl Store for MemStore {
         match self.keep(file, Kind::Sync, 0, &[]) {
             Ok(()) => Ok(()),
             Err(_) => Err(self.fail(file)),
+        }
+    }
+}
+
+impl Stop for MemStore {
+    ghost use Rattle.std.specs.Prelude.{ℕ, ◌≡◌};
+    ghost use Rattle.store_api.specs.Cause.{NoneFell};
+    ghost use Rattle.store_api.specs.Told.{StopsAs};
+    ghost use Rattle.mem_store.specs.Mem.{bytes_of, kept_calls, history_of, moment_of, faults_of};
+    ghost use Rattle.mem_store.specs.Stops.{stopped};
+
+    /// The store after a stop now and a start. Of each file the writes since its last successful sync, those that failed
+    /// included, are numbered from 0 in order; write i is kept where bit i mod 63 of `choice` is 1. Where bit 63 is 1 the
+    /// last of them is kept in its first half, rounded down, and its other bytes become 0xA5. Cuts since the last sync are
+    /// kept. The counts of faults, the moment and the list of moments that fail stay.
+    fn stop(self, choice: u64) -> Self
+        ensures told { StopsAs (history_of self) (history_of result) }
+        ensures time { moment_of result ≡ moment_of self }
+        ensures counts { NoneFell (faults_of self) (faults_of result) }
+        ensures exact { (file : ℕ) → bytes_of result file ≡ stopped choice (kept_calls self) file (bytes_of self file) }
+    {
+        let MemStore {
+            alloc,
+            mut files,
+            entries,
+            idles: _,
+            began: _,
+            moment,
+            failing,
+            counts,
+            shared,
+        } = self;
+        stop_all(&mut files, choice, &entries);
+        MemStore {
+            alloc,
+            files,
+            entries: Vec::new(alloc),
+            idles: 0,
+            began: moment,
+            moment,
+            failing,
+            counts,
+            shared,
         }
     }
 }

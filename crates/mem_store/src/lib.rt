@@ -8,3 +8,6 @@ mod mem;
 mod stops;
 
 pub use mem::MemStore;
+
+#[cfg(test)]
+mod tests;
