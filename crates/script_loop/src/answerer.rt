@@ -17,7 +17,8 @@ pub trait Answerer {
     /// So many more lines may be given.
     ghost can_take: { Self → ℕ → Type 0 };
 
-    /// Answers a line, which has no CR and LF at its end. After it at most `left` lines may still come.
+    /// Answers a line, given without its LF and the CR before it. After it at most `left` lines may still come. An end
+    /// of the run prints nothing of the line.
     fn answer(&mut self, alloc: Global, line: &[u8], left: u32) -> Result<Reply, Halt>
         requires { can_take self.old (left + 1) }
         ensures served { IfOk result (λ reply. serves self.old line.now reply self.new) }

@@ -8,6 +8,8 @@ mod reader;
 mod reply;
 mod script;
 mod tally;
+#[cfg(test)]
+mod tests;
 
 pub use answerer::Answerer;
 pub use ends::{End, Halt, put_last};
