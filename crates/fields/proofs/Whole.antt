@@ -1,5 +1,5 @@
 -- A value that the bytes begin with, and bytes that are a value's whole spelling.
-use Rattle.std.proofs.Common.{◌≡◌, ℕ, List, [], ◌++◌, Option, Some, None, Bool, true, false, sym, ◌∙◌}
+use Rattle.std.proofs.Common.{◌≡◌, ℕ, List, [], ◌++◌, Option, Some, None, sym, ◌∙◌}
 use Rattle.std.specs.Prelude.{IfSome, IfNone}
 use Rattle.std.proofs.lemmas.List.{append-nil}
 use Rattle.fields.specs.Forms.{Form, IsForm}

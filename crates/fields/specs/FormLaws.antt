@@ -1,12 +1,12 @@
 -- The forms that are made of others keep the laws of a form.
-use Rattle.std.proofs.Common.{◌≡◌, ℕ, zero, suc, ◌+◌, ◌-◌, ◌^◌, ◌<◌, ◌≤◌, Bool, true, false, List, [], ◌∷◌, ◌++◌, length, get_or, Option, Some, None, refl, sym, ap, subst, ◌∙◌, append_assoc, arith, inl, inr, eqb}
-use Rattle.std.specs.Prelude.{IfSome, IsTrue, nat_lt, ◌==◌, if◌then◌else◌, unwrap_or}
+use Rattle.std.proofs.Common.{◌≡◌, ℕ, suc, ◌-◌, ◌^◌, ◌<◌, Bool, true, false, List, [], ◌∷◌, ◌++◌, Option, Some, None, refl, sym, ap, subst, ◌∙◌, append_assoc, arith}
+use Rattle.std.specs.Prelude.{IfSome, ◌==◌, if◌then◌else◌, unwrap_or}
 use Rattle.std.specs.Int.{Width, byte_len, to_be_bytes}
 use Rattle.std.proofs.lemmas.Option.{same_Some}
 use Rattle.std.proofs.lemmas.Bool.{eqb-true, eqb-false, eq-eqb}
-use Rattle.fields.specs.Reading.{◌>>=◌, u8_at, number_at}
-use Rattle.fields.specs.Forms.{Form, IsBytes, IsTaken, IsForm, byte, number, nothing, pair, viewed, partly, variant, spell_part, FitsPart, only, marked, tagged, choose, row, no_more, option, option_tag, none, value_of, coded, flag, limit}
-use Rattle.fields.specs.FieldLaws.{bind_some, goes_on_if, IsBytes-rest, byte_form, number_form, nothing_form, IsWide}
+use Rattle.fields.specs.Reading.{◌>>=◌, number_at}
+use Rattle.fields.specs.Forms.{Form, IsBytes, IsTaken, IsForm, pair, viewed, partly, variant, spell_part, FitsPart, only, marked, tagged, choose, row, no_more, option, option_tag, none, value_of, coded, flag, limit}
+use Rattle.fields.specs.FieldLaws.{bind_some, goes_on_if, IsBytes-rest, number_form, nothing_form, IsWide}
 
 -- ---- one after the other
 

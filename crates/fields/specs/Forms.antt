@@ -1,5 +1,5 @@
 -- Forms of bytes as values: how a value is spelled, how it is read from the front of some bytes, and which values have a spelling.
-use Rattle.std.specs.Prelude.{◌≡◌, ℕ, slice_index, zero, suc, ◌+◌, ◌-◌, ◌^◌, ◌<◌, ◌≤◌, List, [], ◌∷◌, ◌++◌, length, map, Bool, true, false, ◌&&◌, Option, Some, None, IfSome, IsTrue, nat_lt, ◌==◌, if◌then◌else◌, unwrap_or, slice_get}
+use Rattle.std.specs.Prelude.{◌≡◌, ℕ, slice_index, zero, suc, ◌-◌, ◌^◌, ◌<◌, ◌≤◌, List, [], ◌∷◌, ◌++◌, length, Bool, true, false, ◌&&◌, Option, Some, None, IfSome, IsTrue, nat_lt, ◌==◌, if◌then◌else◌, unwrap_or, slice_get}
 use Rattle.std.specs.Int.{Width, w16, w32, byte_len, to_be_bytes}
 use Rattle.std.specs.List.{flat_map, AllByRecursion}
 use Rattle.std.specs.Option.{option_map}

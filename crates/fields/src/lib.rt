@@ -1,4 +1,15 @@
-//! Numbers and texts as bytes.
+//! Values as bytes.
+//!
+//! A field is a number with its highest byte first, a text (its length in two bytes, and its bytes) or a digest's
+//! 32 bytes: the `put` calls write one at the end of a `Vec`, and a `Reader` reads one after the other from a slice.
+//!
+//! A type that is `Formed` says how its values are spelled: its form is made of those in `specs/Forms.antt`, and is
+//! shown to be one by the laws that stand under the same names in `specs/FieldLaws.antt`, `specs/FormLaws.antt` and
+//! `specs/ListLaws.antt`. Then `encode` gives the one spelling of a value, and `decode` the value of a spelling, or that
+//! the bytes are no value's.
+//!
+//! In an enum whose variants stand under tags, what follows the tag is best read by a function of the tag, whose
+//! clause names the table of tags at that number: so each arm is proved by itself.
 #![tactic(auto)]
 
 mod errors;

@@ -1,4 +1,4 @@
-//! Fields at the end of some bytes.
+//! Fields at the end of some bytes. An `Err` leaves the bytes as they were.
 
 ghost use Rattle.std.specs.Prelude.{◌≡◌, ◌<◌, ◌^◌, ◌++◌, ◌∷◌, [], length, OnOk, OnErr};
 ghost use Rattle.std.specs.Int.{w16, w32, w64, to_be_bytes};

@@ -1,4 +1,4 @@
-use Rattle.std.proofs.Common.{◌≡◌, refl, sym, ◌∙◌}
+use Rattle.std.proofs.Common.{refl, sym, ◌∙◌}
 use Rattle.fields.proofs.Entries.{insert_entry-last}
 use Rattle.fields.proofs.maps.take_entry.Goals as goal
 
