@@ -14,4 +14,4 @@ mod text;
 mod top;
 
 pub use entry::{Early, Path};
-pub use top::{Ended, serve};
+pub use top::{Ended, USAGE, serve};

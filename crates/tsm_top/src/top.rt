@@ -34,7 +34,8 @@ pub struct Ended<S: Store> {
 // A store whose moment has come this far takes no run.
 const FULL: u64 = (1 << 62) - (1 << 24);
 
-const USAGE: &[u8] = b"USAGE format | run | fresh | restoredb FILE DAY [FILES] | load N\n";
+/// The line that is put where the words are no command.
+pub const USAGE: &[u8] = b"USAGE format | run | fresh | restoredb FILE DAY [FILES] | load N\n";
 
 // Whether the words are the one command.
 fn is_fresh(words: &[String]) -> bool

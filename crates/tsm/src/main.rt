@@ -1,0 +1,50 @@
+//! The program: a script of commands on standard input, answers on standard output, and an exit status.
+#![tactic(auto)]
+
+mod streams;
+
+use mem_store::MemStore;
+use std::alloc::Global;
+use std::process::ExitCode;
+use std::env::Env;
+use std::{env, io};
+use streams::{StdSink, StdSource};
+use tree_api::{Sink, put_all};
+use tsm_top::serve;
+
+const NO_COMMAND: u8 = 2;
+const SINK_FAULT: u8 = 4;
+const NO_MEMORY: u8 = 8;
+
+fn main(rt: HostRuntime) -> ExitCode {
+    let alloc = rt.alloc();
+    let mut out = StdSink::new(io::writer(&rt));
+    let words = match words(&rt) {
+        Ok(words) => words,
+        Err(error) => return ExitCode::from(refused(&error, &mut out)),
+    };
+    let mut script = StdSource::new(rt.reader());
+    let ended = serve(alloc, &words, MemStore::new(alloc), &mut script, &mut out);
+    ExitCode::from(ended.status)
+}
+
+// The words behind the program's name.
+fn words<R: Env + AllocGlobal>(rt: &R) -> io::Result<Vec<String<Global>>> {
+    let mut words = Vec::new(rt.alloc());
+    for word in env::args(rt)?.skip(1) {
+        words.push(word)?;
+    }
+    Ok(words)
+}
+
+// The status where the words can't be read: a word that is no text is no command.
+fn refused<O: Sink>(error: &io::Error, out: &mut O) -> u8 {
+    let (status, line) = match error.kind() {
+        io::ErrorKind::OutOfMemory => (NO_MEMORY, b"MEMORY\n".as_slice()),
+        _ => (NO_COMMAND, tsm_top::USAGE),
+    };
+    match put_all(out, line) {
+        Ok(()) => status,
+        Err(_) => SINK_FAULT,
+    }
+}
