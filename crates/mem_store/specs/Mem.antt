@@ -22,6 +22,10 @@ kept_calls m = m.entries.items
 abbrev pub history_of : MemStore → History
 history_of m = record { first = first_of m.files m.entries.items; began = m.began; calls = replicate m.idles idle ++ calls_onto [] m.entries.items }
 
+-- the moments at which a call is to fail
+abbrev pub failing_of : MemStore → List ℕ
+failing_of m = m.failing.items
+
 -- the moment
 abbrev pub moment_of : MemStore → ℕ
 moment_of m = m.moment

@@ -100,7 +100,7 @@ impl Stop for MemStore {
     ghost use Rattle.std.specs.Prelude.{ℕ, ◌≡◌};
     ghost use Rattle.store_api.specs.Cause.{NoneFell};
     ghost use Rattle.store_api.specs.Told.{StopsAs};
-    ghost use Rattle.mem_store.specs.Mem.{bytes_of, kept_calls, history_of, moment_of, faults_of};
+    ghost use Rattle.mem_store.specs.Mem.{bytes_of, kept_calls, failing_of, history_of, moment_of, faults_of};
     ghost use Rattle.mem_store.specs.Stops.{stopped};
 
     /// The store after a stop now and a start. Of each file the writes since its last successful sync, those that failed
@@ -111,6 +111,7 @@ impl Stop for MemStore {
         ensures told { StopsAs (history_of self) (history_of result) }
         ensures time { moment_of result ≡ moment_of self }
         ensures counts { NoneFell (faults_of self) (faults_of result) }
+        ensures failing { failing_of result ≡ failing_of self }
         ensures exact { (file : ℕ) → bytes_of result file ≡ stopped choice (kept_calls self) file (bytes_of self file) }
     {
         let MemStore {

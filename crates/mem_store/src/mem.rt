@@ -30,13 +30,14 @@ pub struct MemStore {
 }
 
 impl MemStore {
-    ghost use Rattle.std.specs.Prelude.{IfOk, OnOk, OnErr};
+    ghost use Rattle.std.specs.Prelude.{OnOk, OnErr, ◌==◌};
+    ghost use Rattle.std.specs.List.{list_any};
     ghost use Rattle.store_api.specs.Cause.{Rose, NoneFell};
     ghost use Rattle.store_api.specs.Disk.{on, with_call, reads};
     ghost use Rattle.mem_store.specs.Entries.{change_of};
     ghost use Rattle.mem_store.specs.Files.{reach};
     ghost use Rattle.store_api.specs.Told.{Adds};
-    ghost use Rattle.mem_store.specs.Mem.{history_of, moment_of, faults_of, MayFail};
+    ghost use Rattle.mem_store.specs.Mem.{history_of, moment_of, faults_of, failing_of, MayFail};
 
     /// An empty store: nothing was written, no call was made and none has failed.
     pub fn new(alloc: Global) -> MemStore
@@ -61,6 +62,7 @@ impl MemStore {
     /// The store whose device calls fail that begin at these moments, in place of those that were listed before. A write
     /// that fails so leaves the old bytes readable, but a stop may leave anything in its range.
     pub fn with_failing(self, moments: Vec<u64>) -> MemStore
+        ensures listed { failing_of result ≡ moments.items }
         ensures told { history_of result ≡ history_of self }
         ensures moment { moment_of result ≡ moment_of self }
         ensures faults { (file : ℕ) → faults_of result file ≡ faults_of self file }
@@ -78,7 +80,9 @@ impl MemStore {
     }
 
     // The call that begins now is to fail.
-    pub(crate) fn is_listed(&self) -> bool {
+    pub(crate) fn is_listed(&self) -> bool
+        ensures { result ≡ list_any (λ m. m == moment_of self.now) (failing_of self.now) }
+    {
         self.failing.contains(&self.moment)
     }
 
