@@ -5,15 +5,17 @@ mod streams;
 
 use mem_store::MemStore;
 use std::alloc::Global;
-use std::process::ExitCode;
 use std::env::Env;
+use std::process::ExitCode;
 use std::{env, io};
 use streams::{StdSink, StdSource};
 use tree_api::{Sink, put_all};
 use tsm_top::serve;
 
 const NO_COMMAND: u8 = 2;
+
 const SINK_FAULT: u8 = 4;
+
 const NO_MEMORY: u8 = 8;
 
 fn main(rt: HostRuntime) -> ExitCode {
