@@ -1,5 +1,5 @@
 -- An entry in the log, by the calls that append its record.
-use Rattle.std.proofs.Common.{◌≡◌, ◌⊎◌, inl, ℕ, ◌+◌, Option, List, [], ◌∷◌, length, Result, Ok, Err, sym, subst}
+use Rattle.std.proofs.Common.{◌≡◌, ◌⊎◌, inl, ℕ, ◌+◌, Option, List, ◌∷◌, length, Result, Ok, Err, sym, subst}
 use Rattle.store_api.specs.Disk.{History, now}
 use Rattle.store_api.specs.Told.{Told}
 use Rattle.store_api.proofs.Runs.{told_map, goes_none, each_weaker}

@@ -1,5 +1,5 @@
 -- A run of the server is a run of the machine over what is kept.
-use Rattle.std.proofs.Common.{◌≡◌, ◌⊎◌, inl, inr, ⊎_elim, ℕ, ◌+◌, ◌≤◌, Bool, Option, None, Some, is_some, IfSome, List, [], ◌∷◌, length, refl, sym, ◌∙◌, ap, subst, arith}
+use Rattle.std.proofs.Common.{◌≡◌, ◌⊎◌, inl, inr, ℕ, ◌+◌, ◌≤◌, Bool, Option, None, Some, is_some, IfSome, List, [], ◌∷◌, length, refl, sym, ◌∙◌, ap, subst, arith}
 use Rattle.store_api.specs.Cause.{Rose}
 use Rattle.store_api.specs.Disk.{History, now}
 use Rattle.store_api.specs.Told.{Told}
@@ -17,7 +17,7 @@ use Rattle.tsm_top.specs.Books.{Pages}
 use Rattle.tsm_top.specs.Line.{Request, asked}
 use Rattle.tsm_top.specs.Machine.{Kept, journal_of, text_of, with_kept, after_request, FramesHave, Replies, Stops, AllSafe, Stamped, Timely}
 use Rattle.tsm_top.specs.Server.{ServesLine, HaltsLine}
-use Rattle.tsm_top.specs.Steps.{with_entry, ServesRequest, HaltsRequest, FilesAfter, FilesKept, ShowsAll, MayDoubt, HaltsPages, FirmIn, Later}
+use Rattle.tsm_top.specs.Steps.{with_entry, ServesRequest, FilesAfter, FilesKept, ShowsAll, MayDoubt, FirmIn, Later}
 use Rattle.tsm_top.proofs.Simulation.{Placed, told_both, told_goes, told_some, some_map, same_journal, placed_after, shows_request}
 use Rattle.tsm_top.proofs.Safety.{Sound, stamps_with, lengths_with, timely_with, timely_later, answered, halted_more, halted_same}
 use Rattle.tsm_top.proofs.Served.{later_then, rose_since}

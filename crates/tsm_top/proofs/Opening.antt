@@ -1,5 +1,5 @@
 -- A log is begun and read back, and then a script is run over it.
-use Rattle.std.proofs.Common.{◌≡◌, ◌⊎◌, ⊎_elim, ℕ, ◌+◌, ◌≤◌, false, Option, None, Some, is_some, IfSome, List, [], ◌∷◌, ◌++◌, Result, Ok, Err, Vec, Global, reverse, refl, sym, ◌∙◌, ap, subst, arith}
+use Rattle.std.proofs.Common.{◌≡◌, ⊎_elim, ℕ, ◌≤◌, false, Option, None, Some, is_some, IfSome, List, [], ◌∷◌, ◌++◌, Result, Ok, Err, Vec, Global, reverse, refl, sym, ◌∙◌, ap, subst, arith}
 use Rattle.store_api.specs.Cause.{NoneFell}
 use Rattle.store_api.specs.Disk.{History, now, reads, ImageAt}
 use Rattle.store_api.specs.Told.{Told}

@@ -12,8 +12,7 @@ use Rattle.log_file.specs.Starts.{Opened}
 use Rattle.log_file.specs.Windows.{NoDamage}
 use Rattle.log_file.proofs.Starting.{Underway, under_sure}
 use Rattle.tsm_top.specs.declared.entry.Early.{Early}
-use Rattle.tsm_top.specs.declared.recovery.EarlyRefused.{EarlyRefused}
-use Rattle.tsm_top.specs.declared.recovery.EarlyRefused.TheVariants.{Fault, Damaged, RunFull, Memory}
+use Rattle.tsm_top.specs.declared.recovery.EarlyRefused.TheVariants.{Damaged, Memory}
 use Rattle.tsm_top.specs.EntryForm.{entry_form}
 use Rattle.tsm_top.specs.Logs.{entry_bytes}
 use Rattle.tsm_top.specs.Recovery.{Recovered, IsForeign, SaysBroken, early_of, records_of}

@@ -1,8 +1,7 @@
 -- What images of the store give back, from one request to the next.
-use Rattle.std.proofs.Common.{◌≡◌, ◌⊎◌, ⊎_elim, inl, inr, ℕ, ◌+◌, ◌<◌, ◌≤◌, Bool, true, false, cond, leb, Option, None, Some, List, [], ◌∷◌, ◌++◌, length, refl, sym, ◌∙◌, ap, subst, arith, if◌then◌else◌}
+use Rattle.std.proofs.Common.{◌≡◌, ⊎_elim, inl, inr, ℕ, ◌<◌, ◌≤◌, Bool, true, false, leb, Option, None, Some, List, [], ◌∷◌, ◌++◌, length, refl, sym, ◌∙◌, ap, subst, arith, if◌then◌else◌}
 use Rattle.std.proofs.lemmas.Bool.{cases_lt, lt-leb}
 use Rattle.std.proofs.lemmas.List.{append_assoc}
-use Rattle.std.specs.List.{AllByRecursion}
 use Rattle.store_api.specs.Disk.{History, now, standing, ImageAt}
 use Rattle.store_api.proofs.Runs.{goes_later, goes_image_before, now_image}
 use Rattle.store_api.proofs.Standings.{leaves_firm}
@@ -13,7 +12,7 @@ use Rattle.tsm_top.specs.Files.{IsOurs}
 use Rattle.tsm_top.specs.Line.{Request}
 use Rattle.tsm_top.specs.Logs.{log_payloads, LogHas, LoggedIn}
 use Rattle.tsm_top.specs.Machine.{Kept, journal_of, text_of, with_kept, after_request, FramesHave, GivesBack, reached, Safe, AllSafe, Timely}
-use Rattle.tsm_top.specs.Steps.{FilesAfter, FilesKept, EitherLog, PutHas, StandsIn, FirmIn}
+use Rattle.tsm_top.specs.Steps.{FilesAfter, FilesKept, PutHas, StandsIn, FirmIn}
 use Rattle.tsm_top.proofs.Simulation.{Placed, placed_after, frames_to, frames_after}
 
 -- what the files of a store hold of what is kept

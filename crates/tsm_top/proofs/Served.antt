@@ -1,5 +1,5 @@
 -- A PUT and a GET were answered, or ended the run, as they are to.
-use Rattle.std.proofs.Common.{◌≡◌, ⊎_elim, inl, inr, ℕ, ◌+◌, ◌<◌, ◌≤◌, ltb, true, false, Option, None, Some, List, [], ◌∷◌, ◌++◌, length, drop, Result, Ok, Err, IfOk, IfErr, refl, sym, ◌∙◌, ap, subst, codes, decimal, arith}
+use Rattle.std.proofs.Common.{◌≡◌, inl, ℕ, ◌+◌, ◌<◌, ◌≤◌, ltb, true, false, Option, None, Some, List, [], ◌∷◌, ◌++◌, length, drop, Result, Ok, Err, IfOk, IfErr, refl, sym, ◌∙◌, ap, subst, codes, decimal, arith}
 use Rattle.std.proofs.lemmas.Bool.{lt-ltb}
 use Rattle.store_api.specs.declared.store.Failed.{Failed}
 use Rattle.store_api.specs.Cause.{Rose}

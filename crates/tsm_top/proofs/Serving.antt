@@ -1,22 +1,20 @@
 -- What the files hold after each kind of request.
-use Rattle.std.proofs.Common.{◌≡◌, ◌⊎◌, ⊎_elim, inl, inr, ℕ, ◌+◌, ◌≤◌, ltb, false, Option, None, Some, List, [], ◌∷◌, length, drop, Result, Ok, Err, OnOk, ◌<◌, refl, sym, ◌∙◌, ap, subst, arith, length-append, length-drop}
+use Rattle.std.proofs.Common.{◌≡◌, ◌⊎◌, ⊎_elim, inl, inr, ℕ, ◌+◌, ◌≤◌, ltb, false, Option, None, Some, List, [], length, drop, Result, Ok, Err, OnOk, ◌<◌, refl, ◌∙◌, ap, arith, length-append, length-drop}
 use Rattle.std.proofs.lemmas.Bool.{le-ltb}
 use Rattle.std.proofs.lemmas.List.{drop_at}
 use Rattle.store_api.specs.declared.store.Failed.{Failed}
-use Rattle.store_api.specs.Disk.{History, reads, standing, now}
-use Rattle.store_api.specs.Runs.{Stands, Firm, GoesOn, EachImage, ReadWithin, WroteSynced}
+use Rattle.store_api.specs.Disk.{History, standing, now}
+use Rattle.store_api.specs.Runs.{Stands, Firm, GoesOn, ReadWithin, WroteSynced}
 use Rattle.store_api.specs.Told.{Told}
 use Rattle.store_api.proofs.Runs.{goes_none, goes_then, goes_weaker, each_then, each_weaker}
 use Rattle.store_api.proofs.Pieces.{firm_beside, firm_since}
 use Rattle.log_file.proofs.Logs.{sure_beside, sure_since}
 use Rattle.script_loop.specs.declared.ends.Halt.{Halt}
 use Rattle.tsm_top.specs.declared.entry.Early.{Early}
-use Rattle.tsm_top.specs.declared.entry.Early.TheVariants.{Day}
-use Rattle.tsm_top.specs.Answers.{file_entry}
 use Rattle.tsm_top.specs.Files.{Framed, IsOurs}
 use Rattle.tsm_top.specs.Journal.{today, objects, frames_end, frame, frame_header, newest, Place}
 use Rattle.tsm_top.specs.Line.{Request, day, put, get}
-use Rattle.tsm_top.specs.Logs.{log_payloads, LogHas, LoggedIn}
+use Rattle.tsm_top.specs.Logs.{log_payloads, LoggedIn}
 use Rattle.tsm_top.specs.Steps.{FilesKept, FilesAfter, EitherLog, PutHas, StandsIn, FirmIn, Logged, ShowsFrame, ShowsAll}
 
 -- what neither changes nor begins nor ceases to tell tells the same

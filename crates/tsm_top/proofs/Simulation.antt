@@ -1,5 +1,5 @@
 -- Each step of the server is a step of the machine over what is kept.
-use Rattle.std.proofs.Common.{◌≡◌, ℕ, ◌+◌, ◌≤◌, Bool, true, false, cond, ltb, Option, None, Some, is_some, IfSome, List, [], ◌∷◌, length, refl, sym, ◌∙◌, ap, subst, arith, nat_eq}
+use Rattle.std.proofs.Common.{◌≡◌, ℕ, ◌+◌, ◌≤◌, Bool, true, false, cond, ltb, Option, None, Some, is_some, IfSome, List, [], ◌∷◌, length, refl, sym, ◌∙◌, ap, arith, nat_eq}
 use Rattle.std.specs.Option.{option_or}
 use Rattle.std.specs.Cmp.Lexicographic.{pointwise}
 use Rattle.store_api.specs.Disk.{History, reads}

@@ -1,4 +1,4 @@
-use Rattle.std.proofs.Common.{ℕ, inl, inr, refl, sym, subst, is_some, arith}
+use Rattle.std.proofs.Common.{inl, inr, refl, sym, subst, is_some, arith}
 use Rattle.tsm_top.specs.Serve.{closed, unopened_by, OpensNot, RoseBetween}
 use Rattle.tsm_top.proofs.Opening.{empty_again, tell_open, opens_not}
 use Rattle.tsm_top.proofs.top.open.Goals as goal

@@ -1,11 +1,7 @@
-use Rattle.std.proofs.Common.{◌∙◌, sym, ap, subst, List, Result, Err}
-use Rattle.store_api.specs.Told.{Told}
-use Rattle.script_loop.specs.declared.ends.Halt.{Halt}
+use Rattle.std.proofs.Common.{◌∙◌, ap}
 use Rattle.script_loop.specs.declared.ends.Halt.TheVariants.{LogFault, Memory}
 use Rattle.log_file.specs.Sure.{State}
-use Rattle.tsm_top.specs.declared.entry.Early.{Early}
 use Rattle.tsm_top.specs.Books.{Pages}
-use Rattle.tsm_top.specs.Steps.{Logged}
 use Rattle.tsm_top.proofs.Committing.{told_none, told_ok, told_not}
 use Rattle.tsm_top.proofs.server.Server.commit.Goals as goal
 

@@ -1,4 +1,4 @@
-use Rattle.std.proofs.Common.{◌≡◌, ◌∙◌, ℕ, ◌-◌, List, length, take, drop, Some, IfOk, sym, ap, subst, refl, inl}
+use Rattle.std.proofs.Common.{◌≡◌, ◌∙◌, ℕ, ◌-◌, List, length, take, drop, Some, IfOk, sym, ap, subst, refl}
 use Rattle.std.proofs.lemmas.List.{take_rest}
 use Rattle.tsm_top.specs.Answers.{reading}
 use Rattle.tsm_top.specs.Found.{place_of}

@@ -1,4 +1,4 @@
-use Rattle.std.proofs.Common.{◌≡◌, ◌≤◌, Some, arith, ltb, false}
+use Rattle.std.proofs.Common.{◌≤◌, Some, arith}
 use Rattle.tsm_top.proofs.Serving.{day_forward}
 use Rattle.tsm_top.proofs.Served.{served_day, halted_day, served_day_back, halted_if, halted_same}
 use Rattle.tsm_top.specs.Journal.{today}
