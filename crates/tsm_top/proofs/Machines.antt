@@ -1,5 +1,5 @@
 -- A run of the server is a run of the machine over what is kept.
-use Rattle.std.proofs.Common.{◌≡◌, ◌⊎◌, inl, inr, ℕ, ◌+◌, ◌≤◌, Bool, Option, None, Some, is_some, IfSome, List, [], ◌∷◌, length, refl, sym, ◌∙◌, ap, subst, arith}
+use Rattle.std.proofs.Common.{◌≡◌, inl, inr, ℕ, ◌+◌, ◌≤◌, Bool, Option, None, Some, is_some, IfSome, List, [], ◌∷◌, length, refl, sym, ◌∙◌, ap, subst, arith}
 use Rattle.store_api.specs.Cause.{Rose}
 use Rattle.store_api.specs.Disk.{History, now}
 use Rattle.store_api.specs.Told.{Told}
@@ -15,7 +15,7 @@ use Rattle.tsm_top.specs.declared.server.Server.{Server}
 use Rattle.tsm_top.specs.Answers.{answer_to, added_entry}
 use Rattle.tsm_top.specs.Books.{Pages}
 use Rattle.tsm_top.specs.Line.{Request, asked}
-use Rattle.tsm_top.specs.Machine.{Kept, journal_of, text_of, with_kept, after_request, FramesHave, Replies, Stops, AllSafe, Stamped, Timely}
+use Rattle.tsm_top.specs.Machine.{Kept, journal_of, text_of, with_kept, after_request, FramesHave, Replies, Stops, AllSafe, HaltStamped, Stamped, own_end, Timely}
 use Rattle.tsm_top.specs.Server.{ServesLine, HaltsLine}
 use Rattle.tsm_top.specs.Steps.{with_entry, ServesRequest, FilesAfter, FilesKept, ShowsAll, MayDoubt, FirmIn, Later}
 use Rattle.tsm_top.proofs.Simulation.{Placed, told_both, told_goes, told_some, some_map, same_journal, placed_after, shows_request}
@@ -27,12 +27,11 @@ same_stamps : (entry : Option Early) (moment : ℕ) (pages : Pages) → (with_en
 same_stamps None moment pages = refl
 same_stamps (Some entry) moment pages = refl
 
-sink_stamped : (other : End) (kept : List Kept) (stamps : List ℕ) → Stamped other kept stamps → Stamped SinkFault kept stamps
-sink_stamped (Done tally) kept stamps is = inl is
-sink_stamped SourceFault kept stamps is = inl is
-sink_stamped SinkFault kept stamps is = is
-sink_stamped (Halted halt) kept stamps is = is
-sink_stamped (TooLong n) kept stamps is = inl is
+-- where each entry has its stamp, a halt leaves it so
+all_stamped : (halt : Halt) (kept : List Kept) (stamps : List ℕ) → length stamps ≡ length kept → HaltStamped halt kept stamps
+all_stamped (LogFault file) kept stamps is = inl is
+all_stamped RunFull kept stamps is = is
+all_stamped Memory kept stamps is = is
 
 module _ {S : Type 0} (told : S → Option History) (moment : S → ℕ) (faults : S → ℕ → ℕ) (clock : (s : S) → IfSome (told s) (λ h. now h ≡ moment s)) (start : S) (opened : ℕ) (tells : Bool) where
   -- the server keeps this
@@ -104,7 +103,7 @@ module _ {S : Type 0} (told : S → Option History) (moment : S → ℕ) (faults
     pub stops : Stops (Rise new) kept line halt after
     pub journal : new.book.journal ≡ journal_of after
     pub safe : IfSome (told new.store) (AllSafe opened after new.book.stamps)
-    pub stamped : (length new.book.stamps ≡ length after) ⊎ (length new.book.stamps + 1 ≡ length after)
+    pub stamped : HaltStamped halt after new.book.stamps
     pub stamps : new.book.stamps ≡ old.book.stamps
 
   halted_kept : (old new : Server S) (line : List ℕ) (kept : List Kept) → Sim old kept → new.book ≡ old.book → Told (told old.store) (told new.store) (FilesKept (asked line) old.book.journal new.book.journal old.log.end) → IfSome (told new.store) (AllSafe opened kept new.book.stamps)
@@ -120,7 +119,7 @@ module _ {S : Type 0} (told : S → Option History) (moment : S → ℕ) (faults
     stops = stops;
     journal = ap (λ (p : Pages). p.journal) same ∙ sim.journal;
     safe = halted_kept old new line kept sim same files;
-    stamped = inl (ap (λ (p : Pages). length p.stamps) same ∙ sim.stamped);
+    stamped = all_stamped halt kept new.book.stamps (ap (λ (p : Pages). length p.stamps) same ∙ sim.stamped);
     stamps = ap (λ (p : Pages). p.stamps) same;
   }
 
@@ -192,10 +191,10 @@ module _ {S : Type 0} (told : S → Option History) (moment : S → ℕ) (faults
       )
   halts script taken mid new halt kept sim (inr (inl (is, first, same))) =
       let here : Sim new kept = subst (λ (s : Server S). Sim s kept) (sym same) sim in
-      (kept, inr (inl (is, first, refl)), sim_left (Halted halt) new kept (λ is. inl is) here)
+      (kept, inr (inl (is, first, refl)), sim_left (Halted halt) new kept (all_stamped halt kept new.book.stamps) here)
   halts script taken mid new halt kept sim (inr (inr (is, line, answer, first, serves))) =
       let one = step mid new line answer kept sim serves in
-      (after_request kept (asked line), inr (inr (is, line, answer, first, one.0)), sim_left (Halted halt) new (after_request kept (asked line)) (λ is. inl is) one.1)
+      (after_request kept (asked line), inr (inr (is, line, answer, first, one.0)), sim_left (Halted halt) new (after_request kept (asked line)) (all_stamped halt (after_request kept (asked line)) new.book.stamps) one.1)
 
   answers : (end : End) (script : Option (List ℕ)) (text : List ℕ) (old new : Server S) (kept : List Kept) → Sim old kept → Answers Serves Stopped old script end text new → (after : List Kept) × Answers (Replies tells) (Stops (Rise new)) kept script end text after × Left end new after
   answers (Done tally) script text old new kept sim (taken, run, whole) =
@@ -218,21 +217,17 @@ module _ {S : Type 0} (told : S → Option History) (moment : S → ℕ) (faults
       let all = answers end script text old new kept sim run in
       (all.0, (text, is, all.1), all.2)
 
-  -- a run whose sink failed is as if it had ended in another way
-  sink_left : (other : End) (new : Server S) (after : List Kept) → Left other new after → Left SinkFault new after
-  sink_left other new after left = record { journal = left.journal; safe = left.safe; stamped = sink_stamped other after new.book.stamps left.stamped; timely = left.timely; since = left.since; later = left.later }
-
-  prints : (end : End) (script : Option (List ℕ)) (put : List ℕ) (old new : Server S) (kept : List Kept) → Sim old kept → Prints Serves Stopped old script end put new → (after : List Kept) × Prints (Replies tells) (Stops (Rise new)) kept script end put after × Left end new after
+  prints : (end : End) (script : Option (List ℕ)) (put : List ℕ) (old new : Server S) (kept : List Kept) → Sim old kept → Prints Serves Stopped old script end put new → (after : List Kept) × (run : Prints (Replies tells) (Stops (Rise new)) kept script end put after) × Left (own_end tells (Rise new) kept after script end put run) new after
   prints (Done tally) script put old new kept sim run = allows (Done tally) script put old new kept sim run
   prints SourceFault script put old new kept sim run = allows SourceFault script put old new kept sim run
   prints SinkFault script put old new kept sim (other, whole, run, front) =
       let all = allows other script whole old new kept sim run in
-      (all.0, (other, whole, all.1, front), sink_left other new all.0 all.2)
+      (all.0, (other, whole, all.1, front), all.2)
   prints (Halted halt) script put old new kept sim run = allows (Halted halt) script put old new kept sim run
   prints (TooLong n) script put old new kept sim run = allows (TooLong n) script put old new kept sim run
 
   -- what the server's run says, the machine's says
-  pub says : (end : End) (script before after : Option (List ℕ)) (old new : Server S) (kept : List Kept) → Sim old kept → Says Serves Stopped old new script before after end → (left : List Kept) × Says (Replies tells) (Stops (Rise new)) kept left script before after end × Left end new left
+  pub says : (end : End) (script before after : Option (List ℕ)) (old new : Server S) (kept : List Kept) → Sim old kept → Says Serves Stopped old new script before after end → (left : List Kept) × (said : Says (Replies tells) (Stops (Rise new)) kept left script before after end) × Left (own_end tells (Rise new) kept left script end said.0 said.2) new left
   says end script before after old new kept sim (put, appends, run) =
       let all = prints end script put old new kept sim run in
       (all.0, (put, appends, all.1), all.2)

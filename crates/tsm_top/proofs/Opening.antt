@@ -17,7 +17,7 @@ use Rattle.tsm_top.specs.declared.recovery.EarlyRefused.TheVariants.{Fault, Dama
 use Rattle.tsm_top.specs.declared.server.Server.{Server}
 use Rattle.tsm_top.specs.Books.{Pages}
 use Rattle.tsm_top.specs.Logs.{LogHas}
-use Rattle.tsm_top.specs.Machine.{AllSafe, Stamped, Timely}
+use Rattle.tsm_top.specs.Machine.{AllSafe, Stamped, own_end, Timely}
 use Rattle.tsm_top.specs.Recovery.{Recovered, BrokenAt, MayRefuseEarly, records_of}
 use Rattle.tsm_top.specs.Serve.{RanScript, RoseBetween, OpensNot, unopened_by}
 use Rattle.tsm_top.specs.Server.{ServesLine, HaltsLine}
@@ -111,7 +111,7 @@ module _ {S : Type 0} (told : S → Option History) (moment : S → ℕ) (faults
         tell = refl;
         sound = subst (λ (p : Pages). IfSome (told old.store) (λ h. Sound (moment old.store) h [] p.stamps old.log.end)) (sym book) (subst (λ (n : ℕ). IfSome (told old.store) (λ h. Sound (moment old.store) h [] [] n)) (sym end) first);
         stamped = rw book refl;
-        timely = rw book tt;
+        timely = rw book (omega arith);
         since = omega arith;
         later = later_same old.store;
       }
@@ -127,7 +127,7 @@ module _ {S : Type 0} (told : S → Option History) (moment : S → ℕ) (faults
           journal_is = is ∙ last.journal;
           says = all.1;
           rest = rest;
-          stamped = subst (λ (l : List ℕ). Stamped end all.0 l) (sym are) last.stamped;
+          stamped = subst (λ (l : List ℕ). Stamped (own_end (is_some (told start)) (RoseBetween (faults start) (faults new.store)) [] all.0 script end all.1.0 all.1.2) all.0 l) (sym are) last.stamped;
           timely = subst (λ (l : List ℕ). Timely opened (moment new.store) l) (sym are) last.timely;
           images = subst (λ (l : List ℕ). IfSome (told new.store) (AllSafe opened all.0 l)) (sym are) last.safe;
         },

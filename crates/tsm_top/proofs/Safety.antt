@@ -51,14 +51,14 @@ lengths_grow None text kept = omega arith
 lengths_grow (Some entry) text kept = omega arith
 
 pub timely_later : (opened last more : ℕ) (stamps : List ℕ) → last ≤ more → Timely opened last stamps → Timely opened more stamps
-timely_later opened last more [] le timely = tt
+timely_later opened last more [] le timely = let first : opened ≤ last = timely in omega (arith, le)
 timely_later opened last more (stamp ∷ stamps) le timely =
-    let upper : stamp ≤ last = timely.0.1 in
-    ((timely.0.0, omega arith), timely_later opened last more stamps le timely.1)
+    let upper : stamp ≤ last = timely.0 in
+    (omega (arith, le), timely.1)
 
 pub timely_with : (opened last more : ℕ) (entry : Option Early) (stamps : List ℕ) → opened ≤ last → last ≤ more → Timely opened last stamps → Timely opened more (stamps_with entry more stamps)
 timely_with opened last more None stamps since le timely = timely_later opened last more stamps le timely
-timely_with opened last more (Some entry) stamps since le timely = ((omega arith, omega arith), timely_later opened last more stamps le timely)
+timely_with opened last more (Some entry) stamps since le timely = (omega arith, timely_later opened last more stamps le timely)
 
 -- an entry more
 abbrev added : Option Early → List ℕ → List Kept

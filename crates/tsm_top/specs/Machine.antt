@@ -1,9 +1,9 @@
 -- The program as a machine over what it keeps: it knows no store, no log and no place of a frame. And what images of the store
 -- give back of it.
 use Rattle.std.specs.Prelude.{◌≡◌, ◌⊎◌, ℕ, ◌+◌, ◌≤◌, nat_le, Bool, true, false, if◌then◌else◌, Option, None, Some, is_some, IfSome, List, [], ◌∷◌, ◌++◌, length, map}
-use Rattle.std.specs.List.{AllByRecursion}
 use Rattle.store_api.specs.Disk.{History, now, ImageAt}
 use Rattle.script_loop.specs.Reply.{Answer}
+use Rattle.script_loop.specs.Runs.{Prints}
 use Rattle.script_loop.specs.declared.ends.Halt.{Halt}
 use Rattle.script_loop.specs.declared.ends.Halt.TheVariants.{LogFault, RunFull, Memory}
 use Rattle.script_loop.specs.declared.ends.End.{End}
@@ -104,14 +104,29 @@ pub record Safe (kept : List Kept) (stamps : List ℕ) (moment : ℕ) (image : �
 abbrev pub AllSafe : ℕ → List Kept → List ℕ → History → Type 0
 AllSafe opened kept stamps h = (moment : ℕ) (image : ℕ → List ℕ) → opened ≤ moment → moment ≤ now h → ImageAt h moment image → Safe kept stamps moment image
 
--- Each entry of what is kept has its stamp, but where the run was halted, where the newest may have none.
+-- Of a halt: each entry of what is kept has its stamp, but where a fault of a file halted the run the newest may have none.
+abbrev pub HaltStamped : Halt → List Kept → List ℕ → Type 0
+HaltStamped (LogFault file) kept stamps = (length stamps ≡ length kept) ⊎ (length stamps + 1 ≡ length kept)
+HaltStamped RunFull kept stamps = length stamps ≡ length kept
+HaltStamped Memory kept stamps = length stamps ≡ length kept
+
+-- Each entry of what is kept has its stamp, but where a fault of a file halted the run, where the newest may have none.
 abbrev pub Stamped : End → List Kept → List ℕ → Type 0
 Stamped (Done tally) kept stamps = length stamps ≡ length kept
 Stamped SourceFault kept stamps = length stamps ≡ length kept
-Stamped SinkFault kept stamps = (length stamps ≡ length kept) ⊎ (length stamps + 1 ≡ length kept)
-Stamped (Halted halt) kept stamps = (length stamps ≡ length kept) ⊎ (length stamps + 1 ≡ length kept)
+Stamped SinkFault kept stamps = length stamps ≡ length kept
+Stamped (Halted halt) kept stamps = HaltStamped halt kept stamps
 Stamped (TooLong n) kept stamps = length stamps ≡ length kept
 
--- each stamp lies between the moments
+-- How a run ended by itself: where the sink failed, the end of whose text a front was put.
+abbrev pub own_end : (tells : Bool) (rose : ℕ → Type 0) (old new : List Kept) (script : Option (List ℕ)) (end : End) (front : List ℕ) → Prints (Replies tells) (Stops rose) old script end front new → End
+own_end tells rose old new script (Done tally) front prints = Done tally
+own_end tells rose old new script SourceFault front prints = SourceFault
+own_end tells rose old new script SinkFault front prints = prints.0
+own_end tells rose old new script (Halted halt) front prints = Halted halt
+own_end tells rose old new script (TooLong n) front prints = TooLong n
+
+-- The stamps, newest first, lie between the moments, and none is later than the one before it in the list.
 abbrev pub Timely : ℕ → ℕ → List ℕ → Type 0
-Timely opened last stamps = AllByRecursion (λ stamp. (opened ≤ stamp) × (stamp ≤ last)) stamps
+Timely opened last [] = opened ≤ last
+Timely opened last (stamp ∷ earlier) = (stamp ≤ last) × Timely opened stamp earlier

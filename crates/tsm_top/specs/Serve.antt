@@ -10,7 +10,7 @@ use Rattle.script_loop.specs.declared.ends.End.{End}
 use Rattle.tsm_top.specs.declared.entry.Early.{Early}
 use Rattle.tsm_top.specs.declared.recovery.EarlyRefused.{EarlyRefused}
 use Rattle.tsm_top.specs.declared.recovery.EarlyRefused.TheVariants.{Fault, Damaged, RunFull, Memory}
-use Rattle.tsm_top.specs.Machine.{Kept, journal_of, Replies, Stops, Stamped, Timely, AllSafe}
+use Rattle.tsm_top.specs.Machine.{Kept, journal_of, Replies, Stops, Stamped, own_end, Timely, AllSafe}
 
 -- the words are the one command
 abbrev pub IsFresh : List (String Global) → Type 0
@@ -89,6 +89,6 @@ pub record RanScript (tells : Bool) (rose : ℕ → Type 0) (opened last : ℕ) 
   pub journal_is : reverse journal ≡ journal_of kept
   pub says : Says (Replies tells) (Stops rose) [] kept script before after end
   pub rest : DoneAtEnd end left
-  pub stamped : Stamped end kept (reverse stamps)
+  pub stamped : Stamped (own_end tells rose [] kept script end says.0 says.2) kept (reverse stamps)
   pub timely : Timely opened last (reverse stamps)
   pub images : IfSome told (AllSafe opened kept (reverse stamps))
