@@ -10,12 +10,13 @@ use Rattle.script_loop.specs.declared.ends.Halt.{Halt}
 use Rattle.script_loop.specs.declared.ends.Halt.TheVariants.{LogFault, RunFull, Memory}
 use Rattle.script_loop.specs.declared.ends.End.{End}
 use Rattle.script_loop.specs.declared.ends.End.TheVariants.{Done, SourceFault, SinkFault, Halted, TooLong}
+use Rattle.log_file.specs.Safety.{Timely}
 use Rattle.tsm_top.specs.declared.entry.Early.{Early}
 use Rattle.tsm_top.specs.declared.server.Server.{Server}
 use Rattle.tsm_top.specs.Answers.{answer_to, added_entry}
 use Rattle.tsm_top.specs.Books.{Pages}
 use Rattle.tsm_top.specs.Line.{Request, asked}
-use Rattle.tsm_top.specs.Machine.{Kept, journal_of, text_of, with_kept, after_request, FramesHave, Replies, Stops, AllSafe, HaltStamped, Stamped, own_end, Timely}
+use Rattle.tsm_top.specs.Machine.{Kept, journal_of, text_of, with_kept, after_request, FramesHave, Replies, Stops, AllSafe, HaltStamped, Stamped, own_end}
 use Rattle.tsm_top.specs.Server.{ServesLine, HaltsLine}
 use Rattle.tsm_top.specs.Steps.{with_entry, ServesRequest, FilesAfter, FilesKept, ShowsAll, MayDoubt, FirmIn, Later}
 use Rattle.tsm_top.proofs.Simulation.{Placed, told_both, told_goes, told_some, some_map, same_journal, placed_after, shows_request}

@@ -5,6 +5,7 @@ use Rattle.store_api.specs.Disk.{History, now, reads, ImageAt}
 use Rattle.store_api.specs.Told.{Told}
 use Rattle.kinds.specs.declared.refusal.OpenRefused.{OpenRefused}
 use Rattle.log_file.specs.Blocks.{block, blocks, LogEnds}
+use Rattle.log_file.specs.Safety.{Timely}
 use Rattle.log_file.specs.Steps.{Created}
 use Rattle.log_file.specs.Sure.{State}
 use Rattle.log_file.proofs.Logs.{sure_image, sure_reads}
@@ -17,7 +18,7 @@ use Rattle.tsm_top.specs.declared.recovery.EarlyRefused.TheVariants.{Fault, Dama
 use Rattle.tsm_top.specs.declared.server.Server.{Server}
 use Rattle.tsm_top.specs.Books.{Pages}
 use Rattle.tsm_top.specs.Logs.{LogHas}
-use Rattle.tsm_top.specs.Machine.{AllSafe, Stamped, own_end, Timely}
+use Rattle.tsm_top.specs.Machine.{AllSafe, Stamped, own_end}
 use Rattle.tsm_top.specs.Recovery.{Recovered, BrokenAt, MayRefuseEarly, records_of}
 use Rattle.tsm_top.specs.Serve.{RanScript, RoseBetween, OpensNot, unopened_by}
 use Rattle.tsm_top.specs.Server.{ServesLine, HaltsLine}

@@ -11,7 +11,8 @@ use Rattle.tsm_top.specs.Answers.{added_entry}
 use Rattle.tsm_top.specs.Files.{IsOurs}
 use Rattle.tsm_top.specs.Line.{Request}
 use Rattle.tsm_top.specs.Logs.{log_payloads, LogHas, LoggedIn}
-use Rattle.tsm_top.specs.Machine.{Kept, journal_of, text_of, with_kept, after_request, FramesHave, GivesBack, reached, Safe, AllSafe, Timely}
+use Rattle.log_file.specs.Safety.{acknowledged, Timely}
+use Rattle.tsm_top.specs.Machine.{Kept, journal_of, text_of, with_kept, after_request, FramesHave, GivesBack, Safe, AllSafe}
 use Rattle.tsm_top.specs.Steps.{FilesAfter, FilesKept, PutHas, StandsIn, FirmIn}
 use Rattle.tsm_top.proofs.Simulation.{Placed, placed_after, frames_to, frames_after}
 
@@ -31,16 +32,16 @@ one_or_none : (b : Bool) → (if b then 1 else 0) ≤ 1
 one_or_none true = omega arith
 one_or_none false = omega arith
 
-pub reached_length : (moment : ℕ) (stamps : List ℕ) → reached moment stamps ≤ length stamps
-reached_length moment [] = omega arith
-reached_length moment (stamp ∷ stamps) = omega (arith, one_or_none (leb stamp moment), reached_length moment stamps)
+pub acknowledged_length : (moment : ℕ) (stamps : List ℕ) → acknowledged moment stamps ≤ length stamps
+acknowledged_length moment [] = omega arith
+acknowledged_length moment (stamp ∷ stamps) = omega (arith, one_or_none (leb stamp moment), acknowledged_length moment stamps)
 
-reached_late : (moment stamp : ℕ) (stamps : List ℕ) → moment < stamp → reached moment (stamp ∷ stamps) ≡ reached moment stamps
-reached_late moment stamp stamps late = rw (lt-leb stamp moment late) (omega arith)
+acknowledged_late : (moment stamp : ℕ) (stamps : List ℕ) → moment < stamp → acknowledged moment (stamp ∷ stamps) ≡ acknowledged moment stamps
+acknowledged_late moment stamp stamps late = rw (lt-leb stamp moment late) (omega arith)
 
-reached_with : (moment stamp : ℕ) (entry : Option Early) (stamps : List ℕ) → moment < stamp → reached moment (stamps_with entry stamp stamps) ≡ reached moment stamps
-reached_with moment stamp None stamps late = refl
-reached_with moment stamp (Some entry) stamps late = reached_late moment stamp stamps late
+acknowledged_with : (moment stamp : ℕ) (entry : Option Early) (stamps : List ℕ) → moment < stamp → acknowledged moment (stamps_with entry stamp stamps) ≡ acknowledged moment stamps
+acknowledged_with moment stamp None stamps late = refl
+acknowledged_with moment stamp (Some entry) stamps late = acknowledged_late moment stamp stamps late
 
 pub lengths_with : (entry : Option Early) (stamp : ℕ) (stamps : List ℕ) (text : List ℕ) (kept : List Kept) → length stamps ≡ length kept → length (stamps_with entry stamp stamps) ≡ length (with_kept entry text kept)
 lengths_with None stamp stamps text kept is = is
@@ -70,19 +71,19 @@ with_added None text kept = refl
 with_added (Some entry) text kept = refl
 
 -- what was safe stays so with an entry more
-safe_more : (entry : Option Early) (text : List ℕ) (kept : List Kept) (stamps more : List ℕ) (moment : ℕ) (image : ℕ → List ℕ) → reached moment more ≡ reached moment stamps → Safe kept stamps moment image → Safe (with_kept entry text kept) more moment image
+safe_more : (entry : Option Early) (text : List ℕ) (kept : List Kept) (stamps more : List ℕ) (moment : ℕ) (image : ℕ → List ℕ) → acknowledged moment more ≡ acknowledged moment stamps → Safe kept stamps moment image → Safe (with_kept entry text kept) more moment image
 safe_more entry text kept stamps more moment image same safe = record {
   later = added entry text ++ safe.later;
   earlier = safe.earlier;
   parts = with_added entry text kept ∙ ap (λ (l : List Kept). added entry text ++ l) safe.parts ∙ sym (append_assoc (added entry text) safe.later safe.earlier);
-  durable = (let few : reached moment stamps ≤ length safe.earlier = safe.durable in omega (arith, same));
+  durable = (let few : acknowledged moment stamps ≤ length safe.earlier = safe.durable in omega (arith, same));
   gives = safe.gives;
 }
 
-safe_all : (kept : List Kept) (stamps : List ℕ) (moment : ℕ) (image : ℕ → List ℕ) → reached moment stamps ≤ length kept → GivesBack kept image → Safe kept stamps moment image
+safe_all : (kept : List Kept) (stamps : List ℕ) (moment : ℕ) (image : ℕ → List ℕ) → acknowledged moment stamps ≤ length kept → GivesBack kept image → Safe kept stamps moment image
 safe_all kept stamps moment image few gives = record { later = []; earlier = kept; parts = refl; durable = few; gives = gives }
 
-safe_but_last : (entry : Option Early) (text : List ℕ) (kept : List Kept) (stamps : List ℕ) (moment : ℕ) (image : ℕ → List ℕ) → reached moment stamps ≤ length kept → GivesBack kept image → Safe (with_kept entry text kept) stamps moment image
+safe_but_last : (entry : Option Early) (text : List ℕ) (kept : List Kept) (stamps : List ℕ) (moment : ℕ) (image : ℕ → List ℕ) → acknowledged moment stamps ≤ length kept → GivesBack kept image → Safe (with_kept entry text kept) stamps moment image
 safe_but_last entry text kept stamps moment image few gives = record { later = added entry text; earlier = kept; parts = with_added entry text kept; durable = few; gives = gives }
 
 module _ (opened : ℕ) (before after : History) (request : Option Request) (kept : List Kept) (stamps : List ℕ) (end : ℕ) (placed : Placed kept) (sound : Sound opened before kept stamps end) (stamped : length stamps ≡ length kept) where
@@ -98,18 +99,18 @@ module _ (opened : ℕ) (before after : History) (request : Option Request) (kep
   gives_new : FilesKept request (journal_of kept) (journal_of (after_request kept request)) end before after → (moment : ℕ) (image : ℕ → List ℕ) → now before ≤ moment → moment ≤ now after → ImageAt after moment image → LoggedIn (journal_of (after_request kept request)) image → PutHas (StandsIn image) request (journal_of kept) → GivesBack (after_request kept request) image
   gives_new files moment image from to is has puts = (has, frames_after (StandsIn image) kept request puts (frames_since (journal_of (after_request kept request)) files moment image from to is))
 
-  few_stamps : (moment : ℕ) → reached moment stamps ≤ length kept
-  few_stamps moment = omega (arith, reached_length moment stamps, stamped)
+  few_stamps : (moment : ℕ) → acknowledged moment stamps ≤ length kept
+  few_stamps moment = omega (arith, acknowledged_length moment stamps, stamped)
 
-  few_more : (moment : ℕ) → reached moment stamps ≤ length (after_request kept request)
+  few_more : (moment : ℕ) → acknowledged moment stamps ≤ length (after_request kept request)
   few_more moment = omega (arith, few_stamps moment, lengths_grow (added_entry (journal_of kept) request) (text_of request) kept)
 
   -- since the request, before its stamp: with its entry or without it
-  safe_either : (more : List ℕ) (moment : ℕ) (image : ℕ → List ℕ) → FilesKept request (journal_of kept) (journal_of (after_request kept request)) end before after → now before ≤ moment → moment ≤ now after → ImageAt after moment image → reached moment more ≡ reached moment stamps → Safe (after_request kept request) more moment image
+  safe_either : (more : List ℕ) (moment : ℕ) (image : ℕ → List ℕ) → FilesKept request (journal_of kept) (journal_of (after_request kept request)) end before after → now before ≤ moment → moment ≤ now after → ImageAt after moment image → acknowledged moment more ≡ acknowledged moment stamps → Safe (after_request kept request) more moment image
   safe_either more moment image files from to is same =
       let entry : Option Early = added_entry (journal_of kept) request in
-      let few : reached moment more ≤ length kept = omega (arith, few_stamps moment, same) in
-      let many : reached moment more ≤ length (after_request kept request) = omega (arith, few_more moment, same) in
+      let few : acknowledged moment more ≤ length kept = omega (arith, few_stamps moment, same) in
+      let many : acknowledged moment more ≤ length (after_request kept request) = omega (arith, few_more moment, same) in
       ⊎_elim (λ has. safe_but_last entry (text_of request) kept more moment image few (gives_old (journal_of (after_request kept request)) files moment image from to is has)) (λ has. safe_all (after_request kept request) more moment image many (gives_new files moment image from to is has.0 has.1)) (files.either sound.log moment image from to is)
 
   -- an image of now, where no stop takes away the log and the frames
@@ -130,15 +131,15 @@ module _ (opened : ℕ) (before after : History) (request : Option Request) (kep
       let first : opened ≤ now before = sound.since in
       let frames : FramesHave (FirmIn after) (after_request kept request) = frames_after (FirmIn after) kept request files.frame (frames_to (FirmIn before) (FirmIn after) kept placed files.kept.firm sound.frames) in
       let log : LogHas (journal_of (after_request kept request)) new_end after = files.log sound.log in
-      let all : (moment : ℕ) → reached moment more ≤ length (after_request kept request) = λ moment. omega (arith, reached_length moment more, lengths_with entry (now after) stamps (text_of request) kept stamped) in
+      let all : (moment : ℕ) → acknowledged moment more ≤ length (after_request kept request) = λ moment. omega (arith, acknowledged_length moment more, lengths_with entry (now after) stamps (text_of request) kept stamped) in
       record {
         frames = frames;
         log = log;
         since = omega arith;
         safe = λ moment image from to is. elim (cases_lt moment (now before)) [
-          | inl early ↦ safe_more entry (text_of request) kept stamps more moment image (reached_with moment (now after) entry stamps (omega arith)) (sound.safe moment image from (omega arith) (goes_image_before IsOurs before after moment image files.kept.goes (omega arith) is))
+          | inl early ↦ safe_more entry (text_of request) kept stamps more moment image (acknowledged_with moment (now after) entry stamps (omega arith)) (sound.safe moment image from (omega arith) (goes_image_before IsOurs before after moment image files.kept.goes (omega arith) is))
           | inr late ↦ elim (cases_lt moment (now after)) [
-            | inl middle ↦ safe_either more moment image files.kept late to is (reached_with moment (now after) entry stamps middle)
+            | inl middle ↦ safe_either more moment image files.kept late to is (acknowledged_with moment (now after) entry stamps middle)
             | inr last ↦ safe_all (after_request kept request) more moment image (all moment) (gives_now new_end image log frames (subst (λ (m : ℕ). ImageAt after m image) (at_end moment to last) is))
           ]
         ];

@@ -1,13 +1,14 @@
 -- The program as a machine over what it keeps: it knows no store, no log and no place of a frame. And what images of the store
 -- give back of it.
-use Rattle.std.specs.Prelude.{◌≡◌, ◌⊎◌, ℕ, ◌+◌, ◌≤◌, nat_le, Bool, true, false, if◌then◌else◌, Option, None, Some, is_some, IfSome, List, [], ◌∷◌, ◌++◌, length, map}
-use Rattle.store_api.specs.Disk.{History, now, ImageAt}
+use Rattle.std.specs.Prelude.{◌≡◌, ◌⊎◌, ℕ, ◌+◌, Bool, true, false, if◌then◌else◌, Option, None, Some, is_some, IfSome, List, [], ◌∷◌, length, map}
+use Rattle.store_api.specs.Disk.{History}
 use Rattle.script_loop.specs.Reply.{Answer}
 use Rattle.script_loop.specs.Runs.{Prints}
 use Rattle.script_loop.specs.declared.ends.Halt.{Halt}
 use Rattle.script_loop.specs.declared.ends.Halt.TheVariants.{LogFault, RunFull, Memory}
 use Rattle.script_loop.specs.declared.ends.End.{End}
 use Rattle.script_loop.specs.declared.ends.End.TheVariants.{Done, SourceFault, SinkFault, Halted, TooLong}
+use Rattle.log_file.specs.Safety as durable
 use Rattle.tsm_top.specs.declared.entry.Early.{Early}
 use Rattle.tsm_top.specs.declared.entry.Early.TheVariants.{Day, Put}
 use Rattle.tsm_top.specs.Answers.{answer_to, added_entry}
@@ -87,22 +88,13 @@ FramesHave P (newest ∷ earlier) = FrameHas P newest.entry newest.text × Frame
 abbrev pub GivesBack : List Kept → (ℕ → List ℕ) → Type 0
 GivesBack kept image = LoggedIn (journal_of kept) image × FramesHave (StandsIn image) kept
 
--- how many of these stamps a moment has reached
-abbrev pub reached : ℕ → List ℕ → ℕ
-reached moment [] = 0
-reached moment (stamp ∷ stamps) = (if nat_le stamp moment then 1 else 0) + reached moment stamps
-
 -- The image of this moment gives back what was kept first, with each entry that was durable by then. Both lists stand newest first.
-pub record Safe (kept : List Kept) (stamps : List ℕ) (moment : ℕ) (image : ℕ → List ℕ) : Type 0 where
-  pub later : List Kept
-  pub earlier : List Kept
-  pub parts : kept ≡ later ++ earlier
-  pub durable : reached moment stamps ≤ length earlier
-  pub gives : GivesBack earlier image
+abbrev pub Safe : List Kept → List ℕ → ℕ → (ℕ → List ℕ) → Type 0
+Safe kept stamps moment image = durable.Safe GivesBack kept (durable.acknowledged moment stamps) image
 
 -- each image of each moment from `opened` to now is safe
 abbrev pub AllSafe : ℕ → List Kept → List ℕ → History → Type 0
-AllSafe opened kept stamps h = (moment : ℕ) (image : ℕ → List ℕ) → opened ≤ moment → moment ≤ now h → ImageAt h moment image → Safe kept stamps moment image
+AllSafe opened kept stamps h = durable.AllSafe GivesBack opened kept stamps h
 
 -- Of a halt: each entry of what is kept has its stamp, but where a fault of a file halted the run the newest may have none.
 abbrev pub HaltStamped : Halt → List Kept → List ℕ → Type 0
@@ -125,8 +117,3 @@ own_end tells rose old new script SourceFault front prints = SourceFault
 own_end tells rose old new script SinkFault front prints = prints.0
 own_end tells rose old new script (Halted halt) front prints = Halted halt
 own_end tells rose old new script (TooLong n) front prints = TooLong n
-
--- The stamps, newest first, lie between the moments, and none is later than the one before it in the list.
-abbrev pub Timely : ℕ → ℕ → List ℕ → Type 0
-Timely opened last [] = opened ≤ last
-Timely opened last (stamp ∷ earlier) = (stamp ≤ last) × Timely opened stamp earlier

@@ -10,7 +10,8 @@ use Rattle.script_loop.specs.declared.ends.End.{End}
 use Rattle.tsm_top.specs.declared.entry.Early.{Early}
 use Rattle.tsm_top.specs.declared.recovery.EarlyRefused.{EarlyRefused}
 use Rattle.tsm_top.specs.declared.recovery.EarlyRefused.TheVariants.{Fault, Damaged, RunFull, Memory}
-use Rattle.tsm_top.specs.Machine.{Kept, journal_of, Replies, Stops, Stamped, own_end, Timely, AllSafe}
+use Rattle.log_file.specs.Safety.{Timely}
+use Rattle.tsm_top.specs.Machine.{Kept, journal_of, Replies, Stops, Stamped, own_end, AllSafe}
 
 -- the words are the one command
 abbrev pub IsFresh : List (String Global) → Type 0
