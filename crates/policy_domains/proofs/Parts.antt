@@ -20,11 +20,11 @@ pub becomes_changed : {A V : Type 0} (name : List ℕ) (step : V → Result V Re
     → Some v ≡ row_of name rows → new ≡ with_value name w rows → Becomes result v w (step v) → Becomes result rows new (changed name step rows)
 becomes_changed name step rows new v w (Ok a) found put said =
     ap (changed_row name step rows) (sym found) ∙ ap (within (λ x. with_value name x rows)) said ∙ ap Ok (sym put)
-becomes_changed name step rows new v w (Err e) found put said =
-    ( put ∙ ap (λ x. with_value name x rows) said.0 ∙ set_value_same (is_at (slice_cmp nat_cmp name)) rows v (sym found)
-    , said_or_memory e (step v) (changed name step rows)
-        (λ h. ap (changed_row name step rows) (sym found) ∙ ap (within (λ x. with_value name x rows)) h) said.1
-    )
+becomes_changed name step rows new v w (Err e) found put said = (
+  put ∙ ap (λ x. with_value name x rows) said.0 ∙ set_value_same (is_at (slice_cmp nat_cmp name)) rows v (sym found),
+  said_or_memory e (step v) (changed name step rows)
+      (λ h. ap (changed_row name step rows) (sym found) ∙ ap (within (λ x. with_value name x rows)) h) said.1,
+)
 
 -- a class that isn't in the set is not made its default
 pub assigned_missing : (class : List ℕ) (set : SetRow) → is_some (row_of class set.classes) ≡ false → assigned class set ≡ Err NotFound

@@ -1,5 +1,5 @@
 -- Changes of sets other than ACTIVE leave each rule that binds a client as it is.
-use Rattle.std.proofs.Common.{◌≡◌, ℕ, Bool, true, false, cond, is_some, if◌then◌else◌, List, [], ◌∷◌, Option, Some, None, Result, Ok, Err, IfOk, refl, ap, sym, subst, ◌∙◌, inl, inr, nat_eq, cc}
+use Rattle.std.proofs.Common.{◌≡◌, ℕ, Bool, true, false, cond, is_some, if◌then◌else◌, List, [], ◌∷◌, Option, Some, None, Result, Ok, Err, IfOk, refl, ap, sym, subst, ◌∙◌, inl, inr, nat_eq}
 use Rattle.std.specs.Option.{option_map, option_and_then}
 use Rattle.std.specs.declared.cmp.Ordering.{Ordering}
 use Rattle.std.specs.declared.cmp.Ordering.TheVariants.{Less, Equal, Greater}
@@ -53,10 +53,10 @@ lookup-insert_entry_other cmp k u at apart (e ∷ es) v =
 -- a value that is changed to one with the same f, seen by f through any look-up
 option_map-lookup-set_value : {V B : Type 0} (f : V → B) (t u : List ℕ → Bool) (rows : List (List ℕ × V)) (v w : V) → lookup t rows ≡ Some v → f w ≡ f v
     → option_map f (lookup u (set_value t rows w)) ≡ option_map f (lookup u rows)
-option_map-lookup-set_value f t u [] v w h same = refl
+option_map-lookup-set_value f t u [] v w = λ h same. refl
 option_map-lookup-set_value f t u (e ∷ es) v w =
     elim (t e.0) as (λ b. cond b (Some e.1) (lookup t es) ≡ Some v → f w ≡ f v
-        → option_map f (lookup u (cond b ((e.0, w) ∷ es) (e ∷ set_value t es w))) ≡ option_map f (lookup u (e ∷ es))) [
+    → option_map f (lookup u (cond b ((e.0, w) ∷ es) (e ∷ set_value t es w))) ≡ option_map f (lookup u (e ∷ es))) [
       | true ↦ λ h same.
           let first : e.1 ≡ v = cc in
           elim (u e.0) as (λ b. option_map f (cond b (Some w) (lookup u es)) ≡ option_map f (cond b (Some e.1) (lookup u es))) [
@@ -88,10 +88,10 @@ module _ (set : List ℕ) (other : is_same_name set active_set ≡ false) where
   apart_from_equal : (k : List ℕ) → slice_cmp nat_cmp set k ≡ Equal → is_at (slice_cmp nat_cmp active_set) k ≡ false
   apart_from_equal k h =
       not_true (is_at (slice_cmp nat_cmp active_set) k) (λ at.
-        let a : active_set ≡ k = exact_bytes active_set k (equal_from_is_eq (slice_cmp nat_cmp active_set k) at) in
-        let s : set ≡ k = exact_bytes set k h in
-        let same : is_same_name set active_set ≡ true = subst (λ x. is_same_name set x ≡ true) (s ∙ sym a) (nat_list_eq_equiv.refl set) in
-        cc (same, other))
+      let a : active_set ≡ k = exact_bytes active_set k (equal_from_is_eq (slice_cmp nat_cmp active_set k) at) in
+      let s : set ≡ k = exact_bytes set k h in
+      let same : is_same_name set active_set ≡ true = subst (λ x. is_same_name set x ≡ true) (s ∙ sym a) (nat_list_eq_equiv.refl set) in
+      cc (same, other))
 
   apart : (k : List ℕ) → is_at (slice_cmp nat_cmp set) k ≡ true → is_at (slice_cmp nat_cmp active_set) k ≡ false
   apart k h = apart_from_equal k (equal_from_is_eq (slice_cmp nat_cmp set k) h)
@@ -131,11 +131,11 @@ module _ (set : List ℕ) (other : is_same_name set active_set ≡ false) where
   row_keeps step sets None = tt
   row_keeps step sets (Some v) =
       within_keeps (λ w. with_value set w sets) (λ w. Unit {0}) (KeepsActive sets)
-          (λ w _. lookup-set_value_other (is_at (slice_cmp nat_cmp set)) (is_at (slice_cmp nat_cmp active_set)) (apart set other) sets w) (step v) (any_keeps (step v))
+      (λ w _. lookup-set_value_other (is_at (slice_cmp nat_cmp set)) (is_at (slice_cmp nat_cmp active_set)) (apart set other) sets w) (step v) (any_keeps (step v))
     where
-    any_keeps : (r : Result SetRow Refusal) → IfOk r (λ w. Unit {0})
-    any_keeps (Ok w) = tt
-    any_keeps (Err e) = tt
+      any_keeps : (r : Result SetRow Refusal) → IfOk r (λ w. Unit {0})
+      any_keeps (Ok w) = tt
+      any_keeps (Err e) = tt
 
 -- a domain whose set ACTIVE is found as it was gives the same rules
 abbrev KeepsRules : DomainRow → DomainRow → Type 0
@@ -145,7 +145,7 @@ in_sets_keeps : (step : List (List ℕ × SetRow) → Result (List (List ℕ × 
     → IfOk (step row.sets) (KeepsActive row.sets) → IfOk (in_sets step row) (KeepsRules row)
 in_sets_keeps step row =
     within_keeps (λ sets. record { back_retention = row.back_retention; sets = sets }) (KeepsActive row.sets) (KeepsRules row)
-        (λ sets h class. ap (λ o. first_found (option_and_then (group_of class) o) (option_and_then default_group o) row.back_retention) h) (step row.sets)
+    (λ sets h class. ap (λ o. first_found (option_and_then (group_of class) o) (option_and_then default_group o) row.back_retention) h) (step row.sets)
 
 -- each rule of each domain is as it was
 abbrev KeepsAll : List (List ℕ × DomainRow) → List (List ℕ × DomainRow) → Type 0
@@ -158,8 +158,8 @@ domain_keeps domain step keeps rows =
       | None ↦ λ _. tt
       | Some v ↦ λ found.
           within_keeps (λ w. with_value domain w rows) (KeepsRules v) (KeepsAll rows)
-              (λ w same d class. option_map-lookup-set_value (rule_in class) (is_at (slice_cmp nat_cmp domain)) (is_at (slice_cmp nat_cmp d)) rows v w found (same class))
-              (step v) (keeps v)
+          (λ w same d class. option_map-lookup-set_value (rule_in class) (is_at (slice_cmp nat_cmp domain)) (is_at (slice_cmp nat_cmp d)) rows v w found (same class))
+          (step v) (keeps v)
     ] refl
 
 after_keeps : (change : PolicyChange) → names_active change ≡ false → IsOfSets change → (rows : List (List ℕ × DomainRow)) → IfOk (after change rows) (KeepsAll rows)
@@ -168,13 +168,13 @@ after_keeps (Set verb domain set) other of_sets rows =
     domain_keeps domain (in_sets (set_changed verb set)) (λ row. in_sets_keeps (set_changed verb set) row (set_changed_keeps set other verb row.sets)) rows
 after_keeps (Class verb domain set class) other of_sets rows =
     domain_keeps domain (in_sets (changed set (class_changed verb class)))
-        (λ row. in_sets_keeps (changed set (class_changed verb class)) row (row_keeps set other (class_changed verb class) row.sets (row_of set row.sets))) rows
+    (λ row. in_sets_keeps (changed set (class_changed verb class)) row (row_keeps set other (class_changed verb class) row.sets (row_of set row.sets))) rows
 after_keeps (Group verb domain set class rule) other of_sets rows =
     domain_keeps domain (in_sets (changed set (in_group verb class rule)))
-        (λ row. in_sets_keeps (changed set (in_group verb class rule)) row (row_keeps set other (in_group verb class rule) row.sets (row_of set row.sets))) rows
+    (λ row. in_sets_keeps (changed set (in_group verb class rule)) row (row_keeps set other (in_group verb class rule) row.sets (row_of set row.sets))) rows
 after_keeps (Assign domain set class) other of_sets rows =
     domain_keeps domain (in_sets (changed set (assigned class)))
-        (λ row. in_sets_keeps (changed set (assigned class)) row (row_keeps set other (assigned class) row.sets (row_of set row.sets))) rows
+    (λ row. in_sets_keeps (changed set (assigned class)) row (row_keeps set other (assigned class) row.sets (row_of set row.sets))) rows
 after_keeps (Activate domain set) other of_sets rows = absurd of_sets
 
 kept : {A : Type 0} (result : Result A Refusal) (old new : List (List ℕ × DomainRow)) (said : Result (List (List ℕ × DomainRow)) Refusal)

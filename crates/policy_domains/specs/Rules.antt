@@ -23,9 +23,9 @@ first_found None None days = Grace days
 abbrev pub rule_in : List ℕ → DomainRow → RuleFound
 rule_in class row =
     first_found
-        (option_and_then (group_of class) (row_of active_set row.sets))
-        (option_and_then default_group (row_of active_set row.sets))
-        row.back_retention
+    (option_and_then (group_of class) (row_of active_set row.sets))
+    (option_and_then default_group (row_of active_set row.sets))
+    row.back_retention
 
 -- the rule of a class in a domain, where the domain is there
 abbrev pub rule_of : List (List ℕ × DomainRow) → List ℕ → List ℕ → Option RuleFound

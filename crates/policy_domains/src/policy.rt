@@ -71,11 +71,7 @@ fn change_group(
     }
 }
 
-fn assign(
-    sets: &mut BTreeMap<Name, PolicySet>,
-    set: &Name,
-    class: &Name,
-) -> Result<(), Refusal>
+fn assign(sets: &mut BTreeMap<Name, PolicySet>, set: &Name, class: &Name) -> Result<(), Refusal>
     ensures { Becomes result sets.old.entries sets.new.entries (changed set.now (assigned class.now) sets.old.entries) }
 {
     match sets.get_mut(set) {

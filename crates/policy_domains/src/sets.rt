@@ -41,11 +41,7 @@ fn change_group(
     }
 }
 
-fn replace_group(
-    place: &mut Option<CopyGroup>,
-    verb: Verb,
-    group: CopyGroup,
-) -> Result<(), Refusal>
+fn replace_group(place: &mut Option<CopyGroup>, verb: Verb, group: CopyGroup) -> Result<(), Refusal>
     ensures { Becomes result place.old place.new (group_changed verb group place.old) }
 {
     match (verb, place.is_some()) {
@@ -68,13 +64,7 @@ fn other_default(default_class: Option<Name>, class: &Name) -> Option<Name>
 {
     match default_class {
         None => None,
-        Some(name) => {
-            if name == *class {
-                None
-            } else {
-                Some(name)
-            }
-        }
+        Some(name) => { if name == *class { None } else { Some(name) } }
     }
 }
 

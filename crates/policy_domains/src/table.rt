@@ -167,10 +167,7 @@ pub fn names_active(change: &PolicyChange) -> bool
 
 impl Domains {
     /// The policy domains with these rows. Its one refusal is want of memory.
-    pub fn from_rows(
-        alloc: Global,
-        rows: BTreeMap<Name, PolicyDomain>,
-    ) -> Result<Self, Refusal>
+    pub fn from_rows(alloc: Global, rows: BTreeMap<Name, PolicyDomain>) -> Result<Self, Refusal>
         ensures { AnswersBy (λ domains. domains) result rows.entries }
     {
         let active = active_name(alloc)?;
