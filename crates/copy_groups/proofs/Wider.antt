@@ -30,10 +30,10 @@ is_kept-wider r s w true days place =
     both _ _ _ _ (is_below-raised r.ver_exists s.ver_exists place w.ver_exists) (is_below-raised r.ret_extra s.ret_extra days w.ret_extra)
 is_kept-wider r s w false days place =
     both _ _ _ _ (is_below-raised r.ver_deleted s.ver_deleted place w.ver_deleted)
-        (elim (place == 0) as (λ b. IsTrue (is_below (if b then r.ret_only else r.ret_extra) days) → IsTrue (is_below (if b then s.ret_only else s.ret_extra) days)) [
-          | true ↦ is_below-raised r.ret_only s.ret_only days w.ret_only
-          | false ↦ is_below-raised r.ret_extra s.ret_extra days w.ret_extra
-        ])
+    (elim (place == 0) as (λ b. IsTrue (is_below (if b then r.ret_only else r.ret_extra) days) → IsTrue (is_below (if b then s.ret_only else s.ret_extra) days)) [
+      | true ↦ is_below-raised r.ret_only s.ret_only days w.ret_only
+      | false ↦ is_below-raised r.ret_extra s.ret_extra days w.ret_extra
+    ])
 
 is_kept_by-wider : (r s : RuleFound) → IsNotTighterRule r s → (active : Bool) (days place : ℕ) → IsTrue (is_kept_by r active days place) → IsTrue (is_kept_by s active days place)
 is_kept_by-wider (Own r) (Own s) w = is_kept-wider r s w

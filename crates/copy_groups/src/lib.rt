@@ -1,7 +1,7 @@
 //! Which versions of a file the rule of a backup copy group retains.
 #![tactic(auto)]
 
-ghost use Rattle.std.specs.Prelude.{◌≡◌, ◌≤◌, ◌<◌, ◌-◌, ◌^◌, ℕ, false, IsTrue, IfOk, All, Contains, length};
+ghost use Rattle.std.specs.Prelude.{◌≡◌, ◌≤◌, ◌<◌, ◌^◌, ℕ, false, IsTrue, All, length};
 ghost use Rattle.kinds.specs.Answers.{AnswersBy};
 ghost use Rattle.kinds.specs.declared.rule.RuleFound.{RuleFound};
 ghost use Rattle.copy_groups.specs.Retention.{is_below, is_kept, is_kept_by, is_active, retained, inactive, is_unretained, unretained};
@@ -25,7 +25,11 @@ fn is_kept(rule: &BackupRule, active: bool, days: u32, place: u32) -> bool
     if active {
         is_below(rule.ver_exists, place) && is_below(rule.ret_extra, days)
     } else {
-        let span = if place == 0 { rule.ret_only } else { rule.ret_extra };
+        let span = if place == 0 {
+            rule.ret_only
+        } else {
+            rule.ret_extra
+        };
         is_below(rule.ver_deleted, place) && is_below(span, days)
     }
 }
@@ -78,7 +82,13 @@ fn is_unretained(rule: &RuleFound, active: bool, since: &[Day], today: Day, plac
 
 /// The places, counted from 0 at the newest, of the versions that this rule doesn't retain today, in descending order. The group's days stand
 /// newest first; an active version has a day too, which isn't looked at. Its one refusal is want of memory.
-pub fn unretained(alloc: Global, rule: &RuleFound, active: bool, since: &[Day], today: Day) -> Result<Vec<u32>, Refusal>
+pub fn unretained(
+    alloc: Global,
+    rule: &RuleFound,
+    active: bool,
+    since: &[Day],
+    today: Day,
+) -> Result<Vec<u32>, Refusal>
     requires past { All (λ day. day ≤ today) (inactive active since.now) }
     requires few { length since.now < 2 ^ 32 }
     ensures { AnswersBy (λ v. v.items) result (unretained rule.now active since.now today) }

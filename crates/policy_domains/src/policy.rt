@@ -1,5 +1,5 @@
-ghost use Rattle.std.specs.Prelude.{◌≡◌, Some};
-ghost use Rattle.kinds.specs.Answers.{Becomes, Answers};
+ghost use Rattle.std.specs.Prelude.{◌≡◌};
+ghost use Rattle.kinds.specs.Answers.{Becomes};
 ghost use Rattle.policy_domains.specs.Rows.{active_set, changed, row_of};
 ghost use Rattle.policy_domains.specs.Sets.{empty_domain, in_sets, set_changed, class_changed, assigned, to_activate, activated};
 ghost use Rattle.policy_domains.specs.Changes.{in_group, IsRefusedLike};

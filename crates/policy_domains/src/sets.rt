@@ -1,7 +1,7 @@
-ghost use Rattle.std.specs.Prelude.{◌≡◌, option_map, Some, is_some};
+ghost use Rattle.std.specs.Prelude.{◌≡◌};
 ghost use Rattle.std.specs.Option.{option_copied};
 ghost use Rattle.kinds.specs.Answers.{Becomes};
-ghost use Rattle.policy_domains.specs.Rows.{is_same_name, changed, row_of, within};
+ghost use Rattle.policy_domains.specs.Rows.{changed};
 ghost use Rattle.policy_domains.specs.Sets.{empty_set, other_default, class_changed, assigned};
 ghost use Rattle.policy_domains.specs.Changes.{group_changed, in_group};
 ghost use Rattle.policy_domains.specs.Rules.{group_of, default_group};
