@@ -1,0 +1,56 @@
+-- What each change of the policy makes of the domains, or how it is refused: what isn't there first, then what is there
+-- already, then a set without a default class.
+use Rattle.std.specs.Prelude.{◌≡◌, ℕ, Bool, false, ⊤, List, Option, Some, None, Result, Ok, Err}
+use Rattle.kinds.specs.declared.rule.BackupRule.{BackupRule}
+use Rattle.kinds.specs.declared.change.Verb.{Verb}
+use Rattle.kinds.specs.declared.change.Verb.TheVariants.{Define, Update, Delete}
+use Rattle.kinds.specs.declared.change.PolicyChange.{PolicyChange}
+use Rattle.kinds.specs.declared.change.PolicyChange.TheVariants.{Domain, Set, Class, Group, Assign, Activate}
+use Rattle.kinds.specs.declared.refusal.Refusal.{Refusal}
+use Rattle.kinds.specs.declared.refusal.Refusal.TheVariants.{NotFound, Exists}
+use Rattle.policy_domains.specs.Rows.{SetRow, DomainRow, active_set, is_same_name, within, defined, deleted, changed}
+use Rattle.policy_domains.specs.Sets.{empty_domain, in_sets, set_changed, class_changed, assigned, activated}
+
+-- a domain is defined without sets, gets another BACKRETENTION, or is deleted
+abbrev pub domain_changed : Verb → List ℕ → ℕ → List (List ℕ × DomainRow) → Result (List (List ℕ × DomainRow)) Refusal
+domain_changed Define domain days = defined domain (empty_domain days)
+domain_changed Update domain days = changed domain (λ row. Ok (record { back_retention = days; sets = row.sets }))
+domain_changed Delete domain days = deleted domain
+
+-- the copy group of a class is defined, replaced or deleted
+abbrev pub group_changed : Verb → BackupRule → Option BackupRule → Result (Option BackupRule) Refusal
+group_changed Define rule None = Ok (Some rule)
+group_changed Define rule (Some _) = Err Exists
+group_changed Update rule None = Err NotFound
+group_changed Update rule (Some _) = Ok (Some rule)
+group_changed Delete rule None = Err NotFound
+group_changed Delete rule (Some _) = Ok None
+
+-- the copy group of a class of a set
+abbrev pub in_group : Verb → List ℕ → BackupRule → SetRow → Result SetRow Refusal
+in_group verb class rule set =
+    within (λ classes. record { default_class = set.default_class; classes = classes }) (changed class (group_changed verb rule) set.classes)
+
+-- the domains after a change, or its refusal
+abbrev pub after : PolicyChange → List (List ℕ × DomainRow) → Result (List (List ℕ × DomainRow)) Refusal
+after (Domain verb domain days) = domain_changed verb domain days
+after (Set verb domain set) = changed domain (in_sets (set_changed verb set))
+after (Class verb domain set class) = changed domain (in_sets (changed set (class_changed verb class)))
+after (Group verb domain set class rule) = changed domain (in_sets (changed set (in_group verb class rule)))
+after (Assign domain set class) = changed domain (in_sets (changed set (assigned class)))
+after (Activate domain set) = changed domain (activated set)
+
+-- a change of the set ACTIVE, or an activation of it: these are refused before the domains are looked at
+abbrev pub names_active : PolicyChange → Bool
+names_active (Domain verb domain days) = false
+names_active (Set verb domain set) = is_same_name set active_set
+names_active (Class verb domain set class) = is_same_name set active_set
+names_active (Group verb domain set class rule) = is_same_name set active_set
+names_active (Assign domain set class) = is_same_name set active_set
+names_active (Activate domain set) = is_same_name set active_set
+
+-- a call is refused exactly as another one would be
+abbrev pub IsRefusedLike : {A B : Type 0} → Result A Refusal → Result B Refusal → Type 0
+IsRefusedLike (Ok _) (Ok _) = ⊤
+IsRefusedLike (Ok _) (Err _) = ⊥
+IsRefusedLike (Err e) said = said ≡ Err e
