@@ -1,7 +1,7 @@
 -- The words of a set of numbers. The first word is the root. Bit `i` of all the words tells whether word `i + 1` has a bit that
 -- is set, so that the bits of one level stand for the words of the next. The bits from `base` on, those of the last level, are
 -- the members.
-use Rattle.std.specs.Prelude.{ℕ, ◌≡◌, ◌+◌, ◌*◌, ◌/◌, ◌%◌, ◌<◌, ◌≤◌, ◌≢◌, Bool, nat_lt, zero, suc, List, map, slice_index, slice_set}
+use Rattle.std.specs.Prelude.{ℕ, ◌≡◌, ◌+◌, ◌*◌, ◌/◌, ◌%◌, ◌^◌, ◌<◌, ◌≤◌, ◌≢◌, Bool, nat_lt, zero, suc, List, length, map, slice_index}
 use Rattle.std.specs.List.{range_with_len}
 use Rattle.extent_map.specs.Bits.{is_set}
 
@@ -34,3 +34,11 @@ OthersTell words base at = (i : ℕ) → i < base → (i + 1) ≢ at → Tells w
 -- the members of the set, as a list with, for each number below `count`, whether it is one
 abbrev pub members : List ℕ → ℕ → ℕ → List Bool
 members words base count = map (bit_of words) (range_with_len base count)
+
+-- the words have room for `count` members in their last level, and each bit above it tells of its word
+pub record AreLevels (words : List ℕ) (depth base count : ℕ) : Type 0 where
+  pub last : base ≡ level_start depth
+  pub few : base + count ≤ 64 * (base + 1)
+  pub within : base + count ≤ 64 * length words
+  pub fits : base + count < 2 ^ 40
+  pub telling : AllTell words base

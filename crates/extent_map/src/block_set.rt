@@ -1,6 +1,6 @@
-ghost use Rattle.std.specs.Prelude.{◌≡◌, ℕ, ◌+◌, ◌*◌, ◌/◌, ◌%◌, ◌<◌, ◌≤◌, Bool, true, false, ◌==◌, if◌then◌else◌, List, length, replicate, slice_index, slice_index_or, slice_set, IfOk, MatchOption};
+ghost use Rattle.std.specs.Prelude.{◌≡◌, ℕ, ◌+◌, ◌*◌, ◌/◌, ◌%◌, ◌^◌, ◌<◌, ◌≤◌, Bool, true, false, ◌==◌, if◌then◌else◌, List, length, replicate, slice_index, slice_index_or, slice_set, IfOk, MatchOption};
 ghost use Rattle.extent_map.specs.Bits.{is_set, is_between, NoneSet, IsLowest};
-ghost use Rattle.extent_map.specs.Levels.{bit_of, level_start, is_filled, AllTell, OthersTell, members};
+ghost use Rattle.extent_map.specs.Levels.{bit_of, level_start, is_filled, Tells, AllTell, OthersTell, members};
 
 use crate::word::{lowest, lowest_from, with_bits};
 use std::alloc::{AllocError, Global};
@@ -10,6 +10,7 @@ use std::marker::Model;
 fn put_word(words: &mut [u64], base: usize, at: usize, word: u64)
     requires within { at < length words.old }
     requires level { at ≤ base }
+    requires told { (i : ℕ) → i + 1 ≡ at → Tells words.old i }
     requires telling { OthersTell (slice_set words.old at word) base at }
     ensures telling { AllTell words.new base }
     ensures members { (i : ℕ) → base ≤ i → bit_of words.new i ≡ bit_of (slice_set words.old at word) i }
@@ -31,19 +32,29 @@ fn next_bit(words: &[u64], depth: u32, start: usize, from: usize) -> Option<usiz
     requires high { from < 64 * (start + 1) }
     requires within { from / 64 < length words.now }
     requires telling { AllTell words.now start }
+    requires fits { start < 2 ^ 40 }
     ensures { MatchOption result (NoneSet (bit_of words.now) from (64 * (start + 1))) (IsLowest (bit_of words.now) from (64 * (start + 1))) }
 {
     let at = from / 64;
-    if let Some(bit) = lowest_from(words[at], from % 64) {
-        return Some(64 * at + bit);
+    match lowest_from(words[at], from % 64) {
+        Some(bit) => Some(64 * at + bit),
+        None => {
+            if at >= start {
+                return None;
+            }
+            match next_bit(words, depth - 1, start / 64 - 1, at) {
+                Some(above) => Some(64 * (above + 1) + lowest(words[above + 1])),
+                None => None,
+            }
+        }
     }
-    if at >= start {
-        return None;
-    }
-    match next_bit(words, depth - 1, start / 64 - 1, at) {
-        Some(above) => Some(64 * (above + 1) + lowest(words[above + 1])),
-        None => None,
-    }
+}
+
+/// So many words of which no bit is set.
+fn zeros(alloc: Global, count: usize) -> Result<Vec<u64>, AllocError>
+    ensures { IfOk result (λ v. v.items ≡ replicate count 0) }
+{
+    vec![in alloc; 0; count]
 }
 
 /// A set of numbers below a count: which they are, as a list with a truth value for each number. Its memory is all taken when it
@@ -57,14 +68,14 @@ pub(crate) struct BlockSet {
 }
 
 impl Model for BlockSet {
-    ghost use Rattle.std.specs.Prelude.{◌≡◌, ◌+◌, ◌*◌, ◌≤◌, Bool, List, length};
-    ghost use Rattle.extent_map.specs.Levels.{AllTell, level_start, members};
+    ghost use Rattle.std.specs.Prelude.{Bool, List};
+    ghost use Rattle.extent_map.specs.Levels.{AreLevels, members};
 
     ghost Value = { List Bool };
 
     ghost view = { λ s. members s.words.items s.base s.count };
 
-    ghost invariant = { λ s. (s.base ≡ level_start s.depth) × (s.base + s.count ≤ 64 * (s.base + 1)) × (s.base + s.count ≤ 64 * length s.words.items) × AllTell s.words.items s.base };
+    ghost invariant = { λ s. AreLevels s.words.items s.depth s.base s.count };
 }
 
 impl BlockSet {
@@ -81,7 +92,7 @@ impl BlockSet {
             base = 64 * (base + 1);
             depth += 1;
         }
-        let words = vec![in alloc; 0; (base + count).div_ceil(64)]?;
+        let words = zeros(alloc, (base + count).div_ceil(64))?;
         Ok(BlockSet {
             words,
             depth,
@@ -102,8 +113,9 @@ impl BlockSet {
         requires { number < length self.now }
         ensures { result ≡ slice_index_or self.now number false }
     {
+        let words = self.words.as_slice();
         let at = self.base + number;
-        self.words[at / 64] >> (at % 64) & 1 == 1
+        words[at / 64] >> (at % 64) & 1 == 1
     }
 
     /// The first member from `from` on, or the count where there is none.
@@ -145,6 +157,7 @@ fn fill_bits(words: &mut [u64], base: usize, low: usize, high: usize, set: bool)
     requires high { high ≤ 64 * (base + 1) }
     requires within { high ≤ 64 * length words.old }
     requires telling { AllTell words.old base }
+    requires fits { base < 2 ^ 40 }
     ensures telling { AllTell words.new base }
     ensures members { (i : ℕ) → base ≤ i → bit_of words.new i ≡ (if is_between low high i then set else bit_of words.old i) }
 {
