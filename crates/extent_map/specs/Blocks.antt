@@ -1,5 +1,5 @@
 -- The blocks of a random-access volume are a list that says, for each block in order, whether it is in use.
-use Rattle.std.specs.Prelude.{ℕ, ◌≡◌, ◌+◌, ◌-◌, ◌*◌, ◌/◌, ◌<◌, ◌≤◌, Bool, true, false, ◌==◌, nat_le, if◌then◌else◌, List, [], ◌∷◌, ◌++◌, length, take, drop, replicate, slice_get, Option, Some, None}
+use Rattle.std.specs.Prelude.{ℕ, ◌≡◌, ◌+◌, ◌-◌, ◌*◌, ◌/◌, ◌<◌, ◌≤◌, Bool, true, false, not, ◌&&◌, ◌==◌, nat_lt, nat_le, if◌then◌else◌, List, [], ◌∷◌, ◌++◌, length, take, drop, replicate, slice_get, slice_index_or, Option, Some, None}
 use Rattle.std.specs.List.{sum_by}
 use Rattle.std.specs.Int.{div_ceil}
 use Rattle.extent_map.specs.declared.extents.Run.{Run}
@@ -17,8 +17,8 @@ abbrev pub room_in : Run → ℕ
 room_in r = 4096 * r.blocks - 32
 
 -- the room of several runs, in bytes
-abbrev pub room : List Run → ℕ
-room runs = sum_by room_in runs
+abbrev pub total_room : List Run → ℕ
+total_room runs = sum_by room_in runs
 
 -- how many blocks so many bytes of data and their frame's header fill, the last one perhaps in part
 abbrev pub blocks_for : ℕ → ℕ
@@ -47,7 +47,7 @@ first_of bytes (r ∷ rs) =
 
 -- the runs that are taken for so many bytes; none where the free runs have too little room
 abbrev pub taken : ℕ → List Bool → Option (List Run)
-taken bytes used = if nat_le bytes (room (free_runs used)) then Some (first_of bytes (free_runs used)) else None
+taken bytes used = if nat_le bytes (total_room (free_runs used)) then Some (first_of bytes (free_runs used)) else None
 
 -- a list with so many of its places, from `first` on, having this value; all others stay
 abbrev pub marked_from : Bool → ℕ → ℕ → List Bool → List Bool
@@ -75,3 +75,16 @@ AreFree (r ∷ rs) used = (0 < r.blocks) × (AllAre false r used × AreFree rs (
 abbrev pub Ascend : ℕ → List Run → Type 0
 Ascend at [] = Unit {0}
 Ascend at (r ∷ rs) = (at ≤ r.first) × Ascend (end_of r) rs
+
+-- whether a block is there and is free
+abbrev pub is_free : List Bool → ℕ → Bool
+is_free used k = not (slice_index_or used k true)
+
+-- the bytes of a header, where there is one
+abbrev pub header_if : Bool → ℕ
+header_if true = 32
+header_if false = 0
+
+-- the bytes of a run's blocks, and of one header for each of its neighbours that is free: with such a neighbour it makes one run
+abbrev pub joined : Run → List Bool → ℕ
+joined r used = 4096 * r.blocks + header_if (nat_lt 0 r.first && is_free used (r.first - 1)) + header_if (is_free used (end_of r))
