@@ -1,10 +1,10 @@
 -- The maximal free runs of a list of blocks: the next of them, their room, and what marking a run makes of that room.
-use Rattle.std.proofs.Common.{◌≡◌, ℕ, ◌+◌, ◌-◌, ◌*◌, ◌/◌, ◌%◌, ◌^◌, ◌<◌, ◌≤◌, zero, suc, Bool, true, false, not, ◌&&◌, List, [], ◌∷◌, ◌++◌, length, get_or, take, drop, replicate, map, refl, sym, ap, ◌∙◌, arith, inl, inr, add-one, Some}
+use Rattle.std.proofs.Common.{◌≡◌, ℕ, ◌+◌, ◌-◌, ◌*◌, ◌/◌, ◌%◌, ◌^◌, ◌<◌, ◌≤◌, zero, suc, Bool, true, false, not, ◌&&◌, List, [], ◌∷◌, ◌++◌, length, get_or, take, drop, replicate, map, refl, sym, ap, subst, ◌∙◌, arith, inl, inr, add-one, Some}
 use Rattle.std.specs.Prelude.{if◌then◌else◌, ◌⊎◌, ◌==◌, nat_lt, slice_get}
-use Rattle.std.proofs.lemmas.List.{ext_get_or, length-take-le, length-replicate, get_or_past, drop_more, drop_all, take_more, append-nil, map-append, take-map, drop-map}
+use Rattle.std.proofs.lemmas.List.{ext_get_or, length-take-le, length-replicate, get_or_past, drop_more, drop_all, take_more, append-nil, map-append, take-map, drop-map, get_or-map, get_or_default, length-map}
 use Rattle.std.proofs.lemmas.List.Sums.{sum_by-cons}
 use Rattle.std.proofs.lemmas.Option.{slice_get_within, get_or_from_slice_get}
-use Rattle.std.proofs.lemmas.Bool.{cases_lt, eqb-true, eq-eqb, ne_eqb, lt-ltb}
+use Rattle.std.proofs.lemmas.Bool.{cases_lt, eqb-true, eq-eqb, ne_eqb, lt-ltb, not-true, not-false, false≢true}
 use Rattle.extent_map.specs.declared.extents.Run.{Run}
 use Rattle.extent_map.specs.Bits.{is_between}
 use Rattle.extent_map.specs.Blocks.{run, end_of, room_in, total_room, with_block, free_runs_from, free_runs, marked_from, marked, AllAre, Ascend, is_free, header_if, joined}
@@ -261,11 +261,21 @@ total_room-marked r used some fits =
     let parts : room_along (marked false r used) + 32 ≡ room_along (marked true r used) + (4096 * r.blocks + header_if (ends_free (take r.first used)) + header_if (begins_free (drop (end_of r) used))) = joined_parts (take r.first used) (drop (end_of r) used) r.blocks some in
     omega (arith, left, right, free, taken, parts)
 
-pub total_room-all_free : (n : ℕ) → 0 < n → total_room (free_runs (replicate n false)) ≡ 4096 * n - 32
-total_room-all_free zero some = absurd (omega arith)
-total_room-all_free (suc m) some =
+pub total_room-all_free : (n : ℕ) → total_room (free_runs (replicate n false)) ≡ 4096 * n - 32
+total_room-all_free zero = refl
+total_room-all_free (suc m) =
     let size : room_along (replicate (suc m) false) + 32 ≡ 4096 * suc m = room_along-free m in
     room_is 0 (replicate (suc m) false) ∙ omega (arith, size)
+
+room_along-bound : (used : List Bool) → room_along used ≤ 4096 * length used
+room_along-bound [] = omega arith
+room_along-bound (true ∷ used) = omega (arith, room_along-bound used)
+room_along-bound (false ∷ used) =
+    let rest : room_along used ≤ 4096 * length used = room_along-bound used in
+    elim (begins_free used) as (λ b. front_room b + room_along used ≤ 4096 * suc (length used)) [ true ↦ omega (arith, rest) | false ↦ omega (arith, rest) ]
+
+pub total_room-bound : (used : List Bool) → total_room (free_runs used) ≤ 4096 * length used
+total_room-bound used = omega (arith, room_is 0 used, room_along-bound used)
 
 -- ---- a run that is marked as it was
 
@@ -289,7 +299,57 @@ marked_same v r used some are =
         ]
       ])
 
+-- a run that is given back, and one that is taken
+pub total_room-given : (r : Run) (used : List Bool) → 0 < r.blocks → AllAre true r used → total_room (free_runs (marked false r used)) + 32 ≡ total_room (free_runs used) + joined r used
+total_room-given r used some are =
+    total_room-marked r used some (AllAre-fits true r used some are) ∙ ap (λ (l : List Bool). total_room (free_runs l) + joined r used) (marked_same true r used some are)
+
+pub total_room-taken : (r : Run) (used : List Bool) → 0 < r.blocks → AllAre false r used → total_room (free_runs used) + 32 ≡ total_room (free_runs (marked true r used)) + joined r used
+total_room-taken r used some are =
+    ap (λ (l : List Bool). total_room (free_runs l) + 32) (sym (marked_same false r used some are)) ∙ total_room-marked r used some (AllAre-fits false r used some are)
+
 -- ---- the free blocks are those that aren't in use
+
+pub used_at : (free used : List Bool) (k : ℕ) → free ≡ map not used → k < length used → get_or free k false ≡ false → get_or used k true ≡ true
+used_at free used k e lt clear =
+    not-false (get_or used k true) (sym (get_or-map not used k true false lt) ∙ ap (λ (l : List Bool). get_or l k false) (sym e) ∙ clear)
+
+pub free_at : (free used : List Bool) (k : ℕ) → free ≡ map not used → k < length used → get_or free k false ≡ true → get_or used k true ≡ false
+free_at free used k e lt set =
+    not-true (get_or used k true) (sym (get_or-map not used k true false lt) ∙ ap (λ (l : List Bool). get_or l k false) (sym e) ∙ set)
+
+-- the next free block and the next block in use behind it bound the next free run
+pub found_run : (at first end : ℕ) (used free now : List Bool) → used ≡ now → free ≡ map not used → at ≤ length now → 0 < total_room (runs_at at now) → at ≤ first → first ≤ length free → ((k : ℕ) → at ≤ k → k < first → get_or free k false ≡ false) → (first < length free → get_or free first false ≡ true) → first ≤ end → end ≤ length used → ((k : ℕ) → first ≤ k → k < end → get_or used k false ≡ false) → (end < length used → get_or used end false ≡ true) → (first < end) × (runs_at at now ≡ run first (end - first) ∷ runs_at (first + (end - first)) now)
+found_run at first end used free now e not-used within some low high before here low' high' before' here' =
+    let len : length used ≡ length now = ap length e in
+    let len' : length free ≡ length used = ap length not-used ∙ length-map used not in
+    let some' : 0 < total_room (runs_at at used) = subst (λ (u : List Bool). 0 < total_room (runs_at at u)) (sym e) some in
+    let within' : at ≤ length used = omega arith in
+    let before-used : (k : ℕ) → at ≤ k → k < first → get_or used k true ≡ true = λ k le lt. used_at free used k not-used (omega (arith, lt)) (before k le lt) in
+    let inside : first < length used = elim (cases_lt first (length used)) [
+      | inl lt ↦ lt
+      | inr le ↦
+        let none : runs_at at used ≡ [] = none_left at used within' (λ k from under. before-used k from (omega (arith, under, le))) in
+        let no-room : total_room (runs_at at used) ≡ 0 = ap total_room none in
+        absurd (omega (arith, no-room, some'))
+    ] in
+    let inside' : first < length free = omega arith in
+    let free-first : get_or used first true ≡ false = free_at free used first not-used inside (here inside') in
+    let more : first < end = elim (cases_lt first end) [
+      | inl lt ↦ lt
+      | inr le ↦
+        let same : end ≡ first = omega (arith, le, low') in
+        let end-inside : end < length used = omega (arith, same) in
+        absurd (false≢true (sym free-first ∙ sym (get_or_default used first false true inside) ∙ ap (λ (k : ℕ). get_or used k false) (sym same) ∙ here' end-inside))
+    ] in
+    let stop : begins_free (drop end used) ≡ false = begins_drop end used ∙ elim (cases_lt end (length used)) [
+      | inl lt ↦ ap not (sym (get_or_default used end false true lt) ∙ here' lt)
+      | inr le ↦ ap not (get_or_past used end true le)
+    ] in
+    (
+      more,
+      subst (λ (u : List Bool). runs_at at u ≡ run first (end - first) ∷ runs_at (first + (end - first)) u) e (next_run at first end used low more high' before-used (λ k from under. sym (get_or_default used k false true (omega (arith, under))) ∙ before' k from under) stop)
+    )
 
 map-replicate : (b : Bool) (n : ℕ) → map not (replicate n b) ≡ replicate n (not b)
 map-replicate b zero = refl

@@ -1,15 +1,16 @@
 -- What is taken of free runs: enough, free, and apart.
-use Rattle.std.proofs.Common.{◌≡◌, ℕ, ◌+◌, ◌-◌, ◌*◌, ◌/◌, ◌%◌, ◌<◌, ◌≤◌, zero, suc, Bool, true, false, List, [], ◌∷◌, ◌++◌, length, get_or, drop, refl, sym, ap, ◌∙◌, subst, arith, inl, inr, Some, None, Option, min}
+use Rattle.std.proofs.Common.{◌≡◌, ℕ, ◌+◌, ◌-◌, ◌*◌, ◌/◌, ◌%◌, ◌<◌, ◌≤◌, zero, suc, Bool, true, false, List, [], ◌∷◌, ◌++◌, length, get_or, drop, refl, sym, ap, ◌∙◌, subst, arith, inl, inr, Some, None, Option, map, not}
 use Rattle.std.specs.Prelude.{if◌then◌else◌, ◌⊎◌, ◌==◌, nat_le, slice_get}
-use Rattle.std.proofs.lemmas.Option.{slice_get_within, slice_get-get_or, slice_get_past}
+use Rattle.std.proofs.lemmas.Option.{slice_get-get_or, slice_get_past, get_or_from_slice_get}
+use Rattle.std.proofs.lemmas.List.{append-nil, append_assoc, length-map}
 use Rattle.std.proofs.lemmas.Grind.{div_ceil_times}
-use Rattle.std.proofs.lemmas.Bool.{cases_lt, cases_eq, eqb-true, eqb-false, leb-true, leb-false, eq-eqb, ne_eqb, le-leb, lt-leb}
+use Rattle.std.proofs.lemmas.Bool.{cases_lt, cases_eq, eqb-true, eqb-false, leb-true, leb-false, eq-eqb, ne_eqb, le-leb, lt-leb, false≢true}
 use Rattle.extent_map.specs.declared.extents.Run.{Run}
 use Rattle.extent_map.specs.Bits.{is_between}
 use Rattle.extent_map.specs.Blocks.{run, end_of, room_in, total_room, blocks_for, with_block, free_runs_from, free_runs, first_of, taken, marked, with_used, AllAre, AreFree, Ascend}
 use Rattle.extent_map.proofs.Words.{between_outside}
 use Rattle.extent_map.proofs.Members.{length-marked_from, get_or-marked_from}
-use Rattle.extent_map.proofs.FreeRuns.{total_room-cons, Ascend-weaker, Ascend-free_runs, AllAre-fits}
+use Rattle.extent_map.proofs.FreeRuns.{total_room-cons, Ascend-free_runs, AllAre-fits, used_at, free_at}
 
 -- ---- a step of the walk over the free runs
 
@@ -160,3 +161,49 @@ taken_none bytes used lt = ap (λ (b : Bool). if b then Some (first_of bytes (fr
 
 pub taken_some : (bytes : ℕ) (used : List Bool) → bytes ≤ total_room (free_runs used) → taken bytes used ≡ Some (first_of bytes (free_runs used))
 taken_some bytes used le = ap (λ (b : Bool). if b then Some (first_of bytes (free_runs used)) else None) (le-leb bytes (total_room (free_runs used)) le)
+
+-- ---- the loop that plans the runs
+
+pub plan_last : (items free rest-free all : List Run) (rest : ℕ) (r : Run) → free ≡ r ∷ rest-free → items ++ first_of rest free ≡ all → 0 < rest → rest ≤ room_in r → (items ++ run r.first (blocks_for rest) ∷ []) ++ first_of 0 rest-free ≡ all
+plan_last items free rest-free all rest r e so-far some le =
+    ap (λ (l : List Run). (items ++ run r.first (blocks_for rest) ∷ []) ++ l) (first_of_none rest-free)
+    ∙ append-nil (items ++ run r.first (blocks_for rest) ∷ [])
+    ∙ ap (λ (l : List Run). items ++ l) (sym (first_of_last rest r rest-free some le) ∙ ap (first_of rest) (sym e))
+    ∙ so-far
+
+pub plan_more : (items free rest-free all : List Run) (rest : ℕ) (r : Run) → free ≡ r ∷ rest-free → items ++ first_of rest free ≡ all → 0 < rest → room_in r < rest → (items ++ r ∷ []) ++ first_of (rest - room_in r) rest-free ≡ all
+plan_more items free rest-free all rest r e so-far some lt =
+    append_assoc items (r ∷ []) (first_of (rest - room_in r) rest-free)
+    ∙ ap (λ (l : List Run). items ++ l) (sym (first_of_more rest r rest-free some lt) ∙ ap (first_of rest) (sym e))
+    ∙ so-far
+
+pub plan_enough : (free rest-free : List Run) (rest : ℕ) (r : Run) → free ≡ r ∷ rest-free → rest ≤ total_room free → rest ≤ room_in r + total_room rest-free
+plan_enough free rest-free rest r e le =
+    let whole : total_room free ≡ room_in r + total_room rest-free = ap total_room e ∙ total_room-cons r rest-free in
+    omega (arith, whole, le)
+
+pub plan_done : (items free all : List Run) (rest : ℕ) → rest ≤ 0 → items ++ first_of rest free ≡ all → items ≡ all
+plan_done items free all rest none so-far =
+    let zero-left : rest ≡ 0 = omega (arith, none) in
+    sym (append-nil items) ∙ ap (λ (l : List Run). items ++ l) (sym (first_of_none free)) ∙ ap (λ (n : ℕ). items ++ first_of n free) (sym zero-left) ∙ so-far
+
+-- ---- are all blocks of a run in use?
+
+pub used_until : (first end next : ℕ) (used free now : List Bool) → used ≡ now → free ≡ map not used → end ≤ length free → ((k : ℕ) → first ≤ k → k < next → get_or free k false ≡ false) → end ≤ next → (k : ℕ) → first ≤ k → k < end → slice_get now k ≡ Some true
+used_until first end next used free now e not-used fits before le k low high =
+    let len' : length free ≡ length used = ap length not-used ∙ length-map used not in
+    let lt : k < length used = omega (arith, high) in
+    let under : k < next = omega (arith, high) in
+    ap (λ (u : List Bool). slice_get u k) (sym e) ∙ slice_get-get_or used k true lt ∙ ap (λ (b : Bool). Some b) (used_at free used k not-used lt (before k low under))
+
+pub next_behind : (first end next : ℕ) (used free now : List Bool) → used ≡ now → free ≡ map not used → end ≤ length free → first ≤ next → (next < length free → get_or free next false ≡ true) → ((k : ℕ) → first ≤ k → k < end → slice_get now k ≡ Some true) → end ≤ next
+next_behind first end next used free now e not-used fits low here are =
+    elim (cases_lt next end) [
+      | inl lt ↦
+        let len' : length free ≡ length used = ap length not-used ∙ length-map used not in
+        let inside : next < length used = omega (arith, lt) in
+        let inside' : next < length free = omega arith in
+        let is-used : get_or used next true ≡ true = get_or_from_slice_get used next true true (ap (λ (u : List Bool). slice_get u next) e ∙ are next low lt) in
+        absurd (false≢true (sym (free_at free used next not-used inside (here inside')) ∙ is-used))
+      | inr le ↦ le
+    ]
