@@ -44,7 +44,7 @@ Ascend-with_block at [] a = (omega arith, tt)
 Ascend-with_block at (r ∷ rs) a =
     elim (r.first == at + 1) as (λ b. (r.first == at + 1) ≡ b → Ascend at (joined_or b at r rs)) [
       | true ↦ λ e. let first : r.first ≡ at + 1 = eqb-true r.first (at + 1) e in
-        (omega arith, Ascend-weaker (at + (r.blocks + 1)) (end_of r) rs (omega arith) a.1)
+          (omega arith, Ascend-weaker (at + (r.blocks + 1)) (end_of r) rs (omega arith) a.1)
       | false ↦ λ e. (omega arith, a)
     ] refl
 
@@ -290,14 +290,14 @@ pub marked_same : (v : Bool) (r : Run) (used : List Bool) → 0 < r.blocks → A
 marked_same v r used some are =
     let fits : end_of r ≤ length used = AllAre-fits v r used some are in
     ext_get_or v (marked v r used) used (length-marked_from v r.first r.blocks used fits) (λ k lt.
-      get_or-marked_from v r.first r.blocks used k v fits
-      ∙ elim (cases_lt k r.first) [
-        | inl before ↦ ap (λ (b : Bool). if b then v else get_or used k v) (between_outside r.first (end_of r) k (inl before))
-        | inr from ↦ elim (cases_lt k (end_of r)) [
-          | inl under ↦ ap (λ (b : Bool). if b then v else get_or used k v) (between_inside r.first (end_of r) k from under) ∙ sym (get_or_from_slice_get used k v v (are k from under))
-          | inr over ↦ ap (λ (b : Bool). if b then v else get_or used k v) (between_outside r.first (end_of r) k (inr over))
-        ]
-      ])
+    get_or-marked_from v r.first r.blocks used k v fits
+    ∙ elim (cases_lt k r.first) [
+      | inl before ↦ ap (λ (b : Bool). if b then v else get_or used k v) (between_outside r.first (end_of r) k (inl before))
+      | inr from ↦ elim (cases_lt k (end_of r)) [
+        | inl under ↦ ap (λ (b : Bool). if b then v else get_or used k v) (between_inside r.first (end_of r) k from under) ∙ sym (get_or_from_slice_get used k v v (are k from under))
+        | inr over ↦ ap (λ (b : Bool). if b then v else get_or used k v) (between_outside r.first (end_of r) k (inr over))
+      ]
+    ])
 
 -- a run that is given back, and one that is taken
 pub total_room-given : (r : Run) (used : List Bool) → 0 < r.blocks → AllAre true r used → total_room (free_runs (marked false r used)) + 32 ≡ total_room (free_runs used) + joined r used
@@ -329,26 +329,25 @@ found_run at first end used free now e not-used within some low high before here
     let inside : first < length used = elim (cases_lt first (length used)) [
       | inl lt ↦ lt
       | inr le ↦
-        let none : runs_at at used ≡ [] = none_left at used within' (λ k from under. before-used k from (omega (arith, under, le))) in
-        let no-room : total_room (runs_at at used) ≡ 0 = ap total_room none in
-        absurd (omega (arith, no-room, some'))
+          let none : runs_at at used ≡ [] = none_left at used within' (λ k from under. before-used k from (omega (arith, under, le))) in
+          let no-room : total_room (runs_at at used) ≡ 0 = ap total_room none in
+          absurd (omega (arith, no-room, some'))
     ] in
     let inside' : first < length free = omega arith in
     let free-first : get_or used first true ≡ false = free_at free used first not-used inside (here inside') in
     let more : first < end = elim (cases_lt first end) [
       | inl lt ↦ lt
       | inr le ↦
-        let same : end ≡ first = omega (arith, le, low') in
-        let end-inside : end < length used = omega (arith, same) in
-        absurd (false≢true (sym free-first ∙ sym (get_or_default used first false true inside) ∙ ap (λ (k : ℕ). get_or used k false) (sym same) ∙ here' end-inside))
+          let same : end ≡ first = omega (arith, le, low') in
+          let end-inside : end < length used = omega (arith, same) in
+          absurd (false≢true (sym free-first ∙ sym (get_or_default used first false true inside) ∙ ap (λ (k : ℕ). get_or used k false) (sym same) ∙ here' end-inside))
     ] in
     let stop : begins_free (drop end used) ≡ false = begins_drop end used ∙ elim (cases_lt end (length used)) [
       | inl lt ↦ ap not (sym (get_or_default used end false true lt) ∙ here' lt)
       | inr le ↦ ap not (get_or_past used end true le)
-    ] in
-    (
+    ] in (
       more,
-      subst (λ (u : List Bool). runs_at at u ≡ run first (end - first) ∷ runs_at (first + (end - first)) u) e (next_run at first end used low more high' before-used (λ k from under. sym (get_or_default used k false true (omega (arith, under))) ∙ before' k from under) stop)
+      subst (λ (u : List Bool). runs_at at u ≡ run first (end - first) ∷ runs_at (first + (end - first)) u) e (next_run at first end used low more high' before-used (λ k from under. sym (get_or_default used k false true (omega (arith, under))) ∙ before' k from under) stop),
     )
 
 map-replicate : (b : Bool) (n : ℕ) → map not (replicate n b) ≡ replicate n (not b)

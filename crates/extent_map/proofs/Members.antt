@@ -29,18 +29,18 @@ get_or-marked_from value first count list k d fits =
     let two : length (take first list ++ replicate count value) ≡ first + count = length-append (take first list) (replicate count value) ∙ omega arith in
     elim (cases_lt k (first + count)) [
       | inl under ↦
-        let in-two : k < length (take first list ++ replicate count value) = omega arith in
-        get_or_append_left (take first list ++ replicate count value) (drop (first + count) list) d k in-two
-        ∙ elim (cases_lt k first) [
-          | inl before ↦
-            let in-front : k < length (take first list) = omega arith in
-            get_or_append_left (take first list) (replicate count value) d k in-front ∙ get_or-take first list k d before ∙ sym (ap (λ (b : Bool). if b then value else get_or list k d) (between_outside first (first + count) k (inl before)))
-          | inr from ↦
-            get_or-append_right (take first list) (replicate count value) first k d front from ∙ get_or-replicate count (k - first) value d (omega arith) ∙ sym (ap (λ (b : Bool). if b then value else get_or list k d) (between_inside first (first + count) k from under))
-        ]
+          let in-two : k < length (take first list ++ replicate count value) = omega arith in
+          get_or_append_left (take first list ++ replicate count value) (drop (first + count) list) d k in-two
+          ∙ elim (cases_lt k first) [
+            | inl before ↦
+                let in-front : k < length (take first list) = omega arith in
+                get_or_append_left (take first list) (replicate count value) d k in-front ∙ get_or-take first list k d before ∙ sym (ap (λ (b : Bool). if b then value else get_or list k d) (between_outside first (first + count) k (inl before)))
+            | inr from ↦
+                get_or-append_right (take first list) (replicate count value) first k d front from ∙ get_or-replicate count (k - first) value d (omega arith) ∙ sym (ap (λ (b : Bool). if b then value else get_or list k d) (between_inside first (first + count) k from under))
+          ]
       | inr over ↦
-        let back : first + count + (k - (first + count)) ≡ k = omega arith in
-        get_or-append_right (take first list ++ replicate count value) (drop (first + count) list) (first + count) k d two over ∙ get_or-drop (first + count) list (k - (first + count)) d ∙ ap (λ (j : ℕ). get_or list j d) back ∙ sym (ap (λ (b : Bool). if b then value else get_or list k d) (between_outside first (first + count) k (inr over)))
+          let back : first + count + (k - (first + count)) ≡ k = omega arith in
+          get_or-append_right (take first list ++ replicate count value) (drop (first + count) list) (first + count) k d two over ∙ get_or-drop (first + count) list (k - (first + count)) d ∙ ap (λ (j : ℕ). get_or list j d) back ∙ sym (ap (λ (b : Bool). if b then value else get_or list k d) (between_outside first (first + count) k (inr over)))
     ]
 
 -- ---- the members
@@ -71,13 +71,13 @@ members_filled words new base count first blocks value list e fits bits =
     let len : length list ≡ count = length_members words base count list e in
     let left : length (members new base count) ≡ count = length-map-range_with_len (bit_of new) base count in
     ext_get_or false (members new base count) (marked_from value first blocks list) (left ∙ sym len ∙ sym (length-marked_from value first blocks list fits)) (λ k lt.
-      let lt' : k < count = omega arith in
-      let from : base ≤ base + k = omega arith in
-      get_or-map-range_with_len (bit_of new) base count k (base + k) false lt' refl
-      ∙ bits (base + k) from
-      ∙ ap (λ (b : Bool). if b then value else bit_of words (base + k)) (shift_between base first blocks k)
-      ∙ ap (λ (b : Bool). if is_between first (first + blocks) k then value else b) (sym (member_at words base count list k false e lt'))
-      ∙ sym (get_or-marked_from value first blocks list k false fits))
+    let lt' : k < count = omega arith in
+    let from : base ≤ base + k = omega arith in
+    get_or-map-range_with_len (bit_of new) base count k (base + k) false lt' refl
+    ∙ bits (base + k) from
+    ∙ ap (λ (b : Bool). if b then value else bit_of words (base + k)) (shift_between base first blocks k)
+    ∙ ap (λ (b : Bool). if is_between first (first + blocks) k then value else b) (sym (member_at words base count list k false e lt'))
+    ∙ sym (get_or-marked_from value first blocks list k false fits))
 
 -- ---- the next member
 
@@ -109,5 +109,5 @@ pub zeros_empty : (words : List ℕ) (n base count : ℕ) → words ≡ zeros n 
 zeros_empty words n base count e =
     let left : length (members words base count) ≡ count = length-map-range_with_len (bit_of words) base count in
     ext_get_or false (members words base count) (replicate count false) (left ∙ sym (length-replicate count false)) (λ k lt.
-      let lt' : k < count = omega arith in
-      get_or-map-range_with_len (bit_of words) base count k (base + k) false lt' refl ∙ ap (λ (w : List ℕ). bit_of w (base + k)) e ∙ bit_zero n (base + k) ∙ sym (get_or-replicate count k false false lt'))
+    let lt' : k < count = omega arith in
+    get_or-map-range_with_len (bit_of words) base count k (base + k) false lt' refl ∙ ap (λ (w : List ℕ). bit_of w (base + k)) e ∙ bit_zero n (base + k) ∙ sym (get_or-replicate count k false false lt'))

@@ -48,12 +48,12 @@ of_cases P bytes r rs none last more =
     elim (bytes == 0) as (λ b. (bytes == 0) ≡ b → P (none_or b bytes r rs)) [
       | true ↦ λ e. none (eqb-true bytes 0 e)
       | false ↦ λ e.
-        let ne = eqb-false bytes 0 e in
-        let some : 0 < bytes = elim (cases_lt 0 bytes) [ inl lt ↦ lt | inr le ↦ absurd (ne (omega arith)) ] in
-        elim (nat_le bytes (room_in r)) as (λ b. nat_le bytes (room_in r) ≡ b → P (last_or_more b bytes r rs)) [
-          | true ↦ λ e. last some (leb-true bytes (room_in r) e)
-          | false ↦ λ e. more some (leb-false bytes (room_in r) e)
-        ] refl
+          let ne = eqb-false bytes 0 e in
+          let some : 0 < bytes = elim (cases_lt 0 bytes) [ inl lt ↦ lt | inr le ↦ absurd (ne (omega arith)) ] in
+          elim (nat_le bytes (room_in r)) as (λ b. nat_le bytes (room_in r) ≡ b → P (last_or_more b bytes r rs)) [
+            | true ↦ λ e. last some (leb-true bytes (room_in r) e)
+            | false ↦ λ e. more some (leb-false bytes (room_in r) e)
+          ] refl
     ] refl
 
 -- ---- enough room
@@ -63,14 +63,14 @@ total_room-first_of bytes [] le = le
 total_room-first_of bytes (r ∷ rs) le =
     let whole : total_room (r ∷ rs) ≡ room_in r + total_room rs = total_room-cons r rs in
     of_cases (λ l. bytes ≤ total_room l) bytes r rs
-      (λ e. omega (arith, e))
-      (λ some small.
-        let one : total_room (run r.first (blocks_for bytes) ∷ []) ≡ room_in (run r.first (blocks_for bytes)) + 0 = total_room-cons (run r.first (blocks_for bytes)) [] in
-        omega (arith, one, blocks_for_enough bytes))
-      (λ some large.
-        let rest : bytes - room_in r ≤ total_room rs = omega (arith, le, whole) in
-        let sum : total_room (r ∷ first_of (bytes - room_in r) rs) ≡ room_in r + total_room (first_of (bytes - room_in r) rs) = total_room-cons r (first_of (bytes - room_in r) rs) in
-        omega (arith, sum, total_room-first_of (bytes - room_in r) rs rest))
+    (λ e. omega (arith, e))
+    (λ some small.
+    let one : total_room (run r.first (blocks_for bytes) ∷ []) ≡ room_in (run r.first (blocks_for bytes)) + 0 = total_room-cons (run r.first (blocks_for bytes)) [] in
+    omega (arith, one, blocks_for_enough bytes))
+    (λ some large.
+    let rest : bytes - room_in r ≤ total_room rs = omega (arith, le, whole) in
+    let sum : total_room (r ∷ first_of (bytes - room_in r) rs) ≡ room_in r + total_room (first_of (bytes - room_in r) rs) = total_room-cons r (first_of (bytes - room_in r) rs) in
+    omega (arith, sum, total_room-first_of (bytes - room_in r) rs rest))
 
 -- ---- ascending
 
@@ -91,22 +91,21 @@ EachFree-with_block at [] used here f =
 EachFree-with_block at (r ∷ rs) used here f =
     elim (r.first == at + 1) as (λ b. (r.first == at + 1) ≡ b → EachFree used (if b then run at (r.blocks + 1) ∷ rs else run at 1 ∷ r ∷ rs)) [
       | true ↦ λ e.
-        let first : r.first ≡ at + 1 = eqb-true r.first (at + 1) e in
-        let are = f.1.0 in
-        (
-          omega arith,
-          (
-            (λ k low high. elim (cases_eq k at) [
-              | inl same ↦ ap (slice_get used) same ∙ here
-              | inr other ↦
-                let from : r.first ≤ k = elim (cases_lt at k) [ inl lt ↦ omega (arith, lt, first) | inr le ↦ absurd (other (omega (arith, le, low))) ] in
-                are k from (omega (arith, high, first))
-            ]),
-            f.1.1
+          let first : r.first ≡ at + 1 = eqb-true r.first (at + 1) e in
+          let are = f.1.0 in (
+            omega arith,
+            (
+              (λ k low high. elim (cases_eq k at) [
+                | inl same ↦ ap (slice_get used) same ∙ here
+                | inr other ↦
+                    let from : r.first ≤ k = elim (cases_lt at k) [ inl lt ↦ omega (arith, lt, first) | inr le ↦ absurd (other (omega (arith, le, low))) ] in
+                    are k from (omega (arith, high, first))
+              ]),
+              f.1.1,
+            ),
           )
-        )
       | false ↦ λ e.
-        (omega arith, ((λ k low high. let same : k ≡ at = omega (arith, low, high) in ap (slice_get used) same ∙ here), f))
+          (omega arith, ((λ k low high. let same : k ≡ at = omega (arith, low, high) in ap (slice_get used) same ∙ here), f))
     ] refl
 
 EachFree-free_runs : (at : ℕ) (part used : List Bool) → ((k : ℕ) → slice_get used (at + k) ≡ slice_get part k) → EachFree used (free_runs_from at part)
@@ -122,22 +121,22 @@ EachFree-first_of bytes [] used f = tt
 EachFree-first_of bytes (r ∷ rs) used f =
     let are = f.1.0 in
     of_cases (λ l. EachFree used l) bytes r rs
-      (λ _. tt)
-      (λ some small.
-        let less : blocks_for bytes ≤ r.blocks = blocks_for_within bytes r f.0 small in
-        (omega (arith, blocks_for_enough bytes), ((λ k low high. are k low (omega (arith, high, less))), tt)))
-      (λ some large. (f.0, (are, EachFree-first_of (bytes - room_in r) rs used f.1.1)))
+    (λ _. tt)
+    (λ some small.
+    let less : blocks_for bytes ≤ r.blocks = blocks_for_within bytes r f.0 small in
+    (omega (arith, blocks_for_enough bytes), ((λ k low high. are k low (omega (arith, high, less))), tt)))
+    (λ some large. (f.0, (are, EachFree-first_of (bytes - room_in r) rs used f.1.1)))
 
 slice_get-marked_after : (r : Run) (used : List Bool) (k : ℕ) → end_of r ≤ length used → end_of r ≤ k → slice_get (marked true r used) k ≡ slice_get used k
 slice_get-marked_after r used k fits after =
     let len : length (marked true r used) ≡ length used = length-marked_from true r.first r.blocks used fits in
     elim (cases_lt k (length used)) [
       | inl lt ↦
-        let lt' : k < length (marked true r used) = omega arith in
-        slice_get-get_or (marked true r used) k true lt' ∙ ap (λ (b : Bool). Some b) (get_or-marked_from true r.first r.blocks used k true fits ∙ ap (λ (b : Bool). if b then true else get_or used k true) (between_outside r.first (end_of r) k (inr after))) ∙ sym (slice_get-get_or used k true lt)
+          let lt' : k < length (marked true r used) = omega arith in
+          slice_get-get_or (marked true r used) k true lt' ∙ ap (λ (b : Bool). Some b) (get_or-marked_from true r.first r.blocks used k true fits ∙ ap (λ (b : Bool). if b then true else get_or used k true) (between_outside r.first (end_of r) k (inr after))) ∙ sym (slice_get-get_or used k true lt)
       | inr le ↦
-        let le' : length (marked true r used) ≤ k = omega arith in
-        slice_get_past (marked true r used) k le' ∙ sym (slice_get_past used k le)
+          let le' : length (marked true r used) ≤ k = omega arith in
+          slice_get_past (marked true r used) k le' ∙ sym (slice_get_past used k le)
     ]
 
 AreFree-from : (runs : List Run) (at : ℕ) (used now : List Bool) → ((k : ℕ) → at ≤ k → slice_get now k ≡ slice_get used k) → Ascend at runs → EachFree used runs → AreFree runs now
@@ -200,10 +199,10 @@ pub next_behind : (first end next : ℕ) (used free now : List Bool) → used �
 next_behind first end next used free now e not-used fits low here are =
     elim (cases_lt next end) [
       | inl lt ↦
-        let len' : length free ≡ length used = ap length not-used ∙ length-map used not in
-        let inside : next < length used = omega (arith, lt) in
-        let inside' : next < length free = omega arith in
-        let is-used : get_or used next true ≡ true = get_or_from_slice_get used next true true (ap (λ (u : List Bool). slice_get u next) e ∙ are next low lt) in
-        absurd (false≢true (sym (free_at free used next not-used inside (here inside')) ∙ is-used))
+          let len' : length free ≡ length used = ap length not-used ∙ length-map used not in
+          let inside : next < length used = omega (arith, lt) in
+          let inside' : next < length free = omega arith in
+          let is-used : get_or used next true ≡ true = get_or_from_slice_get used next true true (ap (λ (u : List Bool). slice_get u next) e ∙ are next low lt) in
+          absurd (false≢true (sym (free_at free used next not-used inside (here inside')) ∙ is-used))
       | inr le ↦ le
     ]

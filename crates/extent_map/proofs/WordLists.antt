@@ -29,9 +29,9 @@ pub others_kept : (words : List ℕ) (above telling : ℕ) (filled : Bool) → a
 others_kept words above telling filled within bits i ne =
     elim (cases_eq (i / 64) (above / 64)) [
       | inl e ↦
-        let small : i % 64 < 64 = omega arith in
-        let apart : (i % 64 < above % 64) ⊎ (above % 64 + 1 ≤ i % 64) = elim (cases_lt (i % 64) (above % 64)) [ inl lt ↦ inl lt | inr le ↦ inr (omega arith) ] in
-        bit_of-set_same words (above / 64) telling i within e ∙ bits (i % 64) small ∙ ap (λ (b : Bool). if b then filled else is_set (get_or words (above / 64) 0) (i % 64)) (between_outside (above % 64) (above % 64 + 1) (i % 64) apart) ∙ sym (bit_in_word words i (above / 64) e)
+          let small : i % 64 < 64 = omega arith in
+          let apart : (i % 64 < above % 64) ⊎ (above % 64 + 1 ≤ i % 64) = elim (cases_lt (i % 64) (above % 64)) [ inl lt ↦ inl lt | inr le ↦ inr (omega arith) ] in
+          bit_of-set_same words (above / 64) telling i within e ∙ bits (i % 64) small ∙ ap (λ (b : Bool). if b then filled else is_set (get_or words (above / 64) 0) (i % 64)) (between_outside (above % 64) (above % 64 + 1) (i % 64) apart) ∙ sym (bit_in_word words i (above / 64) e)
       | inr n ↦ bit_of-set_other words (above / 64) telling i n
     ]
 
@@ -40,15 +40,15 @@ told_above words base at above telling filled next within bits says others i lt 
     let word : is_filled (get_or words (i + 1) 0) ≡ is_filled (get_or (set words (above / 64) telling) (i + 1) 0) = ap is_filled (sym (get_or-set_other words (above / 64) (i + 1) telling 0 ne)) in
     elim (cases_eq i above) [
       | inl e ↦
-        let small : i % 64 < 64 = omega arith in
-        let from : above % 64 ≤ i % 64 = omega (arith, e) in
-        let before : i % 64 < above % 64 + 1 = omega (arith, e) in
-        let here : i / 64 ≡ above / 64 = ap (λ (k : ℕ). k / 64) e in
-        let behind : at ≡ i + 1 = sym next ∙ ap (λ (k : ℕ). k + 1) (sym e) in
-        bit_of-set_same words (above / 64) telling i within here ∙ bits (i % 64) small ∙ ap (λ (b : Bool). if b then filled else is_set (get_or words (above / 64) 0) (i % 64)) (between_inside (above % 64) (above % 64 + 1) (i % 64) from before) ∙ says ∙ ap (λ (k : ℕ). is_filled (get_or words k 0)) behind ∙ word
+          let small : i % 64 < 64 = omega arith in
+          let from : above % 64 ≤ i % 64 = omega (arith, e) in
+          let before : i % 64 < above % 64 + 1 = omega (arith, e) in
+          let here : i / 64 ≡ above / 64 = ap (λ (k : ℕ). k / 64) e in
+          let behind : at ≡ i + 1 = sym next ∙ ap (λ (k : ℕ). k + 1) (sym e) in
+          bit_of-set_same words (above / 64) telling i within here ∙ bits (i % 64) small ∙ ap (λ (b : Bool). if b then filled else is_set (get_or words (above / 64) 0) (i % 64)) (between_inside (above % 64) (above % 64 + 1) (i % 64) from before) ∙ says ∙ ap (λ (k : ℕ). is_filled (get_or words k 0)) behind ∙ word
       | inr n ↦
-        let apart : (i + 1) ≢ at = λ h. n (omega (arith, h, next)) in
-        others_kept words above telling filled within bits i n ∙ others i lt apart ∙ word
+          let apart : (i + 1) ≢ at = λ h. n (omega (arith, h, next)) in
+          others_kept words above telling filled within bits i n ∙ others i lt apart ∙ word
     ]
 
 -- ---- the next bit of a level
@@ -83,15 +83,15 @@ none_between : (words : List ℕ) (start from above : ℕ) → AllTell words sta
 none_between words start from above telling within here none i le lt =
     elim (cases_eq (i / 64) (from / 64)) [
       | inl e ↦
-        let low : from % 64 ≤ i % 64 = omega arith in
-        let high : i % 64 < 64 = omega arith in
-        bit_in_word words i (from / 64) e ∙ here (i % 64) low high
+          let low : from % 64 ≤ i % 64 = omega arith in
+          let high : i % 64 < 64 = omega arith in
+          bit_in_word words i (from / 64) e ∙ here (i % 64) low high
       | inr n ↦
-        let low : from / 64 ≤ i / 64 - 1 = omega arith in
-        let high : i / 64 - 1 < above = omega arith in
-        let known : i / 64 - 1 < start = omega arith in
-        let next : i / 64 ≡ i / 64 - 1 + 1 = omega arith in
-        none_below_clear words i (i / 64 - 1) next (telling (i / 64 - 1) known) (none (i / 64 - 1) low high)
+          let low : from / 64 ≤ i / 64 - 1 = omega arith in
+          let high : i / 64 - 1 < above = omega arith in
+          let known : i / 64 - 1 < start = omega arith in
+          let next : i / 64 ≡ i / 64 - 1 + 1 = omega arith in
+          none_below_clear words i (i / 64 - 1) next (telling (i / 64 - 1) known) (none (i / 64 - 1) low high)
     ]
 
 pub none_below : (words : List ℕ) (start from end : ℕ) → AllTell words start → start ≡ end → NoneSet (is_set (get_or words (from / 64) 0)) (from % 64) 64 → NoneSet (bit_of words) (from / 64) end → NoneSet (bit_of words) from (64 * (start + 1))
@@ -108,14 +108,14 @@ lowest_below words start from end above low telling e here up down =
       before = omega (arith, down.before);
       here = bit_in_word words (64 * (above + 1) + low) (above + 1) at ∙ ap (λ (k : ℕ). is_set (get_or words (above + 1) 0) k) rest ∙ down.here;
       none_below = λ i le lt.
-        elim (cases_lt i (64 * (above + 1))) [
-          | inl under ↦ none_between words start from above telling (omega arith) here up.none_below i le under
-          | inr over ↦
-            let word : i / 64 ≡ above + 1 = omega (arith, down.before) in
-            let left : i % 64 < low = omega (arith, down.before) in
-            let zero-or-more : 0 ≤ i % 64 = omega arith in
-            bit_in_word words i (above + 1) word ∙ down.none_below (i % 64) zero-or-more left
-        ]
+          elim (cases_lt i (64 * (above + 1))) [
+            | inl under ↦ none_between words start from above telling (omega arith) here up.none_below i le under
+            | inr over ↦
+                let word : i / 64 ≡ above + 1 = omega (arith, down.before) in
+                let left : i % 64 < low = omega (arith, down.before) in
+                let zero-or-more : 0 ≤ i % 64 = omega arith in
+                bit_in_word words i (above + 1) word ∙ down.none_below (i % 64) zero-or-more left
+          ];
     }
 
 -- ---- bits from `low` to before `high`, one word after another
@@ -130,36 +130,36 @@ same_word : (low done stop i : ℕ) (set rest : Bool) → low ≤ done → done 
 same_word low done stop i set rest order more whole e =
     elim (cases_lt i done) [
       | inl before ↦
-        let before' : i % 64 < done % 64 = omega (arith, e) in
-        elim (cases_lt i low) [
-          | inl under ↦ both_outside _ _ _ set rest (between_outside _ _ (i % 64) (inl before')) (between_outside low done i (inl under)) (between_outside low stop i (inl under))
-          | inr from ↦
-            ap (λ (x : Bool). chosen x set (chosen (is_between low done i) set rest)) (between_outside _ _ (i % 64) (inl before')) ∙ ap (λ (x : Bool). chosen x set rest) (between_inside low done i from before ∙ sym (between_inside low stop i from (omega arith)))
-        ]
+          let before' : i % 64 < done % 64 = omega (arith, e) in
+          elim (cases_lt i low) [
+            | inl under ↦ both_outside _ _ _ set rest (between_outside _ _ (i % 64) (inl before')) (between_outside low done i (inl under)) (between_outside low stop i (inl under))
+            | inr from ↦
+                ap (λ (x : Bool). chosen x set (chosen (is_between low done i) set rest)) (between_outside _ _ (i % 64) (inl before')) ∙ ap (λ (x : Bool). chosen x set rest) (between_inside low done i from before ∙ sym (between_inside low stop i from (omega arith)))
+          ]
       | inr after ↦
-        elim (cases_lt i stop) [
-          | inl before ↦
-            let from : done % 64 ≤ i % 64 = omega (arith, e) in
-            let less : i % 64 < stop - 64 * (done / 64) = omega (arith, e) in
-            let low' : low ≤ i = omega arith in
-            ap (λ (x : Bool). chosen x set (chosen (is_between low done i) set rest)) (between_inside _ _ (i % 64) from less) ∙ ap (λ (x : Bool). chosen x set rest) (sym (between_inside low stop i low' before))
-          | inr over ↦
-            let over' : stop - 64 * (done / 64) ≤ i % 64 = omega (arith, e) in
-            both_outside _ _ _ set rest (between_outside _ _ (i % 64) (inr over')) (between_outside low done i (inr after)) (between_outside low stop i (inr over))
-        ]
+          elim (cases_lt i stop) [
+            | inl before ↦
+                let from : done % 64 ≤ i % 64 = omega (arith, e) in
+                let less : i % 64 < stop - 64 * (done / 64) = omega (arith, e) in
+                let low' : low ≤ i = omega arith in
+                ap (λ (x : Bool). chosen x set (chosen (is_between low done i) set rest)) (between_inside _ _ (i % 64) from less) ∙ ap (λ (x : Bool). chosen x set rest) (sym (between_inside low stop i low' before))
+            | inr over ↦
+                let over' : stop - 64 * (done / 64) ≤ i % 64 = omega (arith, e) in
+                both_outside _ _ _ set rest (between_outside _ _ (i % 64) (inr over')) (between_outside low done i (inr after)) (between_outside low stop i (inr over))
+          ]
     ]
 
 other_word : (low done stop i : ℕ) (set rest : Bool) → low ≤ done → done < stop → stop ≤ 64 * (done / 64 + 1) → (i / 64) ≢ (done / 64) → chosen (is_between low done i) set rest ≡ chosen (is_between low stop i) set rest
 other_word low done stop i set rest order more whole ne =
     elim (cases_lt i done) [
       | inl before ↦
-        elim (cases_lt i low) [
-          | inl under ↦ ap (λ (x : Bool). chosen x set rest) (between_outside low done i (inl under) ∙ sym (between_outside low stop i (inl under)))
-          | inr from ↦ ap (λ (x : Bool). chosen x set rest) (between_inside low done i from before ∙ sym (between_inside low stop i from (omega arith)))
-        ]
+          elim (cases_lt i low) [
+            | inl under ↦ ap (λ (x : Bool). chosen x set rest) (between_outside low done i (inl under) ∙ sym (between_outside low stop i (inl under)))
+            | inr from ↦ ap (λ (x : Bool). chosen x set rest) (between_inside low done i from before ∙ sym (between_inside low stop i from (omega arith)))
+          ]
       | inr after ↦
-        let over : stop ≤ i = elim (cases_lt i stop) [ inl lt ↦ absurd (ne (omega arith)) | inr le ↦ le ] in
-        ap (λ (x : Bool). chosen x set rest) (between_outside low done i (inr after) ∙ sym (between_outside low stop i (inr over)))
+          let over : stop ≤ i = elim (cases_lt i stop) [ inl lt ↦ absurd (ne (omega arith)) | inr le ↦ le ] in
+          ap (λ (x : Bool). chosen x set rest) (between_outside low done i (inr after) ∙ sym (between_outside low stop i (inr over)))
     ]
 
 -- a step of the loop that writes word after word
@@ -167,8 +167,8 @@ pub filled_more : (words : List ℕ) (low done stop word : ℕ) (set rest : Bool
 filled_more words low done stop word set rest i order more whole within bits was =
     elim (cases_eq (i / 64) (done / 64)) [
       | inl e ↦
-        let small : i % 64 < 64 = omega arith in
-        bit_of-set_same words (done / 64) word i within e ∙ bits (i % 64) small ∙ ap (λ (b : Bool). chosen (is_between (done % 64) (stop - 64 * (done / 64)) (i % 64)) set b) (sym (bit_in_word words i (done / 64) e) ∙ was) ∙ same_word low done stop i set rest order more whole e
+          let small : i % 64 < 64 = omega arith in
+          bit_of-set_same words (done / 64) word i within e ∙ bits (i % 64) small ∙ ap (λ (b : Bool). chosen (is_between (done % 64) (stop - 64 * (done / 64)) (i % 64)) set b) (sym (bit_in_word words i (done / 64) e) ∙ was) ∙ same_word low done stop i set rest order more whole e
       | inr n ↦ bit_of-set_other words (done / 64) word i n ∙ was ∙ other_word low done stop i set rest order more whole n
     ]
 

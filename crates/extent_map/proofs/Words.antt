@@ -25,7 +25,7 @@ lowest_is word some fits =
       from = omega arith;
       before = t.0;
       here = set_from_one word (trailing_zeros w64 word) t.1;
-      none_below = λ i low high. clear_from_zero word i (t.2 i high)
+      none_below = λ i low high. clear_from_zero word i (t.2 i high);
     }
 
 -- a bit of a word that was shifted is one of the word
@@ -48,8 +48,8 @@ set_below word i fits set =
     elim (cases_lt i 64) [
       | inl lt ↦ lt
       | inr le ↦ let high : bit_at word i ≡ 0 = bit_at_above word 64 i fits le in
-        let one : bit_at word i ≡ 1 = eqb-true (bit_at word i) 1 set in
-        absurd (omega (arith, high, one))
+          let one : bit_at word i ≡ 1 = eqb-true (bit_at word i) 1 set in
+          absurd (omega (arith, high, one))
     ]
 
 pub lowest_after : (word low r : ℕ) → word < 2 ^ 64 → IsLowest (is_set (word / 2 ^ low)) 0 64 r → IsLowest (is_set word) low 64 (low + r)
@@ -60,10 +60,10 @@ lowest_after word low r fits is =
       before = set_below word (low + r) fits set;
       here = set;
       none_below = λ i from before.
-        let split : low + (i - low) ≡ i = omega arith in
-        let less : i - low < r = omega arith in
-        let zero-or-more : 0 ≤ i - low = omega arith in
-        sym (shifted_to word low (i - low) i split) ∙ is.none_below (i - low) zero-or-more less
+          let split : low + (i - low) ≡ i = omega arith in
+          let less : i - low < r = omega arith in
+          let zero-or-more : 0 ≤ i - low = omega arith in
+          sym (shifted_to word low (i - low) i split) ∙ is.none_below (i - low) zero-or-more less;
     }
 
 -- ---- the bits from `low` to before `high`
@@ -75,7 +75,7 @@ mask_of high low order within =
     let sum : low + (high - low) ≡ high = omega arith in
     let ones : (2 ^ 64 - 1) / 2 ^ (64 - (high - low)) ≡ 2 ^ (high - low) - 1 = ones_shr 64 (64 - (high - low)) width ∙ ap (λ (k : ℕ). 2 ^ k - 1) left in
     let whole : (2 ^ (high - low) - 1) * 2 ^ low ≡ 2 ^ high - 2 ^ low =
-      mul_comm (2 ^ (high - low) - 1) (2 ^ low) ∙ mul-sub (2 ^ low) (2 ^ (high - low)) 1 ∙ ap (λ (p : ℕ). p - 2 ^ low * 1) (sym (pow-add 2 low (high - low)) ∙ ap (λ (k : ℕ). 2 ^ k) sum) ∙ ap (λ (q : ℕ). 2 ^ high - q) (mul-one (2 ^ low)) in
+    mul_comm (2 ^ (high - low) - 1) (2 ^ low) ∙ mul-sub (2 ^ low) (2 ^ (high - low)) 1 ∙ ap (λ (p : ℕ). p - 2 ^ low * 1) (sym (pow-add 2 low (high - low)) ∙ ap (λ (k : ℕ). 2 ^ k) sum) ∙ ap (λ (q : ℕ). 2 ^ high - q) (mul-one (2 ^ low)) in
     let some : 0 < 2 ^ low = pow_pos low in
     let two : 0 < 2 = lit< tt in
     let under : 2 ^ high ≤ 2 ^ 64 = pow-le-pow_right two within in

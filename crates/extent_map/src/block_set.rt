@@ -129,7 +129,12 @@ impl BlockSet {
         if from == self.count {
             return self.count;
         }
-        match next_bit(self.words.as_slice(), self.depth, self.base, self.base + from) {
+        match next_bit(
+            self.words.as_slice(),
+            self.depth,
+            self.base,
+            self.base + from,
+        ) {
             Some(bit) => (bit - self.base).min(self.count),
             None => self.count,
         }

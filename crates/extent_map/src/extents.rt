@@ -22,7 +22,7 @@ pub struct Run {
     pub blocks: u32,
 }
 
-/// Which blocks of a random-access volume are in use: a list that says it for each block. Its memory, five bits a block at most,
+/// Which blocks of a random-access volume are in use: a list that says it for each block. Its memory, two to four bits a block,
 /// is all taken when it is made. A call costs the logarithm of the number of blocks, and the blocks that it hands out.
 #[derive(Drop)]
 pub struct Extents {

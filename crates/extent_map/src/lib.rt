@@ -3,9 +3,8 @@
 
 mod block_set;
 mod extents;
-mod word;
-
 #[cfg(test)]
 mod tests;
+mod word;
 
 pub use extents::{Extents, Run};

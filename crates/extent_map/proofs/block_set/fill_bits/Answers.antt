@@ -13,5 +13,5 @@ loop-done-preserved c =
       low = omega arith;
       high = omega arith;
       telling = c.put_word.ensures.telling;
-      members = λ i le. c.put_word.ensures.members i le ∙ filled_more c.loop-done.words c.args.low c.loop-done.done c.min-stop.result c.with_bits-word.result c.args.set (bit_of c.args.words.now i) i order more whole within c.with_bits-word.ensures (c.loop-done.invariant.members i le)
+      members = λ i le. c.put_word.ensures.members i le ∙ filled_more c.loop-done.words c.args.low c.loop-done.done c.min-stop.result c.with_bits-word.result c.args.set (bit_of c.args.words.now i) i order more whole within c.with_bits-word.ensures (c.loop-done.invariant.members i le);
     }

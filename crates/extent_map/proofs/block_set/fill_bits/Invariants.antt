@@ -9,7 +9,7 @@ invariant-loop-done l =
       low : l.low ≤ l.done;
       high : l.done ≤ l.high;
       telling : AllTell l.words l.base;
-      members : (i : ℕ) → l.base ≤ i → bit_of l.words i ≡ (if is_between l.low l.done i then l.set else bit_of l.initial.words i)
+      members : (i : ℕ) → l.base ≤ i → bit_of l.words i ≡ (if is_between l.low l.done i then l.set else bit_of l.initial.words i);
     }
 
 abbrev pub decreases-loop-done : goal.decreases-loop-done

@@ -37,4 +37,4 @@ returns c =
     let len : length c.fill_bits.new.words ≡ c.self.inside.words.len = c.fill_bits.auto.words ∙ c.as_mut_slice.ensures.len in
     ap (λ (w : List ℕ). members w c.self.inside.base c.self.inside.count) (with_items_is c.self.inside.words c.fill_bits.new.words len)
     ∙ members_filled c.self.inside.words.items c.fill_bits.new.words c.self.inside.base c.self.inside.count c.args.first c.args.blocks c.args.member c.args.self.now c.self.view_is c.requires (λ i le.
-      c.fill_bits.ensures.members i le ∙ ap (λ (w : List ℕ). if is_between (c.self.inside.base + c.args.first) (c.self.inside.base + c.args.first + c.args.blocks) i then c.args.member else bit_of w i) c.as_mut_slice.ensures.value)
+    c.fill_bits.ensures.members i le ∙ ap (λ (w : List ℕ). if is_between (c.self.inside.base + c.args.first) (c.self.inside.base + c.args.first + c.args.blocks) i then c.args.member else bit_of w i) c.as_mut_slice.ensures.value)

@@ -7,7 +7,7 @@ invariant-loop-base l =
     record {
       last : l.base ≡ level_start l.depth;
       shallow : l.depth ≤ l.base;
-      fits : l.base < 2 ^ 33
+      fits : l.base < 2 ^ 33;
     }
 
 abbrev pub decreases-loop-base : goal.decreases-loop-base

@@ -28,9 +28,8 @@ invariant_of-self c =
     let given : total_room (free_runs (marked false c.args.run c.args.self.now)) + 32 ≡ total_room (free_runs c.args.self.now) + joined c.args.run c.args.self.now = total_room-given c.args.run c.args.self.now some c.requires in
     let bytes : c.bytes_joined-with_neighbours.result ≡ joined c.args.run c.args.self.now = c.bytes_joined-with_neighbours.ensures in
     let sum : c.self.inside.room + c.bytes_joined-with_neighbours.result - 32 ≡ total_room (free_runs (marked false c.args.run c.args.self.now)) = omega (arith, room, given, bytes) in
-    let few : length c.self.inside.used < 2 ^ 32 = c.self.invariant.2 in
-    (
+    let few : length c.self.inside.used < 2 ^ 32 = c.self.invariant.2 in (
       c.mark.ensures.free,
       sum ∙ ap (λ (l : List Bool). total_room (free_runs l)) (sym new),
-      omega (arith, len, len', few)
+      omega (arith, len, len', few),
     )

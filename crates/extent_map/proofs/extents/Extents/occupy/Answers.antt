@@ -28,9 +28,8 @@ invariant_of-self c =
     let taken : total_room (free_runs c.args.self.now) + 32 ≡ total_room (free_runs (marked true c.args.run c.args.self.now)) + joined c.args.run c.args.self.now = total_room-taken c.args.run c.args.self.now c.requires.some c.requires.free in
     let bytes : c.bytes_joined-with_neighbours.result ≡ joined c.args.run c.args.self.now = c.bytes_joined-with_neighbours.ensures in
     let left : c.self.inside.room + 32 - c.bytes_joined-with_neighbours.result ≡ total_room (free_runs (marked true c.args.run c.args.self.now)) = omega (arith, room, taken, bytes) in
-    let few : length c.self.inside.used < 2 ^ 32 = c.self.invariant.2 in
-    (
+    let few : length c.self.inside.used < 2 ^ 32 = c.self.invariant.2 in (
       c.mark.ensures.free,
       left ∙ ap (λ (l : List Bool). total_room (free_runs l)) (sym new),
-      omega (arith, len, len', few)
+      omega (arith, len, len', few),
     )

@@ -6,5 +6,5 @@ abbrev pub invariant-loop-run : goal.invariant-loop-run
 invariant-loop-run l =
     record {
       free : AreFree (drop l.run-index l.runs) l.self;
-      rest : with_used (drop l.run-index l.runs) l.self ≡ with_used l.runs l.initial.self
+      rest : with_used (drop l.run-index l.runs) l.self ≡ with_used l.runs l.initial.self;
     }

@@ -7,7 +7,7 @@ invariant-runs l =
     record {
       within : l.at ≤ length l.self;
       enough : l.rest ≤ total_room (free_runs_from l.at (drop l.at l.self));
-      so_far : l.runs.items ++ first_of l.rest (free_runs_from l.at (drop l.at l.self)) ≡ first_of l.bytes (free_runs l.self)
+      so_far : l.runs.items ++ first_of l.rest (free_runs_from l.at (drop l.at l.self)) ≡ first_of l.bytes (free_runs l.self);
     }
 
 abbrev pub decreases-runs : goal.decreases-runs
