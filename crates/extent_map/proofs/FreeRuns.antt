@@ -1,12 +1,11 @@
 -- The maximal free runs of a list of blocks: the next of them, their room, and what marking a run makes of that room.
-use Rattle.std.proofs.Common.{◌≡◌, ℕ, ◌+◌, ◌-◌, ◌*◌, ◌/◌, ◌%◌, ◌^◌, ◌<◌, ◌≤◌, zero, suc, Bool, true, false, not, ◌&&◌, List, [], ◌∷◌, ◌++◌, length, get_or, take, drop, replicate, map, refl, sym, ap, subst, ◌∙◌, arith, inl, inr, add-one, Some}
-use Rattle.std.specs.Prelude.{if◌then◌else◌, ◌⊎◌, ◌==◌, nat_lt, slice_get}
-use Rattle.std.proofs.lemmas.List.{ext_get_or, length-take-le, length-replicate, get_or_past, drop_more, drop_all, take_more, append-nil, map-append, take-map, drop-map, get_or-map, get_or_default, length-map}
+use Rattle.std.proofs.Common.{◌≡◌, ℕ, ◌+◌, ◌-◌, ◌*◌, ◌<◌, ◌≤◌, zero, suc, Bool, true, false, not, ◌&&◌, List, [], ◌∷◌, ◌++◌, length, get_or, take, drop, replicate, map, refl, sym, ap, subst, ◌∙◌, arith, inl, inr, add-one}
+use Rattle.std.specs.Prelude.{if◌then◌else◌, ◌==◌, nat_lt}
+use Rattle.std.proofs.lemmas.List.{ext_get_or, length-replicate, get_or_past, drop_more, drop_all, take_more, append-nil, map-append, take-map, drop-map, get_or-map, get_or_default, length-map}
 use Rattle.std.proofs.lemmas.List.Sums.{sum_by-cons}
 use Rattle.std.proofs.lemmas.Option.{slice_get_within, get_or_from_slice_get}
 use Rattle.std.proofs.lemmas.Bool.{cases_lt, eqb-true, eq-eqb, ne_eqb, lt-ltb, not-true, not-false, false≢true}
 use Rattle.extent_map.specs.declared.extents.Run.{Run}
-use Rattle.extent_map.specs.Bits.{is_between}
 use Rattle.extent_map.specs.Blocks.{run, end_of, room_in, total_room, with_block, free_runs_from, free_runs, marked_from, marked, AllAre, Ascend, is_free, header_if, joined}
 use Rattle.extent_map.proofs.Words.{between_inside, between_outside}
 use Rattle.extent_map.proofs.Members.{length-marked_from, get_or-marked_from}

@@ -1,14 +1,13 @@
 -- The members of a set as a list, and what a change of its words makes of that list.
-use Rattle.std.proofs.Common.{◌≡◌, ℕ, ◌+◌, ◌-◌, ◌*◌, ◌/◌, ◌%◌, ◌^◌, ◌<◌, ◌≤◌, Bool, true, false, List, ◌++◌, length, get_or, take, drop, replicate, refl, sym, ap, ◌∙◌, arith, inl, inr, eqb}
-use Rattle.std.specs.Prelude.{if◌then◌else◌, ◌⊎◌}
-use Rattle.std.specs.Int.{bit_at}
+use Rattle.std.proofs.Common.{◌≡◌, ℕ, ◌+◌, ◌-◌, ◌/◌, ◌%◌, ◌^◌, ◌<◌, ◌≤◌, Bool, true, false, List, ◌++◌, length, get_or, take, drop, replicate, refl, sym, ap, ◌∙◌, arith, inl, inr, eqb}
+use Rattle.std.specs.Prelude.{if◌then◌else◌}
 use lib.Bits.{bit_and}
-use Rattle.std.proofs.lemmas.List.{ext_get_or, length-append, length-take, length-take-le, length-drop, length-replicate, get_or-replicate, get_or_append_left, get_or-append_right, get_or-take, get_or-drop, get_or_past}
+use Rattle.std.proofs.lemmas.List.{ext_get_or, length-append, length-take-le, length-drop, length-replicate, get_or-replicate, get_or_append_left, get_or-append_right, get_or-take, get_or-drop, get_or_past}
 use Rattle.std.proofs.lemmas.List.FromFn.{length-map-range_with_len, get_or-map-range_with_len}
 use Rattle.std.proofs.lemmas.Bool.{cases_lt}
 use Rattle.std.proofs.lemmas.Nat.Bits.{shr_and_one, bit_at-zero}
-use Rattle.extent_map.specs.Bits.{is_set, is_between, NoneSet, IsLowest}
-use Rattle.extent_map.specs.Levels.{bit_of, members, is_filled, AllTell, AreLevels, level_start}
+use Rattle.extent_map.specs.Bits.{is_set, is_between, NoneSet}
+use Rattle.extent_map.specs.Levels.{bit_of, members, is_filled, AllTell}
 use Rattle.extent_map.specs.Blocks.{marked_from}
 use Rattle.extent_map.proofs.Words.{between_inside, between_outside, clear_from_zero}
 

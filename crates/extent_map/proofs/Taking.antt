@@ -1,13 +1,12 @@
 -- What is taken of free runs: enough, free, and apart.
-use Rattle.std.proofs.Common.{◌≡◌, ℕ, ◌+◌, ◌-◌, ◌*◌, ◌/◌, ◌%◌, ◌<◌, ◌≤◌, zero, suc, Bool, true, false, List, [], ◌∷◌, ◌++◌, length, get_or, drop, refl, sym, ap, ◌∙◌, subst, arith, inl, inr, Some, None, Option, map, not}
-use Rattle.std.specs.Prelude.{if◌then◌else◌, ◌⊎◌, ◌==◌, nat_le, slice_get}
+use Rattle.std.proofs.Common.{◌≡◌, ℕ, ◌+◌, ◌-◌, ◌*◌, ◌<◌, ◌≤◌, suc, Bool, true, false, List, [], ◌∷◌, ◌++◌, length, get_or, refl, sym, ap, ◌∙◌, arith, inl, inr, Some, None, map, not}
+use Rattle.std.specs.Prelude.{if◌then◌else◌, ◌==◌, nat_le, slice_get}
 use Rattle.std.proofs.lemmas.Option.{slice_get-get_or, slice_get_past, get_or_from_slice_get}
 use Rattle.std.proofs.lemmas.List.{append-nil, append_assoc, length-map}
 use Rattle.std.proofs.lemmas.Grind.{div_ceil_times}
-use Rattle.std.proofs.lemmas.Bool.{cases_lt, cases_eq, eqb-true, eqb-false, leb-true, leb-false, eq-eqb, ne_eqb, le-leb, lt-leb, false≢true}
+use Rattle.std.proofs.lemmas.Bool.{cases_lt, cases_eq, eqb-true, eqb-false, leb-true, leb-false, ne_eqb, le-leb, lt-leb, false≢true}
 use Rattle.extent_map.specs.declared.extents.Run.{Run}
-use Rattle.extent_map.specs.Bits.{is_between}
-use Rattle.extent_map.specs.Blocks.{run, end_of, room_in, total_room, blocks_for, with_block, free_runs_from, free_runs, first_of, taken, marked, with_used, AllAre, AreFree, Ascend}
+use Rattle.extent_map.specs.Blocks.{run, end_of, room_in, total_room, blocks_for, with_block, free_runs_from, free_runs, first_of, taken, marked, AllAre, AreFree, Ascend}
 use Rattle.extent_map.proofs.Words.{between_outside}
 use Rattle.extent_map.proofs.Members.{length-marked_from, get_or-marked_from}
 use Rattle.extent_map.proofs.FreeRuns.{total_room-cons, Ascend-free_runs, AllAre-fits, used_at, free_at}

@@ -1,6 +1,6 @@
-use Rattle.std.proofs.Common.{◌≡◌, ◌-◌, ◌+◌, ◌*◌, ◌/◌, ◌<◌, ◌≤◌, ℕ, arith, get_or}
-use Rattle.extent_map.specs.Bits.{NoneSet, is_set, IsLowest}
-use Rattle.extent_map.specs.Levels.{bit_of, level_start}
+use Rattle.std.proofs.Common.{◌≡◌, ◌-◌, ◌+◌, ◌*◌, ◌/◌, ◌<◌, arith}
+use Rattle.extent_map.specs.Bits.{IsLowest}
+use Rattle.extent_map.specs.Levels.{bit_of}
 use Rattle.extent_map.proofs.WordLists.{level_above, deep, filled_below, is_there, none_below, lowest_below}
 use Rattle.extent_map.proofs.block_set.+next_bit.Goals as goal
 

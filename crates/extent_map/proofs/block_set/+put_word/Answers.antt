@@ -1,4 +1,4 @@
-use Rattle.std.proofs.Common.{◌≡◌, ◌∙◌, ◌-◌, ◌+◌, ◌/◌, ◌<◌, ◌≤◌, ℕ, List, arith, set, length, sym, ap, not, eqb}
+use Rattle.std.proofs.Common.{◌≡◌, ◌∙◌, ◌-◌, ◌+◌, ◌/◌, ◌<◌, arith, set, length, sym, ap, not, eqb}
 use Rattle.std.proofs.lemmas.List.{length-set, get_or-set_same}
 use Rattle.extent_map.specs.Levels.{is_filled}
 use Rattle.extent_map.proofs.WordLists.{told_above, others_kept, filled_is}

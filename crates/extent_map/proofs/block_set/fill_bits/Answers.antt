@@ -1,4 +1,4 @@
-use Rattle.std.proofs.Common.{◌≡◌, ◌∙◌, ◌+◌, ◌*◌, ◌/◌, ◌<◌, ◌≤◌, arith, length}
+use Rattle.std.proofs.Common.{◌∙◌, ◌+◌, ◌*◌, ◌/◌, ◌<◌, ◌≤◌, arith, length}
 use Rattle.extent_map.specs.Levels.{bit_of}
 use Rattle.extent_map.proofs.WordLists.{filled_more}
 use Rattle.extent_map.proofs.block_set.fill_bits.Goals as goal

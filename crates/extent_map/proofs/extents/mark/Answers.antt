@@ -1,4 +1,4 @@
-use Rattle.std.proofs.Common.{◌≡◌, ◌∙◌, List, Bool, sym, ap, not, map}
+use Rattle.std.proofs.Common.{◌∙◌, List, Bool, sym, ap, not, map}
 use Rattle.extent_map.specs.Blocks.{marked_from}
 use Rattle.extent_map.proofs.FreeRuns.{map-marked}
 use Rattle.extent_map.proofs.extents.mark.Goals as goal

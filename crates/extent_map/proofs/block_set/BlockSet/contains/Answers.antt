@@ -1,4 +1,4 @@
-use Rattle.std.proofs.Common.{◌≡◌, ℕ, ◌∙◌, ◌+◌, ◌*◌, ◌/◌, ◌%◌, ◌^◌, ◌<◌, ◌≤◌, List, arith, length, ap, get_or, eqb}
+use Rattle.std.proofs.Common.{◌≡◌, ℕ, ◌∙◌, ◌+◌, ◌/◌, ◌%◌, ◌^◌, ◌<◌, List, arith, length, ap, get_or, eqb}
 use lib.Bits.{bit_and}
 use Rattle.extent_map.proofs.Members.{length_members, tested}
 use Rattle.extent_map.proofs.block_set.BlockSet.contains.Goals as goal

@@ -1,4 +1,4 @@
-use Rattle.std.proofs.Common.{◌≡◌, ℕ, ◌∙◌, ◌+◌, ◌-◌, ◌*◌, ◌/◌, ◌%◌, ◌^◌, ◌<◌, ◌≤◌, List, Bool, true, arith, length, ap, get_or, subst, sym}
+use Rattle.std.proofs.Common.{◌≡◌, ℕ, ◌∙◌, ◌+◌, List, arith, length, ap}
 use Rattle.std.specs.Prelude.{if◌then◌else◌}
 use Rattle.extent_map.specs.Bits.{is_between}
 use Rattle.extent_map.specs.Levels.{bit_of, members}

@@ -1,4 +1,4 @@
-use Rattle.std.proofs.Common.{◌≡◌, ℕ, ◌∙◌, ◌+◌, ◌-◌, ◌*◌, ◌/◌, ◌%◌, ◌^◌, ◌<◌, ◌≤◌, List, Bool, true, false, arith, length, ap, get_or, subst, sym, min}
+use Rattle.std.proofs.Common.{◌≡◌, ℕ, ◌∙◌, ◌+◌, ◌-◌, ◌*◌, ◌<◌, ◌≤◌, List, false, arith, length, ap, get_or, subst}
 use Rattle.extent_map.specs.Bits.{NoneSet, IsLowest}
 use Rattle.extent_map.specs.Levels.{bit_of}
 use Rattle.extent_map.proofs.Members.{length_members, none_before, found_at}

@@ -1,4 +1,4 @@
-use Rattle.std.proofs.Common.{◌≡◌, ℕ, ◌∙◌, ◌+◌, ◌-◌, ◌*◌, ◌<◌, ◌≤◌, ◌^◌, List, Bool, true, false, arith, length, ap, sym}
+use Rattle.std.proofs.Common.{◌≡◌, ◌∙◌, ◌+◌, ◌-◌, ◌*◌, ◌<◌, ◌≤◌, ◌^◌, List, Bool, true, false, arith, length, ap, sym}
 use Rattle.extent_map.specs.Blocks.{end_of, marked, total_room, free_runs, joined}
 use Rattle.extent_map.proofs.Members.{length-marked_from}
 use Rattle.extent_map.proofs.FreeRuns.{total_room-given, total_room-bound, AllAre-fits}

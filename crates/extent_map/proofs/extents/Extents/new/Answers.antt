@@ -1,4 +1,4 @@
-use Rattle.std.proofs.Common.{◌≡◌, ℕ, ◌∙◌, ◌-◌, ◌*◌, ◌<◌, ◌^◌, List, Bool, true, false, arith, length, ap, map, not, sym, replicate}
+use Rattle.std.proofs.Common.{◌≡◌, ◌∙◌, ◌-◌, ◌*◌, List, Bool, true, false, arith, length, ap, map, not, sym, replicate}
 use Rattle.std.proofs.lemmas.List.{length-replicate}
 use Rattle.extent_map.specs.Blocks.{marked_from, total_room, free_runs}
 use Rattle.extent_map.proofs.FreeRuns.{all_free, total_room-all_free}

@@ -1,6 +1,6 @@
-use Rattle.std.proofs.Common.{◌≡◌, ℕ, ◌∙◌, ◌+◌, ◌-◌, ◌*◌, ◌<◌, ◌≤◌, ◌++◌, ◌∷◌, [], List, Vec, Global, Bool, true, false, arith, length, ap, sym, drop}
+use Rattle.std.proofs.Common.{◌≡◌, ℕ, ◌∙◌, ◌+◌, ◌≤◌, ◌++◌, ◌∷◌, [], List, Vec, Global, arith, ap}
 use Rattle.extent_map.specs.declared.extents.Run.{Run}
-use Rattle.extent_map.specs.Blocks.{run, blocks_for, end_of, total_room, room_in, free_runs, free_runs_from, first_of}
+use Rattle.extent_map.specs.Blocks.{run, blocks_for, end_of, total_room, room_in, free_runs, first_of}
 use Rattle.extent_map.proofs.FreeRuns.{runs_at}
 use Rattle.extent_map.proofs.Taking.{plan_last, plan_more, plan_enough, plan_done}
 use Rattle.extent_map.proofs.extents.Extents.plan.Goals as goal

@@ -1,4 +1,4 @@
-use Rattle.std.proofs.Common.{◌≡◌, ℕ, ◌∙◌, ◌≤◌, List, Bool, arith, ap, sym, subst}
+use Rattle.std.proofs.Common.{◌≡◌, ◌∙◌, ◌≤◌, List, Bool, arith, ap, sym, subst}
 use Rattle.extent_map.specs.declared.extents.Run.{Run}
 use Rattle.extent_map.specs.Blocks.{total_room, free_runs, AreFree, Ascend}
 use Rattle.extent_map.proofs.FreeRuns.{Ascend-free_runs}
