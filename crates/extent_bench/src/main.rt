@@ -9,6 +9,7 @@ use std::{env, io};
 
 /// How many blocks the volume has, and how many objects are stored, where no numbers are given.
 const USUAL_BLOCKS: u32 = 4096;
+
 const USUAL_COUNT: u32 = 1000;
 
 /// What was done, and what is left.
