@@ -1,0 +1,5 @@
+pub mod FreeRuns
+pub mod Members
+pub mod Taking
+pub mod Words
+pub mod WordLists
