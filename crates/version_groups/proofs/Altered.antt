@@ -3,7 +3,7 @@ use Rattle.std.proofs.Common.{◌≡◌, ◌⊎◌, inl, inr, ℕ, ◌<◌, true
 use Rattle.std.proofs.lemmas.Option.{slice_get-get_or, slice_get_cases}
 use Rattle.std.specs.List.{slice_get, slice_set}
 use Rattle.std.specs.Option.{option_map_or}
-use Rattle.kinds.specs.Answers.{AnswersBy}
+use Rattle.kinds.specs.Answers.{AnswersBy, Becomes}
 use Rattle.std.specs.Result.{OnErr}
 use Rattle.kinds.specs.declared.refusal.Refusal.{Refusal}
 use Rattle.kinds.specs.declared.refusal.Refusal.TheVariants.{Memory, NotFound}
@@ -20,9 +20,13 @@ takes : {A S T : Type 0} (r : Result A Refusal) (a b : S) (said : Result S Refus
 takes (Ok x) a b said f h = ap (on_ok f) h
 takes (Err e) a b said f h = (ap f h.0, ap (on_ok f) h.1)
 
+-- what is done to a part is done to the whole
+pub Becomes-lift : {A S T : Type 0} (r : Result A Refusal) (a b : S) (said : Result S Refusal) (f : S → T) → Becomes {A = A} r a b said → Becomes {A = A} r (f a) (f b) (on_ok f said)
+Becomes-lift (Ok x) a b said f h = ap (on_ok f) h
+Becomes-lift (Err e) a b said f h = (ap f h.0, ⊎_elim (λ m. inl m) (λ s. inr (ap (on_ok f) s)) h.1)
+
 fills : {A S T : Type 0} (copy : CopyRow) (r : Result A Refusal) (a b : S) (said : Result S Refusal) (f : S → T) → Alters {A = A} (Add copy) r a b said → Alters {A = A} (Add copy) r (f a) (f b) (on_ok f said)
-fills copy (Ok x) a b said f h = ap (on_ok f) h
-fills copy (Err e) a b said f h = (ap f h.0, ⊎_elim (λ m. inl m) (λ s. inr (ap (on_ok f) s)) h.1)
+fills copy r a b said f h = Becomes-lift r a b said f h
 
 -- what is done to a part is done to the whole
 pub Alters-lift : {A S T : Type 0} (change : CopyChange) (r : Result A Refusal) (a b : S) (said : Result S Refusal) (f : S → T) → Alters {A = A} change r a b said → Alters {A = A} change r (f a) (f b) (on_ok f said)

@@ -1,7 +1,7 @@
 -- Laws of the lists of copies and of versions.
-use Rattle.std.proofs.Common.{◌≡◌, ℕ, ◌+◌, ◌<◌, ◌≤◌, Bool, true, false, cond, not, ◌&&◌, ◌||◌, suc, zero, eqb, ltb, nat_lt, List, [], ◌∷◌, length, get_or, take, drop, map, Option, Some, None, Result, Ok, Err, refl, sym, ap, subst, ◌∙◌, arith, add-one}
+use Rattle.std.proofs.Common.{◌≡◌, ℕ, ◌+◌, ◌-◌, ◌<◌, ◌≤◌, Bool, true, false, cond, not, ◌&&◌, ◌||◌, suc, zero, eqb, ltb, nat_lt, List, [], ◌∷◌, length, get_or, take, drop, map, Option, Some, None, Result, Ok, Err, refl, sym, ap, subst, ◌∙◌, arith, add-one}
 use Rattle.std.proofs.Math.Seq.{drop-cons}
-use Rattle.std.proofs.lemmas.List.{drop_all}
+use Rattle.std.proofs.lemmas.List.{drop_all, take_rest}
 use Rattle.std.proofs.lemmas.Option.{slice_get-get_or}
 use Rattle.std.proofs.lemmas.Bool.{and_parts, and_from, or_parts, not-true, not-false, ltb-true, ltb-false, eqb-true, eqb-false, eq-eqb, ne_eqb, lt-ltb, le-ltb, not_from_false, false≢true}
 use Rattle.std.specs.List.{list_all, list_any, filter, insert, slice_get, slice_set, find}
@@ -16,14 +16,14 @@ pub drop_at : {X : Type 0} (xs : List X) (i : ℕ) (d : X) → i < length xs →
 drop_at xs i d l = rw add-one (drop-cons xs i d l)
 
 -- one more row is so related to each later one
-pub all_later-more : {X : Type 0} (r : X → X → Bool) (xs : List X) (i : ℕ) (x : X) → i < length xs → x ≡ get_or xs i x → list_all (r x) (drop (i + 1) xs) ≡ true → all_later r (drop i xs) ≡ all_later r (drop (i + 1) xs)
-all_later-more r xs i x l e h =
-    ap (all_later r) (drop_at xs i x l) ∙ ap (λ y. list_all (r y) (drop (i + 1) xs) && all_later r (drop (i + 1) xs)) (sym e) ∙ ap (λ b. b && all_later r (drop (i + 1) xs)) h
+pub all_later-more : {X : Type 0} (r : X → X → Bool) (xs : List X) (i : ℕ) (d : X) → i < length xs → list_all (r (get_or xs i d)) (take (length xs - (i + 1)) (drop (i + 1) xs)) ≡ true → all_later r (drop i xs) ≡ all_later r (drop (i + 1) xs)
+all_later-more r xs i d l h =
+    ap (all_later r) (drop_at xs i d l) ∙ ap (λ b. b && all_later r (drop (i + 1) xs)) (ap (list_all (r (get_or xs i d))) (sym (take_rest xs (i + 1))) ∙ h)
 
 -- this row is not
-pub all_later-stop : {X : Type 0} (r : X → X → Bool) (xs : List X) (i : ℕ) (x : X) → i < length xs → x ≡ get_or xs i x → list_all (r x) (drop (i + 1) xs) ≡ false → all_later r (drop i xs) ≡ false
-all_later-stop r xs i x l e h =
-    ap (all_later r) (drop_at xs i x l) ∙ ap (λ y. list_all (r y) (drop (i + 1) xs) && all_later r (drop (i + 1) xs)) (sym e) ∙ ap (λ b. b && all_later r (drop (i + 1) xs)) h
+pub all_later-stop : {X : Type 0} (r : X → X → Bool) (xs : List X) (i : ℕ) (d : X) → i < length xs → list_all (r (get_or xs i d)) (take (length xs - (i + 1)) (drop (i + 1) xs)) ≡ false → all_later r (drop i xs) ≡ false
+all_later-stop r xs i d l h =
+    ap (all_later r) (drop_at xs i d l) ∙ ap (λ b. b && all_later r (drop (i + 1) xs)) (ap (list_all (r (get_or xs i d))) (sym (take_rest xs (i + 1))) ∙ h)
 
 -- each row was so related
 pub all_later-all : {X : Type 0} (r : X → X → Bool) (xs : List X) (i : ℕ) → length xs ≤ i → all_later r (drop i xs) ≡ true

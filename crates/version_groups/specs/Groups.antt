@@ -1,10 +1,10 @@
-use Rattle.std.specs.Prelude.{◌≡◌, ◌<◌, ⊤, ℕ, Bool, true, false, List, [], ◌∷◌, map, length, Option, Some, None, Result, Ok, Err, IsTrue, if◌then◌else◌}
+use Rattle.std.specs.Prelude.{◌≡◌, ◌+◌, sum_by, ◌<◌, ⊤, ℕ, Bool, true, false, List, [], ◌∷◌, map, length, Option, Some, None, Result, Ok, Err, IsTrue, if◌then◌else◌}
 use Rattle.std.specs.Bool.{OnTrue}
 use Rattle.std.specs.Ordering.{nat_cmp}
 use Rattle.std.specs.Cmp.Lexicographic.{slice_cmp}
 use Rattle.std.specs.BTreeMap.{is_at, insert_entry}
 use Rattle.std.specs.List.Sorted.{IsStrictlySortedBy}
-use Rattle.std.specs.Map.{keys_of, lookup, set_value, remove_entry}
+use Rattle.std.specs.Map.{keys_of, values_of, lookup, set_value, remove_entry}
 use Rattle.kinds.specs.declared.refusal.Refusal.{Refusal}
 use Rattle.kinds.specs.declared.refusal.Refusal.TheVariants.{NotFound}
 use Rattle.version_groups.specs.declared.copies.CopyChange.{CopyChange}
@@ -94,7 +94,32 @@ groups_with path class version groups = insert_entry (slice_cmp nat_cmp) groups 
 abbrev pub groups_altered : List ℕ → ℕ → CopyChange → List (List ℕ × Group) → Result (List (List ℕ × Group)) Refusal
 groups_altered path object change groups = changed_at (at_path path) (group_altered object change) groups
 
--- a path's group has this class, and an active version or none
+-- a path's group, where it has one, has this class, an active version or none, and one version at least
 abbrev pub WasSo : List ℕ → Bool → Option Group → Type 0
 WasSo class active None = ⊤
-WasSo class active (Some group) = (class ≡ group.class) × (active ≡ has_active group.versions)
+WasSo class active (Some group) = (class ≡ group.class) × (active ≡ has_active group.versions) × (is_empty group.versions ≡ false)
+
+-- how many versions the groups have
+abbrev pub count_of : List (List ℕ × Group) → ℕ
+count_of groups = sum_by (λ g. length g.versions) (values_of groups)
+
+-- the path has these versions, and each other path has those that it had
+abbrev pub VersionsBecome : List ℕ → List Version → List (List ℕ × Group) → List (List ℕ × Group) → Type 0
+VersionsBecome path versions old new = (q : List ℕ) → versions_at q new ≡ (if at_path path q then versions else versions_at q old)
+
+-- each path has versions of the objects that it had
+abbrev pub ObjectsStay : List (List ℕ × Group) → List (List ℕ × Group) → Type 0
+ObjectsStay old new = (q : List ℕ) (object : ℕ) → has_object object (versions_at q new) ≡ has_object object (versions_at q old)
+
+-- how many versions a change takes away
+abbrev pub taken : GroupChange → List Version → ℕ
+taken (Gone object today) versions = 0
+taken (Remove object) versions = 1
+taken (Rebind class) versions = 0
+taken (Undo class active) [] = 0
+taken (Undo class active) (v ∷ versions) = 1
+
+-- after a version was put into the groups, its undoing with the class that the path's group had, and whether it had an active
+-- version, gives back the groups as they were
+abbrev pub UndoGivesBack : List ℕ → List (List ℕ × Group) → List (List ℕ × Group) → Type 0
+UndoGivesBack path old new = (class : List ℕ) (active : Bool) → WasSo class active (group_at path old) → groups_after path (Undo class active) new ≡ Ok old

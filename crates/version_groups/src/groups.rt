@@ -1,10 +1,10 @@
-ghost use Rattle.std.specs.Prelude.{◌≡◌, ℕ, false, true, IsTrue, is_some, Ok, [], Bool};
+ghost use Rattle.std.specs.Prelude.{◌≡◌, ◌+◌, ◌∷◌, false, true, IsTrue, is_some, OnOk, Ok, [], length};
 ghost use Rattle.std.specs.Option.{option_copied};
 ghost use Rattle.kinds.specs.Answers.{Becomes, Makes};
 ghost use Rattle.version_groups.specs.Copies.{takes_free_pool, Alters};
 ghost use Rattle.version_groups.specs.Entries.{changed_at, is_nil};
-ghost use Rattle.version_groups.specs.Groups.{AreByPath, at_path, group_after, group_at, groups_after, groups_altered, groups_with, versions_at, without_empty};
-ghost use Rattle.version_groups.specs.Versions.{is_empty, has_object, copies_of};
+ghost use Rattle.version_groups.specs.Groups.{AreByPath, at_path, group_after, group_at, groups_after, groups_altered, groups_with, versions_after, versions_at, without_empty, count_of, VersionsBecome, ObjectsStay, UndoGivesBack};
+ghost use Rattle.version_groups.specs.Versions.{is_empty, has_object, copies_of, superseded};
 
 use crate::copies::CopyChange;
 use crate::group::{Group, GroupChange};
@@ -27,6 +27,10 @@ impl Model for Groups {
     ghost Value = { List (List ℕ × Group) };
 
     ghost view = { λ g. g.map.entries };
+
+    ghost use Rattle.version_groups.specs.Groups.{AreByPath};
+
+    ghost invariant = { λ g. AreByPath g.map.entries };
 }
 
 /// A filespace of a client node.
@@ -67,7 +71,8 @@ fn alter_at(map: &mut BTreeMap<Path, Group>, path: &Path, object: u64, change: C
 fn put_at(map: &mut BTreeMap<Path, Group>, path: &Path, class: Name, version: Version) -> Result<(), Refusal>
     requires there { is_some (group_at path.now map.old.entries) ≡ true }
     requires new { has_object version.object (versions_at path.now map.old.entries) ≡ false }
-    ensures { Becomes result map.old.entries map.new.entries (Ok (groups_with path.now class version map.old.entries)) }
+    ensures value { Becomes result map.old.entries map.new.entries (Ok (groups_with path.now class version map.old.entries)) }
+    ensures ordered { AreByPath map.new.entries }
 {
     match map.get_mut(path) {
         None => Err(Refusal::NotFound),
@@ -78,10 +83,35 @@ fn put_at(map: &mut BTreeMap<Path, Group>, path: &Path, class: Name, version: Ve
 /// Makes the group of the path, which has none.
 fn add(map: &mut BTreeMap<Path, Group>, path: &Path, class: Name, version: Version) -> Result<(), Refusal>
     requires { is_some (group_at path.now map.old.entries) ≡ false }
-    ensures { Becomes result map.old.entries map.new.entries (Ok (groups_with path.now class version map.old.entries)) }
+    ensures value { Becomes result map.old.entries map.new.entries (Ok (groups_with path.now class version map.old.entries)) }
+    ensures ordered { OnOk result (AreByPath map.new.entries) }
 {
     let group = Group::of_one(class, version)?;
     map.insert(path.clone()?, group)?;
+    Ok(())
+}
+
+/// Puts a version into the group of the path, or makes that group.
+fn put(map: &mut BTreeMap<Path, Group>, path: &Path, class: Name, version: Version) -> Result<(), Refusal>
+    requires ordered { AreByPath map.old.entries }
+    requires new { has_object version.object (versions_at path.now map.old.entries) ≡ false }
+    ensures value { Becomes result map.old.entries map.new.entries (Ok (groups_with path.now class version map.old.entries)) }
+    ensures ordered { AreByPath map.new.entries }
+{
+    if map.contains_key(path) {
+        put_at(map, path, class, version)
+    } else {
+        add(map, path, class, version)
+    }
+}
+
+/// Changes the group of the path, and takes it away if it has no version then.
+fn change_group(map: &mut BTreeMap<Path, Group>, path: &Path, change: GroupChange) -> Result<(), Refusal>
+    ensures value { Makes result map.old.entries map.new.entries (groups_after path.now change map.old.entries) }
+    ensures ordered { AreByPath map.new.entries }
+{
+    change_at(map, path, change)?;
+    drop_empty(map, path);
     Ok(())
 }
 
@@ -98,6 +128,7 @@ fn is_empty_at(map: &BTreeMap<Path, Group>, path: &Path) -> bool
 /// Takes the group of the path away, if it has no version.
 fn drop_empty(map: &mut BTreeMap<Path, Group>, path: &Path)
     ensures value { map.new.entries ≡ without_empty path.now map.old.entries }
+    ensures ordered { AreByPath map.old.entries → AreByPath map.new.entries }
 {
     if is_empty_at(map, path) {
         map.remove(path);
@@ -118,12 +149,14 @@ impl Groups {
     pub fn from_map(map: BTreeMap<Path, Group>) -> Self
         ensures { result ≡ map.entries }
     {
+        let _ = map.len();
         Groups { map }
     }
 
     /// The groups by path.
     pub fn as_map(&self) -> &BTreeMap<Path, Group>
         ensures value { result.now.entries ≡ self.now }
+        ensures ordered { AreByPath self.now }
     {
         &self.map
     }
@@ -147,22 +180,23 @@ impl Groups {
     pub fn put(&mut self, path: &Path, class: Name, version: Version) -> Result<(), Refusal>
         requires { has_object version.object (versions_at path.now self.old) ≡ false }
         ensures value { Becomes result self.old self.new (Ok (groups_with path.now class version self.old)) }
+        ensures ordered { AreByPath self.new }
+        ensures versions { OnOk result (VersionsBecome path.now (version ∷ superseded version.stored (versions_at path.now self.old)) self.old self.new) }
+        ensures count { OnOk result (count_of self.new ≡ count_of self.old + 1) }
+        ensures undone { OnOk result (UndoGivesBack path.now self.old self.new) }
     {
-        if self.map.contains_key(path) {
-            put_at(&mut self.map, path, class, version)
-        } else {
-            add(&mut self.map, path, class, version)
-        }
+        put(&mut self.map, path, class, version)
     }
 
     /// Changes the group of the path. A path without a group, and an object that is named and has no version in it, are
     /// `NotFound`. A group that is left without versions goes. It takes no memory.
     pub fn change(&mut self, path: &Path, change: GroupChange) -> Result<(), Refusal>
         ensures value { Makes result self.old self.new (groups_after path.now change self.old) }
+        ensures ordered { AreByPath self.new }
+        ensures versions { OnOk result (VersionsBecome path.now (versions_after change (versions_at path.now self.old)) self.old self.new) }
+        ensures count { OnOk result (count_of self.new + length (versions_at path.now self.old) ≡ count_of self.old + length (versions_after change (versions_at path.now self.old))) }
     {
-        change_at(&mut self.map, path, change)?;
-        drop_empty(&mut self.map, path);
-        Ok(())
+        change_group(&mut self.map, path, change)
     }
 
     /// Changes copies of an object of the path. A path without a group, an object without a version in it, and a copy that
@@ -170,6 +204,9 @@ impl Groups {
     pub fn alter(&mut self, path: &Path, object: u64, change: CopyChange) -> Result<(), Refusal>
         requires { IsTrue (takes_free_pool change (copies_of object (versions_at path.now self.old))) }
         ensures value { Alters change result self.old self.new (groups_altered path.now object change self.old) }
+        ensures ordered { AreByPath self.new }
+        ensures objects { ObjectsStay self.old self.new }
+        ensures count { count_of self.new ≡ count_of self.old }
     {
         alter_at(&mut self.map, path, object, change)
     }
