@@ -1,6 +1,6 @@
 -- What the changes of the groups leave at each path, and how many versions there are afterwards.
 use Rattle.std.proofs.Common.{◌≡◌, ◌⊎◌, ℕ, ◌+◌, suc, Bool, true, false, cond, eqb, not, ◌||◌, List, [], ◌∷◌, length, Option, Some, None, IsSome, Ordering, Result, Ok, Err, sum_by, refl, sym, ap, subst, ◌∙◌, arith, ⊎_elim}
-use Rattle.std.proofs.lemmas.Bool.{false≢true, and_parts, or_parts, not-true, not_from_false, cases_Bool}
+use Rattle.std.proofs.lemmas.Bool.{false≢true, eqb-true, and_parts, or_parts, not-true, not_from_false, cases_Bool}
 use Rattle.std.proofs.lemmas.Map.{lookup-set_value, lookup-remove_entry, keys-set_value}
 use Rattle.std.proofs.lemmas.Map.Entries.{sum_by-insert_entry, sum_by-set_value, sum_by-remove_entry}
 use Rattle.std.proofs.lemmas.Map.Keys.{IsDistinct-from_sorted}
@@ -28,7 +28,8 @@ use Rattle.version_groups.specs.declared.versions.Version.{Version}
 use Rattle.version_groups.specs.Copies.{copies_after}
 use Rattle.version_groups.specs.Entries.{on_ok, if_found, changed_at}
 use Rattle.version_groups.specs.Versions.{is_empty, has_object, are_distinct, has_active, superseded, revived, undone, without_object, with_copies, having_copies, version_of, versions_altered}
-use Rattle.version_groups.specs.Groups.{AreByPath, WasSo, UndoGivesBack, VersionsBecome, ObjectsStay, at_path, count_of, class_after, names_kept, group_after, group_altered, group_at, group_with, groups_after, groups_altered, groups_with, taken, versions_after, versions_at, versions_in, without_empty}
+use Rattle.version_groups.specs.Groups.{AreByPath, TakesAway, WasSo, UndoGivesBack, VersionsBecome, ObjectsStay, at_path, count_of, class_after, names_kept, group_after, group_altered, group_at, group_with, groups_after, groups_altered, groups_with, taken, versions_after, versions_at, versions_in, without_empty}
+use Rattle.version_groups.proofs.Lists.{are_of_others}
 use Rattle.version_groups.proofs.Maps.{insert_present, lookup-set, set-set, lookup-new, set-new, remove-new}
 
 -- ---- one entry more
@@ -262,3 +263,33 @@ Becomes-ok P (Err e) old new said h p = tt
 pub Makes-ok : {A S : Type 0} (P : S → Type 0) (r : Result A Refusal) (old new : S) (said : Result S Refusal) → Makes {A = A} r old new said → ((x : S) → said ≡ Ok x → P x) → OnOk r (P new)
 Makes-ok P (Ok x) old new said h p = p new h
 Makes-ok P (Err e) old new said h p = tt
+
+-- fewer versions, by those that are taken away
+pub counts-taken : (path : List ℕ) (change : GroupChange) (groups new : List (List ℕ × Group)) → TakesAway change (versions_at path groups) → groups_after path change groups ≡ Ok new → count_of new + taken change (versions_at path groups) ≡ count_of groups
+counts-taken path change groups new t h =
+    let all : count_of new + length (versions_at path groups) ≡ count_of groups + length (versions_after change (versions_at path groups)) = after-counts path change groups new h in
+    let left : length (versions_after change (versions_at path groups)) + taken change (versions_at path groups) ≡ length (versions_at path groups) = t in
+    omega arith
+
+-- none of the object's goes where all are of others
+without-others : (object : ℕ) (vs : List Version) → are_of_others object vs ≡ true → without_object object vs ≡ vs
+without-others object [] h = refl
+without-others object (v ∷ vs) h =
+    let hs : (not (eqb v.object object) ≡ true) × (are_of_others object vs ≡ true) = and_parts (not (eqb v.object object)) (are_of_others object vs) h in
+    ap (λ b. cond b (v ∷ without_object object vs) (without_object object vs)) hs.0 ∙ ap (λ t. v ∷ t) (without-others object vs hs.1)
+
+-- of versions of different objects the object's one goes
+pub length-without_object : (object : ℕ) (vs : List Version) → are_distinct vs ≡ true → has_object object vs ≡ true → length (without_object object vs) + 1 ≡ length vs
+length-without_object object [] d h = absurd (false≢true h)
+length-without_object object (v ∷ vs) d h =
+    let ds : (are_of_others v.object vs ≡ true) × (are_distinct vs ≡ true) = and_parts (are_of_others v.object vs) (are_distinct vs) d in
+    elim (eqb v.object object) as (λ b. eqb v.object object ≡ b → (b || has_object object vs) ≡ true → length (cond (not b) (v ∷ without_object object vs) (without_object object vs)) + 1 ≡ length (v ∷ vs)) [
+      | true ↦ λ e _.
+          let stay : length (without_object object vs) ≡ length vs = ap length (without-others object vs (ap (λ n. are_of_others n vs) (sym (eqb-true v.object object e)) ∙ ds.0)) in
+          omega arith
+      | false ↦ λ e t. let less : length (without_object object vs) + 1 ≡ length vs = length-without_object object vs ds.1 t in omega arith
+    ] refl h
+
+pub Makes-both : {A S : Type 0} (P : S → Type 0) (Q : Type 0) (r : Result A Refusal) (old new : S) (said : Result S Refusal) → Makes {A = A} r old new said → OnOk r Q → ((x : S) → Q → said ≡ Ok x → P x) → OnOk r (P new)
+Makes-both P Q (Ok x) old new said h q p = p new q h
+Makes-both P Q (Err e) old new said h q p = tt

@@ -3,7 +3,7 @@ use Rattle.std.proofs.Common.{◌≡◌, ℕ, ◌+◌, ◌-◌, ◌<◌, ◌≤�
 use Rattle.std.proofs.Math.Seq.{drop-cons}
 use Rattle.std.proofs.lemmas.List.{drop_all, take_rest}
 use Rattle.std.proofs.lemmas.Option.{slice_get-get_or}
-use Rattle.std.proofs.lemmas.Bool.{and_parts, and_from, or_parts, not-true, not-false, ltb-true, ltb-false, eqb-true, eqb-false, eq-eqb, ne_eqb, lt-ltb, le-ltb, not_from_false, false≢true}
+use Rattle.std.proofs.lemmas.Bool.{and_parts, and_from, or_parts, or_from, not-true, not-false, ltb-true, ltb-false, eqb-true, eqb-false, eq-eqb, ne_eqb, lt-ltb, le-ltb, not_from_false, false≢true}
 use Rattle.std.specs.List.{list_all, list_any, filter, insert, slice_get, slice_set, find}
 use Rattle.version_groups.specs.declared.copies.CopyRow.{CopyRow}
 use Rattle.version_groups.specs.declared.versions.Version.{Version}
@@ -129,6 +129,16 @@ by_pool-with_copy copy (c ∷ cs) n h =
 
 pub by_pool-without_copy : (pool : ℕ) (cs : List CopyRow) → are_by_pool cs ≡ true → are_by_pool (without_copy pool cs) ≡ true
 by_pool-without_copy pool cs h = all_later-filter (λ (a b : CopyRow). nat_lt a.pool b.pool) (λ (c : CopyRow). not (eqb c.pool pool)) cs h
+
+-- a pool that has no copy has none of those that are left
+pub still_free : (pool from : ℕ) (cs : List CopyRow) → has_copy pool cs ≡ false → has_copy pool (without_copy from cs) ≡ false
+still_free pool from [] h = refl
+still_free pool from (c ∷ cs) h =
+    let hs : (eqb c.pool pool ≡ false) × (has_copy pool cs ≡ false) = or_parts (eqb c.pool pool) (has_copy pool cs) h in
+    elim (eqb c.pool from) as (λ b. has_copy pool (cond (not b) (c ∷ without_copy from cs) (without_copy from cs)) ≡ false) [
+      | true ↦ still_free pool from cs hs.1
+      | false ↦ or_from (eqb c.pool pool) (has_copy pool (without_copy from cs)) hs.0 (still_free pool from cs hs.1)
+    ]
 
 -- ---- versions
 pub distinct-without_object : (object : ℕ) (vs : List Version) → are_distinct vs ≡ true → are_distinct (without_object object vs) ≡ true

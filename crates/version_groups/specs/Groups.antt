@@ -119,6 +119,10 @@ taken (Rebind class) versions = 0
 taken (Undo class active) [] = 0
 taken (Undo class active) (v ∷ versions) = 1
 
+-- so many it takes away
+abbrev pub TakesAway : GroupChange → List Version → Type 0
+TakesAway change versions = length (versions_after change versions) + taken change versions ≡ length versions
+
 -- after a version was put into the groups, its undoing with the class that the path's group had, and whether it had an active
 -- version, gives back the groups as they were
 abbrev pub UndoGivesBack : List ℕ → List (List ℕ × Group) → List (List ℕ × Group) → Type 0

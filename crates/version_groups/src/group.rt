@@ -1,7 +1,7 @@
-ghost use Rattle.std.specs.Prelude.{◌≡◌, IsTrue, Ok, Some, None, false};
+ghost use Rattle.std.specs.Prelude.{◌≡◌, ◌+◌, length, OnOk, IsTrue, Ok, Some, None, false};
 ghost use Rattle.kinds.specs.Answers.{AnswersBy, Becomes, Makes};
 ghost use Rattle.version_groups.specs.Copies.{takes_free_pool, Alters};
-ghost use Rattle.version_groups.specs.Groups.{names_kept, group_after, group_altered, group_with};
+ghost use Rattle.version_groups.specs.Groups.{names_kept, taken, versions_after, group_after, group_altered, group_with};
 ghost use Rattle.version_groups.specs.Versions.{has_object, copies_of};
 
 use crate::copies::CopyChange;
@@ -66,7 +66,8 @@ impl Group {
 
     /// Changes the group. An object that is named and has no version here is `NotFound`. It takes no memory.
     pub fn change(&mut self, change: GroupChange) -> Result<(), Refusal>
-        ensures { Makes result self.old self.new (group_after change self.old) }
+        ensures value { Makes result self.old self.new (group_after change self.old) }
+        ensures taken { OnOk result (length (versions_after change self.old.versions) + taken change self.old.versions ≡ length self.old.versions) }
     {
         if !names_kept(&change, &self.versions) {
             return Err(Refusal::NotFound);

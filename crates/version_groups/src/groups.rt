@@ -1,10 +1,10 @@
-ghost use Rattle.std.specs.Prelude.{◌≡◌, ◌+◌, ◌∷◌, false, true, IsTrue, is_some, OnOk, Ok, [], length};
+ghost use Rattle.std.specs.Prelude.{◌≡◌, ◌+◌, ◌∷◌, false, true, IsTrue, is_some, OnOk, Ok, []};
 ghost use Rattle.std.specs.Option.{option_copied};
 ghost use Rattle.kinds.specs.Answers.{Becomes, Makes};
 ghost use Rattle.version_groups.specs.Copies.{takes_free_pool, Alters};
 ghost use Rattle.version_groups.specs.Entries.{changed_at, is_nil};
-ghost use Rattle.version_groups.specs.Groups.{AreByPath, at_path, group_after, group_at, groups_after, groups_altered, groups_with, versions_after, versions_at, without_empty, count_of, VersionsBecome, ObjectsStay, UndoGivesBack};
-ghost use Rattle.version_groups.specs.Versions.{is_empty, has_object, copies_of, superseded};
+ghost use Rattle.version_groups.specs.Groups.{AreByPath, at_path, group_after, group_at, groups_after, groups_altered, groups_with, versions_after, versions_at, without_empty, count_of, taken, TakesAway, VersionsBecome, ObjectsStay, UndoGivesBack};
+ghost use Rattle.version_groups.specs.Versions.{is_empty, has_object, version_of, copies_of, superseded};
 
 use crate::copies::CopyChange;
 use crate::group::{Group, GroupChange};
@@ -47,6 +47,7 @@ pub struct Filespace {
 /// Changes the group of the path, which has to be there.
 fn change_at(map: &mut BTreeMap<Path, Group>, path: &Path, change: GroupChange) -> Result<(), Refusal>
     ensures value { Makes result map.old.entries map.new.entries (changed_at (at_path path.now) (group_after change) map.old.entries) }
+    ensures taken { OnOk result (TakesAway change (versions_at path.now map.old.entries)) }
     ensures ordered { AreByPath map.new.entries }
 {
     match map.get_mut(path) {
@@ -108,6 +109,7 @@ fn put(map: &mut BTreeMap<Path, Group>, path: &Path, class: Name, version: Versi
 /// Changes the group of the path, and takes it away if it has no version then.
 fn change_group(map: &mut BTreeMap<Path, Group>, path: &Path, change: GroupChange) -> Result<(), Refusal>
     ensures value { Makes result map.old.entries map.new.entries (groups_after path.now change map.old.entries) }
+    ensures taken { OnOk result (TakesAway change (versions_at path.now map.old.entries)) }
     ensures ordered { AreByPath map.new.entries }
 {
     change_at(map, path, change)?;
@@ -175,6 +177,26 @@ impl Groups {
         self.map.get(path)
     }
 
+    /// Whether one of the path's versions is of the object.
+    pub fn has_object(&self, path: &Path, object: u64) -> bool
+        ensures { result ≡ has_object object (versions_at path.now self.now) }
+    {
+        match self.map.get(path) {
+            None => false,
+            Some(group) => group.versions.contains(object),
+        }
+    }
+
+    /// The version of the object, among those of the path.
+    pub fn find(&self, path: &Path, object: u64) -> Option<&Version>
+        ensures { option_copied result ≡ version_of object (versions_at path.now self.now) }
+    {
+        match self.map.get(path) {
+            None => None,
+            Some(group) => group.versions.find(object),
+        }
+    }
+
     /// Puts a version in front of those of the path, and binds the path to this class; the former active version is inactive
     /// from the day on which the new one was stored.
     pub fn put(&mut self, path: &Path, class: Name, version: Version) -> Result<(), Refusal>
@@ -194,7 +216,7 @@ impl Groups {
         ensures value { Makes result self.old self.new (groups_after path.now change self.old) }
         ensures ordered { AreByPath self.new }
         ensures versions { OnOk result (VersionsBecome path.now (versions_after change (versions_at path.now self.old)) self.old self.new) }
-        ensures count { OnOk result (count_of self.new + length (versions_at path.now self.old) ≡ count_of self.old + length (versions_after change (versions_at path.now self.old))) }
+        ensures count { OnOk result (count_of self.new + taken change (versions_at path.now self.old) ≡ count_of self.old) }
     {
         change_group(&mut self.map, path, change)
     }

@@ -13,3 +13,6 @@ pub use group::{Group, GroupChange};
 pub use groups::{Filespace, Groups};
 
 pub use versions::{Version, Versions};
+
+#[cfg(test)]
+mod tests;

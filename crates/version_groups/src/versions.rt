@@ -1,4 +1,4 @@
-ghost use Rattle.std.specs.Prelude.{◌≡◌, false, not, ◌<◌, ◌==◌, IfSome, IfNone, Ok, IsTrue, Some, None, [], ◌∷◌, if◌then◌else◌, length, OnErr};
+ghost use Rattle.std.specs.Prelude.{◌≡◌, ◌+◌, false, not, ◌<◌, ◌==◌, IfSome, IfNone, Ok, IsTrue, Some, None, [], ◌∷◌, if◌then◌else◌, length, OnErr};
 ghost use Rattle.std.specs.Option.{option_copied};
 ghost use Rattle.std.specs.List.{list_all, slice_get};
 ghost use Rattle.kinds.specs.Answers.{AnswersBy, Becomes};
@@ -308,7 +308,8 @@ impl Versions {
 
     /// Takes the object's version out, where there is one. It takes no memory.
     pub fn remove(&mut self, object: u64)
-        ensures { self.new ≡ without_object object self.old }
+        ensures value { self.new ≡ without_object object self.old }
+        ensures one { IsTrue (has_object object self.old) → length self.new + 1 ≡ length self.old }
     {
         take_out(&mut self.items, object);
     }

@@ -1,8 +1,9 @@
-use Rattle.std.proofs.Common.{◌≡◌, ◌+◌, List, ℕ, length, subst}
+use Rattle.std.proofs.Common.{◌≡◌, ◌+◌, List, ℕ, subst}
+use Rattle.std.specs.Result.{OnOk}
 use Rattle.kinds.specs.Answers.{Makes}
 use Rattle.version_groups.specs.declared.group.Group.{Group}
-use Rattle.version_groups.specs.Groups.{AreByPath, VersionsBecome, count_of, groups_after, versions_after, versions_at}
-use Rattle.version_groups.proofs.Laws.{Makes-ok, after-becomes, after-counts}
+use Rattle.version_groups.specs.Groups.{AreByPath, TakesAway, taken, VersionsBecome, count_of, groups_after, versions_after, versions_at}
+use Rattle.version_groups.proofs.Laws.{Makes-ok, Makes-both, after-becomes, counts-taken}
 use Rattle.version_groups.proofs.groups.Groups.change.Goals as goal
 
 pub returns-clause-versions : goal.returns-clause-versions
@@ -13,6 +14,7 @@ returns-clause-versions c =
 
 pub returns-clause-count : goal.returns-clause-count
 returns-clause-count c =
-    Makes-ok (λ (new : List (List ℕ × Group)). count_of new + length (versions_at c.args.path.now c.args.self.now) ≡ count_of c.args.self.now + length (versions_after c.args.change (versions_at c.args.path.now c.args.self.now))) c.change_group.result c.args.self.now c.change_group.new.map.entries
+    Makes-both (λ (new : List (List ℕ × Group)). count_of new + taken c.args.change (versions_at c.args.path.now c.args.self.now) ≡ count_of c.args.self.now) (TakesAway c.args.change (versions_at c.args.path.now c.args.self.now)) c.change_group.result c.args.self.now c.change_group.new.map.entries
     (groups_after c.args.path.now c.args.change c.args.self.now) (subst (λ (s : List (List ℕ × Group)). Makes c.change_group.result s c.change_group.new.map.entries (groups_after c.args.path.now c.args.change s)) c.self.view_is c.change_group.ensures.value)
-    (λ new h. after-counts c.args.path.now c.args.change c.args.self.now new h)
+    (subst (λ (s : List (List ℕ × Group)). OnOk c.change_group.result (TakesAway c.args.change (versions_at c.args.path.now s))) c.self.view_is c.change_group.ensures.taken)
+    (λ new t h. counts-taken c.args.path.now c.args.change c.args.self.now new t h)
