@@ -51,8 +51,8 @@ Alters-missing A (Drop pool) a e = (refl, refl)
 
 -- at one place of a list
 pub Alters-place : {A : Type 0} (change : CopyChange) (r : Result A Refusal) (vs : List Version) (i : ℕ) (d : Version) (copies : List CopyRow) → i < length vs
-  → Alters {A = A} change r (get_or vs i d).copies copies (copies_after change (get_or vs i d).copies)
-  → Alters {A = A} change r vs (slice_set vs i (record (get_or vs i d) { copies = copies })) (on_ok (put_copies_at i vs) (copies_after change (copies_at i vs)))
+    → Alters {A = A} change r (get_or vs i d).copies copies (copies_after change (get_or vs i d).copies)
+    → Alters {A = A} change r vs (slice_set vs i (record (get_or vs i d) { copies = copies })) (on_ok (put_copies_at i vs) (copies_after change (copies_at i vs)))
 Alters-place {A} change r vs i d copies l h =
     let v : Version = get_or vs i d in
     let found : slice_get vs i ≡ Some (get_or vs i d) = slice_get-get_or vs i d l in
@@ -69,7 +69,7 @@ pointwise f g h (Ok x) = ap Ok (h x)
 pointwise f g h (Err e) = refl
 
 altered-found : (object : ℕ) (change : CopyChange) (vs : List Version) (i : ℕ) (v : Version) → are_distinct vs ≡ true → slice_get vs i ≡ Some v → version_of object vs ≡ slice_get vs i
-  → on_ok (put_copies_at i vs) (copies_after change (copies_at i vs)) ≡ versions_altered object change vs
+    → on_ok (put_copies_at i vs) (copies_after change (copies_at i vs)) ≡ versions_altered object change vs
 altered-found object change vs i v h found e =
     let named : v.object ≡ object = version_of-object object vs v (e ∙ found) in
     ap (λ o. on_ok (λ copies. option_map_or (λ (w : Version). slice_set vs i (record w { copies = copies })) o vs) (copies_after change (option_map_or (λ (w : Version). w.copies) o []))) found
@@ -78,7 +78,7 @@ altered-found object change vs i v h found e =
 
 -- a change at the place of the object's version is the change of its copies
 pub altered-place : (object : ℕ) (change : CopyChange) (vs : List Version) (i : ℕ) → are_distinct vs ≡ true → i < length vs → version_of object vs ≡ slice_get vs i
-  → on_ok (put_copies_at i vs) (copies_after change (copies_at i vs)) ≡ versions_altered object change vs
+    → on_ok (put_copies_at i vs) (copies_after change (copies_at i vs)) ≡ versions_altered object change vs
 altered-place object change vs i h l e =
     ⊎_elim (λ w. altered-found object change vs i w.0 h w.2 e) (λ w. let past : length vs ≤ i = w.0 in absurd (omega arith)) (slice_get_cases vs i).1
 

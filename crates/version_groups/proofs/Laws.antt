@@ -37,7 +37,7 @@ lookup-other : {K X : Type 0} {R : K → K → Ordering} (o : IsTotalOrder R) (k
 lookup-other {K} {X} {R} o k q v [] h = ap (λ b. cond b (Some v) None) ((eq_by_cmp_equiv o).symm q k)
 lookup-other {K} {X} {R} o k q v (e ∷ es) h =
     elim (R k e.0) as (λ r. R k e.0 ≡ r → cond (is_eq r) (Some e.1) (lookup (is_at (R k)) es) ≡ None
-      → lookup (is_at (R q)) (match_ordering r ((k, v) ∷ e ∷ es) ((e.0, v) ∷ es) (e ∷ insert_entry R es k v)) ≡ cond (is_at (R k) q) (Some v) (lookup (is_at (R q)) (e ∷ es))) [
+    → lookup (is_at (R q)) (match_ordering r ((k, v) ∷ e ∷ es) ((e.0, v) ∷ es) (e ∷ insert_entry R es k v)) ≡ cond (is_at (R k) q) (Some v) (lookup (is_at (R q)) (e ∷ es))) [
       | Less ↦ λ _ _. ap (λ b. cond b (Some v) (lookup (is_at (R q)) (e ∷ es))) ((eq_by_cmp_equiv o).symm q k)
       | Equal ↦ λ _ there. absurd (cc)
       | Greater ↦ λ above none.
@@ -51,16 +51,16 @@ lookup-other {K} {X} {R} o k q v (e ∷ es) h =
 -- ---- lists of versions
 length-superseded : (day : ℕ) (vs : List Version) → length (superseded day vs) ≡ length vs
 length-superseded day [] = refl
-length-superseded day (v ∷ vs) = elim v.since as (λ s. length (superseded day (record v { since = s } ∷ vs)) ≡ length (v ∷ vs)) [ | None ↦ refl | Some d ↦ refl ]
+length-superseded day (v ∷ vs) = elim v.since as (λ s. length (superseded day (record v { since = s } ∷ vs)) ≡ length (v ∷ vs)) [ None ↦ refl | Some d ↦ refl ]
 
 -- what was put in front and is undone leaves the versions as they were
 undone-put : (v : Version) (vs : List Version) → undone (has_active vs) (v ∷ superseded v.stored vs) ≡ vs
 undone-put v [] = refl
-undone-put v (w ∷ ws) = elim w.since as (λ s. undone (has_active (record w { since = s } ∷ ws)) (v ∷ superseded v.stored (record w { since = s } ∷ ws)) ≡ record w { since = s } ∷ ws) [ | None ↦ refl | Some d ↦ refl ]
+undone-put v (w ∷ ws) = elim w.since as (λ s. undone (has_active (record w { since = s } ∷ ws)) (v ∷ superseded v.stored (record w { since = s } ∷ ws)) ≡ record w { since = s } ∷ ws) [ None ↦ refl | Some d ↦ refl ]
 
 -- ---- a version that is put
 versions-put : (path class : List ℕ) (v : Version) (groups : List (List ℕ × Group)) → (group_with class v (group_at path groups)).versions ≡ v ∷ superseded v.stored (versions_at path groups)
-versions-put path class v groups = elim (group_at path groups) as (λ o. (group_with class v o).versions ≡ v ∷ superseded v.stored (versions_in o)) [ | None ↦ refl | Some g ↦ refl ]
+versions-put path class v groups = elim (group_at path groups) as (λ o. (group_with class v o).versions ≡ v ∷ superseded v.stored (versions_in o)) [ None ↦ refl | Some g ↦ refl ]
 
 versions-cond : (b : Bool) (g : Group) (o : Option Group) → versions_in (cond b (Some g) o) ≡ cond b g.versions (versions_in o)
 versions-cond true g o = refl
@@ -97,10 +97,10 @@ one_more e = omega arith
 pub put-counts : (path class : List ℕ) (v : Version) (groups : List (List ℕ × Group)) → AreByPath groups → count_of (groups_with path class v groups) ≡ count_of groups + 1
 put-counts path class v groups sorted =
     let all : count_of (groups_with path class v groups) + unwrap_or (option_map (λ (g : Group). length g.versions) (group_at path groups)) 0 ≡ count_of groups + length (group_with class v (group_at path groups)).versions =
-        sum_by-insert_entry (λ (g : Group). length g.versions) nat_list_cmp_total groups path (group_with class v (group_at path groups)) sorted in
+    sum_by-insert_entry (λ (g : Group). length g.versions) nat_list_cmp_total groups path (group_with class v (group_at path groups)) sorted in
     let here : unwrap_or (option_map (λ (g : Group). length g.versions) (group_at path groups)) 0 ≡ length (versions_at path groups) = weighs (group_at path groups) in
     let more : length (group_with class v (group_at path groups)).versions ≡ length (versions_at path groups) + 1 =
-        ap length (versions-put path class v groups) ∙ one_more (length-superseded v.stored (versions_at path groups)) in
+    ap length (versions-put path class v groups) ∙ one_more (length-superseded v.stored (versions_at path groups)) in
     omega arith
 
 -- ---- a change of a group
@@ -147,9 +147,9 @@ after-is path change groups new h =
       | None ↦ λ _ e. absurd (cc)
       | Some g ↦ λ there. elim (names_kept change g.versions) as (λ b. names_kept change g.versions ≡ b
           → on_ok (without_empty path) (on_ok (set_value (at_path path) groups) (cond b (Ok (record { class = class_after change g.class; versions = versions_after change g.versions })) (Err NotFound))) ≡ Ok new → AfterIs path change groups new) [
-        | true ↦ λ named e. (g, there, named, let same : without_empty path (set_value (at_path path) groups (record { class = class_after change g.class; versions = versions_after change g.versions })) ≡ new = cc in same)
-        | false ↦ λ _ e. absurd (cc)
-      ] refl
+            | true ↦ λ named e. (g, there, named, let same : without_empty path (set_value (at_path path) groups (record { class = class_after change g.class; versions = versions_after change g.versions })) ≡ new = cc in same)
+            | false ↦ λ _ e. absurd (cc)
+          ] refl
     ] refl h
 
 pub after-becomes : (path : List ℕ) (change : GroupChange) (groups new : List (List ℕ × Group)) → AreByPath groups → groups_after path change groups ≡ Ok new → VersionsBecome path (versions_after change (versions_at path groups)) groups new
@@ -191,9 +191,9 @@ put-undone path class v groups sorted was active so =
           let g : Group = record { class = class; versions = v ∷ superseded v.stored x.versions } in
           let es : List (List ℕ × Group) = set_value (at_path path) groups g in
           let back : record { class = was; versions = undone active (v ∷ superseded v.stored x.versions) } ≡ x =
-              ap (λ (n : List ℕ). record { class = n; versions = undone active (v ∷ superseded v.stored x.versions) }) same.0
-              ∙ ap (λ (b : Bool). record { class = x.class; versions = undone b (v ∷ superseded v.stored x.versions) }) same.1
-              ∙ ap (λ (vs : List Version). record { class = x.class; versions = vs }) (undone-put v x.versions) in
+          ap (λ (n : List ℕ). record { class = n; versions = undone active (v ∷ superseded v.stored x.versions) }) same.0
+          ∙ ap (λ (b : Bool). record { class = x.class; versions = undone b (v ∷ superseded v.stored x.versions) }) same.1
+          ∙ ap (λ (vs : List Version). record { class = x.class; versions = vs }) (undone-put v x.versions) in
           ap (groups_after path (Undo was active)) (insert_present nat_list_cmp_total path g x groups sorted there)
           ∙ ap (λ o. on_ok (without_empty path) (if_found o (λ y. on_ok (set_value (at_path path) es) (group_after (Undo was active) y)))) (lookup-set (at_path path) x g groups there)
           ∙ ap (λ (y : Group). Ok (without_empty path (set_value (at_path path) es y))) back
@@ -204,7 +204,7 @@ put-undone path class v groups sorted was active so =
 
 -- ---- a change of copies
 object_stays : (object : ℕ) (copies : List CopyRow) (v : Version) → (having_copies object copies v).object ≡ v.object
-object_stays object copies v = elim (eqb v.object object) as (λ b. (cond {A = Version} b (record v { copies = copies }) v).object ≡ v.object) [ | true ↦ refl | false ↦ refl ]
+object_stays object copies v = elim (eqb v.object object) as (λ b. (cond {A = Version} b (record v { copies = copies }) v).object ≡ v.object) [ true ↦ refl | false ↦ refl ]
 
 objects-with_copies : (n object : ℕ) (copies : List CopyRow) (vs : List Version) → has_object n (with_copies object copies vs) ≡ has_object n vs
 objects-with_copies n object copies [] = refl
@@ -223,13 +223,13 @@ altered-is path object change groups new h =
       | None ↦ λ _ e. absurd (cc)
       | Some g ↦ λ there. elim (version_of object g.versions) as (λ f.
           on_ok (set_value (at_path path) groups) (on_ok (λ (vs : List Version). record g { versions = vs }) (if_found f (λ v. on_ok (λ copies. with_copies object copies g.versions) (copies_after change v.copies)))) ≡ Ok new → AlteredIs path object groups new) [
-        | None ↦ λ e. absurd (cc)
-        | Some v ↦ elim (copies_after change v.copies) as (λ r.
-            on_ok (set_value (at_path path) groups) (on_ok (λ (vs : List Version). record g { versions = vs }) (on_ok (λ copies. with_copies object copies g.versions) r)) ≡ Ok new → AlteredIs path object groups new) [
-          | Ok copies ↦ λ e. (g, there, copies, let same : set_value (at_path path) groups (record g { versions = with_copies object copies g.versions }) ≡ new = cc in same)
-          | Err r ↦ λ e. absurd (cc)
-        ]
-      ]
+            | None ↦ λ e. absurd (cc)
+            | Some v ↦ elim (copies_after change v.copies) as (λ r.
+                on_ok (set_value (at_path path) groups) (on_ok (λ (vs : List Version). record g { versions = vs }) (on_ok (λ copies. with_copies object copies g.versions) r)) ≡ Ok new → AlteredIs path object groups new) [
+                  | Ok copies ↦ λ e. (g, there, copies, let same : set_value (at_path path) groups (record g { versions = with_copies object copies g.versions }) ≡ new = cc in same)
+                  | Err r ↦ λ e. absurd (cc)
+                ]
+          ]
     ] refl h
 
 pub altered-stays : (path : List ℕ) (object : ℕ) (change : CopyChange) (groups new : List (List ℕ × Group)) → groups_altered path object change groups ≡ Ok new → ObjectsStay groups new

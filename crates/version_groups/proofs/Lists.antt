@@ -156,11 +156,11 @@ of_others object (v ∷ vs) h =
 
 pub of_others-superseded : (object day : ℕ) (vs : List Version) → are_of_others object (superseded day vs) ≡ are_of_others object vs
 of_others-superseded object day [] = refl
-of_others-superseded object day (v ∷ vs) = elim v.since as (λ s. are_of_others object (superseded day (record v { since = s } ∷ vs)) ≡ are_of_others object (v ∷ vs)) [ | None ↦ refl | Some d ↦ refl ]
+of_others-superseded object day (v ∷ vs) = elim v.since as (λ s. are_of_others object (superseded day (record v { since = s } ∷ vs)) ≡ are_of_others object (v ∷ vs)) [ None ↦ refl | Some d ↦ refl ]
 
 pub distinct-superseded : (day : ℕ) (vs : List Version) → are_distinct (superseded day vs) ≡ are_distinct vs
 distinct-superseded day [] = refl
-distinct-superseded day (v ∷ vs) = elim v.since as (λ s. are_distinct (superseded day (record v { since = s } ∷ vs)) ≡ are_distinct (v ∷ vs)) [ | None ↦ refl | Some d ↦ refl ]
+distinct-superseded day (v ∷ vs) = elim v.since as (λ s. are_distinct (superseded day (record v { since = s } ∷ vs)) ≡ are_distinct (v ∷ vs)) [ None ↦ refl | Some d ↦ refl ]
 
 pub distinct-put : (v : Version) (vs : List Version) → has_object v.object vs ≡ false → are_distinct vs ≡ true → are_distinct (v ∷ superseded v.stored vs) ≡ true
 distinct-put v vs n h =
@@ -168,13 +168,13 @@ distinct-put v vs n h =
 
 pub distinct-undone : (active : Bool) (vs : List Version) → are_distinct vs ≡ true → are_distinct (undone active vs) ≡ true
 distinct-undone active [] h = refl
-distinct-undone active (v ∷ []) h = elim active as (λ b. are_distinct (undone b (v ∷ [])) ≡ true) [ | true ↦ refl | false ↦ refl ]
+distinct-undone active (v ∷ []) h = elim active as (λ b. are_distinct (undone b (v ∷ [])) ≡ true) [ true ↦ refl | false ↦ refl ]
 distinct-undone active (v ∷ w ∷ vs) h =
     let hs : (are_of_others v.object (w ∷ vs) ≡ true) × (are_distinct (w ∷ vs) ≡ true) = and_parts (are_of_others v.object (w ∷ vs)) (are_distinct (w ∷ vs)) h in
-    elim active as (λ b. are_distinct (undone b (v ∷ w ∷ vs)) ≡ true) [ | true ↦ hs.1 | false ↦ hs.1 ]
+    elim active as (λ b. are_distinct (undone b (v ∷ w ∷ vs)) ≡ true) [ true ↦ hs.1 | false ↦ hs.1 ]
 
 number_stays : (object : ℕ) (copies : List CopyRow) (v : Version) → (having_copies object copies v).object ≡ v.object
-number_stays object copies v = elim (eqb v.object object) as (λ b. (cond {A = Version} b (record v { copies = copies }) v).object ≡ v.object) [ | true ↦ refl | false ↦ refl ]
+number_stays object copies v = elim (eqb v.object object) as (λ b. (cond {A = Version} b (record v { copies = copies }) v).object ≡ v.object) [ true ↦ refl | false ↦ refl ]
 
 of_others-with_copies : (n object : ℕ) (copies : List CopyRow) (vs : List Version) → are_of_others n (with_copies object copies vs) ≡ are_of_others n vs
 of_others-with_copies n object copies [] = refl
@@ -226,7 +226,7 @@ put-with_copies (w ∷ vs) zero v copies h g =
     let hs : (are_of_others w.object vs ≡ true) × (are_distinct vs ≡ true) = and_parts (are_of_others w.object vs) (are_distinct vs) h in
     let others : with_copies v.object copies vs ≡ vs = with_copies-others v.object copies vs (ap (λ (t : Version). are_of_others t.object vs) (sym same) ∙ hs.0) in
     let here : having_copies v.object copies w ≡ record v { copies = copies } =
-        ap (λ (t : Version). having_copies v.object copies t) same ∙ ap (λ b. cond {A = Version} b (record v { copies = copies }) v) (eq-eqb v.object v.object refl) in
+    ap (λ (t : Version). having_copies v.object copies t) same ∙ ap (λ b. cond {A = Version} b (record v { copies = copies }) v) (eq-eqb v.object v.object refl) in
     ap (λ t. record v { copies = copies } ∷ t) (sym others) ∙ ap (λ t. t ∷ with_copies v.object copies vs) (sym here)
 put-with_copies (w ∷ vs) (suc i) v copies h g =
     let hs : (are_of_others w.object vs ≡ true) × (are_distinct vs ≡ true) = and_parts (are_of_others w.object vs) (are_distinct vs) h in

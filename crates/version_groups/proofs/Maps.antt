@@ -67,7 +67,7 @@ pub set-new : {K X : Type 0} {R : K → K → Ordering} (o : IsTotalOrder R) (k 
 set-new {K} {X} {R} o k v w [] h = ap (λ b. cond b ((k, w) ∷ []) ((k, v) ∷ [])) (ap is_eq (tied_itself o k))
 set-new {K} {X} {R} o k v w (e ∷ es) h =
     elim (R k e.0) as (λ r. R k e.0 ≡ r → cond (is_eq r) (Some e.1) (lookup (is_at (R k)) es) ≡ None
-      → set_value (is_at (R k)) (match_ordering r ((k, v) ∷ e ∷ es) ((e.0, v) ∷ es) (e ∷ insert_entry R es k v)) w ≡ match_ordering r ((k, w) ∷ e ∷ es) ((e.0, w) ∷ es) (e ∷ insert_entry R es k w)) [
+    → set_value (is_at (R k)) (match_ordering r ((k, v) ∷ e ∷ es) ((e.0, v) ∷ es) (e ∷ insert_entry R es k v)) w ≡ match_ordering r ((k, w) ∷ e ∷ es) ((e.0, w) ∷ es) (e ∷ insert_entry R es k w)) [
       | Less ↦ λ _ _. ap (λ b. cond b ((k, w) ∷ e ∷ es) ((k, v) ∷ set_value (is_at (R k)) (e ∷ es) w)) (ap is_eq (tied_itself o k))
       | Equal ↦ λ _ there. absurd (cc)
       | Greater ↦ λ above none. ap (λ r. cond (is_eq r) ((e.0, w) ∷ insert_entry R es k v) (e ∷ set_value (is_at (R k)) (insert_entry R es k v) w)) above ∙ ap (λ t. e ∷ t) (set-new o k v w es none)
@@ -78,7 +78,7 @@ pub remove-new : {K X : Type 0} {R : K → K → Ordering} (o : IsTotalOrder R) 
 remove-new {K} {X} {R} o k v [] h = ap (λ b. cond b [] ((k, v) ∷ [])) (ap is_eq (tied_itself o k))
 remove-new {K} {X} {R} o k v (e ∷ es) h =
     elim (R k e.0) as (λ r. R k e.0 ≡ r → cond (is_eq r) (Some e.1) (lookup (is_at (R k)) es) ≡ None
-      → remove_entry (is_at (R k)) (match_ordering r ((k, v) ∷ e ∷ es) ((e.0, v) ∷ es) (e ∷ insert_entry R es k v)) ≡ e ∷ es) [
+    → remove_entry (is_at (R k)) (match_ordering r ((k, v) ∷ e ∷ es) ((e.0, v) ∷ es) (e ∷ insert_entry R es k v)) ≡ e ∷ es) [
       | Less ↦ λ _ _. ap (λ b. cond b (e ∷ es) ((k, v) ∷ remove_entry (is_at (R k)) (e ∷ es))) (ap is_eq (tied_itself o k))
       | Equal ↦ λ _ there. absurd (cc)
       | Greater ↦ λ above none. ap (λ r. cond (is_eq r) (insert_entry R es k v) (e ∷ remove_entry (is_at (R k)) (insert_entry R es k v))) above ∙ ap (λ t. e ∷ t) (remove-new o k v es none)
@@ -86,14 +86,14 @@ remove-new {K} {X} {R} o k v (e ∷ es) h =
 
 -- what a change makes of the value at a key it makes of the entries
 pub Alters-entry : {A K X : Type 0} (change : CopyChange) (r : Result A Refusal) (test : K → Bool) (f : X → Result X Refusal) (es : List (K × X)) (x y : X) → lookup test es ≡ Some x
-  → Alters {A = A} change r x y (f x) → Alters {A = A} change r es (set_value test es y) (changed_at test f es)
+    → Alters {A = A} change r x y (f x) → Alters {A = A} change r es (set_value test es y) (changed_at test f es)
 Alters-entry {A} {K} {X} change r test f es x y found h =
     subst (λ (said : Result (List (K × X)) Refusal). Alters {A = A} change r es (set_value test es y) said) (ap (λ o. if_found o (λ z. on_ok (set_value test es) (f z))) (sym found))
     (subst (λ (old : List (K × X)). Alters {A = A} change r old (set_value test es y) (on_ok (set_value test es) (f x))) (set_value_same test es x found)
     (Alters-lift change r x y (f x) (set_value test es) h))
 
 pub Makes-entry : {A K X : Type 0} (r : Result A Refusal) (test : K → Bool) (f : X → Result X Refusal) (es : List (K × X)) (x y : X) → lookup test es ≡ Some x
-  → Makes {A = A} r x y (f x) → Makes {A = A} r es (set_value test es y) (changed_at test f es)
+    → Makes {A = A} r x y (f x) → Makes {A = A} r es (set_value test es y) (changed_at test f es)
 Makes-entry {A} r test f es x y found h = Alters-entry {A = A} (Drop 0) r test f es x y found h
 
 fill : {A K X : Type 0} (r : Result A Refusal) (test : K → Bool) (es : List (K × X)) (x y z : X) → lookup test es ≡ Some x → Becomes {A = A} r x y (Ok z) → Becomes {A = A} r es (set_value test es y) (Ok (set_value test es z))
@@ -102,11 +102,10 @@ fill {A} {K} {X} r test es x y z found h =
 
 -- a version that is put into a group that is there
 pub Becomes-group : {A : Type 0} (r : Result A Refusal) (path class : List ℕ) (version : Version) (groups : List (List ℕ × Group)) (x y : Group) → AreByPath groups → group_at path groups ≡ Some x
-  → Becomes {A = A} r x y (Ok (group_with class version (Some x))) → Becomes {A = A} r groups (set_value (at_path path) groups y) (Ok (groups_with path class version groups))
+    → Becomes {A = A} r x y (Ok (group_with class version (Some x))) → Becomes {A = A} r groups (set_value (at_path path) groups y) (Ok (groups_with path class version groups))
 Becomes-group {A} r path class version groups x y sorted found h =
     let said : set_value (at_path path) groups (group_with class version (Some x)) ≡ groups_with path class version groups =
-        sym (insert_present nat_list_cmp_total path (group_with class version (Some x)) x groups sorted found)
-        ∙ ap (λ o. insert_entry (slice_cmp nat_cmp) groups path (group_with class version o)) (sym found) in
+    sym (insert_present nat_list_cmp_total path (group_with class version (Some x)) x groups sorted found)
+    ∙ ap (λ o. insert_entry (slice_cmp nat_cmp) groups path (group_with class version o)) (sym found) in
     subst (λ (t : List (List ℕ × Group)). Becomes {A = A} r groups (set_value (at_path path) groups y) (Ok t)) said
     (fill r (at_path path) groups x y (group_with class version (Some x)) found h)
-

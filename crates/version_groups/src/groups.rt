@@ -45,7 +45,11 @@ pub struct Filespace {
 }
 
 /// Changes the group of the path, which has to be there.
-fn change_at(map: &mut BTreeMap<Path, Group>, path: &Path, change: GroupChange) -> Result<(), Refusal>
+fn change_at(
+    map: &mut BTreeMap<Path, Group>,
+    path: &Path,
+    change: GroupChange,
+) -> Result<(), Refusal>
     ensures value { Makes result map.old.entries map.new.entries (changed_at (at_path path.now) (group_after change) map.old.entries) }
     ensures taken { OnOk result (TakesAway change (versions_at path.now map.old.entries)) }
     ensures ordered { AreByPath map.new.entries }
@@ -57,7 +61,12 @@ fn change_at(map: &mut BTreeMap<Path, Group>, path: &Path, change: GroupChange) 
 }
 
 /// Changes copies of an object of the path, which has to be there.
-fn alter_at(map: &mut BTreeMap<Path, Group>, path: &Path, object: u64, change: CopyChange) -> Result<(), Refusal>
+fn alter_at(
+    map: &mut BTreeMap<Path, Group>,
+    path: &Path,
+    object: u64,
+    change: CopyChange,
+) -> Result<(), Refusal>
     requires { IsTrue (takes_free_pool change (copies_of object (versions_at path.now map.old.entries))) }
     ensures value { Alters change result map.old.entries map.new.entries (groups_altered path.now object change map.old.entries) }
     ensures ordered { AreByPath map.new.entries }
@@ -69,7 +78,12 @@ fn alter_at(map: &mut BTreeMap<Path, Group>, path: &Path, object: u64, change: C
 }
 
 /// Puts a version into the group of the path, which has to be there.
-fn put_at(map: &mut BTreeMap<Path, Group>, path: &Path, class: Name, version: Version) -> Result<(), Refusal>
+fn put_at(
+    map: &mut BTreeMap<Path, Group>,
+    path: &Path,
+    class: Name,
+    version: Version,
+) -> Result<(), Refusal>
     requires there { is_some (group_at path.now map.old.entries) ≡ true }
     requires new { has_object version.object (versions_at path.now map.old.entries) ≡ false }
     ensures value { Becomes result map.old.entries map.new.entries (Ok (groups_with path.now class version map.old.entries)) }
@@ -82,7 +96,12 @@ fn put_at(map: &mut BTreeMap<Path, Group>, path: &Path, class: Name, version: Ve
 }
 
 /// Makes the group of the path, which has none.
-fn add(map: &mut BTreeMap<Path, Group>, path: &Path, class: Name, version: Version) -> Result<(), Refusal>
+fn add(
+    map: &mut BTreeMap<Path, Group>,
+    path: &Path,
+    class: Name,
+    version: Version,
+) -> Result<(), Refusal>
     requires { is_some (group_at path.now map.old.entries) ≡ false }
     ensures value { Becomes result map.old.entries map.new.entries (Ok (groups_with path.now class version map.old.entries)) }
     ensures ordered { OnOk result (AreByPath map.new.entries) }
@@ -93,7 +112,12 @@ fn add(map: &mut BTreeMap<Path, Group>, path: &Path, class: Name, version: Versi
 }
 
 /// Puts a version into the group of the path, or makes that group.
-fn put(map: &mut BTreeMap<Path, Group>, path: &Path, class: Name, version: Version) -> Result<(), Refusal>
+fn put(
+    map: &mut BTreeMap<Path, Group>,
+    path: &Path,
+    class: Name,
+    version: Version,
+) -> Result<(), Refusal>
     requires ordered { AreByPath map.old.entries }
     requires new { has_object version.object (versions_at path.now map.old.entries) ≡ false }
     ensures value { Becomes result map.old.entries map.new.entries (Ok (groups_with path.now class version map.old.entries)) }
@@ -107,7 +131,11 @@ fn put(map: &mut BTreeMap<Path, Group>, path: &Path, class: Name, version: Versi
 }
 
 /// Changes the group of the path, and takes it away if it has no version then.
-fn change_group(map: &mut BTreeMap<Path, Group>, path: &Path, change: GroupChange) -> Result<(), Refusal>
+fn change_group(
+    map: &mut BTreeMap<Path, Group>,
+    path: &Path,
+    change: GroupChange,
+) -> Result<(), Refusal>
     ensures value { Makes result map.old.entries map.new.entries (groups_after path.now change map.old.entries) }
     ensures taken { OnOk result (TakesAway change (versions_at path.now map.old.entries)) }
     ensures ordered { AreByPath map.new.entries }

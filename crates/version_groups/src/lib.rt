@@ -5,13 +5,11 @@
 mod copies;
 mod group;
 mod groups;
-
 mod versions;
 
 pub use copies::{Copies, CopyChange, CopyRow};
 pub use group::{Group, GroupChange};
 pub use groups::{Filespace, Groups};
-
 pub use versions::{Version, Versions};
 
 #[cfg(test)]

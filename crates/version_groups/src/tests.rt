@@ -13,7 +13,13 @@ fn class(alloc: Global, bytes: &[u8]) -> Result<Name, Refusal> {
 
 /// A copy of one segment of five bytes in this pool.
 fn copy(alloc: Global, pool: u32, placed: u64) -> Result<CopyRow, Refusal> {
-    let segments = vec![in alloc; Segment { file: 4, offset: 0, len: 5 }]?;
+    let segments = vec![in alloc;
+        Segment {
+            file: 4,
+            offset: 0,
+            len: 5
+        },
+    ]?;
     Ok(CopyRow {
         pool,
         placed,
@@ -75,7 +81,10 @@ fn copies_stand_by_pool(rt: HostRuntime) -> Result<(), Fail> {
     assert_eq!(rt; moved, Err(Refusal::NotFound));
     assert_eq!(rt; copies.change(CopyChange::Drop(5)), Err(Refusal::NotFound));
     assert_eq!(rt; copies.change(CopyChange::Drop(2)), Ok(()));
-    assert_eq!(rt; pools(rt.alloc(), &copies.clone()?)?.as_slice(), [1].as_slice());
+    assert_eq!(rt;
+        pools(rt.alloc(), &copies.clone()?)?.as_slice(),
+        [1].as_slice()
+    );
     Ok(())
 }
 
@@ -130,9 +139,24 @@ fn shown(alloc: Global, groups: &Groups, path: &Path) -> Result<Vec<(u64, u32)>,
 /// The groups of two paths: one with the versions 2 and 1, stored on the days 5 and 3, and one with version 3 of day 4.
 fn filled(alloc: Global) -> Result<Groups, Fail> {
     let mut groups = Groups::new(alloc);
-    put(&mut groups, &path(alloc, b"/a")?, class(alloc, b"one")?, version(alloc, 1, 3)?)?;
-    put(&mut groups, &path(alloc, b"/a")?, class(alloc, b"two")?, version(alloc, 2, 5)?)?;
-    put(&mut groups, &path(alloc, b"/b")?, class(alloc, b"one")?, version(alloc, 3, 4)?)?;
+    put(
+        &mut groups,
+        &path(alloc, b"/a")?,
+        class(alloc, b"one")?,
+        version(alloc, 1, 3)?,
+    )?;
+    put(
+        &mut groups,
+        &path(alloc, b"/a")?,
+        class(alloc, b"two")?,
+        version(alloc, 2, 5)?,
+    )?;
+    put(
+        &mut groups,
+        &path(alloc, b"/b")?,
+        class(alloc, b"one")?,
+        version(alloc, 3, 4)?,
+    )?;
     Ok(groups)
 }
 
@@ -140,13 +164,19 @@ fn filled(alloc: Global) -> Result<Groups, Fail> {
 fn a_new_version_is_the_newest(rt: HostRuntime) -> Result<(), Fail> {
     let a = path(rt.alloc(), b"/a")?;
     let mut groups = filled(rt.alloc())?;
-    assert_eq!(rt; shown(rt.alloc(), &groups, &a)?.as_slice(), [(2, 99), (1, 5)].as_slice());
+    assert_eq!(rt;
+        shown(rt.alloc(), &groups, &a)?.as_slice(),
+        [(2, 99), (1, 5)].as_slice()
+    );
     let undo = GroupChange::Undo {
         class: class(rt.alloc(), b"one")?,
         active: true,
     };
     assert_eq!(rt; groups.change(&a, undo), Ok(()));
-    assert_eq!(rt; shown(rt.alloc(), &groups, &a)?.as_slice(), [(1, 99)].as_slice());
+    assert_eq!(rt;
+        shown(rt.alloc(), &groups, &a)?.as_slice(),
+        [(1, 99)].as_slice()
+    );
     Ok(())
 }
 
@@ -155,14 +185,35 @@ fn a_group_without_versions_goes(rt: HostRuntime) -> Result<(), Fail> {
     let (a, b) = (path(rt.alloc(), b"/a")?, path(rt.alloc(), b"/b")?);
     let mut groups = filled(rt.alloc())?;
     let today = Day::new(9).ok_or("a day")?;
-    assert_eq!(rt; groups.change(&b, GroupChange::Gone { object: 3, today }), Ok(()));
-    assert_eq!(rt; shown(rt.alloc(), &groups, &b)?.as_slice(), [(3, 9)].as_slice());
-    assert_eq!(rt; groups.change(&b, GroupChange::Remove { object: 1 }), Err(Refusal::NotFound));
-    assert_eq!(rt; groups.change(&b, GroupChange::Remove { object: 3 }), Ok(()));
+    assert_eq!(rt;
+        groups.change(&b, GroupChange::Gone { object: 3, today }),
+        Ok(())
+    );
+    assert_eq!(rt;
+        shown(rt.alloc(), &groups, &b)?.as_slice(),
+        [(3, 9)].as_slice()
+    );
+    assert_eq!(rt;
+        groups.change(&b, GroupChange::Remove { object: 1 }),
+        Err(Refusal::NotFound)
+    );
+    assert_eq!(rt;
+        groups.change(&b, GroupChange::Remove { object: 3 }),
+        Ok(())
+    );
     assert_eq!(rt; groups.get(&b).is_none(), true);
-    assert_eq!(rt; groups.change(&b, GroupChange::Remove { object: 3 }), Err(Refusal::NotFound));
-    assert_eq!(rt; groups.change(&a, GroupChange::Remove { object: 2 }), Ok(()));
-    assert_eq!(rt; shown(rt.alloc(), &groups, &a)?.as_slice(), [(1, 5)].as_slice());
+    assert_eq!(rt;
+        groups.change(&b, GroupChange::Remove { object: 3 }),
+        Err(Refusal::NotFound)
+    );
+    assert_eq!(rt;
+        groups.change(&a, GroupChange::Remove { object: 2 }),
+        Ok(())
+    );
+    assert_eq!(rt;
+        shown(rt.alloc(), &groups, &a)?.as_slice(),
+        [(1, 5)].as_slice()
+    );
     assert_eq!(rt; groups.is_empty(), false);
     Ok(())
 }
@@ -178,8 +229,14 @@ fn a_path_is_bound_to_another_class(rt: HostRuntime) -> Result<(), Fail> {
     let bound = groups.get(&a).map(|group| group.class.as_bytes());
     assert_eq!(rt; bound, Some(b"THREE".as_slice()));
     assert_eq!(rt; groups.alter(&a, 2, CopyChange::Drop(1)), Ok(()));
-    assert_eq!(rt; groups.alter(&a, 2, CopyChange::Drop(1)), Err(Refusal::NotFound));
-    assert_eq!(rt; groups.alter(&a, 3, CopyChange::Drop(1)), Err(Refusal::NotFound));
+    assert_eq!(rt;
+        groups.alter(&a, 2, CopyChange::Drop(1)),
+        Err(Refusal::NotFound)
+    );
+    assert_eq!(rt;
+        groups.alter(&a, 3, CopyChange::Drop(1)),
+        Err(Refusal::NotFound)
+    );
     Ok(())
 }
 
@@ -194,6 +251,9 @@ fn a_copied_filespace_is_equal(rt: HostRuntime) -> Result<(), Fail> {
     assert_eq!(rt; copy.node, 1);
     assert_eq!(rt; copy.name.as_bytes(), b"/home".as_slice());
     let a = path(rt.alloc(), b"/a")?;
-    assert_eq!(rt; shown(rt.alloc(), &copy.groups, &a)?.as_slice(), [(2, 99), (1, 5)].as_slice());
+    assert_eq!(rt;
+        shown(rt.alloc(), &copy.groups, &a)?.as_slice(),
+        [(2, 99), (1, 5)].as_slice()
+    );
     Ok(())
 }
