@@ -2,6 +2,10 @@ pub mod Answers
 pub mod Days
 pub mod Names
 pub mod Paths
+pub mod PoolForms
 pub mod Pools
 pub mod Refusals
+pub mod RuleForms
 pub mod Rules
+pub mod ValueForms
+pub mod VerbForms

@@ -4,6 +4,7 @@
 
 mod change;
 mod day;
+mod forms;
 mod name;
 mod path;
 mod pool;
@@ -13,6 +14,7 @@ mod segment;
 
 pub use change::{DefineOrDelete, ObjectChange, PolicyChange, PoolChange, Verb};
 pub use day::{Day, Days};
+pub use forms::{Fitting, all_fit};
 pub use name::{Name, NameOf, NodeName};
 pub use path::{FilespaceName, Path, PathOf};
 pub use pool::{Access, Capacity, PoolKind, PoolRule, PoolSettings, SizeLimit};

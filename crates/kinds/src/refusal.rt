@@ -2,6 +2,7 @@ ghost use Rattle.std.specs.Prelude.{◌≡◌, ◌≤◌, IfSome, Contains, All}
 ghost use Rattle.kinds.specs.Refusals.{number_of, place_of, sooner, sooner_of, foremost};
 
 use crate::segment::Digest;
+use fields::Memory;
 use std::alloc::{AllocError, AllocFailed};
 
 /// What stands in the way of a change: the thing that uses what was to be changed or taken away.
@@ -196,6 +197,16 @@ impl<T: Drop> From<AllocFailed<T>> for Refusal {
     ghost from_gives = { λ _ e. e ≡ Memory };
 
     fn from(_error: AllocFailed<T>) -> Refusal {
+        Refusal::Memory
+    }
+}
+
+impl From<Memory> for Refusal {
+    ghost use Rattle.kinds.specs.declared.refusal.Refusal.TheVariants as refusals;
+
+    ghost from_gives = { λ _ e. e ≡ refusals.Memory };
+
+    fn from(_error: Memory) -> Refusal {
         Refusal::Memory
     }
 }

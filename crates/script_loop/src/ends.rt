@@ -86,8 +86,8 @@ fn add_number(text: &mut ArrayVec<u8, 80>, n: u64)
     add(text, digits.format(n).as_bytes());
 }
 
-// A text, a number and LF.
-fn number_line(words: &[u8], n: u64) -> ArrayVec<u8, 80>
+/// A line of a text of at most 40 bytes, a number and LF. It takes no memory.
+pub fn number_line(words: &[u8], n: u64) -> ArrayVec<u8, 80>
     requires { length words.now ≤ 40 }
     ensures { result.items ≡ told_number words.now n }
 {

@@ -12,7 +12,7 @@ mod tally;
 mod tests;
 
 pub use answerer::Answerer;
-pub use ends::{End, Halt, put_last};
+pub use ends::{End, Halt, number_line, put_last};
 pub use reader::{LineReader, Next};
 pub use reply::Reply;
 pub use script::run;

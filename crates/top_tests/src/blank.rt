@@ -1,25 +1,41 @@
-// A store that keeps nothing.
+// A store that keeps nothing it is given.
 ghost use Rattle.std.specs.Prelude.{◌≡◌, ◌+◌, ◌<◌, ◌^◌};
 
 use store_api::{Failed, Store};
 
-/// A store that keeps no byte and tells nothing. Only a write that ends too high fails.
+/// A store that keeps no byte that is written and tells nothing: each of its files always reads as the same bytes. Only a write that
+/// ends too high fails.
 #[derive(Drop)]
 pub(crate) struct BlankStore {
     moment: u64,
     faults: u64,
+    bytes: &'static [u8],
 }
 
 impl BlankStore {
-    /// The store at a moment.
+    /// The store at a moment, its files empty.
     pub fn at(moment: u64) -> Self {
-        BlankStore { moment, faults: 0 }
+        BlankStore {
+            moment,
+            faults: 0,
+            bytes: b"",
+        }
+    }
+
+    /// The store at its first moment, where each file reads as these bytes.
+    pub fn reading(bytes: &'static [u8]) -> Self {
+        BlankStore {
+            moment: 0,
+            faults: 0,
+            bytes,
+        }
     }
 
     fn pass(&mut self)
         requires { self.old.moment < 2 ^ 62 }
         ensures moment { self.new.moment ≡ self.old.moment + 1 }
         ensures faults { self.new.faults ≡ self.old.faults }
+        ensures bytes { self.new.bytes ≡ self.old.bytes }
     {
         self.moment += 1;
     }
@@ -46,12 +62,16 @@ impl Store for BlankStore {
 
     fn len(&mut self, _file: u32) -> Result<u64, Failed> {
         self.pass();
-        Ok(0)
+        Ok(self.bytes.len() as u64)
     }
 
-    fn read_at(&mut self, _file: u32, _offset: u64, _into: &mut [u8]) -> Result<usize, Failed> {
+    fn read_at(&mut self, _file: u32, offset: u64, into: &mut [u8]) -> Result<usize, Failed> {
         self.pass();
-        Ok(0)
+        let from = (offset.min(self.bytes.len() as u64)) as usize;
+        let rest = &self.bytes[from..];
+        let count = rest.len().min(into.len());
+        into[..count].copy_from_slice(&rest[..count]);
+        Ok(count)
     }
 
     fn write_at(&mut self, _file: u32, offset: u64, bytes: &[u8]) -> Result<(), Failed> {

@@ -8,6 +8,10 @@ mod calls;
 #[cfg(test)]
 mod ends;
 #[cfg(test)]
+mod recovery;
+#[cfg(test)]
 mod scripts;
+#[cfg(test)]
+mod stops;
 #[cfg(test)]
 mod stores;

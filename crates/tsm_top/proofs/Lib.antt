@@ -1,10 +1,13 @@
+mod Committing
 mod Joins
 mod Last
-mod Logging
 mod Machines
 mod Opening
 mod Pieces
+mod Recovering
+mod Safety
 mod Served
 mod Serving
 mod Simulation
+mod ShortPaths
 mod Words

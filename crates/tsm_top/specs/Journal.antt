@@ -2,7 +2,7 @@
 use Rattle.std.specs.Prelude.{ℕ, ◌+◌, nat_eq, if◌then◌else◌, Option, None, Some, List, [], ◌∷◌, ◌++◌, length, codes}
 use Rattle.std.specs.Option.{option_or}
 use Rattle.std.specs.Cmp.Lexicographic.{pointwise}
-use Rattle.std.specs.Int.{w16, w32, w64, to_be_bytes}
+use Rattle.std.specs.Int.{w32, w64, to_be_bytes}
 use Rattle.tsm_top.specs.declared.entry.Early.{Early}
 use Rattle.tsm_top.specs.declared.entry.Early.TheVariants.{Day, Put}
 
@@ -51,20 +51,6 @@ place_under path (Put object other mtime offset size) = if pointwise nat_eq othe
 abbrev pub newest : List ℕ → List Early → Option Place
 newest path [] = None
 newest path (entry ∷ earlier) = option_or (place_under path entry) (newest path earlier)
-
--- An entry's bytes: 1 and the day; or 12, the object, the time, the frame's place, the size, and the path behind its length.
-unfoldable pub payload : Early → List ℕ
-payload (Day day) = 1 ∷ to_be_bytes w32 day
-payload (Put object path mtime offset size) = 12 ∷ (to_be_bytes w64 object ++ (to_be_bytes w64 mtime ++ (to_be_bytes w64 offset ++ (to_be_bytes w32 size ++ (to_be_bytes w16 (length path) ++ path)))))
-
--- a record behind its gate: the length, and that many bytes
-unfoldable pub record_body : Early → List ℕ
-record_body entry = to_be_bytes w32 (length (payload entry)) ++ payload entry
-
--- the log of a journal: each record behind an open gate
-abbrev pub log_of : List Early → List ℕ
-log_of [] = []
-log_of (entry ∷ earlier) = log_of earlier ++ 1 ∷ record_body entry
 
 -- The header of a segment's frame: `TSMFRAME`, the object, the segment's number 0, the length, and 8 bytes 0.
 unfoldable pub frame_header : ℕ → ℕ → List ℕ

@@ -1,9 +1,9 @@
 -- What a line of the script asks.
-use Rattle.std.specs.Prelude.{ℕ, ◌+◌, ◌*◌, ◌-◌, ◌==◌, nat_eq, nat_lt, nat_le, Bool, ◌&&◌, if◌then◌else◌, Option, None, Some, List, length, drop, fold, codes, IsTrue}
+use Rattle.std.specs.Prelude.{ℕ, ◌+◌, ◌*◌, ◌-◌, ◌^◌, ◌<◌, ◌==◌, nat_eq, nat_lt, nat_le, Bool, ◌&&◌, if◌then◌else◌, Option, None, Some, List, length, drop, fold, codes, IsTrue}
 use Rattle.std.specs.List.{list_all, starts_with, before_first, after_first}
 use Rattle.std.specs.Option.{option_map}
 use Rattle.std.specs.Char.{is_ascii_digit, is_ascii_alphanumeric}
-use Rattle.tsm_top.specs.Paths.{is_path}
+use Rattle.tsm_top.specs.Paths.{is_short_path}
 use Rattle.tsm_top.specs.declared.line.Asked.{Asked}
 use Rattle.tsm_top.specs.declared.line.Asked.TheVariants.{Day, Put, Get}
 use Rattle.tsm_top.specs.declared.line.PutAsked.{PutAsked}
@@ -47,7 +47,7 @@ text_asked last = if starts_with nat_eq last (codes "TEXT=") && is_text (drop 5 
 unfoldable pub file_asked : List ℕ → Option (List ℕ × ℕ × List ℕ)
 file_asked rest =
     let times = after_word rest in
-    if is_path (word rest) && is_number (word times) then option_map (λ text. (word rest, number_of (word times), text)) (text_asked (after_word times)) else None
+    if is_short_path (word rest) && is_number (word times) then option_map (λ text. (word rest, number_of (word times), text)) (text_asked (after_word times)) else None
 
 -- `PUT ANNA /home path mtime TEXT=t`
 unfoldable pub put_asked : List ℕ → Option (List ℕ × ℕ × List ℕ)
@@ -57,7 +57,7 @@ put_asked line = if starts_with nat_eq line (codes "PUT ANNA /home ") then file_
 unfoldable pub get_asked : List ℕ → Option (List ℕ)
 get_asked line =
     let path = drop 15 line in
-    if starts_with nat_eq line (codes "GET ANNA /home ") && is_path path then Some path else None
+    if starts_with nat_eq line (codes "GET ANNA /home ") && is_short_path path then Some path else None
 
 -- a line's one form, where it has one
 abbrev pub first_of_forms : Option ℕ → Option (List ℕ × ℕ × List ℕ) → Option (List ℕ) → Option Request
@@ -81,9 +81,9 @@ asked_view (Get path) = get path.now
 
 -- the path and the text are in their grammars
 abbrev pub FileFits : PutAsked → Type 0
-FileFits file = IsTrue (is_path file.path.now) × IsTrue (is_text file.text.now)
+FileFits file = IsTrue (is_short_path file.path.now) × IsTrue (is_text file.text.now)
 
 abbrev pub AskedFits : Asked → Type 0
-AskedFits (Day number) = Unit {0}
+AskedFits (Day number) = number < 2 ^ 31
 AskedFits (Put file) = FileFits file
 AskedFits (Get path) = Unit {0}

@@ -1,7 +1,8 @@
--- The program as a machine over what it keeps: it knows no store, no log and no place of a frame.
-use Rattle.std.specs.Prelude.{◌≡◌, ◌⊎◌, ℕ, Bool, true, false, if◌then◌else◌, Option, None, Some, is_some, IfSome, List, [], ◌∷◌, length, map}
-use Rattle.store_api.specs.Disk.{History, reads}
-use Rattle.store_api.specs.Runs.{Stands}
+-- The program as a machine over what it keeps: it knows no store, no log and no place of a frame. And what images of the store
+-- give back of it.
+use Rattle.std.specs.Prelude.{◌≡◌, ◌⊎◌, ℕ, ◌+◌, ◌≤◌, nat_le, Bool, true, false, if◌then◌else◌, Option, None, Some, is_some, IfSome, List, [], ◌∷◌, ◌++◌, length, map}
+use Rattle.std.specs.List.{AllByRecursion}
+use Rattle.store_api.specs.Disk.{History, now, ImageAt}
 use Rattle.script_loop.specs.Reply.{Answer}
 use Rattle.script_loop.specs.declared.ends.Halt.{Halt}
 use Rattle.script_loop.specs.declared.ends.Halt.TheVariants.{LogFault, RunFull, Memory}
@@ -10,9 +11,10 @@ use Rattle.script_loop.specs.declared.ends.End.TheVariants.{Done, SourceFault, S
 use Rattle.tsm_top.specs.declared.entry.Early.{Early}
 use Rattle.tsm_top.specs.declared.entry.Early.TheVariants.{Day, Put}
 use Rattle.tsm_top.specs.Answers.{answer_to, added_entry}
-use Rattle.tsm_top.specs.Files.{frames_number, LogHas}
-use Rattle.tsm_top.specs.Journal.{place_under, frame, log_of}
+use Rattle.tsm_top.specs.Journal.{place_under, frame}
 use Rattle.tsm_top.specs.Line.{Request, day, put, get, asked}
+use Rattle.tsm_top.specs.Logs.{LoggedIn}
+use Rattle.tsm_top.specs.Steps.{StandsIn}
 
 -- an entry of the journal, beside the text of its file, which the journal doesn't have
 pub record Kept : Type 0 where
@@ -71,24 +73,45 @@ Stops rose old line (LogFault file) new = rose file × ((new ≡ old) ⊎ (new �
 Stops rose old line RunFull new = ⊥
 Stops rose old line Memory new = new ≡ old
 
--- a stored file's frame stands in its place
-abbrev pub FrameStands : History → Early → List ℕ → Type 0
-FrameStands h (Day number) text = Unit {0}
-FrameStands h (Put object path mtime offset size) text = Stands (reads h frames_number) offset (frame object text)
+-- of a stored file: P of its frame's place, and of its frame
+abbrev pub FrameHas : (ℕ → List ℕ → Type 0) → Early → List ℕ → Type 0
+FrameHas P (Day number) text = Unit {0}
+FrameHas P (Put object path mtime offset size) text = P offset (frame object text)
 
--- the frame of each file that is kept stands in its place
-abbrev pub FramesStand : History → List Kept → Type 0
-FramesStand h [] = Unit {0}
-FramesStand h (newest ∷ earlier) = FrameStands h newest.entry newest.text × FramesStand h earlier
+-- the same of each file that is kept
+abbrev pub FramesHave : (ℕ → List ℕ → Type 0) → List Kept → Type 0
+FramesHave P [] = Unit {0}
+FramesHave P (newest ∷ earlier) = FrameHas P newest.entry newest.text × FramesHave P earlier
 
--- what is kept stands in the files: each frame, and the log
-abbrev pub FilesHold : List Kept → History → Type 0
-FilesHold kept h = FramesStand h kept × LogHas h (log_of (journal_of kept))
+-- the image gives back what is kept, and no more: its log has the journal, and each frame stands in its place
+abbrev pub GivesBack : List Kept → (ℕ → List ℕ) → Type 0
+GivesBack kept image = LoggedIn (journal_of kept) image × FramesHave (StandsIn image) kept
 
--- Where a run wasn't halted and its sink didn't fail, what is kept stands in the files of a store that tells them.
-abbrev pub HoldsAt : End → Option History → List Kept → Type 0
-HoldsAt (Done tally) told kept = IfSome told (λ h. FilesHold kept h)
-HoldsAt SourceFault told kept = IfSome told (λ h. FilesHold kept h)
-HoldsAt SinkFault told kept = Unit {0}
-HoldsAt (Halted halt) told kept = Unit {0}
-HoldsAt (TooLong n) told kept = IfSome told (λ h. FilesHold kept h)
+-- how many of these stamps a moment has reached
+abbrev pub reached : ℕ → List ℕ → ℕ
+reached moment [] = 0
+reached moment (stamp ∷ stamps) = (if nat_le stamp moment then 1 else 0) + reached moment stamps
+
+-- The image of this moment gives back what was kept first, with each entry that was durable by then. Both lists stand newest first.
+pub record Safe (kept : List Kept) (stamps : List ℕ) (moment : ℕ) (image : ℕ → List ℕ) : Type 0 where
+  pub later : List Kept
+  pub earlier : List Kept
+  pub parts : kept ≡ later ++ earlier
+  pub durable : reached moment stamps ≤ length earlier
+  pub gives : GivesBack earlier image
+
+-- each image of each moment from `opened` to now is safe
+abbrev pub AllSafe : ℕ → List Kept → List ℕ → History → Type 0
+AllSafe opened kept stamps h = (moment : ℕ) (image : ℕ → List ℕ) → opened ≤ moment → moment ≤ now h → ImageAt h moment image → Safe kept stamps moment image
+
+-- Each entry of what is kept has its stamp, but where the run was halted, where the newest may have none.
+abbrev pub Stamped : End → List Kept → List ℕ → Type 0
+Stamped (Done tally) kept stamps = length stamps ≡ length kept
+Stamped SourceFault kept stamps = length stamps ≡ length kept
+Stamped SinkFault kept stamps = (length stamps ≡ length kept) ⊎ (length stamps + 1 ≡ length kept)
+Stamped (Halted halt) kept stamps = (length stamps ≡ length kept) ⊎ (length stamps + 1 ≡ length kept)
+Stamped (TooLong n) kept stamps = length stamps ≡ length kept
+
+-- each stamp lies between the moments
+abbrev pub Timely : ℕ → ℕ → List ℕ → Type 0
+Timely opened last stamps = AllByRecursion (λ stamp. (opened ≤ stamp) × (stamp ≤ last)) stamps

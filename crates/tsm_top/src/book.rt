@@ -2,11 +2,10 @@
 ghost use Rattle.std.specs.Prelude.{◌≡◌, ◌<◌, ◌≤◌, ◌^◌, ◌+◌, ◌*◌, ◌∷◌, ◌++◌, [], length, drop, OnOk, OnErr, reverse};
 ghost use Rattle.std.specs.Option.{option_map};
 ghost use Rattle.tsm_top.specs.Found.{place_of};
-ghost use Rattle.tsm_top.specs.Journal.{today, objects, frames_end, log_of, newest, day_after, files_in, frame_len};
+ghost use Rattle.tsm_top.specs.Journal.{today, objects, frames_end, newest, day_after, files_in, frame_len};
 
 use crate::entry::Early;
 use crate::lookup::{Found, newest};
-use crate::record::record_len;
 use std::alloc::{AllocError, Global};
 use std::marker::Model;
 
@@ -18,7 +17,6 @@ pub(crate) struct Book {
     today: u32,
     objects: u64,
     frames_end: u64,
-    log_end: u64,
 }
 
 impl Model for Book {
@@ -29,7 +27,7 @@ impl Model for Book {
 
     ghost view = { λ b. record { journal = reverse b.journal.items; stamps = reverse b.stamps.items } };
 
-    ghost invariant = { λ b. IsTidy (reverse b.journal.items) b.today b.objects b.frames_end b.log_end };
+    ghost invariant = { λ b. IsTidy (reverse b.journal.items) b.today b.objects b.frames_end };
 }
 
 impl Book {
@@ -43,7 +41,6 @@ impl Book {
             today: 0,
             objects: 0,
             frames_end: 0,
-            log_end: 0,
         }
     }
 
@@ -70,14 +67,6 @@ impl Book {
         self.frames_end
     }
 
-    /// How many bytes of records stand in the log.
-    pub fn log_end(&self) -> u64
-        ensures value { result ≡ length (log_of self.now.journal) }
-        ensures small { result ≤ 2 ^ 17 * length self.now.journal }
-    {
-        self.log_end
-    }
-
     /// The newest file stored under a path.
     pub fn newest(&self, path: &[u8]) -> Option<Found>
         ensures { option_map place_of result ≡ newest path.now self.now.journal }
@@ -94,12 +83,10 @@ impl Book {
         let today = day_after(&entry, self.today);
         let objects = self.objects + files_in(&entry);
         let frames_end = self.frames_end + frame_len(&entry);
-        let log_end = self.log_end + record_len(&entry);
         push_both(&mut self.journal, &mut self.stamps, entry)?;
         self.today = today;
         self.objects = objects;
         self.frames_end = frames_end;
-        self.log_end = log_end;
         Ok(())
     }
 
@@ -129,7 +116,6 @@ impl Book {
             today: _,
             objects: _,
             frames_end: _,
-            log_end: _,
         } = self;
         (journal, stamps)
     }

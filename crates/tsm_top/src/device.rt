@@ -1,9 +1,9 @@
-// The program's steps on the store: a closed gate, a record in the log, a frame in the file of frames.
-ghost use Rattle.std.specs.Prelude.{◌≡◌, ◌<◌, ◌≤◌, ◌^◌, ◌+◌, ◌++◌, ◌∷◌, [], List, ℕ, length, OnOk, OnErr};
+// The program's steps on the file of frames.
+ghost use Rattle.std.specs.Prelude.{◌≡◌, ◌<◌, ◌≤◌, ◌^◌, ◌+◌, length, OnErr};
 ghost use Rattle.store_api.specs.Cause.{Rose, NoneFell};
 ghost use Rattle.store_api.specs.Told.{Told};
 ghost use Rattle.store_api.specs.Runs.{ReadWithin};
-ghost use Rattle.tsm_top.specs.Files.{LogHas, Appended, Framed};
+ghost use Rattle.tsm_top.specs.Files.{Framed};
 
 use store_api::{Failed, Store, read_within, write_synced};
 
@@ -12,39 +12,6 @@ pub(crate) const LOG: u32 = 2;
 
 /// The file of the frames.
 pub(crate) const FRAMES: u32 = 4;
-
-const OPEN: [u8; 1] = [1];
-
-const CLOSED: [u8; 1] = [0];
-
-/// Begins an empty log: a closed gate at its front, on the disk.
-pub(crate) fn begin_log<S: Store>(store: &mut S) -> Result<(), Failed>
-    requires { S.moment_of store.old + 2 ≤ 2 ^ 62 }
-    ensures told { Told (S.told store.old) (S.told store.new) (λ old new. OnOk result (LogHas new [])) }
-    ensures time { S.moment_of store.new ≤ S.moment_of store.old + 2 }
-    ensures later { S.moment_of store.old ≤ S.moment_of store.new }
-    ensures counts { NoneFell (S.faults_of store.old) (S.faults_of store.new) }
-    ensures cause { OnErr result (Rose (S.faults_of store.old 2) (S.faults_of store.new 2)) }
-{
-    write_synced(store, LOG, 0, &CLOSED)
-}
-
-/// Appends a record behind `at` bytes of records and makes it durable. `tail` is what stands behind its gate: the body, and the
-/// next gate, closed. All of it is on the disk before the gate is opened.
-pub(crate) fn append<S: Store>(store: &mut S, at: u64, tail: &[u8]) -> Result<(), Failed>
-    requires time { S.moment_of store.old + 4 ≤ 2 ^ 62 }
-    requires room { at + 1 < 2 ^ 64 }
-    ensures told { (body : List ℕ) → tail.now ≡ body ++ 0 ∷ [] → Told (S.told store.old) (S.told store.new) (Appended at body result) }
-    ensures time { S.moment_of store.new ≤ S.moment_of store.old + 4 }
-    ensures later { S.moment_of store.old ≤ S.moment_of store.new }
-    ensures counts { NoneFell (S.faults_of store.old) (S.faults_of store.new) }
-    ensures cause { OnErr result (Rose (S.faults_of store.old 2) (S.faults_of store.new 2)) }
-{
-    match write_synced(store, LOG, at + 1, tail) {
-        Ok(()) => write_synced(store, LOG, at, &OPEN),
-        Err(failed) => Err(failed),
-    }
-}
 
 /// Writes a frame and makes it durable.
 pub(crate) fn put_frame<S: Store>(store: &mut S, at: u64, frame: &[u8]) -> Result<(), Failed>

@@ -4,14 +4,16 @@
 mod book;
 mod device;
 mod entry;
+mod frames;
 mod line;
 mod lookup;
 mod prepare;
-mod record;
+mod recovery;
 mod reply;
 mod server;
 mod text;
 mod top;
 
-pub use entry::{Early, Path};
+pub use entry::Early;
+pub use recovery::{EarlyRefused, recover};
 pub use top::{Ended, USAGE, serve};

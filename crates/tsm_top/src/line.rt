@@ -3,7 +3,7 @@ ghost use Rattle.std.specs.Prelude.{◌≡◌, ◌<◌, ◌≤◌, ◌^◌, ◌*
 ghost use Rattle.std.specs.Option.{option_map};
 ghost use Rattle.std.specs.List.{list_all, starts_with, position_or_len};
 ghost use Rattle.std.specs.Char.{is_ascii_digit, is_ascii_alphanumeric};
-ghost use Rattle.tsm_top.specs.Paths.{is_path, is_path_byte};
+ghost use Rattle.tsm_top.specs.Paths.{is_short_path, is_path_byte};
 ghost use Rattle.tsm_top.specs.Line.{is_number, number_of, is_text, word, after_word, day_asked, text_asked, file_asked, put_asked, get_asked, asked, asked_view, put_view, AskedFits, FileFits};
 
 /// What a line asks for.
@@ -50,8 +50,8 @@ fn is_number(bytes: &[u8]) -> bool
     0 < bytes.len() && bytes.len() <= 10 && all_digits(bytes)
 }
 
-fn is_path(bytes: &[u8]) -> bool
-    ensures { result ≡ is_path bytes.now }
+fn is_short_path(bytes: &[u8]) -> bool
+    ensures { result ≡ is_short_path bytes.now }
 {
     1 < bytes.len() && bytes.len() <= 64 && bytes[0] == b'/' && all_in_paths(bytes)
 }
@@ -112,7 +112,8 @@ fn split_word(line: &[u8]) -> (&[u8], &[u8])
 
 #[tactic(auto, unfolding(crate::specs::Line::day_asked))]
 fn day_asked(line: &[u8]) -> Option<u32>
-    ensures { result ≡ day_asked line.now }
+    ensures asked { result ≡ day_asked line.now }
+    ensures small { IfSome result (λ day. day < 2 ^ 31) }
 {
     if !line.starts_with(b"DAY ") {
         return None;
@@ -144,7 +145,7 @@ fn file_asked(rest: &[u8]) -> Option<PutAsked<'_>>
 {
     let (path, times) = split_word(rest);
     let (time, last) = split_word(times);
-    if !is_path(path) {
+    if !is_short_path(path) {
         return None;
     }
     let mtime = number(time)?;
@@ -172,7 +173,11 @@ fn get_asked(line: &[u8]) -> Option<&[u8]>
         return None;
     }
     let path = &line[15..];
-    if is_path(path) { Some(path) } else { None }
+    if is_short_path(path) {
+        Some(path)
+    } else {
+        None
+    }
 }
 
 /// What a line asks; nothing where it has none of the forms.

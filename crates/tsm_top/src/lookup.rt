@@ -27,7 +27,7 @@ fn stored_under(entry: &Early, path: &[u8]) -> Option<Found>
             offset,
             size,
         } => {
-            if other.bytes() == path {
+            if other.as_bytes() == path {
                 Some(Found {
                     object: *object,
                     offset: *offset,

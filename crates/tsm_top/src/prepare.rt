@@ -3,11 +3,17 @@ ghost use Rattle.std.specs.Prelude.{◌≡◌, ◌<◌, ◌^◌, ◌+◌, length
 ghost use Rattle.script_loop.specs.declared.ends.Halt.TheVariants.{Memory};
 ghost use Rattle.tsm_top.specs.declared.entry.Early.TheVariants.{Put};
 ghost use Rattle.tsm_top.specs.Journal.{frame};
+ghost use Rattle.tsm_top.specs.EntryForm.{entry_form};
 ghost use Rattle.tsm_top.specs.Line.{FileFits};
+ghost use Rattle.tsm_top.specs.Logs.{entry_bytes};
+ghost use Rattle.tsm_top.specs.Paths.{is_short_path};
 
-use crate::entry::{Early, Path};
+use crate::entry::Early;
+use crate::frames::frame;
 use crate::line::PutAsked;
-use crate::record::frame;
+use fields::encode;
+use kinds::Path;
+use log_file::{Framed, Log};
 use script_loop::Halt;
 use std::alloc::Global;
 
@@ -25,7 +31,7 @@ pub(crate) fn file_entry(
     ensures entry { IfOk result (λ entry. entry ≡ Put object file.entry.path.now file.entry.mtime offset (length file.entry.text.now)) }
     ensures memory { IfErr result (λ halt. halt ≡ Memory) }
 {
-    match Path::new(alloc, file.path) {
+    match path_of(alloc, file.path) {
         Ok(path) => Ok(Early::Put {
             object,
             path,
@@ -33,6 +39,22 @@ pub(crate) fn file_entry(
             offset,
             size: file.text.len() as u32,
         }),
+        Err(halt) => Err(halt),
+    }
+}
+
+// A path of the script.
+#[tactic(auto, using(crate::proofs::ShortPaths::short_is_path))]
+fn path_of(alloc: Global, bytes: &[u8]) -> Result<Path, Halt>
+    requires { IsTrue (is_short_path bytes.now) }
+    ensures path { IfOk result (λ path. path ≡ bytes.now) }
+    ensures memory { IfErr result (λ halt. halt ≡ Memory) }
+{
+    match Vec::from_slice(alloc, bytes) {
+        Ok(bytes) => match Path::from_bytes(bytes) {
+            Some(path) => Ok(path),
+            None => unreachable!(),
+        },
         Err(_) => Err(Halt::Memory),
     }
 }
@@ -57,6 +79,22 @@ pub(crate) fn zeros(alloc: Global, size: u32) -> Result<Vec<u8>, Halt>
 {
     match vec![in alloc; 0u8; HEADER + size as usize] {
         Ok(bytes) => Ok(bytes),
+        Err(_) => Err(Halt::Memory),
+    }
+}
+
+/// The log's record of an entry. An entry has at most 1,065 bytes, so a record of it is never too long.
+#[tactic(auto, unfolding(crate::specs::Logs::entry_bytes))]
+pub(crate) fn entry_record(alloc: Global, entry: &Early) -> Result<Framed, Halt>
+    requires { entry_form.Fits entry.now }
+    ensures framed { IfOk result (λ framed. framed ≡ entry_bytes entry.now) }
+    ensures memory { IfErr result (λ halt. halt ≡ Memory) }
+{
+    match encode(alloc, entry) {
+        Ok(bytes) => match Log::frame(alloc, &bytes) {
+            Ok(framed) => Ok(framed),
+            Err(_) => Err(Halt::Memory),
+        },
         Err(_) => Err(Halt::Memory),
     }
 }

@@ -1,25 +1,28 @@
 // The server's state, and how it answers a line.
-ghost use Rattle.std.specs.Prelude.{◌≡◌, ◌<◌, ◌≤◌, ◌^◌, ◌+◌, ◌∷◌, [], length, IfOk, IfErr, OnOk, Some, ℕ, List};
+ghost use Rattle.std.specs.Prelude.{◌≡◌, ◌<◌, ◌≤◌, ◌^◌, ◌+◌, ◌∷◌, [], length, IfOk, IfErr, OnOk, Some, None, ℕ, List};
 ghost use Rattle.store_api.specs.Cause.{Rose};
 ghost use Rattle.store_api.specs.Told.{Told};
 ghost use Rattle.tsm_top.specs.Line.{FileFits, day, put, get};
-ghost use Rattle.tsm_top.specs.Steps.{Later, HaltsPages, LogsEntry, ServesRequest, HaltsRequest};
+ghost use Rattle.tsm_top.specs.EntryForm.{entry_form};
+ghost use Rattle.tsm_top.specs.Server.{IsReady};
+ghost use Rattle.tsm_top.specs.Steps.{Later, HaltsPages, Logged, ServesRequest, HaltsRequest};
 
 use crate::book::Book;
-use crate::device::{FRAMES, LOG, append, put_frame, read_frame};
+use crate::device::{FRAMES, LOG, put_frame, read_frame};
 use crate::entry::Early;
 use crate::line::{Asked, PutAsked, read_line};
-use crate::prepare::{HEADER, file_entry, framed, zeros};
-use crate::record::record;
+use crate::prepare::{HEADER, entry_record, file_entry, framed, zeros};
 use crate::reply::{day_back, fixed, refused, shown, stored};
+use log_file::Log;
 use script_loop::{Answerer, Halt, Reply};
 use std::alloc::Global;
 use store_api::Store;
 
-/// The store, and the book of what was made durable in it in this run.
+/// The store, the log in it, and the book of what was made durable in it in this run.
 #[derive(Drop)]
 pub(crate) struct Server<S: Store> {
     pub store: S,
+    pub log: Log,
     pub book: Book,
 }
 
@@ -28,22 +31,24 @@ impl<S: Store> Server<S> {
     pub fn commit(&mut self, alloc: Global, entry: Early) -> Result<(), Halt>
         requires time { S.moment_of self.old.store + 4 ≤ 2 ^ 62 }
         requires few { length self.old.book.journal < 2 ^ 20 }
+        requires ready { IsReady self.old.log }
+        requires fits { entry_form.Fits entry }
         ensures ok { OnOk result (self.new.book ≡ record { journal = entry ∷ self.old.book.journal; stamps = S.moment_of self.new.store ∷ self.old.book.stamps }) }
+        ensures ready { OnOk result (IsReady self.new.log) }
         ensures halted { IfErr result (λ halt. HaltsPages halt (λ file. Rose (S.faults_of self.old.store file) (S.faults_of self.new.store file)) (Some entry) self.old.book self.new.book) }
-        ensures told { Told (S.told self.old.store) (S.told self.new.store) (LogsEntry entry self.old.book.journal result) }
+        ensures told { Told (S.told self.old.store) (S.told self.new.store) (Logged self.old.book.journal self.new.book.journal self.old.log.end self.new.log.end result) }
         ensures later { Later S.moment_of S.faults_of self.old.store self.new.store }
         ensures time { S.moment_of self.new.store ≤ S.moment_of self.old.store + 4 }
     {
-        let tail = match record(alloc, &entry) {
-            Ok(tail) => tail,
-            Err(_) => return Err(Halt::Memory),
+        let framed = match entry_record(alloc, &entry) {
+            Ok(framed) => framed,
+            Err(halt) => return Err(halt),
         };
-        let at = self.book.log_end();
         match self.book.add(entry) {
             Ok(()) => {}
             Err(_) => return Err(Halt::Memory),
         }
-        match append(&mut self.store, at, &tail) {
+        match self.log.append(&mut self.store, &framed) {
             Ok(()) => {
                 let moment = self.store.moment();
                 self.book.stamp(moment);
@@ -60,15 +65,21 @@ impl<S: Store> Server<S> {
     fn set_day(&mut self, alloc: Global, number: u32) -> Result<Reply, Halt>
         requires time { S.moment_of self.old.store + 8 ≤ 2 ^ 62 }
         requires few { length self.old.book.journal < 2 ^ 20 }
-        ensures served { IfOk result (λ reply. ServesRequest S.told S.moment_of S.faults_of self.old.store self.old.book (Some (day number)) [] reply self.new.store self.new.book) }
-        ensures halted { IfErr result (λ halt. HaltsRequest S.moment_of S.faults_of self.old.store self.old.book (Some (day number)) halt self.new.store self.new.book) }
+        requires ready { IsReady self.old.log }
+        requires grammar { number < 2 ^ 31 }
+        ensures served { IfOk result (λ reply. ServesRequest S.told S.moment_of S.faults_of self.old (Some (day number)) [] reply self.new) }
+        ensures halted { IfErr result (λ halt. HaltsRequest S.told S.moment_of S.faults_of self.old (Some (day number)) halt self.new) }
+        ensures ready { OnOk result (IsReady self.new.log) }
         ensures time { S.moment_of self.new.store ≤ S.moment_of self.old.store + 8 }
     {
         let today = self.book.today();
         if number < today {
             return day_back(alloc, today, number);
         }
-        let reply = fixed(alloc, b"OK reused=0")?;
+        let reply = match fixed(alloc, b"OK reused=0") {
+            Ok(reply) => reply,
+            Err(halt) => return Err(halt),
+        };
         match self.commit(alloc, Early::Day(number)) {
             Ok(()) => Ok(reply),
             Err(halt) => Err(halt),
@@ -79,16 +90,27 @@ impl<S: Store> Server<S> {
     fn put(&mut self, alloc: Global, file: PutAsked<'_>) -> Result<Reply, Halt>
         requires time { S.moment_of self.old.store + 8 ≤ 2 ^ 62 }
         requires few { length self.old.book.journal < 2 ^ 20 }
+        requires ready { IsReady self.old.log }
         requires grammar { FileFits file }
-        ensures served { IfOk result (λ reply. ServesRequest S.told S.moment_of S.faults_of self.old.store self.old.book (Some (put file.entry.path.now file.entry.mtime file.entry.text.now)) [] reply self.new.store self.new.book) }
-        ensures halted { IfErr result (λ halt. HaltsRequest S.moment_of S.faults_of self.old.store self.old.book (Some (put file.entry.path.now file.entry.mtime file.entry.text.now)) halt self.new.store self.new.book) }
+        ensures served { IfOk result (λ reply. ServesRequest S.told S.moment_of S.faults_of self.old (Some (put file.entry.path.now file.entry.mtime file.entry.text.now)) [] reply self.new) }
+        ensures halted { IfErr result (λ halt. HaltsRequest S.told S.moment_of S.faults_of self.old (Some (put file.entry.path.now file.entry.mtime file.entry.text.now)) halt self.new) }
+        ensures ready { OnOk result (IsReady self.new.log) }
         ensures time { S.moment_of self.new.store ≤ S.moment_of self.old.store + 8 }
     {
         let object = self.book.objects() + 1;
         let offset = self.book.frames_end();
-        let reply = stored(alloc, object)?;
-        let entry = file_entry(alloc, object, offset, file)?;
-        let bytes = framed(alloc, object, file.text)?;
+        let reply = match stored(alloc, object) {
+            Ok(reply) => reply,
+            Err(halt) => return Err(halt),
+        };
+        let entry = match file_entry(alloc, object, offset, file) {
+            Ok(entry) => entry,
+            Err(halt) => return Err(halt),
+        };
+        let bytes = match framed(alloc, object, file.text) {
+            Ok(bytes) => bytes,
+            Err(halt) => return Err(halt),
+        };
         match put_frame(&mut self.store, offset, &bytes) {
             Ok(()) => {}
             Err(_) => return Err(Halt::LogFault(FRAMES)),
@@ -102,15 +124,20 @@ impl<S: Store> Server<S> {
     /// Reads the newest file under a path.
     fn get(&mut self, alloc: Global, path: &[u8]) -> Result<Reply, Halt>
         requires time { S.moment_of self.old.store + 8 ≤ 2 ^ 62 }
-        ensures served { IfOk result (λ reply. (bytes : List ℕ) × ServesRequest S.told S.moment_of S.faults_of self.old.store self.old.book (Some (get path.now)) bytes reply self.new.store self.new.book) }
-        ensures halted { IfErr result (λ halt. HaltsRequest S.moment_of S.faults_of self.old.store self.old.book (Some (get path.now)) halt self.new.store self.new.book) }
+        requires ready { IsReady self.old.log }
+        ensures served { IfOk result (λ reply. (bytes : List ℕ) × ServesRequest S.told S.moment_of S.faults_of self.old (Some (get path.now)) bytes reply self.new) }
+        ensures halted { IfErr result (λ halt. HaltsRequest S.told S.moment_of S.faults_of self.old (Some (get path.now)) halt self.new) }
+        ensures ready { OnOk result (IsReady self.new.log) }
         ensures time { S.moment_of self.new.store ≤ S.moment_of self.old.store + 8 }
     {
         let found = match self.book.newest(path) {
             Some(found) => found,
             None => return refused(alloc, b"REFUSED 10 NotFound"),
         };
-        let mut bytes = zeros(alloc, found.size)?;
+        let mut bytes = match zeros(alloc, found.size) {
+            Ok(bytes) => bytes,
+            Err(halt) => return Err(halt),
+        };
         match read_frame(&mut self.store, found.offset, &mut bytes) {
             Ok(_) => shown(alloc, found, &bytes[HEADER..]),
             Err(_) => Err(Halt::LogFault(FRAMES)),
@@ -123,7 +150,7 @@ impl<S: Store> Answerer for Server<S> {
 
     ghost serves = { λ old line answer new. ServesLine S.told S.moment_of S.faults_of old line answer new };
 
-    ghost halts = { λ old line halt new. HaltsLine S.moment_of S.faults_of old line halt new };
+    ghost halts = { λ old line halt new. HaltsLine S.told S.moment_of S.faults_of old line halt new };
 
     ghost can_take = { λ server lines. HasRoom S.moment_of server lines };
 

@@ -1,17 +1,21 @@
 // The top call.
-ghost use Rattle.std.specs.Prelude.{◌≡◌, ◌⊎◌, ◌↔◌, ◌^◌, ◌+◌, ◌-◌, ◌<◌, ◌≤◌, ◌∷◌, [], ℕ, is_some, IsTrue};
+ghost use Rattle.std.specs.Prelude.{◌≡◌, ◌⊎◌, ◌↔◌, ◌^◌, ◌+◌, ◌-◌, ◌<◌, ◌≤◌, ◌∷◌, [], ℕ, is_some, IfSome, IsTrue};
 ghost use Rattle.tree_api.specs.Cause.{Rose as RoseIn};
 ghost use Rattle.store_api.specs.Cause.{Rose, NoneFell};
 ghost use Rattle.script_loop.specs.declared.ends.End.{End};
 ghost use Rattle.script_loop.specs.Ends.{SourceCause, SinkCause};
+ghost use Rattle.tsm_top.specs.Logs.{LogHas};
+ghost use Rattle.tsm_top.specs.Server.{IsReady};
 ghost use Rattle.tsm_top.specs.Steps.{Later};
-ghost use Rattle.tsm_top.specs.Serve.{Refusal, closed, refusal_line, Refuses, RoseBetween, PutsLine, RanScript, IsFresh};
+ghost use Rattle.tsm_top.specs.Serve.{Refusal, unopened_by, refusal_line, refusal_status, OpensNot, Refuses, RoseBetween, PutsLine, RanScript, IsFresh};
 
 use crate::book::Book;
-use crate::device::begin_log;
+use crate::device::LOG;
 use crate::entry::Early;
+use crate::recovery::{EarlyRefused, recover};
 use crate::server::Server;
-use script_loop::run;
+use log_file::Log;
+use script_loop::{number_line, run};
 use std::alloc::Global;
 use store_api::Store;
 use tree_api::{Sink, Source, put_all};
@@ -58,10 +62,11 @@ pub fn serve<S: Store, I: Source, O: Sink>(
     script: &mut I,
     out: &mut O,
 ) -> Ended<S>
-    // What was put, what is in the journal, and what stands in the files, by how the call ended.
-    ensures outcome { ((refusal : Refusal) × Refuses refusal words.now (S.moment_of store) (RoseBetween (S.faults_of store) (S.faults_of result.store)) (O.contents out.old) (O.contents out.new) (RoseIn (O.fault_count out.old) (O.fault_count out.new)) result.status result.journal.items × (script.new ≡ script.old))
-        ⊎ ((end : End) × IsFresh words.now × (S.moment_of store < 2 ^ 62 - 2 ^ 24)
-        × RanScript (is_some (S.told store)) (RoseBetween (S.faults_of store) (S.faults_of result.store)) (S.told result.store) end result.status result.journal.items (I.left script.old) (I.left script.new) (O.contents out.old) (O.contents out.new)
+    // What was put, what is in the journal, and what images of the store give back, by how the call ended.
+    ensures outcome { ((refusal : Refusal) × Refuses refusal words.now (is_some (S.told store)) (S.moment_of store) (S.moment_of result.store) (RoseBetween (S.faults_of store) (S.faults_of result.store)) (O.contents out.old) (O.contents out.new) (RoseIn (O.fault_count out.old) (O.fault_count out.new)) result.status result.journal.items × (script.new ≡ script.old))
+        ⊎ ((end : End) × (opening : S) × IsFresh words.now × (S.moment_of store < 2 ^ 62 - 2 ^ 24)
+        × (S.moment_of opening ≡ result.opened) × Later S.moment_of S.faults_of store opening × Later S.moment_of S.faults_of opening result.store
+        × RanScript (is_some (S.told store)) (RoseBetween (S.faults_of opening) (S.faults_of result.store)) result.opened (S.moment_of result.store) (S.told result.store) end result.status result.journal.items result.stamps.items (I.left script.old) (I.left script.new) (O.contents out.old) (O.contents out.new)
         × SourceCause end (I.fault_count script.old) (I.fault_count script.new) × SinkCause end (O.fault_count out.old) (O.fault_count out.new)) }
 
     // Each status by its cause.
@@ -116,35 +121,92 @@ fn refused<S: Store, O: Sink>(
     }
 }
 
-// Makes the log empty, and runs the script.
+// Puts the line of a call that couldn't read the log.
+fn refused_by<S: Store, O: Sink>(
+    alloc: Global,
+    store: S,
+    out: &mut O,
+    refusal: EarlyRefused,
+) -> Ended<S>
+    ensures line { PutsLine (refusal_line (unopened_by refusal)) (refusal_status (unopened_by refusal)) result.status (O.contents out.old) (O.contents out.new) (RoseIn (O.fault_count out.old) (O.fault_count out.new)) }
+    ensures journal { result.journal.items ≡ [] }
+    ensures store { result.store ≡ store }
+    ensures opened { result.opened ≡ S.moment_of store }
+{
+    match refusal {
+        EarlyRefused::Fault(file) => {
+            let line = number_line(b"STORE FAULT ", file as u64);
+            refused(alloc, store, out, 5, line.as_slice())
+        }
+        EarlyRefused::Damaged(at) => {
+            let line = number_line(b"DAMAGED 2 ", at);
+            refused(alloc, store, out, 7, line.as_slice())
+        }
+        EarlyRefused::RunFull => refused(alloc, store, out, 9, b"RUN FULL\n"),
+        EarlyRefused::Memory => refused(alloc, store, out, 8, b"MEMORY\n"),
+    }
+}
+
+// Makes the log empty, reads it back, and runs the script.
 fn open<S: Store, I: Source, O: Sink>(
     alloc: Global,
     store: S,
     script: &mut I,
     out: &mut O,
 ) -> Ended<S>
-    requires { S.moment_of store + 2 ^ 23 + 2 ≤ 2 ^ 62 }
-    ensures outcome { ((RoseBetween (S.faults_of store) (S.faults_of result.store) 2)
-        × PutsLine (refusal_line (closed 2)) 5 result.status (O.contents out.old) (O.contents out.new) (RoseIn (O.fault_count out.old) (O.fault_count out.new))
+    requires { S.moment_of store < 2 ^ 62 - 2 ^ 24 }
+    ensures outcome { ((refusal : Refusal) × OpensNot refusal (is_some (S.told store)) (S.moment_of result.store) (RoseBetween (S.faults_of store) (S.faults_of result.store))
+        × PutsLine (refusal_line refusal) (refusal_status refusal) result.status (O.contents out.old) (O.contents out.new) (RoseIn (O.fault_count out.old) (O.fault_count out.new))
         × (result.journal.items ≡ []) × (script.new ≡ script.old))
-        ⊎ ((end : End)
-        × RanScript (is_some (S.told store)) (RoseBetween (S.faults_of store) (S.faults_of result.store)) (S.told result.store) end result.status result.journal.items (I.left script.old) (I.left script.new) (O.contents out.old) (O.contents out.new)
+        ⊎ ((end : End) × (opening : S)
+        × (S.moment_of opening ≡ result.opened) × Later S.moment_of S.faults_of store opening × Later S.moment_of S.faults_of opening result.store
+        × RanScript (is_some (S.told store)) (RoseBetween (S.faults_of opening) (S.faults_of result.store)) result.opened (S.moment_of result.store) (S.told result.store) end result.status result.journal.items result.stamps.items (I.left script.old) (I.left script.new) (O.contents out.old) (O.contents out.new)
         × SourceCause end (I.fault_count script.old) (I.fault_count script.new) × SinkCause end (O.fault_count out.old) (O.fault_count out.new)) }
     ensures later { Later S.moment_of S.faults_of store result.store }
     ensures opened { (S.moment_of store ≤ result.opened) × (result.opened ≤ S.moment_of result.store) }
 {
     let mut store = store;
-    match begin_log(&mut store) {
-        Ok(()) => {}
-        Err(_) => return refused(alloc, store, out, 5, b"STORE FAULT 2\n"),
+    let log = match Log::create(&mut store, LOG) {
+        Ok(log) => log,
+        Err(_) => return refused_by(alloc, store, out, EarlyRefused::Fault(LOG)),
+    };
+    match recover(alloc, &mut store) {
+        Ok(_) => {}
+        Err(refusal) => return refused_by(alloc, store, out, refusal),
     }
+    run_script(alloc, store, log, script, out)
+}
+
+// Runs the script over an open store, whose log is empty.
+fn run_script<S: Store, I: Source, O: Sink>(
+    alloc: Global,
+    store: S,
+    log: Log,
+    script: &mut I,
+    out: &mut O,
+) -> Ended<S>
+    requires time { S.moment_of store + 2 ^ 23 ≤ 2 ^ 62 }
+    requires ready { IsReady log }
+    requires start { log.end ≡ 0 }
+    requires empty { IfSome (S.told store) (LogHas [] 0) }
+    ensures ran { (end : End)
+        × RanScript (is_some (S.told store)) (RoseBetween (S.faults_of store) (S.faults_of result.store)) result.opened (S.moment_of result.store) (S.told result.store) end result.status result.journal.items result.stamps.items (I.left script.old) (I.left script.new) (O.contents out.old) (O.contents out.new)
+        × SourceCause end (I.fault_count script.old) (I.fault_count script.new) × SinkCause end (O.fault_count out.old) (O.fault_count out.new) }
+    ensures later { Later S.moment_of S.faults_of store result.store }
+    ensures opened { result.opened ≡ S.moment_of store }
+{
     let opened = store.moment();
     let mut server = Server {
         store,
+        log,
         book: Book::new(alloc),
     };
     let end = run(alloc, &mut server, script, out);
-    let Server { store, book } = server;
+    let Server {
+        store,
+        log: _,
+        book,
+    } = server;
     let (journal, stamps) = book.close();
     Ended {
         status: end.status(),

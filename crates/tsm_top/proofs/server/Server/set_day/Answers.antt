@@ -1,17 +1,25 @@
-use Rattle.std.proofs.Common.{◌≡◌, ◌≤◌, arith, ltb, false}
-use Rattle.store_api.proofs.Runs.{told_map}
-use Rattle.tsm_top.proofs.Serving.{files_day, day_forward}
+use Rattle.std.proofs.Common.{◌≤◌, Some, arith}
+use Rattle.tsm_top.proofs.Serving.{day_forward}
+use Rattle.tsm_top.proofs.Served.{served_day, halted_day, served_day_back, halted_if, halted_same}
 use Rattle.tsm_top.specs.Journal.{today}
+use Rattle.tsm_top.specs.Line.{day}
 use Rattle.tsm_top.proofs.server.Server.set_day.Goals as goal
 
-pub returns-in-Ok-clause-served : goal.returns-in-Ok-clause-served
-returns-in-Ok-clause-served g c =
+pub returns-then-number-today-clause-served : goal.returns-then-number-today-clause-served
+returns-then-number-today-clause-served g c = served_day_back g.S.Store.told g.S.Store.moment_of g.S.Store.faults_of c.args.self.now c.args.number c.today-today.result c.day_back.result c.today-today.ensures c.if-number-today.true c.day_back.ensures.reply
+
+pub returns-then-number-today-clause-halted : goal.returns-then-number-today-clause-halted
+returns-then-number-today-clause-halted g c = halted_if g.S.Store.told g.S.Store.moment_of g.S.Store.faults_of c.args.self.now (Some (day c.args.number)) c.day_back.result c.day_back.ensures.memory
+
+pub returns-in-Err-clause-halted : goal.returns-in-Err-clause-halted
+returns-in-Err-clause-halted g c = halted_same g.S.Store.told g.S.Store.moment_of g.S.Store.faults_of c.args.self.now (Some (day c.args.number)) c.in-Err.halt c.in-Err.ensures.memory
+
+pub returns-in-Err-commit-clause-halted : goal.returns-in-Err-commit-clause-halted
+returns-in-Err-commit-clause-halted g c =
     let forward : today c.args.self.now.book.journal ≤ c.args.number = omega arith in
-    let test : ltb c.args.number (today c.args.self.now.book.journal) ≡ false = day_forward c.args.self.now.book.journal c.args.number forward in
-    record {
-      reply = rw test c.in_ok-reply.ensures.reply;
-      pages = rw test c.in-Ok.ensures.ok;
-      size = tt;
-      files = rw c.in-Ok.ensures.ok (told_map _ _ _ _ (λ before after logs. files_day c.args.number c.args.self.now.book.journal c.in-Ok.field-0 before after logs) c.in-Ok.ensures.told);
-      later = c.in-Ok.ensures.later;
-    }
+    halted_day g.S.Store.told g.S.Store.moment_of g.S.Store.faults_of c.args.self.now c.commit.new.self c.args.number c.in-Err-commit.halt (day_forward c.args.self.now.book.journal c.args.number forward) c.in-Err-commit.ensures.halted c.in-Err-commit.ensures.told c.in-Err-commit.ensures.later
+
+pub returns-in-Ok-commit-clause-served : goal.returns-in-Ok-commit-clause-served
+returns-in-Ok-commit-clause-served g c =
+    let forward : today c.args.self.now.book.journal ≤ c.args.number = omega arith in
+    served_day g.S.Store.told g.S.Store.moment_of g.S.Store.faults_of c.args.self.now c.commit.new.self c.args.number c.in-Ok.reply c.in-Ok-commit.field-0 (day_forward c.args.self.now.book.journal c.args.number forward) c.in-Ok.ensures.reply c.in-Ok-commit.ensures.ok c.in-Ok-commit.ensures.told c.in-Ok-commit.ensures.later

@@ -1,0 +1,9 @@
+pub mod Advancing
+pub mod Appending
+pub mod Frames
+pub mod Logs
+pub mod Opening
+pub mod Pieces
+pub mod RecordBytes
+pub mod Starting
+pub mod Told

@@ -1,0 +1,16 @@
+//! The recovery log: records that are appended so that no stop of the machine takes one away or leaves half of one, and
+//! a cursor that reads them again.
+#![tactic(auto)]
+
+mod cursor;
+mod found;
+mod frame;
+pub mod laws;
+mod put;
+mod window;
+mod writer;
+
+pub use cursor::Records;
+pub use found::Record;
+pub use frame::Framed;
+pub use writer::Log;
