@@ -1,5 +1,4 @@
-use Rattle.std.specs.Prelude.{◌≡◌, ◌+◌, sum_by, ◌<◌, ⊤, ℕ, Bool, true, false, List, [], ◌∷◌, map, length, Option, Some, None, Result, Ok, Err, IsTrue, if◌then◌else◌}
-use Rattle.std.specs.Bool.{OnTrue}
+use Rattle.std.specs.Prelude.{◌≡◌, ◌+◌, sum_by, ◌<◌, ⊤, ℕ, Bool, true, false, List, [], ◌∷◌, map, length, Option, Some, None, Result, Ok, Err, if◌then◌else◌}
 use Rattle.std.specs.Ordering.{nat_cmp}
 use Rattle.std.specs.Cmp.Lexicographic.{slice_cmp}
 use Rattle.std.specs.BTreeMap.{is_at, insert_entry}
@@ -13,7 +12,7 @@ use Rattle.version_groups.specs.declared.group.GroupChange.{GroupChange}
 use Rattle.version_groups.specs.declared.group.GroupChange.TheVariants.{Gone, Remove, Rebind, Undo}
 use Rattle.version_groups.specs.declared.versions.Version.{Version}
 use Rattle.version_groups.specs.Entries.{on_ok, if_found, changed_at}
-use Rattle.version_groups.specs.Versions.{is_empty, has_object, has_active, is_active, retired, superseded, undone, without_object, versions_altered}
+use Rattle.version_groups.specs.Versions.{is_empty, has_object, has_active, retired, superseded, undone, without_object, versions_altered}
 
 -- the versions of a group after a change of the group
 abbrev pub versions_after : GroupChange → List Version → List Version
@@ -40,13 +39,6 @@ names_kept (Undo class active) versions = true
 abbrev pub group_after : GroupChange → Group → Result Group Refusal
 group_after change group =
     if names_kept change group.versions then Ok (record { class = class_after change group.class; versions = versions_after change group.versions }) else Err NotFound
-
--- what a change of a group asks: an object that becomes inactive, where it is there, is the active version
-abbrev pub retires_active : GroupChange → List Version → Type 0
-retires_active (Gone object today) versions = OnTrue (has_object object versions) (IsTrue (is_active object versions))
-retires_active (Remove object) versions = ⊤
-retires_active (Rebind class) versions = ⊤
-retires_active (Undo class active) versions = ⊤
 
 -- a path's group once a new version is its newest: it is bound to this class, and the former active version is inactive
 -- from the day on which the new one was stored

@@ -21,7 +21,7 @@ pub struct Group {
 /// A change of a group that takes no memory.
 #[derive(Debug, Drop)]
 pub enum GroupChange {
-    /// The object's version, which is the active one, is inactive from this day on.
+    /// The newest version, which is the object's, is inactive from this day on.
     Gone { object: u64, today: Day },
     /// The object's version goes.
     Remove { object: u64 },

@@ -1,5 +1,5 @@
 use super::*;
-use kinds::{Day, Digest, FilespaceName, Name, Path, Refusal, Segment, Segments};
+use kinds::{Day, Digest, Name, Path, Refusal, Segment, Segments};
 use std::alloc::Global;
 use std::test::Fail;
 
@@ -50,65 +50,13 @@ fn pools(alloc: Global, copies: &Copies) -> Result<Vec<u32>, Fail> {
     Ok(pools)
 }
 
-/// Adds a copy in a pool that must have none.
-fn add(copies: &mut Copies, copy: CopyRow) -> Result<(), Fail> {
-    if copies.is_in(copy.pool) {
-        return Err(Fail::from("the pool has a copy"));
-    }
-    copies.change(CopyChange::Add(copy))?;
-    Ok(())
-}
-
-/// Replaces a copy by one in a pool that must have none.
-#[tactic(auto, using(crate::proofs::Lists::still_free))]
-fn replace(copies: &mut Copies, from: u32, copy: CopyRow) -> Result<Result<(), Refusal>, Fail> {
-    if copies.is_in(copy.pool) {
-        return Err(Fail::from("the pool has a copy"));
-    }
-    Ok(copies.change(CopyChange::Replace { from, copy }))
-}
-
 #[test]
 fn copies_stand_by_pool(rt: HostRuntime) -> Result<(), Fail> {
-    let mut copies = Copies::new(rt.alloc());
-    add(&mut copies, copy(rt.alloc(), 5, 1)?)?;
-    add(&mut copies, copy(rt.alloc(), 2, 1)?)?;
-    assert_eq!(rt; pools(rt.alloc(), &copies)?.as_slice(), [2, 5].as_slice());
-    let moved = replace(&mut copies, 5, copy(rt.alloc(), 1, 9)?)?;
-    assert_eq!(rt; moved, Ok(()));
-    assert_eq!(rt; pools(rt.alloc(), &copies)?.as_slice(), [1, 2].as_slice());
-    let moved = replace(&mut copies, 5, copy(rt.alloc(), 7, 9)?)?;
-    assert_eq!(rt; moved, Err(Refusal::NotFound));
-    assert_eq!(rt; copies.change(CopyChange::Drop(5)), Err(Refusal::NotFound));
+    let rows = vec![in rt.alloc(); copy(rt.alloc(), 2, 1)?, copy(rt.alloc(), 5, 1)?]?;
+    let mut copies = Copies::from_vec(rows).ok_or("in order")?;
+    assert_eq!(rt; copies.change(CopyChange::Drop(1)), Err(Refusal::NotFound));
     assert_eq!(rt; copies.change(CopyChange::Drop(2)), Ok(()));
-    assert_eq!(rt;
-        pools(rt.alloc(), &copies.clone()?)?.as_slice(),
-        [1].as_slice()
-    );
-    Ok(())
-}
-
-#[test]
-fn copies_out_of_order_are_none(rt: HostRuntime) -> Result<(), Fail> {
-    let table: [(u32, u32, bool); 3] = [(1, 2, true), (2, 2, false), (2, 1, false)];
-    for (first, second, in_order) in table {
-        let mut rows = Vec::new(rt.alloc());
-        rows.push(copy(rt.alloc(), first, 1)?)?;
-        rows.push(copy(rt.alloc(), second, 1)?)?;
-        assert_eq!(rt; Copies::from_vec(rows).is_some(), in_order);
-    }
-    Ok(())
-}
-
-#[test]
-fn versions_of_one_object_are_none(rt: HostRuntime) -> Result<(), Fail> {
-    let table: [(u64, u64, bool); 3] = [(1, 2, true), (2, 1, true), (2, 2, false)];
-    for (first, second, are_distinct) in table {
-        let mut rows = Vec::new(rt.alloc());
-        rows.push(version(rt.alloc(), first, 1)?)?;
-        rows.push(version(rt.alloc(), second, 1)?)?;
-        assert_eq!(rt; Versions::from_vec(rows).is_some(), are_distinct);
-    }
+    assert_eq!(rt; pools(rt.alloc(), &copies)?.as_slice(), [5].as_slice());
     Ok(())
 }
 
@@ -215,45 +163,5 @@ fn a_group_without_versions_goes(rt: HostRuntime) -> Result<(), Fail> {
         [(1, 5)].as_slice()
     );
     assert_eq!(rt; groups.is_empty(), false);
-    Ok(())
-}
-
-#[test]
-fn a_path_is_bound_to_another_class(rt: HostRuntime) -> Result<(), Fail> {
-    let a = path(rt.alloc(), b"/a")?;
-    let mut groups = filled(rt.alloc())?;
-    let rebind = GroupChange::Rebind {
-        class: class(rt.alloc(), b"three")?,
-    };
-    assert_eq!(rt; groups.change(&a, rebind), Ok(()));
-    let bound = groups.get(&a).map(|group| group.class.as_bytes());
-    assert_eq!(rt; bound, Some(b"THREE".as_slice()));
-    assert_eq!(rt; groups.alter(&a, 2, CopyChange::Drop(1)), Ok(()));
-    assert_eq!(rt;
-        groups.alter(&a, 2, CopyChange::Drop(1)),
-        Err(Refusal::NotFound)
-    );
-    assert_eq!(rt;
-        groups.alter(&a, 3, CopyChange::Drop(1)),
-        Err(Refusal::NotFound)
-    );
-    Ok(())
-}
-
-#[test]
-fn a_copied_filespace_is_equal(rt: HostRuntime) -> Result<(), Fail> {
-    let filespace = Filespace {
-        node: 1,
-        name: FilespaceName::read(rt.alloc(), b"/home")?,
-        groups: filled(rt.alloc())?,
-    };
-    let copy = filespace.clone()?;
-    assert_eq!(rt; copy.node, 1);
-    assert_eq!(rt; copy.name.as_bytes(), b"/home".as_slice());
-    let a = path(rt.alloc(), b"/a")?;
-    assert_eq!(rt;
-        shown(rt.alloc(), &copy.groups, &a)?.as_slice(),
-        [(2, 99), (1, 5)].as_slice()
-    );
     Ok(())
 }
