@@ -1,0 +1,4 @@
+pub mod Altered
+pub mod Laws
+pub mod Lists
+pub mod Maps

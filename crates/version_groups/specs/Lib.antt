@@ -1,0 +1,4 @@
+pub mod Copies
+pub mod Entries
+pub mod Groups
+pub mod Versions
