@@ -4,6 +4,11 @@
 
 mod held;
 mod holdings;
+mod rested;
+mod status;
+mod volume;
 
 pub use held::HeldSegment;
 pub use holdings::Holdings;
+pub use status::Status;
+pub use volume::Volume;
