@@ -47,29 +47,29 @@ held_same s q h =
 pub weight_of-with : (weigh : HeldSegment → ℕ) (s : HeldSegment) (held : List (HeldSegment × ℕ)) → weight_of weigh (with_segment s held) ≡ weight_of weigh held + weigh s
 weight_of-with weigh s held =
     elim (repeats_of s held) as (λ o. repeats_of s held ≡ o → weight_of weigh (raised s o held) ≡ weight_of weigh held + weigh s) [
-      None ↦ λ h. omega (arith, sum_by-inserted (λ e. weigh e.0 * (e.1 + 1)) held_cmp held s 0 h)
-    | Some n ↦ λ h. omega (arith, sum_by-set (λ e. weigh e.0 * (e.1 + 1)) (is_at (held_cmp s)) s (held_same s) held n (n + 1) h)
+      | None ↦ λ h. omega (arith, sum_by-inserted (λ e. weigh e.0 * (e.1 + 1)) held_cmp held s 0 h)
+      | Some n ↦ λ h. omega (arith, sum_by-set (λ e. weigh e.0 * (e.1 + 1)) (is_at (held_cmp s)) s (held_same s) held n (n + 1) h)
     ] refl
 
 pub weight_of-without : (weigh : HeldSegment → ℕ) (s : HeldSegment) (held : List (HeldSegment × ℕ)) → is_held s held ≡ true → weight_of weigh (without_segment s held) + weigh s ≡ weight_of weigh held
 weight_of-without weigh s held there =
     elim (repeats_of s held) as (λ o. repeats_of s held ≡ o → is_some o ≡ true → weight_of weigh (lowered s o held) + weigh s ≡ weight_of weigh held) [
-      None ↦ λ h t. absurd cc
-    | Some n ↦ λ h t. step n h
+      | None ↦ λ h t. absurd cc
+      | Some n ↦ λ h t. step n h
     ] refl there where
-  step : (n : ℕ) → repeats_of s held ≡ Some n → weight_of weigh (lowered s (Some n) held) + weigh s ≡ weight_of weigh held
-  step zero h = omega (arith, sum_by-removed (λ e. weigh e.0 * (e.1 + 1)) (is_at (held_cmp s)) s (held_same s) held 0 h)
-  step (suc n) h = omega (arith, sum_by-set (λ e. weigh e.0 * (e.1 + 1)) (is_at (held_cmp s)) s (held_same s) held (suc n) n h)
+      step : (n : ℕ) → repeats_of s held ≡ Some n → weight_of weigh (lowered s (Some n) held) + weigh s ≡ weight_of weigh held
+      step zero h = omega (arith, sum_by-removed (λ e. weigh e.0 * (e.1 + 1)) (is_at (held_cmp s)) s (held_same s) held 0 h)
+      step (suc n) h = omega (arith, sum_by-set (λ e. weigh e.0 * (e.1 + 1)) (is_at (held_cmp s)) s (held_same s) held (suc n) n h)
 
 -- a segment that was put there is taken away without a trace
 pub taken-with : (s : HeldSegment) (held : List (HeldSegment × ℕ)) → taken s (with_segment s held) ≡ Ok held
 taken-with s held =
     elim (repeats_of s held) as (λ o. repeats_of s held ≡ o → taken s (raised s o held) ≡ Ok held) [
-      None ↦ λ h. rw (lookup-inserted held_cmp held_itself held s 0 h, remove_entry-inserted held_cmp held_itself held s 0 h) refl
-    | Some n ↦ λ h. again n h
+      | None ↦ λ h. rw (lookup-inserted held_cmp held_itself held s 0 h, remove_entry-inserted held_cmp held_itself held s 0 h) refl
+      | Some n ↦ λ h. again n h
     ] refl where
-  again : (n : ℕ) → repeats_of s held ≡ Some n → taken s (set_value (is_at (held_cmp s)) held (n + 1)) ≡ Ok held
-  again n h = rw (add-one, lookup-set (is_at (held_cmp s)) held n (suc n) h, set_value-set (is_at (held_cmp s)) held n (suc n) h) refl
+      again : (n : ℕ) → repeats_of s held ≡ Some n → taken s (set_value (is_at (held_cmp s)) held (n + 1)) ≡ Ok held
+      again n h = rw (add-one, lookup-set (is_at (held_cmp s)) held n (suc n) h, set_value-set (is_at (held_cmp s)) held n (suc n) h) refl
 
 pub lesser_assoc : (a b c : Option ℕ) → lesser (lesser a b) c ≡ lesser a (lesser b c)
 lesser_assoc None b c = refl

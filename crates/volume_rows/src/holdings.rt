@@ -11,6 +11,9 @@ use std::alloc::{AllocError, Global};
 use std::collections::BTreeMap;
 use std::marker::Model;
 
+/// So many bytes of frames, or blocks of them, are more than the segments on one volume may have.
+const MOST: u64 = 1 << 56;
+
 /// The segments on a volume. Contracts see them as the list of the segments by offset, object and length, each with the
 /// number of its repeats: 0 for a segment that stands there once.
 #[derive(Drop)]
@@ -21,7 +24,7 @@ pub struct Holdings {
 }
 
 impl Model for Holdings {
-    ghost use Rattle.std.specs.Prelude.{◌≡◌, List, ℕ};
+    ghost use Rattle.std.specs.Prelude.{◌≡◌, ◌<◌, ◌^◌, List, ℕ};
     ghost use Rattle.volume_rows.specs.declared.held.HeldSegment.{HeldSegment};
     ghost use Rattle.volume_rows.specs.Holdings.{live_bytes, used_blocks};
 
@@ -29,7 +32,7 @@ impl Model for Holdings {
 
     ghost view = { λ h. h.map.entries };
 
-    ghost invariant = { λ h. (h.live ≡ live_bytes h.map.entries) × (h.blocks ≡ used_blocks h.map.entries) };
+    ghost invariant = { λ h. (h.live ≡ live_bytes h.map.entries) × (h.blocks ≡ used_blocks h.map.entries) × (h.live < 2 ^ 56) × (h.blocks < 2 ^ 56) };
 }
 
 /// Writes the number of a segment's repeats, where it stands there.
@@ -99,17 +102,17 @@ impl Holdings {
         }
     }
 
-    /// Puts a segment there once more.
+    /// Puts a segment there once more. Where the frames would have 2^56 bytes or more in all, of which no volume has room for
+    /// a part, that is want of memory too.
     pub fn put(&mut self, segment: HeldSegment) -> Result<(), Refusal>
         ensures put { Becomes result self.old self.new (Ok (with_segment segment self.old)) }
         ensures taken_again { OnOk result (taken segment self.new ≡ Ok self.old) }
     {
-        let Some(live) = self.live.checked_add(segment.frame_bytes()) else {
+        let live = self.live + segment.frame_bytes();
+        let blocks = self.blocks + segment.blocks();
+        if live >= MOST || blocks >= MOST {
             return Err(Refusal::Memory);
-        };
-        let Some(blocks) = self.blocks.checked_add(segment.blocks()) else {
-            return Err(Refusal::Memory);
-        };
+        }
         raise(&mut self.map, segment)?;
         self.live = live;
         self.blocks = blocks;
@@ -135,14 +138,16 @@ impl Holdings {
 
     /// How many bytes the segments' frames have in all.
     pub fn live_bytes(&self) -> u64
-        ensures { result ≡ live_bytes self.now }
+        ensures value { result ≡ live_bytes self.now }
+        ensures few { result < 2 ^ 56 }
     {
         self.live
     }
 
     /// How many blocks of 4,096 bytes the segments' frames use in all.
     pub fn used_blocks(&self) -> u64
-        ensures { result ≡ used_blocks self.now }
+        ensures value { result ≡ used_blocks self.now }
+        ensures few { result < 2 ^ 56 }
     {
         self.blocks
     }

@@ -1,4 +1,4 @@
-ghost use Rattle.std.specs.Prelude.{◌≡◌, ◌≤◌, IsTrue, OnOk, Ok, if◌then◌else◌, Err};
+ghost use Rattle.std.specs.Prelude.{◌≡◌, ◌≤◌, OnOk, Ok, if◌then◌else◌, Err};
 ghost use Rattle.std.specs.Option.{ForSome};
 ghost use Rattle.kinds.specs.Answers.{Becomes, Makes};
 ghost use Rattle.kinds.specs.declared.refusal.Refusal.TheVariants.{NotFound};
@@ -74,11 +74,7 @@ impl Volume {
     fn pending_since(&self) -> Option<Day>
         ensures { result ≡ pending_since self.now }
     {
-        if self.end == 0 {
-            None
-        } else {
-            self.emptied
-        }
+        if self.end == 0 { None } else { self.emptied }
     }
 
     /// Whether the volume with this file number may be reused, in a pool whose REUSEDELAY is `delay`. `NotFound` where it is
@@ -145,7 +141,8 @@ impl Volume {
         }
     }
 
-    /// Takes a segment away that was put, and puts the end and the day back that a sequential volume had.
+    /// Takes a segment away that was put, and puts the end and the day back that a sequential volume had. Where the segment is
+    /// not there, none is taken away.
     pub fn undo_segment(
         &mut self,
         sequential: bool,
@@ -153,7 +150,6 @@ impl Volume {
         end: u64,
         emptied: Option<Day>,
     )
-        requires { IsTrue (is_held segment.now self.old.segments) }
         ensures { self.new ≡ undo_on sequential segment.now end emptied self.old }
     {
         let _ = self.segments.take(segment);

@@ -1,0 +1,18 @@
+//! Device classes, storage pools and volumes: which there are, how they are changed, and how full and how old they are.
+#![tactic(auto)]
+
+mod changes;
+mod find;
+mod fresh;
+mod hierarchy;
+mod measure;
+mod on_rows;
+mod pool;
+mod pools;
+mod scratch;
+mod segments;
+mod shares;
+
+pub use measure::Measure;
+pub use pool::Pool;
+pub use pools::Pools;
