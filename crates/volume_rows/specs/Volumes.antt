@@ -1,4 +1,4 @@
-use Rattle.std.specs.Prelude.{ℕ, ◌+◌, ◌-◌, ◌*◌, ◌==◌, Bool, true, false, nat_lt, nat_le, max, Option, Some, None, Result, Ok, Err, if◌then◌else◌}
+use Rattle.std.specs.Prelude.{ℕ, ◌+◌, ◌-◌, ◌*◌, ◌==◌, ◌||◌, not, Bool, true, false, nat_lt, nat_le, max, Option, Some, None, Result, Ok, Err, if◌then◌else◌}
 use Rattle.kinds.specs.declared.refusal.By.TheVariants.{Object}
 use Rattle.kinds.specs.declared.refusal.Refusal.{Refusal}
 use Rattle.kinds.specs.declared.refusal.Refusal.TheVariants.{NotFound, InUse, NotYet}
@@ -39,22 +39,19 @@ is_reclaimable sequential threshold v =
 abbrev pub rested : ℕ → ℕ → ℕ → ℕ → Result (Unit {0}) Refusal
 rested file delay today day = if nat_le delay (today - day) then Ok tt else Err (NotYet file (day + delay))
 
--- the day on which a volume without copies was emptied, where something was written on it
-abbrev pub pending_since : Volume → Option ℕ
-pending_since v = if v.end == 0 then None else v.emptied
-
+-- a volume on which no segment lies may be reused once it has rested from the day on which it was emptied
 abbrev pub reuse_since : ℕ → ℕ → ℕ → Option ℕ → Result (Unit {0}) Refusal
 reuse_since file delay today None = Err NotFound
 reuse_since file delay today (Some day) = rested file delay today day
 
 abbrev pub reuse_unless_used : ℕ → ℕ → ℕ → Volume → Option ℕ → Result (Unit {0}) Refusal
-reuse_unless_used file delay today v None = reuse_since file delay today (pending_since v)
+reuse_unless_used file delay today v None = reuse_since file delay today v.emptied
 reuse_unless_used file delay today v (Some object) = Err (InUse (Object object))
 
--- whether a volume may be reused: a sequential one without copies, on which something was written, and which has rested
+-- whether a volume may be reused: a sequential one on which something was written, without copies, and which has rested
 abbrev pub may_reuse : Bool → ℕ → ℕ → ℕ → Volume → Result (Unit {0}) Refusal
 may_reuse sequential file delay today v =
-    if sequential then reuse_unless_used file delay today v (least_object v.segments) else Err NotFound
+    if not sequential || v.end == 0 then Err NotFound else reuse_unless_used file delay today v (least_object v.segments)
 
 -- a segment is written: a sequential volume ends no earlier than the segment, and isn't empty
 abbrev pub put_on : Bool → HeldSegment → Volume → Volume

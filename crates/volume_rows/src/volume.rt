@@ -31,7 +31,7 @@ pub struct Volume {
 impl Volume {
     ghost use Rattle.volume_rows.specs.Held.{end_of};
     ghost use Rattle.volume_rows.specs.Holdings.{is_held, live_bytes};
-    ghost use Rattle.volume_rows.specs.Volumes.{status_of, sequential_status, is_reclaimable, may_reuse, reuse_since, pending_since, rested, put_on, take_from, left_on, undo_on, reset};
+    ghost use Rattle.volume_rows.specs.Volumes.{status_of, sequential_status, is_reclaimable, may_reuse, put_on, take_from, left_on, undo_on, reset};
 
     /// How the volume is used; `sequential` is whether its pool's device class is.
     pub fn status(&self, sequential: bool) -> Status
@@ -70,13 +70,6 @@ impl Volume {
         self.status(sequential).is_full() && threshold as u64 * capacity <= free * 100
     }
 
-    /// The day on which the volume was emptied, where something was written on it.
-    fn pending_since(&self) -> Option<Day>
-        ensures { result ≡ pending_since self.now }
-    {
-        if self.end == 0 { None } else { self.emptied }
-    }
-
     /// Whether the volume with this file number may be reused, in a pool whose REUSEDELAY is `delay`. `NotFound` where it is
     /// not sequential or nothing was written on it, `InUse` by the least object on it, and `NotYet` before its delay is over.
     pub fn may_reuse(
@@ -89,13 +82,13 @@ impl Volume {
         requires { ForSome self.now.emptied (λ day. day ≤ today) }
         ensures { result ≡ may_reuse sequential file delay today self.now }
     {
-        if !sequential {
+        if !sequential || self.end == 0 {
             return Err(Refusal::NotFound);
         }
         if let Some(object) = self.segments.least_object() {
             return Err(Refusal::InUse(By::Object(object)));
         }
-        match self.pending_since() {
+        match self.emptied {
             Some(day) => rested(file, delay, today, day),
             None => Err(Refusal::NotFound),
         }
