@@ -7,11 +7,11 @@ use Rattle.std.proofs.lemmas.Bool.{leb-true, le-leb}
 use Rattle.std.proofs.lemmas.Bool.Decides.{Decides-eqb}
 use Rattle.std.proofs.lemmas.Slice.Eq.{slice_eq-Decides}
 use Rattle.std.proofs.Math.Seq.{take-add}
-use Rattle.std.proofs.lemmas.List.{take-append-drop, drop-drop, drop-take, drop_at, take_at, take_rest, length-append, length-take, length-drop, get_or-take, get_or-drop, ext_get_or}
-use Rattle.std.specs.Int.{w32, w64, to_be_bytes, from_be_bytes}
+use Rattle.std.proofs.lemmas.List.{drop-drop, drop_at, take_at, take_rest, length-append, length-take, length-drop, get_or-take, get_or-drop, ext_get_or}
+use Rattle.std.specs.Int.{w32, w64, from_be_bytes}
 use Rattle.std.proofs.lemmas.Nat.{from_be_bytes-to_be_bytes_4, from_be_bytes-to_be_bytes_8}
 use Rattle.kinds.specs.declared.segment.Segment.{Segment}
-use Rattle.volume_frames.specs.Frames.{frame_header, piece, data_place, data_end, data_of, FramedAt, FramedFrom, Framed, bytes_of, bytes_len, KeepsFrame, KeepsFrames}
+use Rattle.volume_frames.specs.Frames.{frame_header, piece, data_place, data_of, FramedAt, FramedFrom, bytes_of, bytes_len, KeepsFrame, KeepsFrames}
 
 pub length-frame_header : (object number len : ℕ) → length (frame_header object number len) ≡ 32
 unfolding frame_header
