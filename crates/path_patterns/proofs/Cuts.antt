@@ -1,9 +1,7 @@
 -- How parts and characters are cut off the front of bytes.
-use Rattle.std.proofs.Common.{◌≡◌, ◌≢◌, ℕ, zero, suc, ◌+◌, ◌<◌, ◌≤◌, Bool, true, false, List, [], ◌∷◌, length, take, drop, get_or, refl, sym, ap, ◌∙◌, arith}
-use Rattle.std.specs.Prelude.{◌==◌, if◌then◌else◌}
-use Rattle.std.specs.Str.{byte}
+use Rattle.std.proofs.Common.{◌≡◌, ◌≢◌, ℕ, zero, suc, ◌+◌, ◌<◌, ◌≤◌, true, false, List, [], ◌∷◌, length, take, drop, get_or, refl, ap, arith}
 use Rattle.std.proofs.lemmas.Bool.{eq-eqb, ne_eqb}
-use Rattle.path_patterns.specs.Patterns.{glued, parts, parts_left, is_continuation, continues, characters}
+use Rattle.path_patterns.specs.Patterns.{glued, parts, parts_left, is_continuation, characters}
 
 pub characters_cut : (n : ℕ) (b : ℕ) (bytes : List ℕ) → n ≤ length bytes → ((k : ℕ) → k < n → is_continuation (get_or bytes k 0) ≡ true) → (n < length bytes → is_continuation (get_or bytes n 0) ≡ false) →
     characters (b ∷ bytes) ≡ (b ∷ take n bytes) ∷ characters (drop n bytes)

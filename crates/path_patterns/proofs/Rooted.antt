@@ -1,9 +1,8 @@
 -- A pattern begins with a slash, so the path does too, or is empty; and the test says what the relation says.
-use Rattle.std.proofs.Common.{◌≡◌, ◌⊎◌, inl, inr, ◌↔◌, ℕ, suc, ◌≤◌, Bool, true, false, IsTrue, not, ◌&&◌, ◌||◌, List, [], ◌∷◌, ◌++◌, length, refl, sym, ap, subst, ◌∙◌}
-use Rattle.std.specs.Prelude.{◌==◌, nat_le, if◌then◌else◌, slice_index}
-use Rattle.std.proofs.lemmas.Bool.{eqb-true, eqb-false}
+use Rattle.std.proofs.Common.{◌≡◌, ℕ, Bool, true, false, IsTrue, not, ◌&&◌, List, [], ◌∷◌, length, refl, ap}
+use Rattle.std.specs.Prelude.{◌==◌, nat_le, if◌then◌else◌}
 use Rattle.path_patterns.proofs.Held.{matched_means, means_matched}
-use Rattle.path_patterns.specs.Pieces.{Matches, any_rest, first_then, is_none_left, is_matched}
+use Rattle.path_patterns.specs.Pieces.{is_none_left, is_matched}
 use Rattle.path_patterns.specs.Patterns.{is_pattern, glued, parts, parts_left, continues, characters, is_star, fits_character, is_dots, MatchesPart, MatchesPath, fits_part, is_match, begins_inside_part}
 
 first_of : (a b : Bool) → (a && b) ≡ true → a ≡ true

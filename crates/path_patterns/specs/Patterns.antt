@@ -1,5 +1,5 @@
 -- Patterns of paths, and which paths they match.
-use Rattle.std.specs.Prelude.{ℕ, Bool, true, false, not, IsTrue, ◌==◌, ◌&&◌, ◌||◌, nat_le, nat_lt, List, [], ◌∷◌, length, codes, slice_index, Result, Ok, Err, if◌then◌else◌}
+use Rattle.std.specs.Prelude.{ℕ, Bool, false, not, IsTrue, ◌==◌, ◌&&◌, ◌||◌, nat_le, nat_lt, List, [], ◌∷◌, length, codes, slice_index, Result, Ok, Err, if◌then◌else◌}
 use Rattle.kinds.specs.declared.refusal.Refusal.{Refusal}
 use Rattle.kinds.specs.declared.refusal.Refusal.TheVariants.{BadValue}
 use Rattle.std.specs.Str.{byte, bytes_eq}

@@ -1,4 +1,4 @@
-use Rattle.std.proofs.Common.{ℕ, ◌≤◌, length}
+use Rattle.std.proofs.Common.{◌≤◌, length}
 use Rattle.path_patterns.specs.Stops.{Goes}
 use Rattle.path_patterns.proofs.matcher.go_along.Given as goal
 

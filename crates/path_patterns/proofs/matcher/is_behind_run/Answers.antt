@@ -1,6 +1,6 @@
-use Rattle.std.proofs.Common.{sym, ◌∙◌, arith}
+use Rattle.std.proofs.Common.{sym, ◌∙◌}
 use Rattle.path_patterns.specs.Pieces.{is_matched}
-use Rattle.path_patterns.proofs.Held.{any_matched, any_at_run, any_none, any_next, ends_both}
+use Rattle.path_patterns.proofs.Held.{any_matched, any_at_run, ends_both}
 use Rattle.path_patterns.proofs.matcher.is_behind_run.Goals as goal
 
 pub returns-in_default : goal.returns-in_default

@@ -1,0 +1,4 @@
+pub mod Binding
+pub mod Rules
+pub mod RuleText
+pub mod Words
