@@ -10,8 +10,11 @@ mod rule;
 mod rule_text;
 mod words;
 
-pub use binder::Binder;
-pub use path_patterns::Pattern;
+pub use binder::{Binder, Binds};
 pub use matching::match_rules;
+pub use path_patterns::Pattern;
 pub use rule::{Bound, Rule};
 pub use rule_text::read_rules;
+
+#[cfg(test)]
+mod tests;

@@ -12,7 +12,9 @@ pub enum Rule {
         class: Option<Name>,
     },
     /// Paths that match are left out.
-    Exclude { pattern: Pattern },
+    Exclude {
+        pattern: Pattern,
+    },
 }
 
 /// How a path is bound.

@@ -19,9 +19,9 @@ returns-in-None c =
 
 pub lines-preserved : goal.lines-preserved
 lines-preserved c = record {
-    said =
-        c.lines.invariant.said
-        ∙ further_line c.lines.rules.items c.add_rule.new.rules.items c.lines.first (c.lines.first + (length c.split_line.result.0.now + 1)) c.lines.rest.now c.split_line.result.0.now c.split_line.result.1.now _ c.in-Some.others.now c.split_line.ensures.cut c.in-Some.ensures.cases.0 (omega arith)
-        (ap (λ line. behind c.lines.rules.items (rules_at c.lines.first line)) (sym c.without_return.ensures.value) ∙ c.in-Ok.ensures);
-    place = omega (arith, c.in-Some.ensures.cases.1);
-  }
+  said =
+      c.lines.invariant.said
+      ∙ further_line c.lines.rules.items c.add_rule.new.rules.items c.lines.first (c.lines.first + (length c.split_line.result.0.now + 1)) c.lines.rest.now c.split_line.result.0.now c.split_line.result.1.now _ c.in-Some.others.now c.split_line.ensures.cut c.in-Some.ensures.cases.0 (omega arith)
+      (ap (λ line. behind c.lines.rules.items (rules_at c.lines.first line)) (sym c.without_return.ensures.value) ∙ c.in-Ok.ensures);
+  place = omega (arith, c.in-Some.ensures.cases.1);
+}
