@@ -1,4 +1,3 @@
-pub mod Binding
 pub mod Rules
 pub mod RuleText
 pub mod Words

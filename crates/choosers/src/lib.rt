@@ -4,13 +4,11 @@
 //! its class, or to the default class where it names none; an EXCLUDE rule leaves the path out.
 #![tactic(auto)]
 
-mod binder;
 mod matching;
 mod rule;
 mod rule_text;
 mod words;
 
-pub use binder::{Binder, Binds};
 pub use matching::match_rules;
 pub use path_patterns::Pattern;
 pub use rule::{Bound, Rule};

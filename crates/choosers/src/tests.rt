@@ -1,5 +1,3 @@
-ghost use Rattle.std.specs.Prelude.{◌≡◌, ◌<◌, ◌^◌, length};
-
 use super::*;
 use kinds::Refusal;
 use std::alloc::Global;
@@ -75,22 +73,4 @@ fn what_a_rule_file_says(rt: HostRuntime) -> Result<(), Fail> {
         _ => return Err("another second rule".into()),
     }
     Ok(())
-}
-
-/// How a binder with the rules of a short text binds a path.
-fn bind(alloc: Global, text: &[u8], path: &[u8]) -> Result<Bound, Refusal>
-    requires { length text.now < 2 ^ 16 }
-{
-    let rules = read_rules(alloc, text)?;
-    let same = read_rules(alloc, text)?;
-    let binder = Binder::new(rules, move |path: &[u8]| match_rules(same.as_slice(), path));
-    Ok(binder.bind(path))
-}
-
-#[test]
-fn a_stored_closure_binds_as_the_rules_do(rt: HostRuntime) {
-    let text = b"INCLUDE /a/* BIG\nEXCLUDE /a/b";
-    assert!(rt; bind(rt.alloc(), text, b"/a/c") == Ok(Bound::ByRule(0)));
-    assert!(rt; bind(rt.alloc(), text, b"/a/b") == Ok(Bound::Excluded));
-    assert!(rt; bind(rt.alloc(), text, b"/b") == Ok(Bound::Default));
 }
