@@ -1,0 +1,3 @@
+pub mod Rules
+pub mod RuleText
+pub mod Words

@@ -1,0 +1,18 @@
+//! Include-exclude lists: which files a client sends, and under which management class.
+//!
+//! The rules stand in a list, and the last rule whose pattern matches a path decides. An INCLUDE rule binds the path to
+//! its class, or to the default class where it names none; an EXCLUDE rule leaves the path out.
+#![tactic(auto)]
+
+mod matching;
+mod rule;
+mod rule_text;
+mod words;
+
+pub use matching::match_rules;
+pub use path_patterns::Pattern;
+pub use rule::{Bound, Rule};
+pub use rule_text::read_rules;
+
+#[cfg(test)]
+mod tests;
