@@ -59,9 +59,9 @@ fn versions_are_retained_by_place_and_days(rt: HostRuntime) -> Result<(), Fail> 
 #[test]
 fn places_that_are_not_retained_come_in_descending_order(rt: HostRuntime) -> Result<(), Fail> {
     let rule = RuleFound::Own(defaults());
-    let days = [day(0)?, day(0)?, day(0)?];
-    let today = day(0)?;
-    assert!(rt; days[1] <= today && days[2] <= today);
+    let (since, today) = (day(0)?, day(0)?);
+    assert!(rt; since <= today);
+    let days = [since, since, since];
     let places = unretained(rt.alloc(), &rule, true, days.as_slice(), today)?;
     assert_eq!(rt; places.as_slice(), [2].as_slice());
     Ok(())
