@@ -6,7 +6,7 @@ use std::process::Abort;
 use std::test::Fail;
 use store_api::{Stop, Store};
 use tree_api::MemSink;
-use tsm_top::{Early, recover};
+use tsm_top::{Early, Ended, recover};
 
 // What a stop keeps of the calls that wait for a sync: none, the first of each file, or the first of each and half of the last.
 const CHOICES: [u64; 3] = [0, 1, (1 << 63) + 1];
@@ -65,7 +65,8 @@ fn frame_of(alloc: Global, object: u64, text: &str) -> Result<Vec<u8>, AllocErro
     frame.extend_from_slice(b"TSMFRAME")?;
     frame.extend_from_slice(&object.to_be_bytes())?;
     frame.extend_from_slice(&0u32.to_be_bytes())?;
-    frame.extend_from_slice(&(text.len() as u32).to_be_bytes())?;
+    let len = u32::try_from(text.len()).unwrap_or(0);
+    frame.extend_from_slice(&len.to_be_bytes())?;
     frame.extend_from_slice(&0u64.to_be_bytes())?;
     frame.extend_from_slice(text.as_bytes())?;
     Ok(frame)
@@ -139,31 +140,68 @@ fn recovered(
     Ok(entries.len())
 }
 
+// A run that stops at this moment, and once more at a call of the reading behind it: as many entries are recovered.
+fn stop_again(
+    rt: &impl Abort,
+    alloc: Global,
+    script: &str,
+    moment: u64,
+    choice: u64,
+    call: u64,
+) -> Result<usize, Fail> {
+    let Ran { ended, put: _ } = run_failing(alloc, script, moment)?;
+    let Ended {
+        status: _,
+        store,
+        journal,
+        stamps: _,
+        opened: _,
+    } = ended;
+    let stopped = store.stop(choice);
+    let second = stopped.moment().saturating_add(call);
+    let mut failing = stopped.with_failing([second].to_vec(alloc)?);
+    let refused = recover(alloc, &mut failing).is_err();
+    assert!(rt; refused, "at {moment} and {call}");
+    let mut again = failing.stop(choice);
+    recovered(rt, alloc, &mut again, &journal)
+}
+
+// A run that stops at this moment: what is recovered is a front of the journal with each acknowledged entry.
+fn stop_at(
+    rt: &impl Abort,
+    alloc: Global,
+    script: &str,
+    moment: u64,
+    choice: u64,
+) -> Result<usize, Fail> {
+    let Ran { ended, put } = run_failing(alloc, script, moment)?;
+    let Ended {
+        status: _,
+        store,
+        journal,
+        stamps,
+        opened: _,
+    } = ended;
+    let promised = acknowledged(&put);
+    assert!(rt; promised <= stamps.len(), "at {moment}");
+    assert!(rt; stamps.len() <= journal.len(), "at {moment}");
+    assert!(rt;
+        journal.len() <= stamps.len().saturating_add(1),
+        "at {moment}"
+    );
+    let mut stopped = store.stop(choice).with_failing(Vec::new(alloc));
+    let found = recovered(rt, alloc, &mut stopped, &journal)?;
+    assert!(rt; promised <= found, "at {moment} by {choice}");
+    Ok(found)
+}
+
 // Stops a run at each of its calls, and once more at each call of the reading behind it.
 fn stop_everywhere(rt: &impl Abort, alloc: Global, script: &str, calls: u64) -> Result<(), Fail> {
-    for moment in OPENING..calls + 1 {
+    for moment in OPENING..calls.saturating_add(1) {
         for choice in CHOICES {
-            let ran = run_failing(alloc, script, moment)?;
-            let promised = acknowledged(&ran.put);
-            let journal = ran.ended.journal;
-            assert!(rt; promised <= ran.ended.stamps.len(), "at {moment}");
-            assert!(rt; ran.ended.stamps.len() <= journal.len(), "at {moment}");
-            assert!(rt;
-                journal.len() <= ran.ended.stamps.len().saturating_add(1),
-                "at {moment}"
-            );
-            let mut store = ran.ended.store.stop(choice).with_failing(Vec::new(alloc));
-            let found = recovered(rt, alloc, &mut store, &journal)?;
-            assert!(rt; promised <= found, "at {moment} by {choice}");
+            let found = stop_at(rt, alloc, script, moment, choice)?;
             for call in 0..3 {
-                let ran = run_failing(alloc, script, moment)?;
-                let stopped = ran.ended.store.stop(choice);
-                let second = stopped.moment().saturating_add(call);
-                let mut store = stopped.with_failing([second].to_vec(alloc)?);
-                let refused = recover(alloc, &mut store).is_err();
-                assert!(rt; refused, "at {moment} and {call}");
-                let mut store = store.stop(choice);
-                let again = recovered(rt, alloc, &mut store, &journal)?;
+                let again = stop_again(rt, alloc, script, moment, choice, call)?;
                 assert_eq!(rt; again, found, "at {moment} and {call}");
             }
         }
