@@ -1,0 +1,6 @@
+pub mod Chosen
+pub mod Untested
+pub mod Numbers
+pub mod Keys
+pub mod Slash
+pub mod Cases

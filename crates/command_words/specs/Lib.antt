@@ -1,0 +1,6 @@
+pub mod Choice
+pub mod Fields
+pub mod Reading
+pub mod Rows
+pub mod Values
+pub mod Words

@@ -1,0 +1,302 @@
+ghost use Rattle.std.specs.Prelude.{◌≡◌, ◌≤◌, ◌^◌, map, unwrap_or, IfSome};
+ghost use Rattle.std.specs.Option.{ForSome};
+ghost use Rattle.std.specs.Option.{option_copied};
+ghost use Rattle.kinds.specs.Answers.{AnswersBy};
+ghost use Rattle.command_words.specs.Fields.{name_of, name_if, path_of, text_of, at_most, number_of, size_of, limit_at, limit_of, size_limit_at, size_limit_of, capacity_of, word_of};
+
+use crate::choice::choose;
+use crate::text::Text;
+use crate::value::{decimal, folds_to_name, is_no_limit, is_path, size};
+use kinds::{Capacity, Day, Days, FilespaceName, Limit, Name, NodeName, Path, Refusal, SizeLimit};
+use std::alloc::Global;
+
+/// A name; STANDARD where none was given.
+pub fn name(alloc: Global, text: Option<&[u8]>) -> Result<Name, Refusal>
+    ensures { AnswersBy (λ n. n) result (name_of 30 (option_copied text.entry)) }
+{
+    match text {
+        Some(text) => {
+            if folds_to_name(text, 30) {
+                Name::read(alloc, text, 30)
+            } else {
+                Name::read(alloc, b"STANDARD", 30)
+            }
+        }
+        None => Name::read(alloc, b"STANDARD", 30),
+    }
+}
+
+/// The name of a node; STANDARD where none was given.
+pub fn node_name(alloc: Global, text: Option<&[u8]>) -> Result<NodeName, Refusal>
+    ensures { AnswersBy (λ n. n) result (name_of 64 (option_copied text.entry)) }
+{
+    match text {
+        Some(text) => {
+            if folds_to_name(text, 64) {
+                NodeName::read(alloc, text, 64)
+            } else {
+                NodeName::read(alloc, b"STANDARD", 64)
+            }
+        }
+        None => NodeName::read(alloc, b"STANDARD", 64),
+    }
+}
+
+/// The name of a node that may be missing.
+pub fn node_name_if(alloc: Global, text: Option<&[u8]>) -> Result<Option<NodeName>, Refusal>
+    ensures { AnswersBy (λ n. n) result (name_if 64 (option_copied text.entry)) }
+{
+    match text {
+        Some(text) => {
+            if folds_to_name(text, 64) {
+                let name = NodeName::read(alloc, text, 64)?;
+                Ok(Some(name))
+            } else {
+                Ok(None)
+            }
+        }
+        None => Ok(None),
+    }
+}
+
+/// A name that may be missing.
+pub fn name_if(alloc: Global, text: Option<&[u8]>) -> Result<Option<Name>, Refusal>
+    ensures { AnswersBy (λ n. n) result (name_if 30 (option_copied text.entry)) }
+{
+    match text {
+        Some(text) => {
+            if folds_to_name(text, 30) {
+                let name = Name::read(alloc, text, 30)?;
+                Ok(Some(name))
+            } else {
+                Ok(None)
+            }
+        }
+        None => Ok(None),
+    }
+}
+
+/// The path of a client file; the shortest one where none was given.
+pub fn path(alloc: Global, text: Option<&[u8]>) -> Result<Path, Refusal>
+    ensures { AnswersBy (λ p. p) result (path_of 1024 (option_copied text.entry)) }
+{
+    match text {
+        Some(text) => {
+            if is_path(text, 1024) {
+                Path::read(alloc, text)
+            } else {
+                Path::read(alloc, b"/")
+            }
+        }
+        None => Path::read(alloc, b"/"),
+    }
+}
+
+/// The name of a filespace; the shortest one where none was given.
+pub fn filespace(alloc: Global, text: Option<&[u8]>) -> Result<FilespaceName, Refusal>
+    ensures { AnswersBy (λ p. p) result (path_of 64 (option_copied text.entry)) }
+{
+    match text {
+        Some(text) => {
+            if is_path(text, 64) {
+                FilespaceName::read(alloc, text)
+            } else {
+                FilespaceName::read(alloc, b"/")
+            }
+        }
+        None => FilespaceName::read(alloc, b"/"),
+    }
+}
+
+/// Any text; empty where none was given.
+pub fn text(alloc: Global, text: Option<&[u8]>) -> Result<Text, Refusal>
+    ensures { AnswersBy (λ t. t) result (text_of (option_copied text.entry)) }
+{
+    match text {
+        Some(text) => {
+            let bytes = Vec::from_slice(alloc, text)?;
+            Ok(Text::new(bytes))
+        }
+        None => Ok(Text::new(Vec::new(alloc))),
+    }
+}
+
+/// A text that may be missing.
+pub fn text_if(alloc: Global, text: Option<&[u8]>) -> Result<Option<Text>, Refusal>
+    ensures { AnswersBy (λ t. t) result (option_copied text.entry) }
+{
+    match text {
+        Some(text) => {
+            let bytes = Vec::from_slice(alloc, text)?;
+            Ok(Some(Text::new(bytes)))
+        }
+        None => Ok(None),
+    }
+}
+
+fn at_most(number: Option<u64>, most: u64) -> Option<u64>
+    ensures value { result ≡ at_most most number }
+    ensures within { IfSome result (λ n. n ≤ most) }
+{
+    match number {
+        Some(n) => { if n <= most { Some(n) } else { None } }
+        None => None,
+    }
+}
+
+/// A number that is at most `most`.
+pub fn number(text: Option<&[u8]>, most: u64) -> Option<u64>
+    ensures value { result ≡ number_of most (option_copied text.entry) }
+    ensures within { IfSome result (λ n. n ≤ most) }
+{
+    match text {
+        Some(text) => at_most(decimal(text, 10), most),
+        None => None,
+    }
+}
+
+/// A percentage.
+pub fn percent(text: Option<&[u8]>) -> Option<u8>
+    ensures { result ≡ number_of 100 (option_copied text.entry) }
+{
+    match number(text, 100) {
+        Some(n) => Some(n as u8),
+        None => None,
+    }
+}
+
+/// A count of at most 9,999.
+pub fn count(text: Option<&[u8]>) -> Option<u16>
+    ensures { result ≡ number_of 9999 (option_copied text.entry) }
+{
+    match number(text, 9999) {
+        Some(n) => Some(n as u16),
+        None => None,
+    }
+}
+
+/// A number of mebibytes, at most 65,536.
+pub fn mebibytes(text: Option<&[u8]>) -> Option<u32>
+    ensures { result ≡ number_of 65536 (option_copied text.entry) }
+{
+    match number(text, 65536) {
+        Some(n) => Some(n as u32),
+        None => None,
+    }
+}
+
+/// A span of days.
+pub fn days(text: Option<&[u8]>) -> Option<Days>
+    ensures { result ≡ number_of 9999 (option_copied text.entry) }
+{
+    match number(text, 9999) {
+        Some(n) => Days::new(n as u16),
+        None => None,
+    }
+}
+
+/// A span of days, or so many where none was given.
+pub fn days_or(text: Option<&[u8]>, otherwise: u16) -> Days
+    requires { otherwise ≤ 9999 }
+    ensures { result ≡ unwrap_or (number_of 9999 (option_copied text.entry)) otherwise }
+{
+    let count = match number(text, 9999) {
+        Some(n) => n as u16,
+        None => otherwise,
+    };
+    Days::new(count).unwrap()
+}
+
+/// A day.
+pub fn day(text: Option<&[u8]>) -> Option<Day>
+    ensures { result ≡ number_of 2147483647 (option_copied text.entry) }
+{
+    match number(text, 2147483647) {
+        Some(n) => Day::new(n as u32),
+        None => None,
+    }
+}
+
+fn limit_at(number: Option<u64>) -> Option<Limit>
+    requires { ForSome number (λ n. n ≤ 9999) }
+    ensures { result ≡ limit_at number }
+{
+    match number {
+        Some(n) => Some(Limit::At(n as u32)),
+        None => None,
+    }
+}
+
+/// A limit of versions or of days.
+pub fn limit(text: Option<&[u8]>) -> Option<Limit>
+    ensures { result ≡ limit_of (option_copied text.entry) }
+{
+    match text {
+        Some(text) => {
+            if is_no_limit(text) {
+                Some(Limit::NoLimit)
+            } else {
+                limit_at(at_most(decimal(text, 10), 9999))
+            }
+        }
+        None => None,
+    }
+}
+
+fn size_limit_at(number: Option<u64>) -> Option<SizeLimit>
+    ensures { result ≡ size_limit_at number }
+{
+    match number {
+        Some(n) => Some(SizeLimit::At(n)),
+        None => None,
+    }
+}
+
+/// A limit of the sizes of objects.
+pub fn size_limit(text: Option<&[u8]>) -> Option<SizeLimit>
+    ensures { result ≡ size_limit_of (option_copied text.entry) }
+{
+    match text {
+        Some(text) => {
+            if is_no_limit(text) {
+                Some(SizeLimit::NoLimit)
+            } else {
+                size_limit_at(size(text))
+            }
+        }
+        None => None,
+    }
+}
+
+/// A size in bytes.
+pub fn bytes(text: Option<&[u8]>) -> Option<u64>
+    ensures { result ≡ size_of (option_copied text.entry) }
+{
+    match text {
+        Some(text) => size(text),
+        None => None,
+    }
+}
+
+/// How many bytes a volume has.
+pub fn capacity(text: Option<&[u8]>) -> Option<Capacity>
+    ensures { result ≡ capacity_of (option_copied text.entry) }
+{
+    match bytes(text) {
+        Some(n) => Capacity::new(n),
+        None => None,
+    }
+}
+
+/// Which of the words a value stands for, by its number.
+pub fn word(text: Option<&[u8]>, words: &[&'static str]) -> Option<usize>
+    ensures { result ≡ word_of (map (λ w. w.now) words.now) (option_copied text.entry) }
+{
+    match text {
+        Some(text) => match choose(0, text, words) {
+            Ok(at) => Some(at),
+            Err(_) => None,
+        },
+        None => None,
+    }
+}

@@ -1,0 +1,19 @@
+//! Reads lines of a command language that is given by a table: the words of a line, which of the words that are possible
+//! at a place is meant, the kinds of values, and the values of a row of the table from left to right. It knows no command.
+#![tactic(auto)]
+
+mod choice;
+pub mod field;
+mod row;
+mod text;
+mod value;
+mod words;
+
+pub use choice::{Titled, choose};
+pub use row::{Given, Need, Place, Slot, row_values, text_at};
+pub use text::Text;
+pub use value::{Kind, Words, decimal, is_no_limit, size, unquoted, valued};
+pub use words::{EQUALS, QUOTE, Word, torn_at, words_of};
+
+#[cfg(test)]
+mod tests;
