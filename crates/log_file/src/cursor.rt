@@ -7,7 +7,8 @@ ghost use Rattle.log_file.specs.Starts.{Opened, Advanced};
 ghost use Rattle.log_file.specs.Windows.{NoDamage};
 
 use crate::found::Record;
-use crate::window::{Window, file_len, settle};
+use crate::reads::{file_len, settle};
+use crate::window::Window;
 use crate::writer::Log;
 use kinds::OpenRefused;
 use std::alloc::Global;

@@ -7,10 +7,12 @@ mod found;
 mod frame;
 pub mod laws;
 mod put;
+mod reads;
 mod window;
 mod writer;
 
 pub use cursor::Records;
 pub use found::Record;
 pub use frame::Framed;
+pub use reads::{file_len, read_piece, settle};
 pub use writer::Log;

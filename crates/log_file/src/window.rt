@@ -9,14 +9,13 @@ ghost use Rattle.log_file.specs.Windows.{IfReads, Onward, NoDamage, HeadIs, Head
 ghost use Rattle.log_file.specs.Starts.{Settled};
 
 use crate::frame::MOST;
+use crate::reads::read_piece;
 use kinds::OpenRefused;
 use std::alloc::{AllocError, Global};
 use std::marker::Model;
-use store_api::{Store, read_within};
+use store_api::Store;
 
 const PIECE: usize = 65_536;
-
-const FULL: u64 = (1 << 62) - (1 << 24);
 
 /// A piece of a file, at most 65,536 bytes, that is held in memory, and the file's length.
 #[derive(Drop)]
@@ -39,55 +38,8 @@ impl Model for Window {
     ghost invariant = { λ w. (w.have ≤ 65536) × (length w.buffer.items ≡ 65536) × (w.from + w.have ≤ w.len) };
 }
 
-/// Refused where the moment is all but the last.
-fn ready<S: Store>(store: &S) -> Result<(), OpenRefused>
-    ensures ok { OnOk result (S.moment_of store.now < 2 ^ 62 - 2 ^ 24) }
-    ensures full { IfErr result (λ refusal. (refusal ≡ RunFull) × (2 ^ 62 - 2 ^ 24 ≤ S.moment_of store.now)) }
-{
-    if store.moment() < FULL {
-        Ok(())
-    } else {
-        Err(OpenRefused::RunFull)
-    }
-}
-
-/// Makes the file durable.
-pub(crate) fn settle<S: Store>(store: &mut S, file: u32) -> Result<(), OpenRefused>
-    ensures told { Told (S.told store.old) (S.told store.new) (Settled file result) }
-    ensures undamaged { IfErr result NoDamage }
-    ensures refused { IfErr result (MayRefuse file (S.faults_of store.old) (S.faults_of store.new) (S.moment_of store.new)) }
-    ensures onward { Onward (S.moment_of store.old) (S.moment_of store.new) (S.faults_of store.old) (S.faults_of store.new) }
-{
-    match ready(store) {
-        Ok(()) => {}
-        Err(refused) => return Err(refused),
-    }
-    match store.sync(file) {
-        Ok(()) => Ok(()),
-        Err(_) => Err(OpenRefused::ReadFault(file)),
-    }
-}
-
-/// The file's length in bytes.
-pub(crate) fn file_len<S: Store>(store: &mut S, file: u32) -> Result<u64, OpenRefused>
-    ensures looked { Told (S.told store.old) (S.told store.new) Looked }
-    ensures undamaged { IfErr result NoDamage }
-    ensures len { IfOk result (λ len. (len < 2 ^ 64) × IfReads (S.told store.old) file (λ bytes. len ≡ length bytes)) }
-    ensures refused { IfErr result (MayRefuse file (S.faults_of store.old) (S.faults_of store.new) (S.moment_of store.new)) }
-    ensures onward { Onward (S.moment_of store.old) (S.moment_of store.new) (S.faults_of store.old) (S.faults_of store.new) }
-{
-    match ready(store) {
-        Ok(()) => {}
-        Err(refused) => return Err(refused),
-    }
-    match store.len(file) {
-        Ok(len) => Ok(len),
-        Err(_) => Err(OpenRefused::ReadFault(file)),
-    }
-}
-
-/// Reads what stands at the place, as much as the buffer holds.
-fn read_piece<S: Store>(
+/// Reads what stands at the place into the buffer, as much as it holds.
+fn read_buffer<S: Store>(
     store: &mut S,
     file: u32,
     at: u64,
@@ -101,14 +53,7 @@ fn read_piece<S: Store>(
     ensures refused { IfErr result (MayRefuse file (S.faults_of store.old) (S.faults_of store.new) (S.moment_of store.new)) }
     ensures onward { Onward (S.moment_of store.old) (S.moment_of store.new) (S.faults_of store.old) (S.faults_of store.new) }
 {
-    match ready(store) {
-        Ok(()) => {}
-        Err(refused) => return Err(refused),
-    }
-    match read_within(store, file, at, into) {
-        Ok(count) => Ok(count),
-        Err(_) => Err(OpenRefused::ReadFault(file)),
-    }
+    read_piece(store, file, at, into)
 }
 
 impl Window {
@@ -154,7 +99,7 @@ impl Window {
         let file = self.file;
         let left = self.len - at;
         self.have = 0;
-        match read_piece(store, file, at, &mut self.buffer) {
+        match read_buffer(store, file, at, &mut self.buffer) {
             Ok(read) => {
                 let have = left.min(read as u64) as usize;
                 if have < need {
