@@ -1,9 +1,12 @@
 -- A record is appended by two writes, each made durable: what stands behind its gate, and the gate.
-use Rattle.std.proofs.Common.{◌≡◌, inl, ℕ, ◌+◌, ◌-◌, ◌<◌, ◌^◌, min, List, [], ◌∷◌, ◌++◌, length, take, drop, Result, Ok, Err, sym, ◌∙◌, ap, subst, arith}
+use Rattle.std.proofs.Common.{◌≡◌, inl, ℕ, ◌+◌, ◌-◌, ◌<◌, ◌^◌, min, List, [], ◌∷◌, ◌++◌, length, take, drop, Option, Result, Ok, Err, sym, ◌∙◌, ap, subst, arith}
+use Rattle.std.proofs.lemmas.List.{take_rest}
 use Rattle.store_api.specs.declared.store.Failed.{Failed}
 use Rattle.store_api.specs.Disk.{History, Leaves, standing, now, ImageAt}
-use Rattle.store_api.specs.Runs.{Firm, EachImage, WroteSynced, WroteWithin}
-use Rattle.store_api.proofs.Runs.{goes_none, goes_then, each_then, each_weaker}
+use Rattle.store_api.specs.Runs.{Firm, EachImage, Synced, WroteSynced, WroteWithin}
+use Rattle.store_api.specs.Told.{Told, Adds, MayWrite}
+use Rattle.store_api.proofs.Ranges.{wrote_adds, wrote_then_synced, wrote_not_synced}
+use Rattle.store_api.proofs.Runs.{goes_none, goes_then, each_then, each_weaker, told_map, told_then}
 use Rattle.log_file.specs.Blocks.{Fits, block, blocks, EndsEither}
 use Rattle.log_file.specs.Sure.{IsSure}
 use Rattle.log_file.specs.Steps.{Appended}
@@ -96,3 +99,23 @@ appended_ok file end payload done again old new a = record { goes = a.goes; sure
 
 pub appended_err : {E F : Type 0} (file end : ℕ) (payload : List ℕ) (failed : E) (refusal : F) (old new : History) → (let result : Result (Unit {0}) E = Err failed in Appended file end payload result old new) → (let other : Result (Unit {0}) F = Err refusal in Appended file end payload other old new)
 appended_err file end payload failed refusal old new a = record { goes = a.goes; sure = tt; since = a.since; left = a.left }
+
+-- The body was written and made durable, or that failed; and then the gate.
+pub body_synced : (x y z : Option History) (file at place : ℕ) (piece bytes : List ℕ) (ok : Unit {0}) (result : Result (Unit {0}) Failed) → (let first : Result (Unit {0}) Failed = Ok ok in Told x y (Adds (MayWrite file place piece first))) → Told y z (Synced file result) → place ≡ min (at + 1) (2 ^ 64 - 1) → piece ≡ take (length bytes - 1) (drop 1 bytes) → Told x z (WroteSynced file (min (at + 1) (2 ^ 64 - 1)) (drop 1 bytes) result)
+body_synced x y z file at place piece bytes ok result first second here is =
+    let done : Result (Unit {0}) Failed = Ok ok in
+    subst (λ n. Told x z (WroteSynced file n (drop 1 bytes) result)) here
+    (subst (λ (l : List ℕ). Told x z (WroteSynced file place l result)) (is ∙ take_rest bytes 1)
+    (told_then x y z (Adds (MayWrite file place piece done)) (Synced file result) (WroteSynced file place piece result) (λ old mid new adds synced. wrote_then_synced file place piece ok result old mid new (wrote_adds file place piece done old mid adds) synced) first second))
+
+pub body_not_written : (x y : Option History) (file at place : ℕ) (piece bytes : List ℕ) (failed : Failed) → (let first : Result (Unit {0}) Failed = Err failed in Told x y (Adds (MayWrite file place piece first))) → place ≡ min (at + 1) (2 ^ 64 - 1) → piece ≡ take (length bytes - 1) (drop 1 bytes) → (let result : Result (Unit {0}) Failed = Err failed in Told x y (WroteSynced file (min (at + 1) (2 ^ 64 - 1)) (drop 1 bytes) result))
+body_not_written x y file at place piece bytes failed first here is =
+    let result : Result (Unit {0}) Failed = Err failed in
+    subst (λ n. Told x y (WroteSynced file n (drop 1 bytes) result)) here
+    (subst (λ (l : List ℕ). Told x y (WroteSynced file place l result)) (is ∙ take_rest bytes 1)
+    (told_map x y (Adds (MayWrite file place piece result)) (WroteSynced file place piece result) (λ old new adds. wrote_not_synced file place piece failed failed old new (wrote_adds file place piece result old new adds)) first))
+
+pub gate_opened : (x y z : Option History) (file at : ℕ) (payload frame : List ℕ) (done : Unit {0}) (result : Result (Unit {0}) Failed) → (let first : Result (Unit {0}) Failed = Ok done in Told x y (WroteSynced file (min (at + 1) (2 ^ 64 - 1)) (drop 1 frame) first)) → Told y z (WroteSynced file at (take 1 frame) result) → frame ≡ block payload ++ 0 ∷ [] → Fits payload → at + length frame < 2 ^ 64 → Told x z (Appended file at payload result)
+gate_opened x y z file at payload frame done result first second is fits small =
+    let body : Result (Unit {0}) Failed = Ok done in
+    told_then x y z (WroteSynced file (min (at + 1) (2 ^ 64 - 1)) (drop 1 frame) body) (WroteSynced file at (take 1 frame) result) (Appended file at payload result) (λ old mid new wrote opened. appended file at payload frame is fits done small old mid new wrote result opened) first second

@@ -7,6 +7,7 @@ use Rattle.store_api.specs.Disk.{History}
 use Rattle.store_api.specs.Runs.{ReadWithin, GoesOn}
 use Rattle.store_api.specs.Told.{Told}
 use Rattle.store_api.proofs.Runs.{told_then, told_map}
+use Rattle.kinds.specs.declared.refusal.Refusal.TheVariants.{NotFound, UnknownWord, DayBack}
 use Rattle.script_loop.specs.declared.ends.Halt.{Halt}
 use Rattle.script_loop.specs.declared.ends.Halt.TheVariants.{LogFault, RunFull, Memory}
 use Rattle.script_loop.specs.Reply.{Answer}
@@ -166,21 +167,21 @@ module _ {S : Type 0} (told : S → Option History) (moment : S → ℕ) (faults
   halted_if server request (Err halt) is = halted_same server request halt is
 
   -- a line of no form
-  pub served_none : (server : Server S) (request : Option Request) (result : Result Answer Halt) → None ≡ request → IfOk result (λ reply. reply ≡ refusal (codes "REFUSED 2 UnknownWord 1")) → IfOk result (λ reply. (bytes : List ℕ) × ServesRequest told moment faults server request bytes reply server)
+  pub served_none : (server : Server S) (request : Option Request) (result : Result Answer Halt) → None ≡ request → IfOk result (λ reply. reply ≡ refusal (UnknownWord 1)) → IfOk result (λ reply. (bytes : List ℕ) × ServesRequest told moment faults server request bytes reply server)
   served_none server request (Err halt) none is = tt
   served_none server request (Ok reply) none is = subst (λ (r : Option Request). (bytes : List ℕ) × ServesRequest told moment faults server r bytes reply server) none ([], served_same server None [] reply is refl tt (λ h. tt) (λ P. tt))
 
   -- a GET that finds nothing
-  pub served_no_file : (server : Server S) (path : List ℕ) (result : Result Answer Halt) → None ≡ newest path server.book.journal → IfOk result (λ reply. reply ≡ refusal (codes "REFUSED 10 NotFound")) → IfOk result (λ reply. (bytes : List ℕ) × ServesRequest told moment faults server (Some (get path)) bytes reply server)
+  pub served_no_file : (server : Server S) (path : List ℕ) (result : Result Answer Halt) → None ≡ newest path server.book.journal → IfOk result (λ reply. reply ≡ refusal NotFound) → IfOk result (λ reply. (bytes : List ℕ) × ServesRequest told moment faults server (Some (get path)) bytes reply server)
   served_no_file server path (Err halt) none is = tt
   served_no_file server path (Ok reply) none is = ([], served_same server (Some (get path)) [] reply (is ∙ ap (λ (o : Option Place). reading o []) none) refl (rw (sym none) tt) (λ h. rw (sym none) tt) (λ P. tt))
 
   -- a DAY before today
-  pub served_day_back : (server : Server S) (number shown : ℕ) (result : Result Answer Halt) → shown ≡ today server.book.journal → number < shown → IfOk result (λ reply. reply ≡ refusal (codes "REFUSED 15 DayBack " ++ (decimal shown ++ (32 ∷ decimal number)))) → IfOk result (λ reply. ServesRequest told moment faults server (Some (day number)) [] reply server)
+  pub served_day_back : (server : Server S) (number shown : ℕ) (result : Result Answer Halt) → shown ≡ today server.book.journal → number < shown → IfOk result (λ reply. reply ≡ refusal (DayBack shown number)) → IfOk result (λ reply. ServesRequest told moment faults server (Some (day number)) [] reply server)
   served_day_back server number shown (Err halt) same less is = tt
   served_day_back server number shown (Ok reply) same less is =
       let test : ltb number (today server.book.journal) ≡ true = lt-ltb number (today server.book.journal) (omega (arith, less, same)) in
-      served_same server (Some (day number)) [] reply (rw test (is ∙ ap (λ (n : ℕ). refusal (codes "REFUSED 15 DayBack " ++ (decimal n ++ (32 ∷ decimal number)))) same)) (rw test refl) tt (λ h. tt) (λ P. tt)
+      served_same server (Some (day number)) [] reply (rw test (is ∙ ap (λ (n : ℕ). refusal (DayBack n number)) same)) (rw test refl) tt (λ h. tt) (λ P. tt)
 
   -- a GET whose answer found no memory
   pub halted_shown : (old new : Server S) (path : List ℕ) (result : Result Answer Halt) → new.book ≡ old.book → Told (told old.store) (told new.store) (GoesOn (λ f. ⊥)) → Later moment faults old.store new.store → IfErr result (λ halt. halt ≡ Memory) → IfErr result (λ halt. HaltsRequest told moment faults old (Some (get path)) halt new)

@@ -6,7 +6,7 @@ use Rattle.store_api.specs.declared.store.Failed.{Failed}
 use Rattle.store_api.specs.Disk.{History, standing, now}
 use Rattle.store_api.specs.Runs.{Stands, Firm, GoesOn, ReadWithin, WroteSynced}
 use Rattle.store_api.specs.Told.{Told}
-use Rattle.store_api.proofs.Runs.{goes_none, goes_then, goes_weaker, each_then, each_weaker}
+use Rattle.store_api.proofs.Runs.{goes_none, goes_then, goes_weaker, each_then, each_weaker, told_map}
 use Rattle.store_api.proofs.Pieces.{firm_beside, firm_since}
 use Rattle.log_file.proofs.Logs.{sure_beside, sure_since}
 use Rattle.script_loop.specs.declared.ends.Halt.{Halt}
@@ -62,6 +62,10 @@ framed_by result at bytes old new some wrote = record {
   kept = λ place piece le firm. wrote.within.firm place piece (inl le) firm;
   since = λ place piece le firm. wrote.within.since place piece (inl le) firm;
 }
+
+-- the same of a store, whether it tells or not
+pub framed_told : (x y : Option History) (result : Result (Unit {0}) Failed) (at : ℕ) (bytes : List ℕ) → 0 < length bytes → Told x y (WroteSynced 4 at bytes result) → Told x y (Framed at bytes result)
+framed_told x y result at bytes some told = told_map x y (WroteSynced 4 at bytes result) (Framed at bytes result) (λ old new wrote. framed_by result at bytes old new some wrote) told
 
 -- nothing was done
 pub files_same : (request : Option Request) (bytes : List ℕ) (journal : List Early) (end : ℕ) (h : History) → PutHas (FirmIn h) request journal → ShowsFrame request journal bytes h → FilesAfter request bytes journal journal end end h h

@@ -2,11 +2,14 @@
 use Rattle.std.specs.Prelude.{ℕ, ◌+◌, ◌-◌, ◌*◌, ◌/◌, nat_lt, if◌then◌else◌, Option, None, Some, List, [], ◌∷◌, ◌++◌, length, take, drop, map, codes, decimal}
 use Rattle.std.specs.List.{range_with_len}
 use Rattle.hex.specs.Hex.{encode_lower}
+use Rattle.kinds.specs.declared.refusal.Refusal.{Refusal}
+use Rattle.kinds.specs.declared.refusal.Refusal.TheVariants.{NotFound, UnknownWord, DayBack}
 use Rattle.script_loop.specs.Reply.{Answer}
 use Rattle.tsm_top.specs.declared.entry.Early.{Early}
 use Rattle.tsm_top.specs.declared.entry.Early.TheVariants.{Day, Put}
 use Rattle.tsm_top.specs.Journal.{today, objects, frames_end, newest, Place}
 use Rattle.tsm_top.specs.Line.{Request, day, put, get}
+use Rattle.tsm_top.specs.Refusals.{refusal_text}
 
 -- the piece of some bytes that the DATA line with this number shows, counted from 0, where a line shows `most` bytes or the rest
 unfoldable pub piece_of : ℕ → List ℕ → ℕ → List ℕ
@@ -32,20 +35,24 @@ shown = 64
 abbrev pub done : List (List ℕ) → Answer
 done texts = record { lines = texts; tally = record { commands = 1; refused = 0; failed = 0 } }
 
--- the answer of a command that was refused
-abbrev pub refusal : List ℕ → Answer
-refusal text = record { lines = text ∷ []; tally = record { commands = 1; refused = 1; failed = 0 } }
+-- the answer of a command that was refused, with this text
+abbrev pub refused_with : List ℕ → Answer
+refused_with text = record { lines = text ∷ []; tally = record { commands = 1; refused = 1; failed = 0 } }
+
+-- the answer of a command that was refused so
+abbrev pub refusal : Refusal → Answer
+refusal why = refused_with (refusal_text why)
 
 -- the answer of a GET that found this file and shows these bytes of it
 abbrev pub reading : Option Place → List ℕ → Answer
-reading None bytes = refusal (codes "REFUSED 10 NotFound")
+reading None bytes = refusal NotFound
 reading (Some place) bytes = done (data_lines shown bytes ++ (codes "OK object=" ++ (decimal place.object ++ (codes " size=" ++ decimal place.size))) ∷ [])
 
 -- The answer to what a line asks, where these entries are in the journal and a GET shows these bytes.
 abbrev pub answer_to : List Early → Option Request → List ℕ → Answer
-answer_to journal None bytes = refusal (codes "REFUSED 2 UnknownWord 1")
+answer_to journal None bytes = refusal (UnknownWord 1)
 answer_to journal (Some (day number)) bytes =
-    if nat_lt number (today journal) then refusal (codes "REFUSED 15 DayBack " ++ (decimal (today journal) ++ (32 ∷ decimal number))) else done (codes "OK reused=0" ∷ [])
+    if nat_lt number (today journal) then refusal (DayBack (today journal) number) else done (codes "OK reused=0" ∷ [])
 answer_to journal (Some (put path mtime text)) bytes = done ((codes "OK object=" ++ decimal (objects journal + 1)) ∷ [])
 answer_to journal (Some (get path)) bytes = reading (newest path journal) bytes
 

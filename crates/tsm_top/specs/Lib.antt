@@ -9,6 +9,7 @@ pub mod Logs
 pub mod Machine
 pub mod Paths
 pub mod Recovery
+pub mod Refusals
 pub mod Serve
 pub mod Server
 pub mod Steps

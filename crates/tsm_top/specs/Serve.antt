@@ -4,12 +4,13 @@ use Rattle.std.specs.Io.KnownBytes.{Appends}
 use Rattle.std.specs.declared.alloc.Global.{Global}
 use Rattle.store_api.specs.Disk.{History}
 use Rattle.store_api.specs.Cause as store
+use Rattle.kinds.specs.declared.refusal.OpenRefused.{OpenRefused}
+use Rattle.kinds.specs.declared.refusal.OpenRefused.TheVariants.{ReadFault, NotFormatted, Damaged, RunFull, Memory}
 use Rattle.script_loop.specs.Ends.{told_number, status_of, DoneAtEnd}
 use Rattle.script_loop.specs.Runs.{Says, IsFront}
 use Rattle.script_loop.specs.declared.ends.End.{End}
 use Rattle.tsm_top.specs.declared.entry.Early.{Early}
-use Rattle.tsm_top.specs.declared.recovery.EarlyRefused.{EarlyRefused}
-use Rattle.tsm_top.specs.declared.recovery.EarlyRefused.TheVariants.{Fault, Damaged, RunFull, Memory}
+use Rattle.tsm_top.specs.Files.{log_number}
 use Rattle.log_file.specs.Safety.{Timely}
 use Rattle.tsm_top.specs.Machine.{Kept, journal_of, Replies, Stops, Stamped, own_end, AllSafe}
 
@@ -17,37 +18,28 @@ use Rattle.tsm_top.specs.Machine.{Kept, journal_of, Replies, Stops, Stamped, own
 abbrev pub IsFresh : List (String Global) → Type 0
 IsFresh words = map string_bytes words ≡ codes "fresh" ∷ []
 
--- How a call ended where it opened no store: the words are no command; the run is full; a call on that file failed; the log is
--- damaged at this place; or memory was wanted.
-pub data Refusal : Type 0 where
-  no_command : Refusal
-  full : Refusal
-  closed : (file : ℕ) → Refusal
-  damaged : (at : ℕ) → Refusal
-  no_memory : Refusal
-
--- how a call ends where the log can't be read
-abbrev pub unopened_by : EarlyRefused → Refusal
-unopened_by (Fault file) = closed file
-unopened_by (Damaged at) = damaged at
-unopened_by RunFull = full
-unopened_by Memory = no_memory
+-- How a call ended where it opened no store: the words are no command; or opening was refused.
+pub data NotOpened : Type 0 where
+  no_command : NotOpened
+  refused_opening : (why : OpenRefused) → NotOpened
 
 -- the exit status
-abbrev pub refusal_status : Refusal → ℕ
-refusal_status no_command = 2
-refusal_status full = 9
-refusal_status (closed file) = 5
-refusal_status (damaged at) = 7
-refusal_status no_memory = 8
+abbrev pub closing_status : NotOpened → ℕ
+closing_status no_command = 2
+closing_status (refused_opening (ReadFault file)) = 5
+closing_status (refused_opening NotFormatted) = 7
+closing_status (refused_opening (Damaged file at)) = 7
+closing_status (refused_opening RunFull) = 9
+closing_status (refused_opening Memory) = 8
 
--- the one line that is put
-abbrev pub refusal_line : Refusal → List ℕ
-refusal_line no_command = codes "USAGE format | run | fresh | restoredb FILE DAY [FILES] | load N\n"
-refusal_line full = codes "RUN FULL\n"
-refusal_line (closed file) = told_number (codes "STORE FAULT ") file
-refusal_line (damaged at) = told_number (codes "DAMAGED 2 ") at
-refusal_line no_memory = codes "MEMORY\n"
+-- the one line that is put; only the log's file, which has number 2, is ever read as damaged
+abbrev pub closing_line : NotOpened → List ℕ
+closing_line no_command = codes "USAGE format | run | fresh | restoredb FILE DAY [FILES] | load N\n"
+closing_line (refused_opening (ReadFault file)) = told_number (codes "STORE FAULT ") file
+closing_line (refused_opening NotFormatted) = codes "NOT FORMATTED\n"
+closing_line (refused_opening (Damaged file at)) = told_number (codes "DAMAGED 2 ") at
+closing_line (refused_opening RunFull) = codes "RUN FULL\n"
+closing_line (refused_opening Memory) = codes "MEMORY\n"
 
 -- The one line was put; or, where the sink's count rose, a front of it, and the status is 4.
 abbrev pub PutsLine : List ℕ → ℕ → ℕ → Option (List ℕ) → Option (List ℕ) → Type 0 → Type 0
@@ -59,27 +51,28 @@ PutsLine line own status before after rose =
 abbrev pub RoseBetween : (ℕ → ℕ) → (ℕ → ℕ) → ℕ → Type 0
 RoseBetween before after file = store.Rose (before file) (after file)
 
--- Why a store isn't opened: the moment came near the last one; that file's count of faults rose; the log is damaged, which it never is
--- over a store that tells its bytes, since it was just begun; or want of memory.
-abbrev pub OpensNot : Refusal → Bool → ℕ → (ℕ → Type 0) → Type 0
+-- Why a store isn't opened: that file's count of faults rose; the log is damaged, which it never is over a store that tells its
+-- bytes, since it was just begun; the moment came near the last one; or want of memory.
+abbrev pub OpensNot : NotOpened → Bool → ℕ → (ℕ → Type 0) → Type 0
 OpensNot no_command tells last rose = ⊥
-OpensNot full tells last rose = 2 ^ 62 - 2 ^ 24 ≤ last
-OpensNot (closed file) tells last rose = rose file
-OpensNot (damaged at) tells last rose = tells ≡ false
-OpensNot no_memory tells last rose = Unit {0}
+OpensNot (refused_opening (ReadFault file)) tells last rose = rose file
+OpensNot (refused_opening NotFormatted) tells last rose = ⊥
+OpensNot (refused_opening (Damaged file at)) tells last rose = (file ≡ log_number) × (tells ≡ false)
+OpensNot (refused_opening RunFull) tells last rose = 2 ^ 62 - 2 ^ 24 ≤ last
+OpensNot (refused_opening Memory) tells last rose = Unit {0}
 
--- The cause of a refusal: the words are no command; the moment at the start is near the last one; or the store isn't opened, and the
+-- The cause of it: the words are no command; the moment at the start is near the last one; or the store isn't opened, and the
 -- moment at the start is none of these.
-abbrev pub HasCauseOf : Refusal → List (String Global) → Bool → ℕ → ℕ → (ℕ → Type 0) → Type 0
-HasCauseOf refusal words tells moment last rose =
-    ((refusal ≡ no_command) × ¬ IsFresh words)
-    ⊎ ((refusal ≡ full) × IsFresh words × (2 ^ 62 - 2 ^ 24 ≤ moment))
-    ⊎ (IsFresh words × (moment < 2 ^ 62 - 2 ^ 24) × OpensNot refusal tells last rose)
+abbrev pub HasCauseOf : NotOpened → List (String Global) → Bool → ℕ → ℕ → (ℕ → Type 0) → Type 0
+HasCauseOf why words tells moment last rose =
+    ((why ≡ no_command) × ¬ IsFresh words)
+    ⊎ ((why ≡ refused_opening RunFull) × IsFresh words × (2 ^ 62 - 2 ^ 24 ≤ moment))
+    ⊎ (IsFresh words × (moment < 2 ^ 62 - 2 ^ 24) × OpensNot why tells last rose)
 
--- Nothing was opened: the refusal has its cause, its one line was put, and the journal is empty.
-pub record Refuses (refusal : Refusal) (words : List (String Global)) (tells : Bool) (moment last : ℕ) (rose : ℕ → Type 0) (before after : Option (List ℕ)) (sink_rose : Type 0) (status : ℕ) (journal : List Early) : Type 0 where
-  pub cause : HasCauseOf refusal words tells moment last rose
-  pub line : PutsLine (refusal_line refusal) (refusal_status refusal) status before after sink_rose
+-- Nothing was opened: it has its cause, its one line was put, and the journal is empty.
+pub record Refuses (why : NotOpened) (words : List (String Global)) (tells : Bool) (moment last : ℕ) (rose : ℕ → Type 0) (before after : Option (List ℕ)) (sink_rose : Type 0) (status : ℕ) (journal : List Early) : Type 0 where
+  pub cause : HasCauseOf why words tells moment last rose
+  pub line : PutsLine (closing_line why) (closing_status why) status before after sink_rose
   pub journal_is : journal ≡ []
 
 -- A script was run. `tells` says whether the store tells its bytes, `rose` of a file that its count of faults rose since the store was

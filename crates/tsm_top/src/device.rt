@@ -14,6 +14,7 @@ pub(crate) const LOG: u32 = 2;
 pub(crate) const FRAMES: u32 = 4;
 
 /// Writes a frame and makes it durable.
+#[tactic(auto, using(crate::proofs::Serving::framed_told))]
 pub(crate) fn put_frame<S: Store>(store: &mut S, at: u64, frame: &[u8]) -> Result<(), Failed>
     requires time { S.moment_of store.old + 2 ≤ 2 ^ 62 }
     requires some { 0 < length frame.now }

@@ -9,11 +9,12 @@ mod line;
 mod lookup;
 mod prepare;
 mod recovery;
+mod refusals;
 mod reply;
 mod server;
 mod text;
 mod top;
 
 pub use entry::Early;
-pub use recovery::{EarlyRefused, recover};
+pub use recovery::recover;
 pub use top::{Ended, USAGE, serve};

@@ -1,11 +1,13 @@
 // The replies to a line. Each fails for want of memory alone.
 ghost use Rattle.std.specs.Prelude.{◌≡◌, ◌<◌, ◌^◌, ◌+◌, ◌++◌, ◌∷◌, [], length, codes, decimal, IfOk, IfErr, Some};
 ghost use Rattle.script_loop.specs.declared.ends.Halt.TheVariants.{Memory};
-ghost use Rattle.tsm_top.specs.Answers.{done, refusal, reading};
+ghost use Rattle.tsm_top.specs.Answers.{done, refused_with, refusal, reading};
 ghost use Rattle.tsm_top.specs.Found.{place_of};
 
 use crate::lookup::Found;
+use crate::refusals::refusal_text;
 use crate::text;
+use kinds::Refusal;
 use script_loop::{Halt, Reply};
 use std::alloc::Global;
 
@@ -36,33 +38,22 @@ pub(crate) fn fixed(alloc: Global, line: &[u8]) -> Result<Reply, Halt>
 }
 
 /// The reply to a command that is refused.
-pub(crate) fn refused(alloc: Global, line: &[u8]) -> Result<Reply, Halt>
-    ensures reply { IfOk result (λ reply. reply ≡ refusal line.now) }
+pub(crate) fn refused(alloc: Global, why: Refusal) -> Result<Reply, Halt>
+    ensures reply { IfOk result (λ reply. reply ≡ refusal why) }
     ensures memory { IfErr result (λ halt. halt ≡ Memory) }
 {
-    match Vec::from_slice(alloc, line) {
-        Ok(line) => refusal(alloc, line),
+    match refusal_text(alloc, &why) {
+        Ok(line) => refused_by(alloc, line),
         Err(_) => Err(Halt::Memory),
     }
 }
 
-fn refusal(alloc: Global, line: Vec<u8>) -> Result<Reply, Halt>
-    ensures reply { IfOk result (λ reply. reply ≡ refusal line.items) }
+fn refused_by(alloc: Global, line: Vec<u8>) -> Result<Reply, Halt>
+    ensures reply { IfOk result (λ reply. reply ≡ refused_with line.items) }
     ensures memory { IfErr result (λ halt. halt ≡ Memory) }
 {
     match Reply::refused(alloc, line) {
         Ok(reply) => Ok(reply),
-        Err(_) => Err(Halt::Memory),
-    }
-}
-
-/// The refusal of a day before today.
-pub(crate) fn day_back(alloc: Global, today: u32, given: u32) -> Result<Reply, Halt>
-    ensures reply { IfOk result (λ reply. reply ≡ refusal (codes "REFUSED 15 DayBack " ++ (decimal today ++ (32 ∷ decimal given)))) }
-    ensures memory { IfErr result (λ halt. halt ≡ Memory) }
-{
-    match text::day_back(alloc, today, given) {
-        Ok(line) => refusal(alloc, line),
         Err(_) => Err(Halt::Memory),
     }
 }

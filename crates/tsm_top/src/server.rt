@@ -12,7 +12,8 @@ use crate::device::{FRAMES, LOG, put_frame, read_frame};
 use crate::entry::Early;
 use crate::line::{Asked, PutAsked, read_line};
 use crate::prepare::{HEADER, entry_record, file_entry, framed, zeros};
-use crate::reply::{day_back, fixed, refused, shown, stored};
+use crate::reply::{fixed, refused, shown, stored};
+use kinds::Refusal;
 use log_file::Log;
 use script_loop::{Answerer, Halt, Reply};
 use std::alloc::Global;
@@ -74,7 +75,8 @@ impl<S: Store> Server<S> {
     {
         let today = self.book.today();
         if number < today {
-            return day_back(alloc, today, number);
+            let given = number;
+            return refused(alloc, Refusal::DayBack { today, given });
         }
         let reply = match fixed(alloc, b"OK reused=0") {
             Ok(reply) => reply,
@@ -132,7 +134,7 @@ impl<S: Store> Server<S> {
     {
         let found = match self.book.newest(path) {
             Some(found) => found,
-            None => return refused(alloc, b"REFUSED 10 NotFound"),
+            None => return refused(alloc, Refusal::NotFound),
         };
         let mut bytes = match zeros(alloc, found.size) {
             Ok(bytes) => bytes,
@@ -156,7 +158,7 @@ impl<S: Store> Answerer for Server<S> {
 
     fn answer(&mut self, alloc: Global, line: &[u8], left: u32) -> Result<Reply, Halt> {
         match read_line(line) {
-            None => refused(alloc, b"REFUSED 2 UnknownWord 1"),
+            None => refused(alloc, Refusal::UnknownWord(1)),
             Some(Asked::Day(number)) => self.set_day(alloc, number),
             Some(Asked::Put(file)) => self.put(alloc, file),
             Some(Asked::Get(path)) => self.get(alloc, path),

@@ -20,13 +20,6 @@ pub(crate) fn read(alloc: Global, object: u64, size: u32) -> Result<Vec<u8>, All
     Ok(text.into_bytes())
 }
 
-pub(crate) fn day_back(alloc: Global, today: u32, given: u32) -> Result<Vec<u8>, AllocError>
-    ensures { IfOk result (λ text. text.items ≡ codes "REFUSED 15 DayBack " ++ (decimal today ++ (32 ∷ decimal given))) }
-{
-    let text = format!(in alloc; "REFUSED 15 DayBack {today} {given}")?;
-    Ok(text.into_bytes())
-}
-
 /// A DATA line of these bytes.
 pub(crate) fn data(alloc: Global, bytes: &[u8]) -> Result<Vec<u8>, AllocError>
     ensures { IfOk result (λ text. text.items ≡ codes "DATA " ++ encode_lower bytes.now) }

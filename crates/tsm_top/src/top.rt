@@ -7,13 +7,14 @@ ghost use Rattle.script_loop.specs.Ends.{SourceCause, SinkCause};
 ghost use Rattle.tsm_top.specs.Logs.{LogHas};
 ghost use Rattle.tsm_top.specs.Server.{IsReady};
 ghost use Rattle.tsm_top.specs.Steps.{Later};
-ghost use Rattle.tsm_top.specs.Serve.{Refusal, unopened_by, refusal_line, refusal_status, OpensNot, Refuses, RoseBetween, PutsLine, RanScript, IsFresh};
+ghost use Rattle.tsm_top.specs.Serve.{NotOpened, refused_opening, closing_line, closing_status, OpensNot, Refuses, RoseBetween, PutsLine, RanScript, IsFresh};
 
 use crate::book::Book;
 use crate::device::LOG;
 use crate::entry::Early;
-use crate::recovery::{EarlyRefused, recover};
+use crate::recovery::recover;
 use crate::server::Server;
+use kinds::OpenRefused;
 use log_file::Log;
 use script_loop::{number_line, run};
 use std::alloc::Global;
@@ -63,7 +64,7 @@ pub fn serve<S: Store, I: Source, O: Sink>(
     out: &mut O,
 ) -> Ended<S>
     // What was put, what is in the journal, and what images of the store give back, by how the call ended.
-    ensures outcome { ((refusal : Refusal) × Refuses refusal words.now (is_some (S.told store)) (S.moment_of store) (S.moment_of result.store) (RoseBetween (S.faults_of store) (S.faults_of result.store)) (O.contents out.old) (O.contents out.new) (RoseIn (O.fault_count out.old) (O.fault_count out.new)) result.status result.journal.items × (script.new ≡ script.old))
+    ensures outcome { ((why : NotOpened) × Refuses why words.now (is_some (S.told store)) (S.moment_of store) (S.moment_of result.store) (RoseBetween (S.faults_of store) (S.faults_of result.store)) (O.contents out.old) (O.contents out.new) (RoseIn (O.fault_count out.old) (O.fault_count out.new)) result.status result.journal.items × (script.new ≡ script.old))
         ⊎ ((end : End) × (opening : S) × IsFresh words.now × (S.moment_of store < 2 ^ 62 - 2 ^ 24)
         × (S.moment_of opening ≡ result.opened) × Later S.moment_of S.faults_of store opening × Later S.moment_of S.faults_of opening result.store
         × RanScript (is_some (S.told store)) (RoseBetween (S.faults_of opening) (S.faults_of result.store)) result.opened (S.moment_of result.store) (S.told result.store) end result.status result.journal.items result.stamps.items (I.left script.old) (I.left script.new) (O.contents out.old) (O.contents out.new)
@@ -126,24 +127,25 @@ fn refused_by<S: Store, O: Sink>(
     alloc: Global,
     store: S,
     out: &mut O,
-    refusal: EarlyRefused,
+    refusal: OpenRefused,
 ) -> Ended<S>
-    ensures line { PutsLine (refusal_line (unopened_by refusal)) (refusal_status (unopened_by refusal)) result.status (O.contents out.old) (O.contents out.new) (RoseIn (O.fault_count out.old) (O.fault_count out.new)) }
+    ensures line { PutsLine (closing_line (refused_opening refusal)) (closing_status (refused_opening refusal)) result.status (O.contents out.old) (O.contents out.new) (RoseIn (O.fault_count out.old) (O.fault_count out.new)) }
     ensures journal { result.journal.items ≡ [] }
     ensures store { result.store ≡ store }
     ensures opened { result.opened ≡ S.moment_of store }
 {
     match refusal {
-        EarlyRefused::Fault(file) => {
+        OpenRefused::ReadFault(file) => {
             let line = number_line(b"STORE FAULT ", file as u64);
             refused(alloc, store, out, 5, line.as_slice())
         }
-        EarlyRefused::Damaged(at) => {
+        OpenRefused::Damaged(_, at) => {
             let line = number_line(b"DAMAGED 2 ", at);
             refused(alloc, store, out, 7, line.as_slice())
         }
-        EarlyRefused::RunFull => refused(alloc, store, out, 9, b"RUN FULL\n"),
-        EarlyRefused::Memory => refused(alloc, store, out, 8, b"MEMORY\n"),
+        OpenRefused::NotFormatted => refused(alloc, store, out, 7, b"NOT FORMATTED\n"),
+        OpenRefused::RunFull => refused(alloc, store, out, 9, b"RUN FULL\n"),
+        OpenRefused::Memory => refused(alloc, store, out, 8, b"MEMORY\n"),
     }
 }
 
@@ -155,8 +157,8 @@ fn open<S: Store, I: Source, O: Sink>(
     out: &mut O,
 ) -> Ended<S>
     requires { S.moment_of store < 2 ^ 62 - 2 ^ 24 }
-    ensures outcome { ((refusal : Refusal) × OpensNot refusal (is_some (S.told store)) (S.moment_of result.store) (RoseBetween (S.faults_of store) (S.faults_of result.store))
-        × PutsLine (refusal_line refusal) (refusal_status refusal) result.status (O.contents out.old) (O.contents out.new) (RoseIn (O.fault_count out.old) (O.fault_count out.new))
+    ensures outcome { ((why : NotOpened) × OpensNot why (is_some (S.told store)) (S.moment_of result.store) (RoseBetween (S.faults_of store) (S.faults_of result.store))
+        × PutsLine (closing_line why) (closing_status why) result.status (O.contents out.old) (O.contents out.new) (RoseIn (O.fault_count out.old) (O.fault_count out.new))
         × (result.journal.items ≡ []) × (script.new ≡ script.old))
         ⊎ ((end : End) × (opening : S)
         × (S.moment_of opening ≡ result.opened) × Later S.moment_of S.faults_of store opening × Later S.moment_of S.faults_of opening result.store
@@ -168,7 +170,7 @@ fn open<S: Store, I: Source, O: Sink>(
     let mut store = store;
     let log = match Log::create(&mut store, LOG) {
         Ok(log) => log,
-        Err(_) => return refused_by(alloc, store, out, EarlyRefused::Fault(LOG)),
+        Err(_) => return refused_by(alloc, store, out, OpenRefused::ReadFault(LOG)),
     };
     match recover(alloc, &mut store) {
         Ok(_) => {}

@@ -1,11 +1,11 @@
-use Rattle.store_api.proofs.Runs.{told_map, told_then}
-use Rattle.log_file.proofs.Appending.{appended, not_appended}
+-- That the gate was written and synced is looked for, and not cited: a body that makes no such call is refused for want of that fact.
+use Rattle.std.proofs.Common.{rules}
+use Rattle.store_api.proofs.Runs.{told_map}
+use Rattle.log_file.proofs.Appending.{gate_opened, not_appended}
 use Rattle.log_file.proofs.put.put_record.Goals as goal
 
 pub returns-in-Ok-clause-told : goal.returns-in-Ok-clause-told
-returns-in-Ok-clause-told g c =
-    told_then _ _ _ _ _ _ (λ old mid new first second. appended c.args.file c.args.at c.args.framed.now c.bytes-bytes.result.now c.bytes-bytes.ensures.bytes c.bytes-bytes.ensures.fits c.in-Ok.field-0 c.in-Ok.ensures.fits old mid new first c.write_synced.result second)
-    c.in-Ok.ensures.told c.write_synced.ensures.told
+returns-in-Ok-clause-told g c = gate_opened _ _ _ c.args.file c.args.at c.args.framed.now c.bytes-bytes.result.now _ _ c.in-Ok.ensures.told (search rules) c.bytes-bytes.ensures.bytes c.bytes-bytes.ensures.fits (search rules)
 
 pub returns-in-Err-clause-told : goal.returns-in-Err-clause-told
 returns-in-Err-clause-told g c =

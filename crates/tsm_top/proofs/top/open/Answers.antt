@@ -1,20 +1,21 @@
 use Rattle.std.proofs.Common.{inl, inr, refl, sym, subst, is_some, arith}
-use Rattle.tsm_top.specs.Serve.{closed, unopened_by, OpensNot, RoseBetween}
+use Rattle.kinds.specs.declared.refusal.OpenRefused.TheVariants.{ReadFault}
+use Rattle.tsm_top.specs.Serve.{refused_opening, OpensNot, RoseBetween}
 use Rattle.tsm_top.proofs.Opening.{empty_again, tell_open, opens_not}
 use Rattle.tsm_top.proofs.top.open.Goals as goal
 
 pub returns-in-Err-clause-outcome : goal.returns-in-Err-clause-outcome
 returns-in-Err-clause-outcome g c =
     let rose = rw (sym c.refused_by.ensures.store) at c.in-Err.ensures.cause.1 in
-    inl (closed 2, rose, c.refused_by.ensures.line, c.refused_by.ensures.journal, refl)
+    inl (refused_opening (ReadFault 2), rose, c.refused_by.ensures.line, c.refused_by.ensures.journal, refl)
 
 pub returns-in-Err-recover-clause-outcome : goal.returns-in-Err-recover-clause-outcome
 returns-in-Err-recover-clause-outcome g c =
     let tells = is_some (g.S.Store.told c.args.store) in
     let refusal = c.in-Err-recover.refusal in
     let opens = opens_not (g.S.Store.told c.args.store) (g.S.Store.told c.create.new.store) c.in-Ok.log c.in-Ok.ensures.told (g.S.Store.told c.recover.new.store) refusal (g.S.Store.moment_of c.recover.new.store) (g.S.Store.faults_of c.args.store) (g.S.Store.faults_of c.create.new.store) (g.S.Store.faults_of c.recover.new.store) c.in-Err-recover.ensures.told c.in-Ok.ensures.counts c.in-Err-recover.ensures.cause in
-    let there = subst (λ s. OpensNot (unopened_by refusal) tells (g.S.Store.moment_of s) (RoseBetween (g.S.Store.faults_of c.args.store) (g.S.Store.faults_of s))) (sym c.refused_by-in-Err-recover.ensures.store) opens in
-    inl (unopened_by refusal, there, c.refused_by-in-Err-recover.ensures.line, c.refused_by-in-Err-recover.ensures.journal, refl)
+    let there = subst (λ s. OpensNot (refused_opening refusal) tells (g.S.Store.moment_of s) (RoseBetween (g.S.Store.faults_of c.args.store) (g.S.Store.faults_of s))) (sym c.refused_by-in-Err-recover.ensures.store) opens in
+    inl (refused_opening refusal, there, c.refused_by-in-Err-recover.ensures.line, c.refused_by-in-Err-recover.ensures.journal, refl)
 
 pub run_script-requires-clause-empty : goal.run_script-requires-clause-empty
 run_script-requires-clause-empty g c =

@@ -6,10 +6,10 @@ use Rattle.tsm_top.specs.Line.{day}
 use Rattle.tsm_top.proofs.server.Server.set_day.Goals as goal
 
 pub returns-then-number-today-clause-served : goal.returns-then-number-today-clause-served
-returns-then-number-today-clause-served g c = served_day_back g.S.Store.told g.S.Store.moment_of g.S.Store.faults_of c.args.self.now c.args.number c.today-today.result c.day_back.result c.today-today.ensures c.if-number-today.true c.day_back.ensures.reply
+returns-then-number-today-clause-served g c = served_day_back g.S.Store.told g.S.Store.moment_of g.S.Store.faults_of c.args.self.now c.args.number c.today-today.result c.refused.result c.today-today.ensures c.if-number-today.true c.refused.ensures.reply
 
 pub returns-then-number-today-clause-halted : goal.returns-then-number-today-clause-halted
-returns-then-number-today-clause-halted g c = halted_if g.S.Store.told g.S.Store.moment_of g.S.Store.faults_of c.args.self.now (Some (day c.args.number)) c.day_back.result c.day_back.ensures.memory
+returns-then-number-today-clause-halted g c = halted_if g.S.Store.told g.S.Store.moment_of g.S.Store.faults_of c.args.self.now (Some (day c.args.number)) c.refused.result c.refused.ensures.memory
 
 pub returns-in-Err-clause-halted : goal.returns-in-Err-clause-halted
 returns-in-Err-clause-halted g c = halted_same g.S.Store.told g.S.Store.moment_of g.S.Store.faults_of c.args.self.now (Some (day c.args.number)) c.in-Err.halt c.in-Err.ensures.memory
