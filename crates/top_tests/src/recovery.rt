@@ -1,16 +1,15 @@
 // Logs that are read back by themselves.
-use kinds::OpenRefused;
 use mem_store::MemStore;
 use std::alloc::Global;
 use std::test::Fail;
 use store_api::Store;
-use tsm_top::{Early, recover};
+use tsm_top::{Early, EarlyRefused, recover};
 
 // What is read of a log of DAY entries alone.
 #[derive(Debug, Drop, PartialEq, Eq)]
 enum Read {
     Days(Vec<u32>),
-    Refused(OpenRefused),
+    Refused(EarlyRefused),
 }
 
 fn log_of(alloc: Global, bytes: &[u8]) -> Result<MemStore, Fail> {
@@ -97,7 +96,7 @@ fn damaged_logs(rt: HostRuntime) -> Result<(), Fail> {
         let mut store = log_of(alloc, bytes)?;
         assert_eq!(rt;
             days_of(alloc, &mut store)?,
-            Read::Refused(OpenRefused::Damaged(2, at))
+            Read::Refused(EarlyRefused::Damaged(at))
         );
     }
     Ok(())
@@ -113,7 +112,7 @@ fn the_longest_record(rt: HostRuntime) -> Result<(), Fail> {
     let mut store = log_of(alloc, &bytes)?;
     assert_eq!(rt;
         days_of(alloc, &mut store)?,
-        Read::Refused(OpenRefused::Damaged(2, 5))
+        Read::Refused(EarlyRefused::Damaged(5))
     );
     Ok(())
 }
@@ -154,7 +153,7 @@ fn reading_fails_at_each_call(rt: HostRuntime) -> Result<(), Fail> {
         let mut store = log_of(alloc, bytes)?.with_failing([moment].to_vec(alloc)?);
         assert_eq!(rt;
             days_of(alloc, &mut store)?,
-            Read::Refused(OpenRefused::ReadFault(2)),
+            Read::Refused(EarlyRefused::Fault(2)),
             "at {moment}"
         );
         assert_eq!(rt; store.faults(2), 1);

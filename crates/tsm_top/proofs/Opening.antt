@@ -4,8 +4,6 @@ use Rattle.store_api.specs.Cause.{NoneFell}
 use Rattle.store_api.specs.Disk.{History, now, reads, ImageAt}
 use Rattle.store_api.specs.Told.{Told}
 use Rattle.kinds.specs.declared.refusal.OpenRefused.{OpenRefused}
-use Rattle.kinds.specs.declared.refusal.OpenRefused.TheVariants.{ReadFault, NotFormatted, Damaged, RunFull, Memory}
-use Rattle.log_file.specs.Cursor.{MayRefuse}
 use Rattle.log_file.specs.Blocks.{block, blocks, LogEnds}
 use Rattle.log_file.specs.Safety.{Timely}
 use Rattle.log_file.specs.Steps.{Created}
@@ -15,11 +13,13 @@ use Rattle.script_loop.specs.Runs.{Says}
 use Rattle.script_loop.specs.Ends.{DoneAtEnd, status_of}
 use Rattle.script_loop.specs.declared.ends.End.{End}
 use Rattle.tsm_top.specs.declared.entry.Early.{Early}
+use Rattle.tsm_top.specs.declared.recovery.EarlyRefused.{EarlyRefused}
+use Rattle.tsm_top.specs.declared.recovery.EarlyRefused.TheVariants.{Fault, Damaged, RunFull, Memory}
 use Rattle.tsm_top.specs.declared.server.Server.{Server}
 use Rattle.tsm_top.specs.Books.{Pages}
 use Rattle.tsm_top.specs.Logs.{LogHas}
 use Rattle.tsm_top.specs.Machine.{AllSafe, Stamped, own_end}
-use Rattle.tsm_top.specs.Recovery.{Recovered, BrokenAt, records_of}
+use Rattle.tsm_top.specs.Recovery.{Recovered, BrokenAt, MayRefuseEarly, records_of}
 use Rattle.tsm_top.specs.Serve.{RanScript, RoseBetween, OpensNot, refused_opening}
 use Rattle.tsm_top.specs.Server.{ServesLine, HaltsLine}
 use Rattle.tsm_top.specs.Steps.{Later}
@@ -86,16 +86,15 @@ module _ (x y : Option History) (log : State) (created : (let result : Result St
   pub tell_open : (z : Option History) (entries : Vec Early Global) → Told y z (Recovered (Ok entries)) → is_some z ≡ is_some x
   tell_open z entries read = tell_same z (Recovered (Ok entries)) read
 
-  never_damaged : (z : Option History) (file at : ℕ) → Told y z (Recovered (Err (Damaged file at))) → is_some x ≡ false
-  never_damaged z file at read =
-      sym (tell_same z (Recovered (Err (Damaged file at))) read)
-      ∙ none_is z (told_goes y z (LogHas [] 0) (λ h. ⊥) (Recovered (Err (Damaged file at))) read begun (λ a b has sure. not_broken (reads a 2) at (sure_reads a 2 [] 0 sure) has.damaged))
+  never_damaged : (z : Option History) (at : ℕ) → Told y z (Recovered (Err (Damaged at))) → is_some x ≡ false
+  never_damaged z at read =
+      sym (tell_same z (Recovered (Err (Damaged at))) read)
+      ∙ none_is z (told_goes y z (LogHas [] 0) (λ h. ⊥) (Recovered (Err (Damaged at))) read begun (λ a b has sure. not_broken (reads a 2) at (sure_reads a 2 [] 0 sure) has.damaged))
 
   -- why a store isn't opened whose log was begun and then not read back
-  pub opens_not : (z : Option History) (refusal : OpenRefused) (last : ℕ) (before mid after : ℕ → ℕ) → Told y z (Recovered (Err refusal)) → NoneFell before mid → MayRefuse 2 mid after last refusal → OpensNot (refused_opening refusal) (is_some x) last (RoseBetween before after)
-  opens_not z (ReadFault file) last before mid after read none cause = omega (arith, none 2, cause.1, none file, cause.0, ap before cause.0, ap mid cause.0, ap after cause.0)
-  opens_not z NotFormatted last before mid after read none cause = cause
-  opens_not z (Damaged file at) last before mid after read none cause = (cause, never_damaged z file at read)
+  pub opens_not : (z : Option History) (refusal : EarlyRefused) (last : ℕ) (before mid after : ℕ → ℕ) → Told y z (Recovered (Err refusal)) → NoneFell before mid → MayRefuseEarly mid after last refusal → OpensNot (refused_opening refusal) (is_some x) last (RoseBetween before after)
+  opens_not z (Fault file) last before mid after read none cause = omega (arith, none 2, cause.1, none file, cause.0, ap before cause.0, ap mid cause.0, ap after cause.0)
+  opens_not z (Damaged at) last before mid after read none cause = never_damaged z at read
   opens_not z RunFull last before mid after read none cause = cause
   opens_not z Memory last before mid after read none cause = tt
 

@@ -4,13 +4,12 @@ use Rattle.std.specs.Io.KnownBytes.{Appends}
 use Rattle.std.specs.declared.alloc.Global.{Global}
 use Rattle.store_api.specs.Disk.{History}
 use Rattle.store_api.specs.Cause as store
-use Rattle.kinds.specs.declared.refusal.OpenRefused.{OpenRefused}
-use Rattle.kinds.specs.declared.refusal.OpenRefused.TheVariants.{ReadFault, NotFormatted, Damaged, RunFull, Memory}
 use Rattle.script_loop.specs.Ends.{told_number, status_of, DoneAtEnd}
 use Rattle.script_loop.specs.Runs.{Says, IsFront}
 use Rattle.script_loop.specs.declared.ends.End.{End}
 use Rattle.tsm_top.specs.declared.entry.Early.{Early}
-use Rattle.tsm_top.specs.Files.{log_number}
+use Rattle.tsm_top.specs.declared.recovery.EarlyRefused.{EarlyRefused}
+use Rattle.tsm_top.specs.declared.recovery.EarlyRefused.TheVariants.{Fault, Damaged, RunFull, Memory}
 use Rattle.log_file.specs.Safety.{Timely}
 use Rattle.tsm_top.specs.Machine.{Kept, journal_of, Replies, Stops, Stamped, own_end, AllSafe}
 
@@ -21,23 +20,21 @@ IsFresh words = map string_bytes words ≡ codes "fresh" ∷ []
 -- How a call ended where it opened no store: the words are no command; or opening was refused.
 pub data NotOpened : Type 0 where
   no_command : NotOpened
-  refused_opening : (why : OpenRefused) → NotOpened
+  refused_opening : (why : EarlyRefused) → NotOpened
 
 -- the exit status
 abbrev pub closing_status : NotOpened → ℕ
 closing_status no_command = 2
-closing_status (refused_opening (ReadFault file)) = 5
-closing_status (refused_opening NotFormatted) = 7
-closing_status (refused_opening (Damaged file at)) = 7
+closing_status (refused_opening (Fault file)) = 5
+closing_status (refused_opening (Damaged at)) = 7
 closing_status (refused_opening RunFull) = 9
 closing_status (refused_opening Memory) = 8
 
 -- the one line that is put; only the log's file, which has number 2, is ever read as damaged
 abbrev pub closing_line : NotOpened → List ℕ
 closing_line no_command = codes "USAGE format | run | fresh | restoredb FILE DAY [FILES] | load N\n"
-closing_line (refused_opening (ReadFault file)) = told_number (codes "STORE FAULT ") file
-closing_line (refused_opening NotFormatted) = codes "NOT FORMATTED\n"
-closing_line (refused_opening (Damaged file at)) = told_number (codes "DAMAGED 2 ") at
+closing_line (refused_opening (Fault file)) = told_number (codes "STORE FAULT ") file
+closing_line (refused_opening (Damaged at)) = told_number (codes "DAMAGED 2 ") at
 closing_line (refused_opening RunFull) = codes "RUN FULL\n"
 closing_line (refused_opening Memory) = codes "MEMORY\n"
 
@@ -55,9 +52,8 @@ RoseBetween before after file = store.Rose (before file) (after file)
 -- bytes, since it was just begun; the moment came near the last one; or want of memory.
 abbrev pub OpensNot : NotOpened → Bool → ℕ → (ℕ → Type 0) → Type 0
 OpensNot no_command tells last rose = ⊥
-OpensNot (refused_opening (ReadFault file)) tells last rose = rose file
-OpensNot (refused_opening NotFormatted) tells last rose = ⊥
-OpensNot (refused_opening (Damaged file at)) tells last rose = (file ≡ log_number) × (tells ≡ false)
+OpensNot (refused_opening (Fault file)) tells last rose = rose file
+OpensNot (refused_opening (Damaged at)) tells last rose = tells ≡ false
 OpensNot (refused_opening RunFull) tells last rose = 2 ^ 62 - 2 ^ 24 ≤ last
 OpensNot (refused_opening Memory) tells last rose = Unit {0}
 

@@ -16,5 +16,5 @@ mod text;
 mod top;
 
 pub use entry::Early;
-pub use recovery::recover;
+pub use recovery::{EarlyRefused, recover};
 pub use top::{Ended, USAGE, serve};

@@ -2,10 +2,9 @@
 ghost use Rattle.std.specs.Prelude.{◌≡◌, ◌≤◌, ◌^◌, ◌-◌, ◌+◌, max, length, IfOk, IfErr, IfSome, IfNone, OnOk, Some, None};
 ghost use Rattle.store_api.specs.Cause.{NoneFell};
 ghost use Rattle.store_api.specs.Told.{Told};
-ghost use Rattle.log_file.specs.Cursor.{MayRefuse};
 ghost use Rattle.tsm_top.specs.EntryForm.{entry_form};
 ghost use Rattle.tsm_top.specs.Logs.{entry_bytes};
-ghost use Rattle.tsm_top.specs.Recovery.{IsForeign, Recovered};
+ghost use Rattle.tsm_top.specs.Recovery.{IsForeign, Recovered, MayRefuseEarly, early_of};
 
 use crate::device::LOG;
 use crate::entry::Early;
@@ -14,6 +13,30 @@ use kinds::OpenRefused;
 use log_file::Records;
 use std::alloc::Global;
 use store_api::Store;
+
+/// Why the entries of a log can't be read.
+#[derive(Clone, Copy, Debug, PartialEq, Eq)]
+pub enum EarlyRefused {
+    /// A call on this file failed.
+    Fault(u32),
+    /// The log is damaged: at this place of its file, in bytes, stands no length of a record, or no entry.
+    Damaged(u64),
+    /// The store's moment is, or came to, 2^62 - 2^24.
+    RunFull,
+    /// Memory was wanted.
+    Memory,
+}
+
+fn refused(refusal: OpenRefused) -> EarlyRefused
+    ensures { result ≡ early_of refusal }
+{
+    match refusal {
+        OpenRefused::ReadFault(file) => EarlyRefused::Fault(file),
+        OpenRefused::Damaged(_, at) => EarlyRefused::Damaged(at),
+        OpenRefused::RunFull => EarlyRefused::RunFull,
+        OpenRefused::NotFormatted | OpenRefused::Memory => EarlyRefused::Memory,
+    }
+}
 
 // The entry that a record is, where it is one.
 #[tactic(auto, unfolding(crate::specs::Logs::entry_bytes))]
@@ -24,19 +47,18 @@ fn entry_of(alloc: Global, payload: &[u8]) -> Result<Option<Early>, Memory>
     decode(alloc, payload)
 }
 
-/// Makes the log's file durable and reads its entries, oldest first, up to the first gate that isn't open. Refused as
-/// `Log::start` is, and with `Damaged` and the place behind its length where a record is no entry; the first damage in the
-/// log's order is the one that is answered.
-pub fn recover<S: Store>(alloc: Global, store: &mut S) -> Result<Vec<Early>, OpenRefused>
+/// Makes the log's file durable and reads its entries, oldest first, up to the first gate that isn't open. The first damage
+/// in the log's order is the one that is answered.
+pub fn recover<S: Store>(alloc: Global, store: &mut S) -> Result<Vec<Early>, EarlyRefused>
     ensures told { Told (S.told store.old) (S.told store.new) (Recovered result) }
-    ensures cause { IfErr result (MayRefuse 2 (S.faults_of store.old) (S.faults_of store.new) (S.moment_of store.new)) }
+    ensures cause { IfErr result (MayRefuseEarly (S.faults_of store.old) (S.faults_of store.new) (S.moment_of store.new)) }
     ensures time { S.moment_of store.new ≤ max (S.moment_of store.old) (2 ^ 62 - 2 ^ 24) }
     ensures later { S.moment_of store.old ≤ S.moment_of store.new }
     ensures counts { NoneFell (S.faults_of store.old) (S.faults_of store.new) }
 {
     let mut records = match Records::open(alloc, store, LOG) {
         Ok(records) => records,
-        Err(refusal) => return Err(refusal),
+        Err(refusal) => return Err(refused(refusal)),
     };
     let mut entries = Vec::new(alloc);
     'records: loop {
@@ -44,13 +66,13 @@ pub fn recover<S: Store>(alloc: Global, store: &mut S) -> Result<Vec<Early>, Ope
             Ok(Some(record)) => match entry_of(alloc, &record.payload) {
                 Ok(Some(entry)) => match entries.push(entry) {
                     Ok(()) => {}
-                    Err(_) => return Err(OpenRefused::Memory),
+                    Err(_) => return Err(EarlyRefused::Memory),
                 },
-                Ok(None) => return Err(OpenRefused::Damaged(LOG, record.at + 5)),
-                Err(_) => return Err(OpenRefused::Memory),
+                Ok(None) => return Err(EarlyRefused::Damaged(record.at + 5)),
+                Err(_) => return Err(EarlyRefused::Memory),
             },
             Ok(None) => return Ok(entries),
-            Err(refusal) => return Err(refusal),
+            Err(refusal) => return Err(refused(refusal)),
         }
     }
 }

@@ -12,9 +12,8 @@ ghost use Rattle.tsm_top.specs.Serve.{NotOpened, refused_opening, closing_line, 
 use crate::book::Book;
 use crate::device::LOG;
 use crate::entry::Early;
-use crate::recovery::recover;
+use crate::recovery::{EarlyRefused, recover};
 use crate::server::Server;
-use kinds::OpenRefused;
 use log_file::Log;
 use script_loop::{number_line, run};
 use std::alloc::Global;
@@ -127,7 +126,7 @@ fn refused_by<S: Store, O: Sink>(
     alloc: Global,
     store: S,
     out: &mut O,
-    refusal: OpenRefused,
+    refusal: EarlyRefused,
 ) -> Ended<S>
     ensures line { PutsLine (closing_line (refused_opening refusal)) (closing_status (refused_opening refusal)) result.status (O.contents out.old) (O.contents out.new) (RoseIn (O.fault_count out.old) (O.fault_count out.new)) }
     ensures journal { result.journal.items ≡ [] }
@@ -135,17 +134,16 @@ fn refused_by<S: Store, O: Sink>(
     ensures opened { result.opened ≡ S.moment_of store }
 {
     match refusal {
-        OpenRefused::ReadFault(file) => {
+        EarlyRefused::Fault(file) => {
             let line = number_line(b"STORE FAULT ", file as u64);
             refused(alloc, store, out, 5, line.as_slice())
         }
-        OpenRefused::Damaged(_, at) => {
+        EarlyRefused::Damaged(at) => {
             let line = number_line(b"DAMAGED 2 ", at);
             refused(alloc, store, out, 7, line.as_slice())
         }
-        OpenRefused::NotFormatted => refused(alloc, store, out, 7, b"NOT FORMATTED\n"),
-        OpenRefused::RunFull => refused(alloc, store, out, 9, b"RUN FULL\n"),
-        OpenRefused::Memory => refused(alloc, store, out, 8, b"MEMORY\n"),
+        EarlyRefused::RunFull => refused(alloc, store, out, 9, b"RUN FULL\n"),
+        EarlyRefused::Memory => refused(alloc, store, out, 8, b"MEMORY\n"),
     }
 }
 
@@ -170,7 +168,7 @@ fn open<S: Store, I: Source, O: Sink>(
     let mut store = store;
     let log = match Log::create(&mut store, LOG) {
         Ok(log) => log,
-        Err(_) => return refused_by(alloc, store, out, OpenRefused::ReadFault(LOG)),
+        Err(_) => return refused_by(alloc, store, out, EarlyRefused::Fault(LOG)),
     };
     match recover(alloc, &mut store) {
         Ok(_) => {}

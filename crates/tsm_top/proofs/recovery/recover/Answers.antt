@@ -1,4 +1,4 @@
-use Rattle.std.proofs.Common.{◌≡◌, ◌++◌, ◌∷◌, [], ◌∙◌, ℕ, List, Option, None, Some, IfSome, IfNone, Ok, ap, sym, subst, arith}
+use Rattle.std.proofs.Common.{◌≡◌, ◌++◌, ◌∷◌, [], ◌∙◌, ℕ, List, Option, None, Some, IfSome, IfNone, Ok, Err, ap, sym, subst, arith}
 use Rattle.std.specs.List.{AllByRecursion}
 use Rattle.store_api.specs.Told.{Told}
 use Rattle.store_api.proofs.Runs.{told_then}
@@ -6,9 +6,10 @@ use Rattle.log_file.specs.declared.found.Record.{Record}
 use Rattle.log_file.specs.Starts.{Advanced}
 use Rattle.log_file.proofs.Starting.{Underway, goes_further, found_at, found_end, found_refusal}
 use Rattle.tsm_top.specs.declared.entry.Early.{Early}
+use Rattle.tsm_top.specs.declared.recovery.EarlyRefused.{EarlyRefused}
 use Rattle.tsm_top.specs.EntryForm.{entry_form}
 use Rattle.tsm_top.specs.Logs.{entry_bytes}
-use Rattle.tsm_top.specs.Recovery.{IsForeign, records_of}
+use Rattle.tsm_top.specs.Recovery.{IsForeign, Recovered, records_of}
 use Rattle.tsm_top.proofs.Recovering.{records-push, fits-push, all_read, not_read, foreign_read, no_memory}
 use Rattle.tsm_top.proofs.recovery.recover.Goals as goal
 
@@ -82,6 +83,6 @@ returns-in-Err-next-clause-told g c =
     let old = g.S.Store.told c.args.store.now in
     let mid = g.S.Store.told c.records.store in
     let new = g.S.Store.told c.next.new.store in
-    told_then old mid new _ _ _ (λ h m n under advanced.
+    subst (λ (refusal : EarlyRefused). Told old new (Recovered (Err refusal))) (sym c.refused-in-Err-next.ensures) (told_then old mid new _ _ _ (λ h m n under advanced.
     let found = found_refusal 2 c.records.records c.next.new.self (records_of c.records.entries.items) h m n under c.in-Err-next.refusal c.next.ensures.file.0 advanced in
-    not_read c.next.new.self c.records.entries inv.fit h n c.in-Err-next.refusal found.0 found.1) inv.under c.in-Err-next.ensures.told
+    not_read c.next.new.self c.records.entries inv.fit h n c.in-Err-next.refusal found.0 found.1) inv.under c.in-Err-next.ensures.told)

@@ -1,5 +1,5 @@
 use Rattle.std.proofs.Common.{inl, inr, refl, sym, subst, is_some, arith}
-use Rattle.kinds.specs.declared.refusal.OpenRefused.TheVariants.{ReadFault}
+use Rattle.tsm_top.specs.declared.recovery.EarlyRefused.TheVariants.{Fault}
 use Rattle.tsm_top.specs.Serve.{refused_opening, OpensNot, RoseBetween}
 use Rattle.tsm_top.proofs.Opening.{empty_again, tell_open, opens_not}
 use Rattle.tsm_top.proofs.top.open.Goals as goal
@@ -7,7 +7,7 @@ use Rattle.tsm_top.proofs.top.open.Goals as goal
 pub returns-in-Err-clause-outcome : goal.returns-in-Err-clause-outcome
 returns-in-Err-clause-outcome g c =
     let rose = rw (sym c.refused_by.ensures.store) at c.in-Err.ensures.cause.1 in
-    inl (refused_opening (ReadFault 2), rose, c.refused_by.ensures.line, c.refused_by.ensures.journal, refl)
+    inl (refused_opening (Fault 2), rose, c.refused_by.ensures.line, c.refused_by.ensures.journal, refl)
 
 pub returns-in-Err-recover-clause-outcome : goal.returns-in-Err-recover-clause-outcome
 returns-in-Err-recover-clause-outcome g c =

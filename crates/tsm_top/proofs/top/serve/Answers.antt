@@ -1,5 +1,5 @@
 use Rattle.std.proofs.Common.{inl, inr, refl, rules}
-use Rattle.kinds.specs.declared.refusal.OpenRefused.TheVariants.{RunFull}
+use Rattle.tsm_top.specs.declared.recovery.EarlyRefused.TheVariants.{RunFull}
 use Rattle.tsm_top.specs.Serve.{refused_opening}
 use Rattle.tsm_top.proofs.top.serve.Goals as goal
 
