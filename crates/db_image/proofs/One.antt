@@ -1,0 +1,130 @@
+-- Which image the bytes of a file have.
+use Rattle.std.proofs.Common.{◌≡◌, ◌≢◌, ◌⊎◌, inl, inr, ℕ, ◌+◌, ◌-◌, ◌<◌, ◌≤◌, ◌^◌, List, [], ◌∷◌, ◌++◌, length, take, drop, refl, sym, ◌∙◌, ap, subst, append_assoc, length-append, arith}
+use Rattle.std.specs.Int.{w64, to_be_bytes, from_be_bytes}
+use Rattle.std.proofs.lemmas.List.{take_at, drop_at, take-append-drop}
+use Rattle.std.proofs.lemmas.Nat.{from_be_bytes-to_be_bytes_8}
+use Rattle.store_api.specs.Disk.{Standing, History, standing, reads, settled, now}
+use Rattle.store_api.specs.Runs.{Stands, Firm, GoesOn, EachImage}
+use Rattle.store_api.proofs.Standings.{firm_settled}
+use Rattle.store_api.proofs.Runs.{goes_standing, each_weaker}
+use Rattle.store_api.proofs.Pieces.{firm_beside, firm_since}
+use Rattle.log_file.specs.Blocks.{IsClosed}
+use Rattle.db_image.specs.declared.mark.Mark.{Mark}
+use Rattle.db_image.specs.declared.mark.Mark.TheVariants.{Server, Backup}
+use Rattle.db_image.specs.declared.phase.Phase.{Phase}
+use Rattle.db_image.specs.declared.phase.Phase.TheVariants.{Begun, Written, Durable, Open, Failed}
+use Rattle.db_image.specs.Images.{mark_bytes, head_bytes, body_bytes, image_bytes, IsNumber, HasImage, IsWrong, DamagedAt, number_in, len_in}
+use Rattle.db_image.specs.Steps.{Job, FirmShut, CanShut, UnderwayAs}
+use Rattle.db_image.proofs.Writing.{length-head_bytes}
+
+bounded : (file number : ℕ) (mark : Mark) → IsNumber mark file number → number < 2 ^ 64
+bounded file number Server is = omega (arith, is.0)
+bounded file number Backup is = omega (arith, is)
+
+-- what stands behind the gate of an image
+marked : (mark : Mark) (number len : ℕ) (more : List ℕ) → take 7 (head_bytes mark number len ++ more) ≡ mark_bytes mark
+unfolding head_bytes
+marked Server number len more = refl
+marked Backup number len more = refl
+
+numbered : (mark : Mark) (number len : ℕ) (more : List ℕ) → number < 2 ^ 64 → number_in (head_bytes mark number len ++ more) ≡ number
+unfolding head_bytes
+numbered Server number len more small = from_be_bytes-to_be_bytes_8 number small
+numbered Backup number len more small = from_be_bytes-to_be_bytes_8 number small
+
+measured : (mark : Mark) (number len : ℕ) (more : List ℕ) → len < 2 ^ 64 → len_in (head_bytes mark number len ++ more) ≡ len
+unfolding head_bytes
+measured Server number len more small = from_be_bytes-to_be_bytes_8 len small
+measured Backup number len more small = from_be_bytes-to_be_bytes_8 len small
+
+-- the parts of an image's bytes
+behind : (file number : ℕ) (mark : Mark) (bytes payload : List ℕ) (has : HasImage file mark bytes number payload) → bytes ≡ 1 ∷ (head_bytes mark number (length payload) ++ (payload ++ has.rest))
+behind file number mark bytes payload has = has.whole ∙ ap (λ (l : List ℕ). 1 ∷ l) (append_assoc (head_bytes mark number (length payload)) payload has.rest)
+
+pub one : (file number other : ℕ) (mark : Mark) (bytes payload others : List ℕ) → HasImage file mark bytes number payload → HasImage file mark bytes other others → (number ≡ other) × (payload ≡ others)
+one file number other mark bytes payload others a b =
+    let x = behind file number mark bytes payload a in
+    let y = behind file other mark bytes others b in
+    let same : head_bytes mark number (length payload) ++ (payload ++ a.rest) ≡ head_bytes mark other (length others) ++ (others ++ b.rest) = ap (drop 1) (sym x ∙ y) in
+    let lens : length payload ≡ length others = sym (measured mark number (length payload) (payload ++ a.rest) a.small) ∙ ap len_in same ∙ measured mark other (length others) (others ++ b.rest) b.small in
+    let after : payload ++ a.rest ≡ others ++ b.rest =
+    sym (drop_at (head_bytes mark number (length payload)) (payload ++ a.rest) 23 (length-head_bytes mark number (length payload))) ∙ ap (drop 23) same ∙ drop_at (head_bytes mark other (length others)) (others ++ b.rest) 23 (length-head_bytes mark other (length others)) in (
+      sym (numbered mark number (length payload) (payload ++ a.rest) (bounded file number mark a.allowed)) ∙ ap number_in same ∙ numbered mark other (length others) (others ++ b.rest) (bounded file other mark b.allowed),
+      sym (take_at payload a.rest (length payload) refl) ∙ ap (take (length payload)) after ∙ take_at others b.rest (length payload) (sym lens),
+    )
+
+pub opened : (file number : ℕ) (mark : Mark) (bytes payload : List ℕ) → HasImage file mark bytes number payload → ¬ IsClosed bytes
+opened file number mark bytes payload has closed = subst IsClosed has.whole closed refl
+
+pub damaged_open : (file at : ℕ) (mark : Mark) (bytes : List ℕ) → DamagedAt file mark bytes at → ¬ IsClosed bytes
+damaged_open file at mark bytes damaged closed = subst IsClosed damaged.whole closed refl
+
+-- an image has nothing wrong in front of its payload
+nothing_wrong : (file number at : ℕ) (mark : Mark) (payload more : List ℕ) → IsNumber mark file number → length payload < 2 ^ 64 →
+    (let rest = head_bytes mark number (length payload) ++ (payload ++ more) in ¬ IsWrong file mark (length rest) rest at)
+nothing_wrong file number at mark payload more allowed small wrong =
+    let rest = head_bytes mark number (length payload) ++ (payload ++ more) in
+    let long : length rest ≡ 23 + (length payload + length more) = omega (arith, length-append (head_bytes mark number (length payload)) (payload ++ more), length-append payload more, length-head_bytes mark number (length payload)) in
+    elim wrong [
+      | inl first ↦ elim first.1 [ inl short ↦ absurd (omega (arith, short, long)) | inr other ↦ other (marked mark number (length payload) (payload ++ more)) ]
+      | inr more_wrong ↦ elim more_wrong [
+        | inl second ↦ elim second.3 [ inl short ↦ absurd (omega (arith, short, long)) | inr none ↦ none (subst (IsNumber mark file) (sym (numbered mark number (length payload) (payload ++ more) (bounded file number mark allowed))) allowed) ]
+        | inr third ↦ elim third.4 [ inl short ↦ absurd (omega (arith, short, long)) | inr past ↦ absurd (omega (arith, past, long, measured mark number (length payload) (payload ++ more) small)) ]
+      ]
+    ]
+
+pub not_damaged : (file number at : ℕ) (mark : Mark) (bytes payload : List ℕ) → HasImage file mark bytes number payload → ¬ DamagedAt file mark bytes at
+not_damaged file number at mark bytes payload has damaged =
+    let same : damaged.rest ≡ head_bytes mark number (length payload) ++ (payload ++ has.rest) = ap (drop 1) (sym damaged.whole ∙ behind file number mark bytes payload has) in
+    nothing_wrong file number at mark payload has.rest has.allowed has.small (subst (λ (r : List ℕ). IsWrong file mark (length r) r at) same damaged.wrong)
+
+-- the first that is wrong is one
+one_wrong : (file left at place : ℕ) (mark : Mark) (rest : List ℕ) → IsWrong file mark left rest at → IsWrong file mark left rest place → at ≡ place
+one_wrong file left at place mark rest (inl a) (inl b) = a.0 ∙ sym b.0
+one_wrong file left at place mark rest (inl a) (inr (inl b)) = absurd (elim a.1 [ inl short ↦ omega (arith, short, b.1) | inr other ↦ other b.2 ])
+one_wrong file left at place mark rest (inl a) (inr (inr b)) = absurd (elim a.1 [ inl short ↦ omega (arith, short, b.1) | inr other ↦ other b.2 ])
+one_wrong file left at place mark rest (inr (inl a)) (inl b) = absurd (elim b.1 [ inl short ↦ omega (arith, short, a.1) | inr other ↦ other a.2 ])
+one_wrong file left at place mark rest (inr (inl a)) (inr (inl b)) = a.0 ∙ sym b.0
+one_wrong file left at place mark rest (inr (inl a)) (inr (inr b)) = absurd (elim a.3 [ inl short ↦ omega (arith, short, b.1) | inr none ↦ none b.3 ])
+one_wrong file left at place mark rest (inr (inr a)) (inl b) = absurd (elim b.1 [ inl short ↦ omega (arith, short, a.1) | inr other ↦ other a.2 ])
+one_wrong file left at place mark rest (inr (inr a)) (inr (inl b)) = absurd (elim b.3 [ inl short ↦ omega (arith, short, a.1) | inr none ↦ none a.3 ])
+one_wrong file left at place mark rest (inr (inr a)) (inr (inr b)) = a.0 ∙ sym b.0
+
+pub one_place : (file at place : ℕ) (mark : Mark) (bytes : List ℕ) → DamagedAt file mark bytes at → DamagedAt file mark bytes place → at ≡ place
+one_place file at place mark bytes a b =
+    let same : b.rest ≡ a.rest = ap (drop 1) (sym b.whole ∙ a.whole) in
+    one_wrong file (length a.rest) at place mark a.rest a.wrong (subst (λ (r : List ℕ). IsWrong file mark (length r) r place) same b.wrong)
+
+pub stands_image : (file number : ℕ) (mark : Mark) (bytes payload : List ℕ) → IsNumber mark file number → length payload < 2 ^ 64 → Stands bytes 0 (image_bytes mark number payload) → HasImage file mark bytes number payload
+stands_image file number mark bytes payload allowed small stands =
+    let image = image_bytes mark number payload in
+    record { rest = drop (length image) bytes; whole = sym (take-append-drop (length image) bytes) ∙ ap (λ (l : List ℕ). l ++ drop (length image) bytes) stands.same; allowed = allowed; small = small }
+
+pub image_settled : (file number : ℕ) (mark : Mark) (bytes payload : List ℕ) → HasImage file mark bytes number payload → Firm (settled bytes) 0 (image_bytes mark number payload)
+image_settled file number mark bytes payload has =
+    let image = image_bytes mark number payload in
+    firm_settled bytes 0 image (record { some = omega arith; same = ap (take (length image)) has.whole ∙ take_at image has.rest (length image) refl })
+
+pub can_shut : (bytes : List ℕ) → CanShut (settled bytes)
+unfolding settled
+can_shut [] = inr refl
+can_shut (first ∷ rest) = inl (first, firm_settled (first ∷ rest) 0 (first ∷ []) (record { some = omega arith; same = refl }))
+
+module _ (theirs : ℕ → Type 0) (old new : History) (goes : GoesOn theirs old new) where
+  shut_beside : (file : ℕ) → ¬ theirs file → FirmShut (standing old file) → FirmShut (standing new file)
+  shut_beside file beside shut = record { gate = shut.gate; closed = shut.closed; firm = firm_beside theirs old new file 0 (shut.gate ∷ []) beside goes shut.firm }
+
+  stands_beside : (file at : ℕ) (piece : List ℕ) → ¬ theirs file → Stands (reads old file) at piece → Stands (reads new file) at piece
+  stands_beside file at piece beside stands = subst (λ (s : Standing). Stands s.bytes at piece) (sym (goes_standing theirs old new file beside goes)) stands
+
+  pub underway_beside : (phase : Phase) (job : Job) → ¬ theirs job.file → UnderwayAs phase job old → UnderwayAs phase job new
+  underway_beside Begun job beside under = subst CanShut (sym (goes_standing theirs old new job.file beside goes)) under
+  underway_beside (Written done) job beside under = (shut_beside job.file beside under.0, stands_beside job.file 1 _ beside under.1)
+  underway_beside Durable job beside under = (shut_beside job.file beside under.0, firm_beside theirs old new job.file 1 (body_bytes job.mark job.number job.payload) beside goes under.1)
+  underway_beside Open job beside under = firm_beside theirs old new job.file 0 (image_bytes job.mark job.number job.payload) beside goes under
+  underway_beside Failed job beside under = tt
+
+  pub image_since : (file number : ℕ) (mark : Mark) (payload : List ℕ) → ¬ theirs file → IsNumber mark file number → length payload < 2 ^ 64 → Firm (standing old file) 0 (image_bytes mark number payload) →
+      EachImage (now old) new (λ image. HasImage file mark (image file) number payload)
+  image_since file number mark payload beside allowed small firm =
+      each_weaker (now old) new _ _ (λ image stands. stands_image file number mark (image file) payload allowed small stands) (firm_since theirs old new file 0 (image_bytes mark number payload) beside goes firm)
