@@ -1,5 +1,5 @@
 -- The words of a line, with their columns and their quotes.
-use Rattle.std.specs.Prelude.{ℕ, ◌+◌, ◌-◌, Bool, true, false, ◌==◌, ◌||◌, ◌++◌, List, [], ◌∷◌, length, take, drop, if◌then◌else◌, Option, Some, None}
+use Rattle.std.specs.Prelude.{ℕ, ◌+◌, ◌-◌, Bool, true, false, ◌==◌, ◌||◌, ◌++◌, List, [], ◌∷◌, take, drop, if◌then◌else◌, Option, Some, None}
 use Rattle.std.specs.Borrow.{Bor}
 use Rattle.command_words.specs.declared.words.Spot.{Spot}
 use Rattle.command_words.specs.declared.words.Spot.TheVariants.{Between, Plain, Equals, Bare, Quoted, Closed, Torn}
