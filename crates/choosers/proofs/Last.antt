@@ -1,7 +1,6 @@
 -- The last rule of a list.
-use Rattle.std.proofs.Common.{◌≡◌, ℕ, suc, ◌+◌, Bool, true, false, List, [], ◌∷◌, ◌++◌, length, Option, Some, None, refl, sym, ap, ◌∙◌, arith}
-use Rattle.std.specs.Prelude.{unwrap_or, if◌then◌else◌}
-use Rattle.std.specs.Option.{option_or}
+use Rattle.std.proofs.Common.{◌≡◌, ℕ, suc, ◌+◌, true, false, List, [], ◌∷◌, ◌++◌, length, Some, refl, ap, ◌∙◌, arith}
+use Rattle.std.specs.Prelude.{unwrap_or}
 use Rattle.choosers.specs.declared.rule.Rule.{Rule}
 use Rattle.choosers.specs.declared.rule.Bound.TheVariants.{Default}
 use Rattle.choosers.specs.Rules.{pattern_of, said_by, said_from, bound_of}

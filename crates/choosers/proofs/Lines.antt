@@ -1,11 +1,11 @@
 -- The lines of a rule file, and what is read of the first.
-use Rattle.std.proofs.Common.{◌≡◌, ◌≢◌, ◌⊎◌, inl, inr, ℕ, zero, suc, ◌+◌, ◌<◌, ◌≤◌, Bool, true, false, List, [], ◌∷◌, ◌++◌, length, take, drop, get_or, Result, Ok, Err, refl, sym, ap, ◌∙◌, append_assoc, append-nil, arith}
-use Rattle.std.specs.Prelude.{if◌then◌else◌}
+use Rattle.std.proofs.Common.{◌≡◌, ◌≢◌, ℕ, zero, suc, ◌+◌, ◌<◌, ◌≤◌, List, [], ◌∷◌, ◌++◌, length, take, drop, get_or, Result, Ok, Err, refl, sym, ap, ◌∙◌, append_assoc, append-nil, arith}
 use Rattle.std.proofs.lemmas.Bool.{eq-eqb, ne_eqb}
 use Rattle.kinds.specs.declared.refusal.Refusal.{Refusal}
 use Rattle.path_patterns.specs.Patterns.{glued}
 use Rattle.choosers.specs.declared.rule.Rule.{Rule}
-use Rattle.choosers.specs.RuleText.{◌>>=◌, without_return, rules_at, lines, lines_left, rules_from, behind}
+use Rattle.command_words.specs.Reading.{◌>>=◌}
+use Rattle.choosers.specs.RuleText.{without_return, rules_at, lines, lines_left, rules_from, behind}
 
 pub lines_cut : (n : ℕ) (bytes : List ℕ) → n ≤ length bytes → ((k : ℕ) → k < n → get_or bytes k 0 ≢ 10) → (n < length bytes → get_or bytes n 0 ≡ 10) →
     lines bytes ≡ take n bytes ∷ lines_left (drop n bytes)

@@ -1,7 +1,7 @@
 -- The text of a rule file: its lines, and the rule of each.
-use Rattle.std.specs.Prelude.{◌≡◌, ◌⊎◌, ℕ, ◌+◌, ◌-◌, Bool, true, false, ◌==◌, ◌&&◌, ◌||◌, nat_le, nat_eq, List, [], ◌∷◌, ◌++◌, length, take, drop, codes, slice_index, if◌then◌else◌, Option, Some, None, Result, Ok, Err}
+use Rattle.std.specs.Prelude.{◌≡◌, ◌⊎◌, ℕ, ◌+◌, ◌-◌, Bool, ◌==◌, ◌&&◌, ◌||◌, nat_le, nat_eq, List, [], ◌∷◌, ◌++◌, length, take, codes, slice_index, if◌then◌else◌, Option, Some, None, Result, Ok, Err}
 use Rattle.std.specs.List.{list_all, starts_with, ends_with}
-use Rattle.std.specs.Str.{byte, str_to_ascii_uppercase}
+use Rattle.std.specs.Str.{str_to_ascii_uppercase}
 use Rattle.kinds.specs.declared.refusal.Refusal.{Refusal}
 use Rattle.kinds.specs.declared.refusal.Refusal.TheVariants.{Syntax, UnknownWord, BadValue, Memory}
 use Rattle.kinds.specs.Names.{is_name}
@@ -10,36 +10,28 @@ use Rattle.choosers.specs.declared.rule.Rule.{Rule}
 use Rattle.choosers.specs.declared.rule.Rule.TheVariants.{Include, Exclude}
 use Rattle.choosers.specs.declared.rule_text.Verb.{Verb}
 use Rattle.choosers.specs.declared.rule_text.Verb.TheVariants.{Including, Excluding}
-use Rattle.choosers.specs.Words.{Word, is_blank, words, torn_at, unquoted, begins}
-
--- what is read next, where what stands before it was read; else the refusal that was met there
-infixl 10 ◌>>=◌
-abbrev pub ◌>>=◌ : {A B : Type 0} → Result A Refusal → (A → Result B Refusal) → Result B Refusal
-(Ok x) >>= f = f x
-(Err e) >>= f = Err e
-
--- what was read, seen by `view`, is what is said, or memory is wanted
-abbrev pub Reads : {A B : Type 0} → (A → B) → Result A Refusal → Result B Refusal → Type 0
-Reads view (Ok x) said = said ≡ Ok (view x)
-Reads view (Err e) said = (e ≡ Memory) ⊎ (said ≡ Err e)
+use Rattle.command_words.specs.Reading.{◌>>=◌}
+use Rattle.command_words.specs.Choice.{begins}
+use Rattle.command_words.specs.Values.{unquoted}
+use Rattle.command_words.specs.Words.{Word, is_blank, words_behind, torn_at}
 
 -- which of the two words a rule begins with
 abbrev pub verb_at : Word → Result Verb Refusal
 verb_at w =
-    if begins (codes "INCLUDE") w.text then Ok Including else (if begins (codes "EXCLUDE") w.text then Ok Excluding else Err (UnknownWord w.place))
+    if begins (codes "INCLUDE") w.text then Ok Including else (if begins (codes "EXCLUDE") w.text then Ok Excluding else Err (UnknownWord w.column))
 
 -- the pattern that a word is
 abbrev pub pattern_at : Word → Result (List ℕ) Refusal
-pattern_at w = if is_pattern (unquoted w.text) then Ok (unquoted w.text) else Err (BadValue w.place)
+pattern_at w = if is_pattern (unquoted w.text) then Ok (unquoted w.text) else Err (BadValue w.column)
 
 -- the name of a management class that a word is, in upper case
 abbrev pub class_at : Word → Result (List ℕ) Refusal
-class_at w = if is_name 30 (str_to_ascii_uppercase (unquoted w.text)) then Ok (str_to_ascii_uppercase (unquoted w.text)) else Err (BadValue w.place)
+class_at w = if is_name 30 (str_to_ascii_uppercase (unquoted w.text)) then Ok (str_to_ascii_uppercase (unquoted w.text)) else Err (BadValue w.column)
 
 -- no word may follow
 abbrev pub ends : {A : Type 0} → List Word → A → Result A Refusal
 ends [] x = Ok x
-ends (w ∷ ws) x = Err (Syntax w.place)
+ends (w ∷ ws) x = Err (Syntax w.column)
 
 -- a class may follow, and then nothing
 abbrev pub class_of : List Word → Result (Option (List ℕ)) Refusal
@@ -72,7 +64,7 @@ sound_rule None end ws = rule_of end ws
 
 -- the rule of a line that begins behind `first` bytes of its file
 unfoldable pub rule_at : ℕ → List ℕ → Result Rule Refusal
-rule_at first line = sound_rule (torn_at (words first line)) (first + length line + 1) (words first line)
+rule_at first line = sound_rule (torn_at (words_behind first line)) (first + length line + 1) (words_behind first line)
 
 -- there are only spaces and tabs in the line
 abbrev pub is_blank_line : List ℕ → Bool

@@ -1,14 +1,18 @@
 //! Include-exclude lists: which files a client sends, and under which management class.
 //!
 //! The rules stand in a list, and the last rule whose pattern matches a path decides. An INCLUDE rule binds the path to
-//! its class, or to the default class where it names none; an EXCLUDE rule leaves the path out.
+//! its class, or to the default class where it names none or one that the node's active policy set doesn't have; an EXCLUDE
+//! rule leaves the path out.
 #![tactic(auto)]
 
+mod binder;
+mod classes;
 mod matching;
 mod rule;
 mod rule_text;
-mod words;
 
+pub use binder::Binder;
+pub use classes::Classes;
 pub use matching::match_rules;
 pub use path_patterns::Pattern;
 pub use rule::{Bound, Rule};

@@ -29,7 +29,8 @@ pub enum Bound {
 }
 
 impl Rule {
-    ghost use Rattle.choosers.specs.Rules.{pattern_of, said_by};
+    ghost use Rattle.std.specs.Option.{option_copied};
+    ghost use Rattle.choosers.specs.Rules.{pattern_of, class_named, said_by};
 
     /// The pattern of the paths that the rule is for.
     pub fn pattern(&self) -> &Pattern
@@ -38,6 +39,16 @@ impl Rule {
         match self {
             Rule::Include { pattern, .. } => pattern,
             Rule::Exclude { pattern } => pattern,
+        }
+    }
+
+    /// The management class that the rule names, where it names one.
+    pub fn class(&self) -> Option<&Name>
+        ensures { option_copied result ≡ class_named self.now }
+    {
+        match self {
+            Rule::Include { class, .. } => class.as_ref(),
+            Rule::Exclude { .. } => None,
         }
     }
 

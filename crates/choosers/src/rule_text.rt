@@ -2,11 +2,12 @@
 
 ghost use Rattle.std.specs.Prelude.{◌≡◌, ◌+◌, ◌-◌, ◌<◌, ◌≤◌, ◌^◌, ◌≢◌, ℕ, length, map, slice_index, ◌∷◌};
 ghost use Rattle.kinds.specs.Answers.{Answers};
-ghost use Rattle.choosers.specs.Words.{word_view};
-ghost use Rattle.choosers.specs.RuleText.{Reads, Adds, verb_at, pattern_at, class_at, class_of, include_of, exclude_of, rule_behind, rule_of, rule_at, is_blank_line, is_comment, without_return, rules_at, lines, lines_left, rules_of};
+ghost use Rattle.command_words.specs.Reading.{Reads};
+ghost use Rattle.command_words.specs.Words.{word_view};
+ghost use Rattle.choosers.specs.RuleText.{Adds, verb_at, pattern_at, class_at, class_of, include_of, exclude_of, rule_behind, rule_of, rule_at, is_blank_line, is_comment, without_return, rules_at, lines, lines_left, rules_of};
 
 use crate::rule::Rule;
-use crate::words::{Word, begins, is_blank, torn_at, unquoted, words_of};
+use command_words::{Word, begins, is_blank, torn_at, unquoted, words_behind};
 use kinds::{Name, Refusal};
 use path_patterns::Pattern;
 use std::alloc::Global;
@@ -121,7 +122,7 @@ fn rule_at(alloc: Global, first: u32, line: &[u8]) -> Result<Rule, Refusal>
     requires { first + length line.now < 2 ^ 32 - 1 }
     ensures { Answers result (rule_at first line.now) }
 {
-    let words = words_of(alloc, first, line)?;
+    let words = words_behind(alloc, first, line)?;
     match torn_at(words.as_slice()) {
         Some(place) => Err(Refusal::Syntax(place)),
         None => rule_of(alloc, first + line.len() as u32 + 1, words.as_slice()),

@@ -1,6 +1,8 @@
 use super::*;
-use kinds::Refusal;
+use kinds::{Name, Refusal};
+use policy_domains::PolicySet;
 use std::alloc::Global;
+use std::collections::BTreeMap;
 use std::test::Fail;
 
 /// The rules of a short text.
@@ -71,6 +73,34 @@ fn what_a_rule_file_says(rt: HostRuntime) -> Result<(), Fail> {
             assert!(rt; pattern.as_bytes() == b"/var/a b".as_slice());
         }
         _ => return Err("another second rule".into()),
+    }
+    Ok(())
+}
+
+/// A policy set with one class, of this name.
+fn set_with(alloc: Global, class: &[u8]) -> Result<PolicySet, Fail> {
+    let mut classes = BTreeMap::new(alloc);
+    classes.insert(Name::read(alloc, class, 30)?, None)?;
+    Ok(PolicySet::from_parts(None, classes))
+}
+
+#[test]
+fn a_path_is_bound_to_a_class_of_the_set(rt: HostRuntime) -> Result<(), Fail> {
+    let text = "INCLUDE /a* BIG\nINCLUDE /b* SMALL\nINCLUDE /c*\nEXCLUDE /d*\n";
+    let binder = Binder::new(read(rt.alloc(), text).ok().ok_or("no rules")?);
+    let set = set_with(rt.alloc(), b"BIG")?;
+    let standard = Name::read(rt.alloc(), b"STANDARD", 30)?;
+    let table = [
+        ("/a", Some("BIG")),
+        ("/b", Some("STANDARD")),
+        ("/c", Some("STANDARD")),
+        ("/d", None),
+        ("/e", Some("STANDARD")),
+    ];
+    for row in table.iter() {
+        let class = binder.class_of(row.0.as_bytes(), &set, &standard);
+        let text = class.map(|name| name.as_bytes());
+        assert!(rt; text == row.1.map(|name| name.as_bytes()), "{}", row.0);
     }
     Ok(())
 }

@@ -4,3 +4,5 @@ pub mod Numbers
 pub mod Keys
 pub mod Slash
 pub mod Cases
+pub mod Fitting
+pub mod Keyed

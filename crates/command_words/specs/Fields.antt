@@ -1,5 +1,5 @@
 -- What the text of a value means, and what stands where no value was given.
-use Rattle.std.specs.Prelude.{ℕ, nat_le, List, [], codes, if◌then◌else◌, Option, Some, None, Result, Ok, Err}
+use Rattle.std.specs.Prelude.{◌≡◌, ℕ, IsSome, nat_le, List, [], codes, if◌then◌else◌, Option, Some, None, Result, Ok, Err}
 use Rattle.std.specs.Str.{str_to_ascii_uppercase}
 use Rattle.kinds.specs.declared.refusal.Refusal.{Refusal}
 use Rattle.kinds.specs.declared.rule.Limit.{Limit}
@@ -11,6 +11,10 @@ use Rattle.kinds.specs.Pools.{is_capacity}
 use Rattle.kinds.specs.Paths.{is_path}
 use Rattle.command_words.specs.Choice.{choose}
 use Rattle.command_words.specs.Values.{decimal, size, is_no_limit}
+
+-- a value was read, and it is what its text spells
+abbrev pub IsSpelled : {A : Type 0} → Option A → Option A → Type 0
+IsSpelled read spelled = (read ≡ spelled) × IsSome read
 
 -- a name of at most `most` characters in upper case; STANDARD where none was given
 abbrev pub name_of : ℕ → Option (List ℕ) → List ℕ
@@ -60,7 +64,11 @@ abbrev pub limit_at : Option ℕ → Option Limit
 limit_at None = None
 limit_at (Some n) = Some (At n)
 
--- the limit of versions or days that a value is
+-- the limit of versions or days that a text spells
+abbrev pub limit_spelled : List ℕ → Option Limit
+limit_spelled text = if is_no_limit text then Some NoLimit else limit_at (decimal 10 text)
+
+-- the limit of versions or days that a value is, where it is one of at most 9,999
 abbrev pub limit_of : Option (List ℕ) → Option Limit
 limit_of None = None
 limit_of (Some text) = if is_no_limit text then Some NoLimit else limit_at (at_most 9999 (decimal 10 text))
@@ -69,10 +77,14 @@ abbrev pub size_limit_at : Option ℕ → Option SizeLimit
 size_limit_at None = None
 size_limit_at (Some n) = Some (sizes.At n)
 
+-- the limit of a size that a text spells
+abbrev pub size_limit_spelled : List ℕ → Option SizeLimit
+size_limit_spelled text = if is_no_limit text then Some sizes.NoLimit else size_limit_at (size text)
+
 -- the limit of a size that a value is
 abbrev pub size_limit_of : Option (List ℕ) → Option SizeLimit
 size_limit_of None = None
-size_limit_of (Some text) = if is_no_limit text then Some sizes.NoLimit else size_limit_at (size text)
+size_limit_of (Some text) = size_limit_spelled text
 
 abbrev pub chosen : Result ℕ Refusal → Option ℕ
 chosen (Ok at) = Some at

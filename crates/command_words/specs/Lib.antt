@@ -4,3 +4,4 @@ pub mod Reading
 pub mod Rows
 pub mod Values
 pub mod Words
+pub mod Fit

@@ -6,7 +6,7 @@ use Rattle.kinds.specs.declared.refusal.Refusal.{Refusal}
 use Rattle.kinds.specs.declared.refusal.Refusal.TheVariants.{Syntax}
 use Rattle.command_words.specs.declared.value.Kind.{Kind}
 use Rattle.command_words.specs.declared.row.Need.{Need}
-use Rattle.command_words.specs.declared.row.Need.TheVariants.{Optional, Required, OneSide, AnySide}
+use Rattle.command_words.specs.declared.row.Need.TheVariants.{Required, OneSide, AnySide}
 use Rattle.command_words.specs.declared.words.TheConstants.{QUOTE, EQUALS}
 use Rattle.command_words.specs.Choice.{choose}
 use Rattle.command_words.specs.Reading.{◌>>=◌}

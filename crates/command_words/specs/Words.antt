@@ -1,12 +1,12 @@
 -- The words of a line, with their columns and their quotes.
-use Rattle.std.specs.Prelude.{ℕ, ◌+◌, ◌-◌, Bool, true, false, ◌==◌, ◌||◌, ◌++◌, List, [], ◌∷◌, length, take, drop, if◌then◌else◌, Option, Some, None}
+use Rattle.std.specs.Prelude.{ℕ, ◌+◌, ◌-◌, Bool, true, false, ◌==◌, ◌||◌, ◌++◌, List, [], ◌∷◌, take, drop, if◌then◌else◌, Option, Some, None}
 use Rattle.std.specs.Borrow.{Bor}
 use Rattle.command_words.specs.declared.words.Spot.{Spot}
 use Rattle.command_words.specs.declared.words.Spot.TheVariants.{Between, Plain, Equals, Bare, Quoted, Closed, Torn}
 use Rattle.command_words.specs.declared.words.TheConstants.{QUOTE, EQUALS, SPACE, TAB}
 
--- a word of a line: the column of its first byte, counted from 1, its bytes with their quotes, and whether the quotes are
--- closed and end the word
+-- a word of a line: the column of its first byte, counted from 1, or its place in a file; its bytes with their quotes; and
+-- whether the quotes are closed and end the word
 pub record Word : Type 0 where
   pub column : ℕ
   pub text : List ℕ
@@ -47,23 +47,27 @@ is_sound Quoted = false
 is_sound Torn = false
 is_sound s = true
 
--- the word that ends before place `at` of the line, where one began at `start`
-abbrev pub ended : List ℕ → Spot → ℕ → ℕ → List Word
-ended line spot start at =
-    if is_between spot then [] else record { column = start + 1; text = take (at - start) (drop start line); sound = is_sound spot } ∷ []
+-- the word that ends before byte `at` of a line that begins behind `first` bytes of its file, where one began at `start`
+abbrev pub ended : ℕ → List ℕ → Spot → ℕ → ℕ → List Word
+ended first line spot start at =
+    if is_between spot then [] else record { column = first + start + 1; text = take (at - start) (drop start line); sound = is_sound spot } ∷ []
 
--- the words that end at place `at` of the line or behind it, where these bytes are left, and a word began at `start` if the
+-- the words that end at byte `at` of the line or behind it, where these bytes are left, and a word began at `start` if the
 -- byte before stands in one
-abbrev pub words_from : List ℕ → Spot → ℕ → ℕ → List ℕ → List Word
-words_from line spot start at [] = ended line spot start at
-words_from line spot start at (b ∷ bs) =
+abbrev pub words_from : ℕ → List ℕ → Spot → ℕ → ℕ → List ℕ → List Word
+words_from first line spot start at [] = ended first line spot start at
+words_from first line spot start at (b ∷ bs) =
     if is_between (spot_after spot b)
-    then ended line spot start at ++ words_from line (spot_after spot b) start (at + 1) bs
-    else words_from line (spot_after spot b) (if is_between spot then at else start) (at + 1) bs
+    then ended first line spot start at ++ words_from first line (spot_after spot b) start (at + 1) bs
+    else words_from first line (spot_after spot b) (if is_between spot then at else start) (at + 1) bs
+
+-- the words of a line that begins behind `first` bytes of its file
+abbrev pub words_behind : ℕ → List ℕ → List Word
+words_behind first line = words_from first line Between 0 0 line
 
 -- the words of a line
 abbrev pub words : List ℕ → List Word
-words line = words_from line Between 0 0 line
+words line = words_behind 0 line
 
 -- the column of the first word whose quotes are open, or that goes on behind them
 abbrev pub torn_at : List Word → Option ℕ

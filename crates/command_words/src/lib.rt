@@ -9,11 +9,11 @@ mod text;
 mod value;
 mod words;
 
-pub use choice::{Titled, choose};
+pub use choice::{Titled, begins, choose};
 pub use row::{Given, Need, Place, Slot, row_values, text_at};
 pub use text::Text;
 pub use value::{Kind, Words, decimal, is_no_limit, size, unquoted, valued};
-pub use words::{EQUALS, QUOTE, Word, torn_at, words_of};
+pub use words::{EQUALS, QUOTE, Word, is_blank, torn_at, words_behind, words_of};
 
 #[cfg(test)]
 mod tests;

@@ -1,9 +1,10 @@
-ghost use Rattle.std.specs.Prelude.{◌≡◌, ◌<◌, ◌≤◌, ◌==◌, length, map, drop, slice_index, [], IfOk, IfSome, is_some};
+ghost use Rattle.std.specs.Prelude.{◌≡◌, ◌<◌, ◌≤◌, ◌==◌, length, map, drop, slice_index, [], IfOk, IfSome, IsTrue, is_some};
 ghost use Rattle.std.specs.List.{position_from};
 ghost use Rattle.std.specs.Option.{option_copied};
 ghost use Rattle.command_words.specs.Reading.{Says, Reads};
 ghost use Rattle.command_words.specs.Words.{word_view};
 ghost use Rattle.command_words.specs.Rows.{place_view, slot_view, given_view, text_at, equals_at, is_for_place, place_taken, places_from, side_of, are_apart, are_opposed, settles, is_settled, is_needed, is_complete, slot_value, key_value, keyword, keywords_from, row_values};
+ghost use Rattle.command_words.specs.Fit.{PlacesFit, KeywordsFit, SidesApart};
 
 use crate::choice::choose;
 use crate::value::{Kind, Words, unquoted, valued};
@@ -292,7 +293,15 @@ pub fn row_values<'a>(
     end: u32,
     words: &[Word<'a>],
 ) -> Result<(Vec<Given<'a>>, Vec<Given<'a>>), Refusal>
-    ensures { Reads (λ r. (map given_view r.0.items, map given_view r.1.items)) result (row_values (map place_view places.now) (map slot_view slots.now) end (map word_view words.now)) }
+    ensures value { Reads (λ r. (map given_view r.0.items, map given_view r.1.items)) result (row_values (map place_view places.now) (map slot_view slots.now) end (map word_view words.now)) }
+
+    // What was given is a value of its kind, and what must be there was given.
+    ensures places_fit { IfOk result (λ r. PlacesFit (map place_view places.now) (map given_view r.0.items)) }
+    ensures keywords_fit { IfOk result (λ r. KeywordsFit (map slot_view slots.now) (map given_view r.1.items)) }
+
+    // Of the sides of a row, all of one was given where one must be, and nothing of two.
+    ensures complete { IfOk result (λ r. IsTrue (is_complete (map slot_view slots.now) (map given_view r.1.items) 0 (map slot_view slots.now))) }
+    ensures apart { IfOk result (λ r. SidesApart (map slot_view slots.now) (map given_view r.1.items)) }
 {
     let (given, used) = read_places(alloc, places, end, words)?;
     let keys = read_keywords(alloc, slots, end, &words[used..])?;

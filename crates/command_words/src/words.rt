@@ -1,5 +1,5 @@
 ghost use Rattle.std.specs.Prelude.{◌≡◌, ◌+◌, ◌-◌, ◌<◌, ◌≤◌, ◌^◌, ◌++◌, length, map, IfOk, OnOk};
-ghost use Rattle.command_words.specs.Words.{word_view, is_blank, spot_in_word, spot_after, is_between, is_sound, ended, words, torn_at};
+ghost use Rattle.command_words.specs.Words.{word_view, is_blank, spot_in_word, spot_after, is_between, is_sound, ended, words_behind, words, torn_at};
 
 use std::alloc::{AllocError, Global};
 
@@ -13,8 +13,8 @@ const SPACE: u8 = b' ';
 
 const TAB: u8 = b'\t';
 
-/// A word of a line: the column of its first byte, counted from 1; its bytes with their quotes; and whether its quotes are
-/// closed and end the word.
+/// A word of a line: the column of its first byte, counted from 1, or its place in a file of several lines; its bytes with
+/// their quotes; and whether its quotes are closed and end the word.
 pub type Word<'a> = (u32, &'a [u8], bool);
 
 /// Where a byte of a line stands.
@@ -36,7 +36,8 @@ pub enum Spot {
     Torn,
 }
 
-fn is_blank(byte: u8) -> bool
+/// Whether a byte separates words.
+pub fn is_blank(byte: u8) -> bool
     ensures { result ≡ is_blank byte }
 {
     byte == SPACE || byte == TAB
@@ -112,27 +113,33 @@ fn is_sound(spot: Spot) -> bool
 /// Adds the word that ends before place `at` of the line, if one does.
 fn end_word<'a>(
     words: &mut Vec<Word<'a>>,
+    first: u32,
     line: &'a [u8],
     spot: Spot,
     start: usize,
     at: usize,
 ) -> Result<(), AllocError>
-    requires short { length line.now < 2 ^ 32 - 1 }
+    requires short { first + length line.now < 2 ^ 32 - 1 }
     requires ordered { start ≤ at }
     requires inside { at ≤ length line.now }
-    ensures { OnOk result (map word_view words.new.items ≡ map word_view words.old.items ++ ended line.now spot start at) }
+    ensures { OnOk result (map word_view words.new.items ≡ map word_view words.old.items ++ ended first line.now spot start at) }
 {
     if is_between(spot) {
         return Ok(());
     }
-    words.push((start as u32 + 1, &line[start..at], is_sound(spot)))?;
+    words.push((first + start as u32 + 1, &line[start..at], is_sound(spot)))?;
     Ok(())
 }
 
-/// The words of a line of fewer than 2^32 - 1 bytes.
-pub fn words_of<'a>(alloc: Global, line: &'a [u8]) -> Result<Vec<Word<'a>>, AllocError>
-    requires { length line.now < 2 ^ 32 - 1 }
-    ensures { IfOk result (λ found. map word_view found.items ≡ words line.now) }
+/// The words of a line that begins behind `first` bytes of its file, each with its place in the file, counted from 1. The
+/// line ends before byte 2^32 - 1 of the file.
+pub fn words_behind<'a>(
+    alloc: Global,
+    first: u32,
+    line: &'a [u8],
+) -> Result<Vec<Word<'a>>, AllocError>
+    requires { first + length line.now < 2 ^ 32 - 1 }
+    ensures { IfOk result (λ found. map word_view found.items ≡ words_behind first line.now) }
 {
     let mut words = Vec::new(alloc);
     let mut spot = Spot::Between;
@@ -140,14 +147,22 @@ pub fn words_of<'a>(alloc: Global, line: &'a [u8]) -> Result<Vec<Word<'a>>, Allo
     'bytes: for (at, byte) in line.iter().enumerate() {
         let next = spot_after(spot, *byte);
         if is_between(next) {
-            end_word(&mut words, line, spot, start, at)?;
+            end_word(&mut words, first, line, spot, start, at)?;
         } else if is_between(spot) {
             start = at;
         }
         spot = next;
     }
-    end_word(&mut words, line, spot, start, line.len())?;
+    end_word(&mut words, first, line, spot, start, line.len())?;
     Ok(words)
+}
+
+/// The words of a line of fewer than 2^32 - 1 bytes.
+pub fn words_of<'a>(alloc: Global, line: &'a [u8]) -> Result<Vec<Word<'a>>, AllocError>
+    requires { length line.now < 2 ^ 32 - 1 }
+    ensures { IfOk result (λ found. map word_view found.items ≡ words line.now) }
+{
+    words_behind(alloc, 0, line)
 }
 
 /// The column of the first word whose quotes are open, or that goes on behind them.

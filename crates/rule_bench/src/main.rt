@@ -2,7 +2,7 @@
 //! are of both, and how the paths were bound.
 #![tactic(auto)]
 
-use choosers::{Bound, Rule, match_rules, read_rules};
+use choosers::{Binder, Bound, read_rules};
 use std::alloc::Global;
 use std::{env, io};
 
@@ -42,8 +42,8 @@ fn path(number: u32) -> [u8; 31] {
     path
 }
 
-/// The rules; none for want of memory.
-fn rules(alloc: Global) -> Option<Vec<Rule>> {
+/// A binder by these rules; none for want of memory.
+fn binder(alloc: Global) -> Option<Binder> {
     let mut text = Vec::new(alloc);
     for number in 0..RULES {
         text.extend_from_slice(&line(number)).ok()?;
@@ -51,7 +51,7 @@ fn rules(alloc: Global) -> Option<Vec<Rule>> {
     if text.len() > 1 << 20 {
         return None;
     }
-    read_rules(alloc, text.as_slice()).ok()
+    read_rules(alloc, text.as_slice()).ok().map(Binder::new)
 }
 
 /// How many paths were bound by a rule, by default, and not at all.
@@ -74,14 +74,14 @@ impl Counts {
 }
 
 /// Binds so many paths.
-fn bind(rules: &[Rule], paths: u32) -> Counts {
+fn bind(binder: &Binder, paths: u32) -> Counts {
     let mut counts = Counts {
         by_rule: 0,
         default: 0,
         excluded: 0,
     };
     for number in 0..paths {
-        counts.add(match_rules(rules, &path(number)));
+        counts.add(binder.bind(&path(number)));
     }
     counts
 }
@@ -93,12 +93,12 @@ fn main(rt: HostRuntime) -> io::Result<()> {
         .next()
         .and_then(|word| word.as_str().parse::<u32>().ok())
         .unwrap_or(USUAL_PATHS);
-    match rules(rt.alloc()) {
-        Some(rules) => {
-            let counts = bind(&rules, paths);
+    match binder(rt.alloc()) {
+        Some(binder) => {
+            let counts = bind(&binder, paths);
             println!(rt;
                 "{paths} paths, {} rules: {} by a rule, {} by default, {} left out",
-                rules.len(),
+                binder.rules().len(),
                 counts.by_rule,
                 counts.default,
                 counts.excluded

@@ -1,5 +1,4 @@
 use Rattle.std.proofs.Common.{sym, ap, ◌∙◌}
-use Rattle.choosers.specs.Rules.{pattern_of, said_by}
 use Rattle.path_patterns.specs.Patterns.{is_match}
 use Rattle.choosers.proofs.Last.{bound_last, bound_front, bound_none}
 use Rattle.choosers.proofs.matching.match_rules.Goals as goal

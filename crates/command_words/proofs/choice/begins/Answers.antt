@@ -1,4 +1,4 @@
-use Rattle.std.proofs.Common.{sym, ◌∙◌, arith}
+use Rattle.std.proofs.Common.{sym}
 use Rattle.command_words.proofs.Chosen.{begins_short}
 use Rattle.command_words.proofs.choice.begins.Goals as goal
 

@@ -1,5 +1,4 @@
-use Rattle.std.proofs.Common.{◌≡◌, refl, sym, ◌∙◌, map, Some, None}
-use Rattle.command_words.specs.Choice.{choice}
+use Rattle.std.proofs.Common.{refl, sym, ◌∙◌, map, Some, None}
 use Rattle.command_words.proofs.Cases.{choose_case}
 use Rattle.command_words.proofs.Chosen.{chosen, not_single}
 use Rattle.command_words.proofs.choice.choose.Goals as goal

@@ -3,10 +3,10 @@ use Rattle.std.specs.Option.{option_copied}
 use Rattle.command_words.proofs.Slash.{slash_1024, slash_when_none, slash_when_other}
 use Rattle.command_words.proofs.field.path.Goals as goal
 
-pub returns-else-is_path : goal.returns-else-is_path
-returns-else-is_path c =
+pub returns-else-is_path-clause-value : goal.returns-else-is_path-clause-value
+returns-else-is_path-clause-value c =
     slash_when_other 1024 (option_copied c.args.text) c.in-Some.text.now c.read-else-is_path.result (ap option_copied c.in-Some.is) c.if-is_path.ensures slash_1024 c.read-else-is_path.ensures
 
-pub returns-in-None : goal.returns-in-None
-returns-in-None c =
+pub returns-in-None-clause-value : goal.returns-in-None-clause-value
+returns-in-None-clause-value c =
     slash_when_none 1024 (option_copied c.args.text) c.read-in-None.result (ap option_copied c.in-None.is) slash_1024 c.read-in-None.ensures

@@ -1,4 +1,4 @@
-use Rattle.std.proofs.Common.{arith, ◌≤◌, ◌<◌, ◌+◌, ◌-◌, ◌*◌, get_or, length}
+use Rattle.std.proofs.Common.{arith, ◌≤◌, ◌-◌, get_or, length}
 use Rattle.command_words.proofs.Numbers.{digit_fits}
 use Rattle.command_words.proofs.value.decimal.Goals as goal
 
