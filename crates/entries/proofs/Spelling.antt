@@ -1,0 +1,10 @@
+-- What spells an entry.
+use Rattle.std.proofs.Common.{◌≡◌, ℕ, List, Option, Some, None}
+use Rattle.std.specs.Prelude.{IfNone}
+use Rattle.entries.specs.EntryForm.{entry, Spells}
+use Rattle.entries.specs.declared.entry.Entry.{Entry}
+
+-- where no entry that fits has the bytes as its spelling, they spell none
+pub none_spelled : (o : Option Entry) (bytes : List ℕ) → IfNone o ((e : Entry) → entry.Fits e → bytes ≡ entry.spell e → ⊥) → IfNone o ((e : Entry) → Spells bytes e → ⊥)
+none_spelled None bytes h = λ e s. h e s.0 s.1
+none_spelled (Some x) bytes h = tt
