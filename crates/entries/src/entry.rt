@@ -50,7 +50,7 @@ impl Fitting for Entry {
 }
 
 impl Entry {
-    /// The entry's spelling, in at most 2^24 bytes. `RecordFull` exactly where it has more.
+    /// The entry's spelling, in at most 2^24 bytes. Where it has more the answer is `RecordFull`, or that memory ran out.
     pub fn encode(&self, alloc: Global) -> Result<Vec<u8>, Refusal>
         ensures fits { entry.Fits self.now }
         ensures spelled { IfOk result (λ v. v.items ≡ entry.spell self.now) }

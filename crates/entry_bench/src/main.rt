@@ -2,19 +2,15 @@
 //! can be timed against each other. It prints how many bytes were made or read.
 #![tactic(auto)]
 
-use change_items::{NewVersion, NewVersions};
-use changes::Change;
 use entries::Entry;
-use fields::Items;
-use kinds::{Digest, Name, Path, Segment, Segments};
-use std::alloc::Global;
+use std::alloc::{AllocError, Global};
 use std::{env, io};
 
 /// How many times it is done where no number is given.
 const USUAL_COUNT: u32 = 4;
 
 /// A path of 40 bytes: a slash and 39 hexadecimal digits that this number scatters.
-fn spell(number: u32) -> [u8; 40] {
+fn path(number: u32) -> [u8; 40] {
     let digits = b"0123456789abcdef";
     let mut rest = (number as u64).wrapping_mul(0x9e37_79b9_7f4a_7c15);
     let mut text = [b'/'; 40];
@@ -25,57 +21,59 @@ fn spell(number: u32) -> [u8; 40] {
     text
 }
 
-fn version(alloc: Global, number: u32) -> Option<NewVersion> {
-    let segment = Segment {
-        file: 4,
-        offset: 4096,
-        len: 1000,
-    };
-    Some(NewVersion {
-        path: Path::read(alloc, spell(number).as_slice()).ok()?,
-        class: Name::read(alloc, b"STANDARD", 30).ok()?,
-        size: 1000,
-        mtime: 7,
-        digest: Digest([7; 32]),
-        object: number as u64,
-        pool: 1,
-        segments: Segments::new([segment].to_vec(alloc).ok()?),
-    })
+/// The spelling of a new version, 128 bytes: its path; its class STANDARD, its size and time; its digest; its object, pool and segment.
+fn put_version(out: &mut Vec<u8>, number: u32) -> Result<(), AllocError> {
+    out.extend_from_slice(b"\0\x28")?;
+    out.extend_from_slice(path(number).as_slice())?;
+    out.extend_from_slice(b"\0\x08STANDARD\0\0\x03\xe8\0\0\0\0\0\0\0\x07")?;
+    out.extend_from_slice(&[7; 32])?;
+    out.extend_from_slice(b"\0\0\0\0\0\0\0\x01\0\0\0\x01\0\0\0\x01")?;
+    out.extend_from_slice(b"\0\0\0\x04\0\0\0\0\0\0\x10\0\0\0\x03\xe8")?;
+    Ok(())
 }
 
-/// A transaction of 256 new versions; none for want of memory.
-fn entry(alloc: Global) -> Option<Entry> {
-    let mut versions = Vec::new(alloc);
+/// The spelling of a transaction of 256 new versions: 17 bytes, and the versions.
+fn spelling(alloc: Global) -> Result<Vec<u8>, AllocError> {
+    let mut out = Vec::from_slice(alloc, b"\0\0\0\x01\x0c\0\0\0\x01\0\0\0\0\0\0\x01\0")?;
     for number in 0..256 {
-        versions.push(version(alloc, number)?).ok()?;
+        put_version(&mut out, number)?;
     }
-    if versions.len() > 256 {
-        return None;
-    }
-    Some(Entry {
-        actor: 1,
-        change: Change::Backup(NewVersions {
-            filespace: 1,
-            scratch: Items::new(alloc),
-            items: Items::from_vec(versions),
-        }),
-    })
+    Ok(out)
+}
+
+/// How many bytes the entry is encoded in; none for want of memory.
+fn encoded(alloc: Global, entry: &Entry) -> Option<u64> {
+    let bytes = entry.encode(alloc).ok()?;
+    Some(bytes.len() as u64)
 }
 
 fn encode(alloc: Global, entry: &Entry, count: u32) -> Option<u64> {
     let mut total = 0u64;
     for _ in 0..count {
-        let bytes = entry.encode(alloc).ok()?;
-        total = total.wrapping_add(bytes.len() as u64);
+        total = total.wrapping_add(encoded(alloc, entry)?);
     }
     Some(total)
+}
+
+fn encode_what_is_read(alloc: Global, bytes: &[u8], count: u32) -> Option<u64> {
+    match Entry::decode(alloc, bytes) {
+        Ok(Some(entry)) => encode(alloc, &entry, count),
+        _ => None,
+    }
+}
+
+/// How many bytes were an entry's spelling; none where they are no entry's, or for want of memory.
+fn decoded(alloc: Global, bytes: &[u8]) -> Option<u64> {
+    match Entry::decode(alloc, bytes) {
+        Ok(Some(_entry)) => Some(bytes.len() as u64),
+        _ => None,
+    }
 }
 
 fn decode(alloc: Global, bytes: &[u8], count: u32) -> Option<u64> {
     let mut total = 0u64;
     for _ in 0..count {
-        let _entry = Entry::decode(alloc, bytes).ok()??;
-        total = total.wrapping_add(bytes.len() as u64);
+        total = total.wrapping_add(decoded(alloc, bytes)?);
     }
     Some(total)
 }
@@ -90,10 +88,9 @@ fn copy(alloc: Global, bytes: &[u8], count: u32) -> Option<u64> {
 }
 
 fn run(alloc: Global, kind: &str, count: u32) -> Option<u64> {
-    let entry = entry(alloc)?;
-    let bytes = entry.encode(alloc).ok()?;
+    let bytes = spelling(alloc).ok()?;
     match kind {
-        "encode" => encode(alloc, &entry, count),
+        "encode" => encode_what_is_read(alloc, &bytes, count),
         "decode" => decode(alloc, &bytes, count),
         _ => copy(alloc, &bytes, count),
     }

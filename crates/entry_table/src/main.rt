@@ -38,19 +38,24 @@ fn is_spelled_so(alloc: Global, entry: &Entry, bytes: &[u8]) -> Result<bool, Ref
     Ok(spelled.as_slice() == bytes && copied.as_slice() == bytes)
 }
 
-/// What the bytes are, in words.
-fn answer(alloc: Global, bytes: &[u8]) -> Result<String, Refusal> {
-    let Some(entry) = Entry::decode(alloc, bytes)? else {
-        return Ok(String::from_str(alloc, "no entry")?);
-    };
-    let mut words = show(alloc, &entry)?;
-    if !is_spelled_so(alloc, &entry, bytes)? {
+/// What the entry changes, and whether its bytes are wrong.
+fn words_of(alloc: Global, entry: &Entry, bytes: &[u8]) -> Result<String, Refusal> {
+    let mut words = show(alloc, entry)?;
+    if !is_spelled_so(alloc, entry, bytes)? {
         words.push_str(", SPELLED OTHERWISE")?;
     }
     if has_entry_in_front(alloc, bytes)? {
         words.push_str(", BEHIND ANOTHER")?;
     }
     Ok(words)
+}
+
+/// What the bytes are.
+fn answer(alloc: Global, bytes: &[u8]) -> Result<String, Refusal> {
+    match Entry::decode(alloc, bytes)? {
+        None => Ok(String::from_str(alloc, "no entry")?),
+        Some(entry) => words_of(alloc, &entry, bytes),
+    }
 }
 
 fn main(rt: HostRuntime) -> io::Result<()> {

@@ -1,11 +1,11 @@
 //! The words of an entry: what it changes, and each field by its name.
 use change_items::{
-    DiscardedVersions, DroppedCopies, MovedCopies, NamedVersions, NewCopies, NewVersion,
-    NewVersions, Rebindings, Scratch,
+    DiscardReason, DiscardedVersion, DiscardedVersions, DropReason, DroppedCopies, DroppedCopy,
+    MovedCopies, NamedVersions, NewCopies, NewVersion, NewVersions, Rebindings, Scratch,
 };
 use changes::Change;
 use entries::Entry;
-use kinds::{Digest, ObjectChange, PolicyChange, PoolChange, Segments};
+use kinds::{Day, Digest, ObjectChange, PolicyChange, PoolChange, Segments};
 use std::alloc::{AllocError, Global};
 
 /// A byte outside printable ASCII as `%` and two hexadecimal digits.
@@ -237,36 +237,65 @@ fn show_copies(out: &mut String, copies: &NewCopies) -> Result<(), AllocError> {
     Ok(())
 }
 
+fn show_drop_reason(out: &mut String, reason: &DropReason) -> Result<(), AllocError> {
+    match reason {
+        DropReason::Audit { file } => write!(out, "audit of file {file}"),
+        DropReason::Volume { file } => write!(out, "volume in file {file}"),
+    }
+}
+
+fn show_dropped_copy(out: &mut String, copy: &DroppedCopy) -> Result<(), AllocError> {
+    let object = copy.object;
+    let pool = copy.pool;
+    let placed = copy.placed;
+    write!(out, "; object {object} pool {pool} placed {placed}")?;
+    show_digest(out, &copy.found)
+}
+
 fn show_dropped(out: &mut String, copies: &DroppedCopies) -> Result<(), AllocError> {
-    let reason = copies.reason;
-    write!(out, "drop copies {reason:?}")?;
+    out.push_str("drop copies, ")?;
+    show_drop_reason(out, &copies.reason)?;
     for item in copies.items.as_slice() {
-        let object = item.object;
-        let pool = item.pool;
-        let placed = item.placed;
-        write!(out, "; object {object} pool {pool} placed {placed}")?;
-        show_digest(out, &item.found)?;
+        show_dropped_copy(out, item)?;
     }
     Ok(())
 }
 
+fn show_discard_reason(out: &mut String, reason: &DiscardReason) -> Result<(), AllocError> {
+    match reason {
+        DiscardReason::Audit { file } => write!(out, "audit of file {file}"),
+        DiscardReason::Volume { file } => write!(out, "volume in file {file}"),
+        DiscardReason::Filespace { filespace } => write!(out, "filespace {filespace}"),
+    }
+}
+
+fn show_discarded_version(out: &mut String, version: &DiscardedVersion) -> Result<(), AllocError> {
+    let object = version.object;
+    write!(out, "; object {object}")?;
+    show_digest(out, &version.found)
+}
+
 fn show_discarded(out: &mut String, versions: &DiscardedVersions) -> Result<(), AllocError> {
-    let reason = versions.reason;
-    write!(out, "discard {reason:?}")?;
+    out.push_str("discard, ")?;
+    show_discard_reason(out, &versions.reason)?;
     for item in versions.items.as_slice() {
-        let object = item.object;
-        write!(out, "; object {object}")?;
-        show_digest(out, &item.found)?;
+        show_discarded_version(out, item)?;
     }
     Ok(())
+}
+
+fn show_day(out: &mut String, day: &Day) -> Result<(), AllocError> {
+    let number = day.number();
+    write!(out, "day {number}")
+}
+
+fn show_file(out: &mut String, what: &str, file: &u32) -> Result<(), AllocError> {
+    write!(out, "{what}, file {file}")
 }
 
 fn show_change(out: &mut String, change: &Change) -> Result<(), AllocError> {
     match change {
-        Change::Day { day } => {
-            let number = day.number();
-            write!(out, "day {number}")
-        }
+        Change::Day { day } => show_day(out, day),
         Change::Policy(policy) => show_policy(out, policy),
         Change::Object(object) => show_object(out, object),
         Change::Pool(pool) => show_pool(out, pool),
@@ -278,10 +307,10 @@ fn show_change(out: &mut String, change: &Change) -> Result<(), AllocError> {
         Change::DropCopies(copies) => show_dropped(out, copies),
         Change::Expire(versions) => show_named(out, "expire", versions),
         Change::Discard(versions) => show_discarded(out, versions),
-        Change::Reuse { file } => write!(out, "reuse file {file}"),
-        Change::DbBegin { file } => write!(out, "backup of the database begins, file {file}"),
-        Change::DbEnd { file } => write!(out, "backup of the database ends, file {file}"),
-        Change::DbDelete { file } => write!(out, "backup of the database goes, file {file}"),
+        Change::Reuse { file } => show_file(out, "reuse", file),
+        Change::DbBegin { file } => show_file(out, "a database backup begins", file),
+        Change::DbEnd { file } => show_file(out, "a database backup is whole", file),
+        Change::DbDelete { file } => show_file(out, "a database backup goes", file),
     }
 }
 
