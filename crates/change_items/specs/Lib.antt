@@ -1,0 +1,3 @@
+pub mod BatchForms
+pub mod ItemForms
+pub mod ReasonForms

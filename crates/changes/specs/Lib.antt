@@ -1,0 +1,5 @@
+pub mod ChangeForm
+pub mod NodeTags
+pub mod PolicyTags
+pub mod PoolTags
+pub mod Tables

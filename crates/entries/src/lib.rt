@@ -1,0 +1,14 @@
+//! Transactions, and their bytes both ways.
+//!
+//! A transaction is an `Entry`: who makes it, and one change of the server's database. `Entry::encode` gives its one
+//! spelling, and `Entry::decode` the entry whose spelling some bytes are, or that they are no entry's. The types carry the
+//! grammar: each entry that exists has a spelling.
+#![tactic(auto)]
+
+mod entry;
+
+pub use changes::Change;
+pub use entry::{Entry, MOST_BYTES};
+
+#[cfg(test)]
+mod tests;
