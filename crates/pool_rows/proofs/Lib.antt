@@ -1,0 +1,4 @@
+pub mod Tables
+pub mod Changing
+pub mod Refused
+pub mod Chains
