@@ -6,7 +6,9 @@ use Rattle.volume_rows.specs.declared.status.Status.{Status}
 use Rattle.volume_rows.specs.declared.volume.Volume.{Volume}
 use Rattle.volume_rows.specs.Volumes.{status_of, is_reclaimable}
 use Rattle.pool_rows.specs.declared.pool.Pool.{Pool}
-use Rattle.pool_rows.specs.Rows.{is_same_name, named, row_at, number_where}
+use Rattle.pool_rows.specs.Rows.{named, row_at}
+use Rattle.pool_rows.specs.Names.{pool_name, row_named}
+use Rattle.pool_rows.specs.Scratch.{volume_name}
 
 -- the device classes by name, each with its volumes' capacity (none for DISK, whose volumes are of random access), the storage
 -- pools by number, and the volumes by file number
@@ -53,11 +55,11 @@ reclaimable_at file threshold s = option_map (λ v. is_reclaimable (is_sequentia
 
 -- the number of the pool with this name
 abbrev pub pool_named : List ℕ → PoolRows → Option ℕ
-pool_named name s = number_where (λ pool. is_same_name pool.name name) s.pools
+pool_named name s = row_named pool_name name s.pools
 
 -- the file number of the volume with this name
 abbrev pub volume_named : List ℕ → PoolRows → Option ℕ
-volume_named name s = number_where (λ v. is_same_name v.name name) s.volumes
+volume_named name s = row_named volume_name name s.volumes
 
 -- a new server's pool: primary, on DISK, with the defaults of DEFINE STGPOOL
 abbrev pub backup_pool : Pool

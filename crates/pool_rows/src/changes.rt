@@ -1,8 +1,9 @@
 //! The changes that an administrator makes.
 
-ghost use Rattle.std.specs.Prelude.{◌≡◌, ◌&&◌, IsTrue, None, is_some};
+ghost use Rattle.std.specs.Prelude.{◌≡◌, ◌&&◌, IsTrue, None, is_some, false};
 ghost use Rattle.kinds.specs.Answers.{Becomes, Makes};
 ghost use Rattle.pool_rows.specs.Rows.{named, row_at};
+ghost use Rattle.pool_rows.specs.Scratch.{is_scratch_name};
 ghost use Rattle.pool_rows.specs.ClassChanges.{pool_of_class, define_class, delete_class, change_class};
 ghost use Rattle.pool_rows.specs.Hierarchy.{is_bad_copy_pool, is_bad_next, is_bad_hierarchy};
 ghost use Rattle.pool_rows.specs.Changes.{is_next_there, define_pool, update_pool, delete_pool, change_pool, is_bad_row, define_volume, update_volume, delete_volume, change_volume, object_on, volume_of_pool, pool_before};
@@ -228,7 +229,8 @@ impl Pools {
         capacity: Capacity,
         access: Access,
     ) -> Result<(), Refusal>
-        requires { row_at file self.old.volumes ≡ None }
+        requires number { row_at file self.old.volumes ≡ None }
+        requires kind { is_scratch_name name.now ≡ false }
         ensures { Becomes result self.old self.new (define_volume name.now pool file capacity access self.old) }
     {
         if self.pools.get(pool).is_none() {

@@ -9,18 +9,6 @@ use kinds::Name;
 use std::collections::BTreeMap;
 use volume_rows::Volume;
 
-/// The number of the pool with this name.
-pub fn pool_named(pools: &BTreeMap<u32, Pool>, name: &Name) -> Option<u32>
-    ensures { result ≡ number_where (λ pool. is_same_name pool.name name.now) pools.now.entries }
-{
-    'pools: for (number, pool) in pools {
-        if pool.name == *name {
-            return Some(*number);
-        }
-    }
-    None
-}
-
 /// The least number of a pool of this device class.
 pub fn pool_of_class(pools: &BTreeMap<u32, Pool>, class: &Name) -> Option<u32>
     ensures { result ≡ number_where (λ pool. is_same_name pool.class class.now) pools.now.entries }
@@ -49,18 +37,6 @@ pub fn pool_before(pools: &BTreeMap<u32, Pool>, next: u32) -> Option<u32>
     'pools: for (number, pool) in pools {
         if is_pool(pool.settings.rule().next, next) {
             return Some(*number);
-        }
-    }
-    None
-}
-
-/// The file number of the volume with this name.
-pub fn volume_named(volumes: &BTreeMap<u32, Volume>, name: &Name) -> Option<u32>
-    ensures { result ≡ number_where (λ volume. is_same_name volume.name name.now) volumes.now.entries }
-{
-    'volumes: for (file, volume) in volumes {
-        if volume.name == *name {
-            return Some(*file);
         }
     }
     None

@@ -5,7 +5,6 @@ mod changes;
 mod find;
 mod fresh;
 mod hierarchy;
-mod measure;
 mod on_rows;
 mod pool;
 mod pool_table;
@@ -13,8 +12,8 @@ mod pools;
 mod scratch;
 mod segments;
 mod shares;
+mod totals;
 mod volume_table;
 
-pub use measure::Measure;
 pub use pool::Pool;
 pub use pools::Pools;

@@ -3,11 +3,12 @@
 ghost use Rattle.std.specs.Prelude.{◌≡◌, [], None, Ok};
 ghost use Rattle.std.specs.Option.{option_copied};
 ghost use Rattle.kinds.specs.Answers.{Becomes};
-ghost use Rattle.pool_rows.specs.Rows.{is_same_name, row_at, with_row, without_row, edit_row, number_where};
+ghost use Rattle.pool_rows.specs.Rows.{row_at, with_row, without_row, edit_row};
+ghost use Rattle.pool_rows.specs.Names.{pool_name, row_named};
 ghost use Rattle.pool_rows.specs.Changes.{with_settings};
 
+use crate::on_rows;
 use crate::pool::Pool;
-use crate::{find, on_rows};
 use kinds::{Name, PoolSettings, Refusal};
 use std::alloc::{AllocError, Global};
 use std::collections::BTreeMap;
@@ -17,6 +18,7 @@ use std::marker::Model;
 #[derive(Drop)]
 pub struct PoolTable {
     rows: BTreeMap<u32, Pool>,
+    names: BTreeMap<Name, u32>,
 }
 
 impl Model for PoolTable {
@@ -26,6 +28,10 @@ impl Model for PoolTable {
     ghost Value = { List (ℕ × Pool) };
 
     ghost view = { λ t. t.rows.entries };
+
+    ghost use Rattle.pool_rows.specs.Names.{pool_name, IsIndex};
+
+    ghost invariant = { λ t. IsIndex pool_name t.names.entries t.rows.entries };
 }
 
 impl PoolTable {
@@ -35,6 +41,7 @@ impl PoolTable {
     {
         PoolTable {
             rows: BTreeMap::new(alloc),
+            names: BTreeMap::new(alloc),
         }
     }
 
@@ -54,26 +61,35 @@ impl PoolTable {
 
     /// The number of the pool with this name.
     pub fn named(&self, name: &Name) -> Option<u32>
-        ensures { result ≡ number_where (λ pool. is_same_name pool.name name.now) self.now }
+        ensures { result ≡ row_named pool_name name.now self.now }
     {
-        find::pool_named(&self.rows, name)
+        self.names.get(name).copied()
     }
 
     /// A pool comes, with a number and a name that no pool has.
     pub fn insert(&mut self, number: u32, pool: Pool) -> Result<(), Refusal>
         requires number { row_at number self.old ≡ None }
-        requires name { number_where (λ other. is_same_name other.name pool.name) self.old ≡ None }
+        requires name { row_named pool_name pool.name self.old ≡ None }
         ensures { Becomes result self.old self.new (Ok (with_row number pool self.old)) }
     {
-        self.rows.insert(number, pool)?;
-        Ok(())
+        self.names.insert(pool.name.clone()?, number)?;
+        match self.rows.insert(number, pool) {
+            Ok(_) => Ok(()),
+            Err(failed) => {
+                let (_, pool) = failed.value;
+                self.names.remove(&pool.name);
+                Err(Refusal::Memory)
+            }
+        }
     }
 
     /// The pool with this number goes.
     pub fn remove(&mut self, number: u32)
         ensures { self.new ≡ without_row number self.old }
     {
-        self.rows.remove(&number);
+        if let Some(pool) = self.rows.remove(&number) {
+            self.names.remove(&pool.name);
+        }
     }
 
     /// Sets the settings of the pool with this number.
@@ -90,6 +106,7 @@ impl Clone for PoolTable {
     fn clone(&self) -> Result<Self, AllocError> {
         Ok(PoolTable {
             rows: self.rows.clone()?,
+            names: self.names.clone()?,
         })
     }
 }

@@ -1,7 +1,0 @@
-use Rattle.std.proofs.Common.{◌≡◌}
-use Rattle.pool_rows.specs.Rows.{is_same_name, number_where}
-use Rattle.pool_rows.proofs.find.pool_named.Given as goal
-
-abbrev pub invariant-pools : goal.invariant-pools
-invariant-pools l =
-    number_where (λ pool. is_same_name pool.name l.name) l.number-iterator ≡ number_where (λ pool. is_same_name pool.name l.name) l.pools.entries
