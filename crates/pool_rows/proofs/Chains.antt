@@ -3,8 +3,8 @@ use Rattle.std.proofs.Common.{◌≡◌, ℕ, suc, ◌+◌, ◌-◌, ◌<◌, Bo
 use Rattle.std.specs.Prelude.{◌==◌, ◌||◌}
 use Rattle.std.specs.List.{list_any}
 use Rattle.std.proofs.lemmas.Bool.{eqb-true}
-use Rattle.pool_rows.specs.declared.pool.Pool.{Pool}
-use Rattle.pool_rows.specs.Rows.{row_at}
+use Rattle.pool_tables.specs.declared.pool.Pool.{Pool}
+use Rattle.pool_tables.specs.Rows.{row_at}
 use Rattle.pool_rows.specs.Hierarchy.{next_in, chain}
 
 not_equal : (a b : ℕ) → (a ≡ b → ⊥) → nat_eq a b ≡ false

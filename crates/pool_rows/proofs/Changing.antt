@@ -1,5 +1,5 @@
 -- What is done to the volumes is done to the whole.
-use Rattle.std.proofs.Common.{◌≡◌, ◌⊎◌, inl, inr, ℕ, Bool, true, false, List, Some, None, Result, Ok, Err, refl, sym, ap, ◌∙◌}
+use Rattle.std.proofs.Common.{◌≡◌, ◌⊎◌, inl, inr, ℕ, Bool, true, false, List, Some, None, Result, Ok, Err, refl, sym, ap, ◌∙◌, ◌≤◌}
 use Rattle.std.specs.Result.{OnOk}
 use Rattle.std.specs.BTreeMap.{is_at}
 use Rattle.std.specs.Ordering.{nat_cmp}
@@ -9,12 +9,14 @@ use Rattle.kinds.specs.declared.segment.Segment.{Segment}
 use Rattle.kinds.specs.Answers.{Becomes, Makes}
 use Rattle.volume_rows.specs.declared.volume.Volume.{Volume}
 use Rattle.volume_rows.specs.declared.held.HeldSegment.{HeldSegment}
-use Rattle.volume_rows.specs.Held.{held_of}
+use Rattle.std.proofs.lemmas.Bool.{leb-true}
+use Rattle.volume_rows.specs.Held.{held_of, end_of}
 use Rattle.volume_rows.specs.Volumes.{put_on, undo_on}
-use Rattle.pool_rows.specs.Rows.{row_at, set_row, edit_row, changed, change_row}
+use Rattle.pool_tables.specs.Rows.{row_at, set_row, edit_row, changed, change_row}
 use Rattle.pool_rows.specs.PoolRows.{PoolRows, is_sequential, is_sequential_row, is_sequential_at}
-use Rattle.pool_rows.specs.Segments.{with_volumes, put, undo_segment, end_at, emptied_at, end_of_row, emptied_of_row}
-use Rattle.pool_rows.proofs.Tables.{lookup-set}
+use Rattle.pool_tables.specs.RowChanges.{put, end_of_row, emptied_of_row}
+use Rattle.pool_rows.specs.Segments.{with_volumes, undo_segment, end_at, emptied_at, fits}
+use Rattle.pool_tables.proofs.Tables.{lookup-set}
 
 -- the state with these volumes
 abbrev pub volumes_become : PoolRows → List (ℕ × Volume) → PoolRows
@@ -65,3 +67,11 @@ undone_put object segment s now volumes sequential held (Ok a) view q is done ba
     ∙ ap (λ h. volumes_become s (edit_row segment.file (undo_on sequential h (end_at segment.file s) (emptied_at segment.file s)) volumes)) (sym is)
     ∙ ap (volumes_become s) back ∙ view
 undone_put object segment s now volumes sequential held (Err e) view q is done back = tt
+
+-- a segment that fits ends within its volume's capacity
+pub room : (held : HeldSegment) (object : ℕ) (segment : Segment) (s now : PoolRows) (v : Volume) → s ≡ now → held ≡ held_of object segment → fits (held_of object segment) (row_at segment.file now.volumes) ≡ true → row_at segment.file s.volumes ≡ Some v → end_of held ≤ v.capacity
+room held object segment s now v view is within found =
+    leb-true (end_of held) v.capacity
+    (ap (λ (h : HeldSegment). fits h (Some v)) is
+    ∙ ap (fits (held_of object segment)) (sym (sym (ap (λ (n : PoolRows). row_at segment.file n.volumes) view) ∙ found))
+    ∙ within)

@@ -9,7 +9,7 @@ use Rattle.kinds.specs.declared.refusal.Refusal.{Refusal}
 use Rattle.kinds.specs.declared.refusal.Refusal.TheVariants.{NotFound, Exists, BadHierarchy}
 use Rattle.volume_rows.specs.declared.volume.Volume.{Volume}
 use Rattle.volume_rows.specs.Volumes.{may_reuse}
-use Rattle.pool_rows.specs.Rows.{named, row_at, with_row}
+use Rattle.pool_tables.specs.Rows.{named, row_at, with_row}
 use Rattle.pool_rows.specs.PoolRows.{PoolRows, pool_named, is_sequential_at}
 use Rattle.pool_rows.specs.Users.{used_by_pool, used_by_volume}
 use Rattle.pool_rows.specs.ClassChanges.{define_class}

@@ -5,8 +5,8 @@ use Rattle.kinds.specs.declared.change.Verb.TheVariants.{Define, Update, Delete}
 use Rattle.kinds.specs.declared.change.PoolChange.{PoolChange}
 use Rattle.kinds.specs.declared.change.PoolChange.TheVariants.{DevClass, Pool, Volume}
 use Rattle.kinds.specs.declared.refusal.Refusal.{Refusal}
-use Rattle.pool_rows.specs.Rows.{row_at}
-use Rattle.pool_rows.specs.Scratch.{is_scratch_name}
+use Rattle.pool_tables.specs.Rows.{row_at}
+use Rattle.pool_tables.specs.Scratch.{is_scratch_name}
 use Rattle.pool_rows.specs.PoolRows.{PoolRows}
 use Rattle.pool_rows.specs.ClassChanges.{change_class}
 use Rattle.pool_rows.specs.Changes.{change_pool, change_volume}

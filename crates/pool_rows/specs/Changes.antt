@@ -9,9 +9,10 @@ use Rattle.kinds.specs.declared.refusal.Refusal.{Refusal}
 use Rattle.kinds.specs.declared.refusal.Refusal.TheVariants.{NotFound, Exists, BadHierarchy}
 use Rattle.volume_rows.specs.declared.volume.Volume.{Volume}
 use Rattle.volume_rows.specs.Holdings.{least_object}
-use Rattle.pool_rows.specs.declared.pool.Pool.{Pool}
-use Rattle.pool_rows.specs.Rows.{named, row_at, with_row, without_row, edit_row, number_where}
+use Rattle.pool_tables.specs.declared.pool.Pool.{Pool}
+use Rattle.pool_tables.specs.Rows.{named, row_at, with_row, without_row, edit_row, number_where}
 use Rattle.pool_rows.specs.PoolRows.{PoolRows, pool_named, volume_named}
+use Rattle.pool_tables.specs.RowChanges.{with_access, with_settings}
 use Rattle.pool_rows.specs.Users.{used_by_pool, used_by_volume, used_by_object}
 use Rattle.pool_rows.specs.Hierarchy.{is_bad_hierarchy}
 
@@ -33,10 +34,6 @@ define_pool number name class kind rule s =
     if is_bad_hierarchy number class kind rule.next s then Err BadHierarchy else Ok (record s { pools = with_row number (new_pool name class kind rule) s.pools })
     )
     ) else Err NotFound
-
--- the pool with these settings
-abbrev pub with_settings : PoolRule → Pool → Pool
-with_settings rule pool = record pool { settings = rule }
 
 -- the pool with this number may not have this next pool
 abbrev pub is_bad_row : ℕ → Option ℕ → PoolRows → Option Pool → Bool
@@ -105,10 +102,6 @@ define_volume name pool file capacity access s =
     if is_some (row_at pool s.pools) then (
     if is_some (volume_named name s) then Err Exists else Ok (record s { volumes = with_row file (new_volume name pool capacity access) s.volumes })
     ) else Err NotFound
-
--- the volume with this access
-abbrev pub with_access : Access → Volume → Volume
-with_access access v = record v { access = access }
 
 abbrev pub update_filed : Access → PoolRows → Option ℕ → Result PoolRows Refusal
 update_filed access s None = Err NotFound

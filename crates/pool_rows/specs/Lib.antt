@@ -1,9 +1,5 @@
-pub mod Rows
-pub mod Names
-pub mod Scratch
 pub mod PoolRows
 pub mod Shares
-pub mod Counted
 pub mod Segments
 pub mod Users
 pub mod ClassChanges

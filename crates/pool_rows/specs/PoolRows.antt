@@ -1,14 +1,15 @@
-use Rattle.std.specs.Prelude.{ℕ, Bool, false, is_some, Option, Some, None, List, [], ◌∷◌, codes}
+use Rattle.std.specs.Prelude.{ℕ, Bool, false, is_some, Option, Some, None, List, [], ◌∷◌, codes, ◌&&◌, if◌then◌else◌}
 use Rattle.std.specs.Option.{option_map}
 use Rattle.kinds.specs.declared.pool.PoolKind.TheVariants.{Primary}
 use Rattle.kinds.specs.declared.pool.SizeLimit.TheVariants.{NoLimit}
 use Rattle.volume_rows.specs.declared.status.Status.{Status}
 use Rattle.volume_rows.specs.declared.volume.Volume.{Volume}
 use Rattle.volume_rows.specs.Volumes.{status_of, is_reclaimable}
-use Rattle.pool_rows.specs.declared.pool.Pool.{Pool}
-use Rattle.pool_rows.specs.Rows.{named, row_at}
-use Rattle.pool_rows.specs.Names.{pool_name, row_named}
-use Rattle.pool_rows.specs.Scratch.{volume_name}
+use Rattle.pool_tables.specs.declared.pool.Pool.{Pool}
+use Rattle.pool_tables.specs.Rows.{named, row_at}
+use Rattle.pool_tables.specs.Names.{pool_name, row_named, are_apart}
+use Rattle.pool_tables.specs.Counted.{are_sound}
+use Rattle.pool_tables.specs.Scratch.{volume_name}
 
 -- the device classes by name, each with its volumes' capacity (none for DISK, whose volumes are of random access), the storage
 -- pools by number, and the volumes by file number
@@ -16,6 +17,11 @@ pub record PoolRows : Type 0 where
   pub classes : List (List ℕ × Option ℕ)
   pub pools : List (ℕ × Pool)
   pub volumes : List (ℕ × Volume)
+
+-- the state with these rows, where the pools' and the volumes' names are their own, and the volumes' by their kinds
+abbrev pub with_rows : List (List ℕ × Option ℕ) → List (ℕ × Pool) → List (ℕ × Volume) → Option PoolRows
+with_rows classes pools volumes =
+    if are_apart pool_name pools && are_sound volumes then Some (record { classes = classes; pools = pools; volumes = volumes }) else None
 
 abbrev pub capacity_there : Option (Option ℕ) → Option ℕ
 capacity_there None = None

@@ -1,17 +1,17 @@
 -- The changes of one volume: segments that come and go, its reuse, and scratch volumes.
-use Rattle.std.specs.Prelude.{ℕ, Bool, true, false, Option, Some, None, Result, Ok, Err, List, [], if◌then◌else◌}
+use Rattle.std.specs.Prelude.{ℕ, Bool, true, false, Option, Some, None, Result, Ok, Err, List, [], if◌then◌else◌, nat_le}
 use Rattle.kinds.specs.declared.pool.Access.TheVariants.{ReadWrite}
 use Rattle.kinds.specs.declared.refusal.Refusal.{Refusal}
 use Rattle.kinds.specs.declared.refusal.Refusal.TheVariants.{NotFound}
 use Rattle.kinds.specs.declared.segment.Segment.{Segment}
 use Rattle.volume_rows.specs.declared.held.HeldSegment.{HeldSegment}
 use Rattle.volume_rows.specs.declared.volume.Volume.{Volume}
-use Rattle.volume_rows.specs.Held.{held_of}
+use Rattle.volume_rows.specs.Held.{held_of, end_of}
 use Rattle.volume_rows.specs.Holdings.{is_held, is_bare}
 use Rattle.volume_rows.specs.Volumes.{may_reuse, put_on, take_from, undo_on, reset}
-use Rattle.pool_rows.specs.declared.pool.Pool.{Pool}
-use Rattle.pool_rows.specs.Rows.{row_at, with_row, without_row, edit_row, change_row}
-use Rattle.pool_rows.specs.Scratch.{scratch_name}
+use Rattle.pool_tables.specs.declared.pool.Pool.{Pool}
+use Rattle.pool_tables.specs.Rows.{row_at, with_row, edit_row, change_row}
+use Rattle.pool_tables.specs.RowChanges.{put, take, end_of_row, emptied_of_row, reuse_volume, scratch_volume}
 use Rattle.pool_rows.specs.PoolRows.{PoolRows, pool_capacity, is_sequential_at}
 
 -- the state with these volumes, or the refusal
@@ -19,24 +19,20 @@ abbrev pub with_volumes : PoolRows → Result (List (ℕ × Volume)) Refusal →
 with_volumes s (Ok volumes) = Ok (record s { volumes = volumes })
 with_volumes s (Err e) = Err e
 
--- a segment is put on a volume
-abbrev pub put : Bool → HeldSegment → Volume → Result Volume Refusal
-put sequential segment v = Ok (put_on sequential segment v)
-
 -- a segment of an object comes
 abbrev pub put_segment : ℕ → Segment → PoolRows → Result PoolRows Refusal
 put_segment object segment s =
     with_volumes s (change_row segment.file (put (is_sequential_at segment.file s) (held_of object segment)) s.volumes)
 
--- a segment is taken from a volume, where it is there
-abbrev pub take : Bool → HeldSegment → ℕ → Volume → Result Volume Refusal
-take sequential segment today v =
-    if is_held segment v.segments then Ok (take_from sequential segment today v) else Err NotFound
-
 -- a segment of an object goes
 abbrev pub take_segment : ℕ → Segment → ℕ → PoolRows → Result PoolRows Refusal
 take_segment object segment today s =
     with_volumes s (change_row segment.file (take (is_sequential_at segment.file s) (held_of object segment) today) s.volumes)
+
+-- the volume is not there, or the segment ends within its capacity
+abbrev pub fits : HeldSegment → Option Volume → Bool
+fits segment None = true
+fits segment (Some v) = nat_le (end_of segment) v.capacity
 
 -- a segment that was put is undone
 abbrev pub undo_segment : ℕ → Segment → ℕ → Option ℕ → PoolRows → PoolRows
@@ -47,14 +43,6 @@ undo_segment object segment end emptied s =
 abbrev pub is_there : HeldSegment → Option Volume → Bool
 is_there segment None = false
 is_there segment (Some v) = is_held segment v.segments
-
-abbrev pub end_of_row : Option Volume → ℕ
-end_of_row None = 0
-end_of_row (Some v) = v.end
-
-abbrev pub emptied_of_row : Option Volume → Option ℕ
-emptied_of_row None = None
-emptied_of_row (Some v) = v.emptied
 
 -- where the volume's next frame would be written
 abbrev pub end_at : ℕ → PoolRows → ℕ
@@ -76,16 +64,6 @@ reuse_row s file today (Some v) = may_reuse (is_sequential_at file s) file (dela
 abbrev pub may_reuse_at : ℕ → ℕ → PoolRows → Result (Unit {0}) Refusal
 may_reuse_at file today s = reuse_row s file today (row_at file s.volumes)
 
--- the volume is there and a scratch volume
-abbrev pub is_scratch_row : Option Volume → Bool
-is_scratch_row None = false
-is_scratch_row (Some v) = v.scratch
-
--- the volumes after one is reused: a scratch volume goes, and a defined one is written from its beginning again
-abbrev pub reuse_volume : ℕ → List (ℕ × Volume) → List (ℕ × Volume)
-reuse_volume file volumes =
-    if is_scratch_row (row_at file volumes) then without_row file volumes else edit_row file reset volumes
-
 abbrev pub reused : ℕ → PoolRows → Result (Unit {0}) Refusal → Result PoolRows Refusal
 reused file s (Ok _) = Ok (record s { volumes = reuse_volume file s.volumes })
 reused file s (Err e) = Err e
@@ -93,19 +71,6 @@ reused file s (Err e) = Err e
 -- a volume is reused, where it may be
 abbrev pub reuse : ℕ → ℕ → PoolRows → Result PoolRows Refusal
 reuse file today s = reused file s (may_reuse_at file today s)
-
--- a new scratch volume
-abbrev pub scratch_volume : ℕ → ℕ → ℕ → Volume
-scratch_volume pool file capacity = record {
-  name = scratch_name file;
-  pool = pool;
-  scratch = true;
-  capacity = capacity;
-  access = ReadWrite;
-  end = 0;
-  emptied = None;
-  segments = [];
-}
 
 abbrev pub scratch_added : ℕ → ℕ → PoolRows → Option ℕ → Result PoolRows Refusal
 scratch_added pool file s None = Err NotFound

@@ -2,8 +2,8 @@
 
 ghost use Rattle.std.specs.Prelude.{◌≡◌, ◌&&◌, IsTrue, None, is_some, false};
 ghost use Rattle.kinds.specs.Answers.{Becomes, Makes};
-ghost use Rattle.pool_rows.specs.Rows.{named, row_at};
-ghost use Rattle.pool_rows.specs.Scratch.{is_scratch_name};
+ghost use Rattle.pool_tables.specs.Rows.{named, row_at};
+ghost use Rattle.pool_tables.specs.Scratch.{is_scratch_name};
 ghost use Rattle.pool_rows.specs.ClassChanges.{pool_of_class, define_class, delete_class, change_class};
 ghost use Rattle.pool_rows.specs.Hierarchy.{is_bad_copy_pool, is_bad_next, is_bad_hierarchy};
 ghost use Rattle.pool_rows.specs.Changes.{is_next_there, define_pool, update_pool, delete_pool, change_pool, is_bad_row, define_volume, update_volume, delete_volume, change_volume, object_on, volume_of_pool, pool_before};
@@ -11,11 +11,11 @@ ghost use Rattle.pool_rows.specs.Changed.{changed, is_pool_free, is_volume_free,
 
 use crate::find;
 use crate::hierarchy::{comes_to, is_copy, is_copy_pool};
-use crate::pool::Pool;
 use crate::pools::Pools;
 use kinds::{
     Access, By, Capacity, DefineOrDelete, Name, PoolChange, PoolKind, PoolSettings, Refusal, Verb,
 };
+use pool_tables::{Pool, is_scratch_name};
 use volume_rows::{Holdings, Volume};
 
 fn next_of(settings: PoolSettings) -> Option<u32>
@@ -301,6 +301,43 @@ impl Pools {
             Verb::Define => self.define_volume(name, pool, file, capacity, access),
             Verb::Update => self.update_volume(name, access),
             Verb::Delete => self.delete_volume(name),
+        }
+    }
+
+    /// Whether what the change defines may have its number and its name: no pool has `number`, no volume the file number, and
+    /// the volume's name is no scratch volume's. A change that defines nothing may be made.
+    pub fn is_free(&self, change: &PoolChange, number: u32) -> bool
+        ensures { result ≡ is_free change.now number self.now }
+    {
+        match change {
+            PoolChange::DevClass { .. } => true,
+            PoolChange::Pool { verb, .. } => self.is_pool_free(*verb, number),
+            PoolChange::Volume {
+                verb,
+                volume,
+                file,
+                ..
+            } => self.is_volume_free(*verb, volume, *file),
+        }
+    }
+
+    fn is_pool_free(&self, verb: Verb, number: u32) -> bool
+        ensures { result ≡ is_pool_free verb number self.now }
+    {
+        match verb {
+            Verb::Define => self.pools.get(number).is_none(),
+            Verb::Update => true,
+            Verb::Delete => true,
+        }
+    }
+
+    fn is_volume_free(&self, verb: Verb, name: &Name, file: u32) -> bool
+        ensures { result ≡ is_volume_free verb name.now file self.now }
+    {
+        match verb {
+            Verb::Define => self.volumes.get(file).is_none() && !is_scratch_name(name),
+            Verb::Update => true,
+            Verb::Delete => true,
         }
     }
 

@@ -1,11 +1,11 @@
 //! Searches for the first row that has some property.
 
 ghost use Rattle.std.specs.Prelude.{◌≡◌, ◌==◌};
-ghost use Rattle.pool_rows.specs.Rows.{is_same_name, number_where};
+ghost use Rattle.pool_tables.specs.Rows.{is_same_name, number_where};
 ghost use Rattle.pool_rows.specs.Changes.{is_pool};
 
-use crate::pool::Pool;
 use kinds::Name;
+use pool_tables::Pool;
 use std::collections::BTreeMap;
 use volume_rows::Volume;
 

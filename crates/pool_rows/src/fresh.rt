@@ -4,8 +4,8 @@ ghost use Rattle.std.specs.Prelude.{◌≡◌, codes};
 ghost use Rattle.kinds.specs.Answers.{AnswersBy};
 ghost use Rattle.pool_rows.specs.PoolRows.{backup_pool};
 
-use crate::pool::Pool;
 use kinds::{Days, Name, PoolKind, PoolRule, PoolSettings, Refusal, SizeLimit};
+use pool_tables::Pool;
 use std::alloc::Global;
 
 /// The name of the device class of random access.

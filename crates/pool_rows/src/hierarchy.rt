@@ -1,11 +1,11 @@
 //! Which pools may follow one another.
 
 ghost use Rattle.std.specs.Prelude.{◌≡◌};
-ghost use Rattle.pool_rows.specs.Rows.{row_at};
+ghost use Rattle.pool_tables.specs.Rows.{row_at};
 ghost use Rattle.pool_rows.specs.Hierarchy.{next_in, comes_to, is_copy, is_copy_row};
 
-use crate::pool::Pool;
 use kinds::PoolKind;
+use pool_tables::Pool;
 use std::collections::BTreeMap;
 
 pub fn is_copy(kind: PoolKind) -> bool

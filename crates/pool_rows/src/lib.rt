@@ -5,15 +5,9 @@ mod changes;
 mod find;
 mod fresh;
 mod hierarchy;
-mod on_rows;
-mod pool;
-mod pool_table;
 mod pools;
-mod scratch;
 mod segments;
 mod shares;
-mod totals;
-mod volume_table;
 
-pub use pool::Pool;
+pub use pool_tables::Pool;
 pub use pools::Pools;

@@ -1,11 +1,9 @@
-ghost use Rattle.std.specs.Prelude.{◌≡◌, IsSome, Some, None};
+ghost use Rattle.std.specs.Prelude.{◌≡◌, true, IsSome, Some, None};
 ghost use Rattle.kinds.specs.Answers.{AnswersBy};
 
 use crate::fresh::{backup_pool, disk};
-use crate::pool::Pool;
-use crate::pool_table::PoolTable;
-use crate::volume_table::VolumeTable;
 use kinds::{Capacity, Name, Refusal};
+use pool_tables::{Pool, PoolTable, VolumeTable};
 use std::alloc::{AllocError, Global};
 use std::collections::BTreeMap;
 use std::marker::Model;
@@ -31,8 +29,35 @@ impl Model for Pools {
 }
 
 impl Pools {
-    ghost use Rattle.pool_rows.specs.Rows.{named, row_at};
-    ghost use Rattle.pool_rows.specs.PoolRows.{PoolRows, class_capacity, pool_class_capacity, pool_capacity, is_sequential, is_sequential_at, status_at, reclaimable_at, pool_named, volume_named, fresh};
+    ghost use Rattle.pool_tables.specs.Rows.{named, row_at};
+    ghost use Rattle.pool_tables.specs.Names.{pool_name, are_apart};
+    ghost use Rattle.pool_tables.specs.Counted.{are_sound};
+    ghost use Rattle.pool_rows.specs.PoolRows.{PoolRows, with_rows, class_capacity, pool_class_capacity, pool_capacity, is_sequential, is_sequential_at, status_at, reclaimable_at, pool_named, volume_named, fresh};
+
+    /// These device classes, storage pools and volumes; none where two pools or two volumes have one name, or a volume's name
+    /// is not of its kind: a scratch volume has SCR and its file number, and no other volume SCR and eight or more digits. Its
+    /// one refusal is want of memory.
+    pub fn from_parts(
+        alloc: Global,
+        classes: BTreeMap<Name, Option<Capacity>>,
+        pools: BTreeMap<u32, Pool>,
+        volumes: BTreeMap<u32, Volume>,
+    ) -> Result<Option<Self>, Refusal>
+        ensures { AnswersBy (λ made. made) result (with_rows classes.entries pools.entries volumes.entries) }
+    {
+        let Some(pools) = PoolTable::from_rows(alloc, pools)? else {
+            return Ok(None);
+        };
+        let Some(volumes) = VolumeTable::from_rows(alloc, volumes)? else {
+            return Ok(None);
+        };
+        Ok(Some(Pools {
+            alloc,
+            classes,
+            pools,
+            volumes,
+        }))
+    }
 
     /// The device classes by name, each with its volumes' capacity; none for DISK.
     pub fn classes(&self) -> &BTreeMap<Name, Option<Capacity>>
@@ -43,14 +68,16 @@ impl Pools {
 
     /// The storage pools by number.
     pub fn pools(&self) -> &BTreeMap<u32, Pool>
-        ensures { result.now.entries ≡ self.now.pools }
+        ensures value { result.now.entries ≡ self.now.pools }
+        ensures apart { are_apart pool_name self.now.pools ≡ true }
     {
         self.pools.as_map()
     }
 
     /// The volumes by file number.
     pub fn volumes(&self) -> &BTreeMap<u32, Volume>
-        ensures { result.now.entries ≡ self.now.volumes }
+        ensures value { result.now.entries ≡ self.now.volumes }
+        ensures sound { are_sound self.now.volumes ≡ true }
     {
         self.volumes.as_map()
     }

@@ -4,8 +4,8 @@ ghost use Rattle.std.specs.Prelude.{◌≡◌, ◌≤◌, IsTrue, None, OnOk, Ok
 ghost use Rattle.std.specs.Option.{ForSome};
 ghost use Rattle.kinds.specs.Answers.{Becomes, Makes};
 ghost use Rattle.volume_rows.specs.Held.{held_of, end_of};
-ghost use Rattle.pool_rows.specs.Rows.{row_at, without_row};
-ghost use Rattle.pool_rows.specs.Segments.{put_segment, take_segment, undo_segment, is_there, end_at, emptied_at, delay_of, may_reuse_at, reuse, add_scratch, is_bare_scratch};
+ghost use Rattle.pool_tables.specs.Rows.{row_at, without_row};
+ghost use Rattle.pool_rows.specs.Segments.{put_segment, take_segment, undo_segment, fits, is_there, end_at, emptied_at, delay_of, may_reuse_at, reuse, add_scratch, is_bare_scratch};
 
 use crate::pools::Pools;
 use kinds::{Day, Days, Refusal, Segment};
@@ -31,10 +31,34 @@ impl Pools {
         }
     }
 
+    /// Whether a segment ends within the capacity of its volume, or that is not there.
+    pub fn fits(&self, object: u64, segment: &Segment) -> bool
+        ensures { result ≡ fits (held_of object segment.now) (row_at segment.now.file self.now.volumes) }
+    {
+        match self.volumes.get(segment.file) {
+            Some(volume) => {
+                let end = u128::from(segment.offset) + 32 + u128::from(segment.len);
+                end <= u128::from(volume.capacity.bytes())
+            }
+            None => true,
+        }
+    }
+
+    /// Whether a segment of this object stands on its volume.
+    pub fn holds(&self, object: u64, segment: &Segment) -> bool
+        ensures { result ≡ is_there (held_of object segment.now) (row_at segment.now.file self.now.volumes) }
+    {
+        let held = HeldSegment::new(object, segment);
+        match self.volumes.get(segment.file) {
+            Some(volume) => volume.segments.as_map().contains_key(&held),
+            None => false,
+        }
+    }
+
     /// Puts a segment of this object on its volume, where it ends within the volume's capacity. A sequential volume then ends
     /// behind it at the earliest, and is not PENDING. `NotFound` where the volume is not there.
     pub fn put_segment(&mut self, object: u64, segment: &Segment) -> Result<(), Refusal>
-        requires { ForSome (row_at segment.now.file self.old.volumes) (λ v. end_of (held_of object segment.now) ≤ v.capacity) }
+        requires { IsTrue (fits (held_of object segment.now) (row_at segment.now.file self.old.volumes)) }
         ensures put { Becomes result self.old self.new (put_segment object segment.now self.old) }
 
         // Undone with the end and the day that the volume had, it leaves what was.

@@ -1,7 +1,7 @@
 //! How full a pool is.
 
-ghost use Rattle.std.specs.Prelude.{◌≡◌, ◌*◌, ◌<◌, ◌≤◌, ◌^◌, IsSome};
-ghost use Rattle.pool_rows.specs.Rows.{row_at};
+ghost use Rattle.std.specs.Prelude.{◌≡◌, ◌*◌, ◌<◌, ◌≤◌, ◌^◌};
+ghost use Rattle.pool_tables.specs.Rows.{row_at};
 ghost use Rattle.pool_rows.specs.Shares.{scratch_limit, used_of, whole_of, reaches, stays_within, percent_at_least, percent_at_most};
 
 use crate::pools::Pools;
@@ -72,9 +72,8 @@ impl Pools {
     }
 
     /// Whether the percentage of the pool that is used is at least `high`: of its blocks, or of the bytes of the volumes that it
-    /// has or may have.
+    /// has or may have. A pool that is not there has 0 percent.
     pub fn percent_at_least(&self, pool: u32, high: u8) -> bool
-        requires { IsSome (row_at pool self.now.pools) }
         ensures { result ≡ percent_at_least pool high self.now }
     {
         let used = self.used_of(pool, self.pool_capacity(pool));
@@ -84,7 +83,6 @@ impl Pools {
 
     /// Whether the percentage of the pool that is used is at most `low`.
     pub fn percent_at_most(&self, pool: u32, low: u8) -> bool
-        requires { IsSome (row_at pool self.now.pools) }
         ensures { result ≡ percent_at_most pool low self.now }
     {
         let used = self.used_of(pool, self.pool_capacity(pool));

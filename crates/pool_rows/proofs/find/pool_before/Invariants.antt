@@ -1,5 +1,5 @@
 use Rattle.std.proofs.Common.{◌≡◌}
-use Rattle.pool_rows.specs.Rows.{number_where}
+use Rattle.pool_tables.specs.Rows.{number_where}
 use Rattle.pool_rows.specs.Changes.{is_pool}
 use Rattle.pool_rows.proofs.find.pool_before.Given as goal
 

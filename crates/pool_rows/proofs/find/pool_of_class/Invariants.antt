@@ -1,5 +1,5 @@
 use Rattle.std.proofs.Common.{◌≡◌}
-use Rattle.pool_rows.specs.Rows.{is_same_name, number_where}
+use Rattle.pool_tables.specs.Rows.{is_same_name, number_where}
 use Rattle.pool_rows.proofs.find.pool_of_class.Given as goal
 
 abbrev pub invariant-pools : goal.invariant-pools

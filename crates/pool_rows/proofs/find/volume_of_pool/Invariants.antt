@@ -1,6 +1,6 @@
 use Rattle.std.proofs.Common.{◌≡◌}
 use Rattle.std.specs.Prelude.{◌==◌}
-use Rattle.pool_rows.specs.Rows.{number_where}
+use Rattle.pool_tables.specs.Rows.{number_where}
 use Rattle.pool_rows.proofs.find.volume_of_pool.Given as goal
 
 abbrev pub invariant-volumes : goal.invariant-volumes

@@ -1,5 +1,5 @@
 use Rattle.std.proofs.Common.{◌&&◌, is_some, refl, sym, ap, inr, ◌∙◌}
-use Rattle.pool_rows.specs.Rows.{named}
+use Rattle.pool_tables.specs.Rows.{named}
 use Rattle.pool_rows.specs.Hierarchy.{is_bad_hierarchy}
 use Rattle.pool_rows.specs.Changes.{is_next_there}
 use Rattle.pool_rows.proofs.Refused.{pool_unsupplied, pool_taken, pool_bad}

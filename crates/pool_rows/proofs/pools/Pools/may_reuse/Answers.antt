@@ -1,5 +1,5 @@
 use Rattle.std.proofs.Common.{ap, ◌∙◌}
-use Rattle.pool_rows.specs.Rows.{row_at}
+use Rattle.pool_tables.specs.Rows.{row_at}
 use Rattle.pool_rows.specs.PoolRows.{PoolRows}
 use Rattle.pool_rows.proofs.Refused.{reuse_found}
 use Rattle.pool_rows.proofs.pools.Pools.may_reuse.Goals as goal

@@ -1,6 +1,0 @@
-use Rattle.std.proofs.Common.{◌≡◌, ◌++◌}
-use Rattle.std.specs.Prelude.{replicate}
-use Rattle.pool_rows.proofs.scratch.put_zeros.Given as goal
-
-abbrev pub invariant-zeros : goal.invariant-zeros
-invariant-zeros l = l.bytes.items ≡ l.fn.bytes.items ++ replicate l.counter 48

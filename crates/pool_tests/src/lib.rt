@@ -1,0 +1,13 @@
+//! Tests of device classes, storage pools and volumes.
+#![tactic(auto)]
+
+#[cfg(test)]
+mod hierarchies;
+#[cfg(test)]
+mod made;
+#[cfg(test)]
+mod percentages;
+#[cfg(test)]
+mod refusals;
+#[cfg(test)]
+mod scratch_volumes;
