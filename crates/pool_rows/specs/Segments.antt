@@ -1,6 +1,5 @@
 -- The changes of one volume: segments that come and go, its reuse, and scratch volumes.
-use Rattle.std.specs.Prelude.{ℕ, Bool, true, false, Option, Some, None, Result, Ok, Err, List, [], if◌then◌else◌, nat_le}
-use Rattle.kinds.specs.declared.pool.Access.TheVariants.{ReadWrite}
+use Rattle.std.specs.Prelude.{ℕ, Bool, true, false, Option, Some, None, Result, Ok, Err, List, if◌then◌else◌, nat_le}
 use Rattle.kinds.specs.declared.refusal.Refusal.{Refusal}
 use Rattle.kinds.specs.declared.refusal.Refusal.TheVariants.{NotFound}
 use Rattle.kinds.specs.declared.segment.Segment.{Segment}
@@ -8,7 +7,7 @@ use Rattle.volume_rows.specs.declared.held.HeldSegment.{HeldSegment}
 use Rattle.volume_rows.specs.declared.volume.Volume.{Volume}
 use Rattle.volume_rows.specs.Held.{held_of, end_of}
 use Rattle.volume_rows.specs.Holdings.{is_held, is_bare}
-use Rattle.volume_rows.specs.Volumes.{may_reuse, put_on, take_from, undo_on, reset}
+use Rattle.volume_rows.specs.Volumes.{may_reuse, undo_on}
 use Rattle.pool_tables.specs.declared.pool.Pool.{Pool}
 use Rattle.pool_tables.specs.Rows.{row_at, with_row, edit_row, change_row}
 use Rattle.pool_tables.specs.RowChanges.{put, take, end_of_row, emptied_of_row, reuse_volume, scratch_volume}

@@ -132,6 +132,16 @@ impl Pools {
         self.volumes.add_scratch(self.alloc, pool, file, capacity)
     }
 
+    /// Whether the volume is there, a scratch volume, and without segments.
+    pub fn is_bare_scratch(&self, file: u32) -> bool
+        ensures { result ≡ is_bare_scratch (row_at file self.now.volumes) }
+    {
+        match self.volumes.get(file) {
+            Some(volume) => volume.scratch && volume.segments.is_empty(),
+            None => false,
+        }
+    }
+
     /// Takes the row of a scratch volume without segments away.
     pub fn drop_scratch(&mut self, file: u32)
         requires { IsTrue (is_bare_scratch (row_at file self.old.volumes)) }

@@ -1,5 +1,5 @@
 -- The names of scratch volumes: each is its file number's alone.
-use Rattle.std.proofs.Common.{◌≡◌, ℕ, suc, zero, ◌+◌, ◌-◌, ◌≤◌, ◌<◌, ◌^◌, Bool, true, false, cond, not, ◌&&◌, nat_le, List, [], ◌∷◌, ◌++◌, length, drop, replicate, Option, Some, None, refl, sym, ap, subst, ◌∙◌, arith, length-append}
+use Rattle.std.proofs.Common.{◌≡◌, ℕ, suc, zero, ◌+◌, ◌-◌, ◌≤◌, ◌<◌, ◌^◌, Bool, true, false, cond, not, ◌&&◌, nat_le, List, [], ◌∷◌, ◌++◌, length, drop, replicate, Some, None, refl, sym, ap, ◌∙◌, arith, length-append}
 use Rattle.std.specs.Prelude.{decimal}
 use Rattle.std.specs.BTreeMap.{is_at}
 use Rattle.std.specs.Char.{is_ascii_digit}
@@ -15,7 +15,7 @@ use Rattle.std.proofs.lemmas.Str.Parse.{numerals_by_value, tells_digits, tells_a
 use Rattle.volume_rows.specs.declared.volume.Volume.{Volume}
 use Rattle.pool_tables.specs.Rows.{is_same_name, row_at}
 use Rattle.pool_tables.specs.Names.{row_named}
-use Rattle.pool_tables.specs.Scratch.{eight_digits, scratch_name, is_scratch_name, volume_name, is_rightly_named}
+use Rattle.pool_tables.specs.Scratch.{eight_digits, scratch_name, is_scratch_name, volume_name}
 use Rattle.pool_tables.specs.Counted.{IsSound}
 use Rattle.pool_tables.proofs.Names.{same_is}
 

@@ -1,5 +1,5 @@
 -- What is kept beside the volumes, after a volume came, changed or went.
-use Rattle.std.proofs.Common.{◌≡◌, ℕ, ◌+◌, ◌*◌, ◌≤◌, ◌<◌, ◌^◌, Bool, true, false, cond, not, List, [], ◌∷◌, length, Option, Some, None, IsSome, Result, Ok, Err, refl, sym, ap, subst, ◌∙◌, arith}
+use Rattle.std.proofs.Common.{◌≡◌, ℕ, ◌*◌, ◌≤◌, ◌<◌, ◌^◌, Bool, true, false, cond, not, List, [], ◌∷◌, length, Option, Some, None, IsSome, Result, Ok, Err, refl, sym, ap, subst, ◌∙◌, arith}
 use Rattle.std.specs.List.{AllByRecursion}
 use Rattle.std.specs.List.Sorted.{IsStrictlySortedBy}
 use Rattle.std.specs.BTreeMap.{is_at}
@@ -11,17 +11,17 @@ use Rattle.kinds.specs.declared.refusal.Refusal.TheVariants.{NotFound}
 use Rattle.volume_rows.specs.declared.volume.Volume.{Volume}
 use Rattle.volume_rows.specs.declared.held.HeldSegment.{HeldSegment}
 use Rattle.volume_rows.specs.Holdings.{is_held}
-use Rattle.volume_rows.specs.Volumes.{put_on, take_from, undo_on, reset}
+use Rattle.volume_rows.specs.Volumes.{put_on, take_from, undo_on}
 use Rattle.pool_tables.specs.declared.totals.Totals.{Totals}
 use Rattle.pool_tables.specs.Rows.{is_same_name, named, row_at, with_row, without_row, set_row, edit_row, edited, row_set, changed, change_row}
-use Rattle.pool_tables.specs.Names.{row_named, IsIndex}
+use Rattle.pool_tables.specs.Names.{row_named}
 use Rattle.pool_tables.specs.Scratch.{volume_name, scratch_name, is_scratch_name, is_rightly_named}
 use Rattle.pool_tables.specs.Sums.{used_blocks_on, blocks_of_volume, live_bytes_on, defined_one, scratch_one, total_of}
-use Rattle.pool_tables.specs.Counted.{no_totals, totals_at, totals_by, totals_of_volume, totals_of_row, totals_of, moved, AreWithin, AreAtMost, IsSound, AreCounted}
+use Rattle.pool_tables.specs.Counted.{no_totals, totals_at, totals_of_volume, totals_of_row, moved, AreWithin, AreAtMost, IsSound, AreCounted}
 use Rattle.pool_tables.specs.RowChanges.{put, take}
 use Rattle.pool_tables.proofs.Tables.{lookup-set}
 use Rattle.pool_tables.proofs.Names.{index_insert, index_set, index_remove, index_undone}
-use Rattle.pool_tables.proofs.Counting.{AreTotals, each_insert, each_set, each_remove, each_there, part_within, totals_set, totals_same, totals_insert, totals_remove, total_within, count_within, defined_once, scratch_once}
+use Rattle.pool_tables.proofs.Counting.{each_insert, each_set, each_remove, each_there, part_within, totals_set, totals_same, totals_insert, totals_remove, total_within, count_within, defined_once, scratch_once}
 
 -- what a change of a volume leaves as it was
 pub record Keeps (v w : Volume) : Type 0 where

@@ -27,8 +27,14 @@ fn follow(
 fn three_pools_are_no_ring(rt: HostRuntime) -> Result<(), Fail> {
     let alloc = rt.alloc();
     let mut pools = with_tape(alloc, 0, 0)?;
-    assert_eq!(rt; follow(&mut pools, alloc, Verb::Define, "B", Some(2), 3)?, Ok(()));
-    assert_eq!(rt; follow(&mut pools, alloc, Verb::Define, "C", Some(3), 4)?, Ok(()));
+    assert_eq!(rt;
+        follow(&mut pools, alloc, Verb::Define, "B", Some(2), 3)?,
+        Ok(())
+    );
+    assert_eq!(rt;
+        follow(&mut pools, alloc, Verb::Define, "C", Some(3), 4)?,
+        Ok(())
+    );
     let ring = follow(&mut pools, alloc, Verb::Update, "TAPE", Some(4), 0)?;
     assert_eq!(rt; ring, Err(Refusal::BadHierarchy));
     let itself = follow(&mut pools, alloc, Verb::Update, "B", Some(3), 0)?;
@@ -37,7 +43,10 @@ fn three_pools_are_no_ring(rt: HostRuntime) -> Result<(), Fail> {
     assert_eq!(rt; missing, Err(Refusal::NotFound));
     let random = follow(&mut pools, alloc, Verb::Update, "TAPE", Some(1), 0)?;
     assert_eq!(rt; random, Err(Refusal::BadHierarchy));
-    assert_eq!(rt; follow(&mut pools, alloc, Verb::Update, "C", Some(2), 0)?, Ok(()));
+    assert_eq!(rt;
+        follow(&mut pools, alloc, Verb::Update, "C", Some(2), 0)?,
+        Ok(())
+    );
     Ok(())
 }
 

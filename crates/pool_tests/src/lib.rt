@@ -10,4 +10,6 @@ mod percentages;
 #[cfg(test)]
 mod refusals;
 #[cfg(test)]
+mod rows;
+#[cfg(test)]
 mod scratch_volumes;

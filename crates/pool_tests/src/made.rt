@@ -4,8 +4,8 @@ ghost use Rattle.std.specs.Option.{ForSome};
 ghost use Rattle.pool_tables.specs.Rows.{row_at};
 
 use kinds::{
-    Access, Capacity, Day, Days, DefineOrDelete, Name, PoolChange, PoolKind, PoolRule, PoolSettings,
-    Refusal, Segment, SizeLimit, Verb,
+    Access, Capacity, Day, Days, DefineOrDelete, Name, PoolChange, PoolKind, PoolRule,
+    PoolSettings, Refusal, Segment, SizeLimit, Verb,
 };
 use pool_rows::Pools;
 use std::alloc::Global;
@@ -51,7 +51,13 @@ pub fn class(verb: DefineOrDelete, class: Name) -> Result<PoolChange, Fail> {
 }
 
 /// A change of a pool.
-pub fn pool(verb: Verb, pool: Name, class: Name, kind: PoolKind, settings: PoolSettings) -> PoolChange {
+pub fn pool(
+    verb: Verb,
+    pool: Name,
+    class: Name,
+    kind: PoolKind,
+    settings: PoolSettings,
+) -> PoolChange {
     PoolChange::Pool {
         verb,
         pool,

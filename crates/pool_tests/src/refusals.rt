@@ -12,7 +12,10 @@ fn what_is_used_stays(rt: HostRuntime) -> Result<(), Fail> {
     let define_class = class(DefineOrDelete::Define, name(alloc, "F")?)?;
     assert_eq!(rt; change(&mut pools, &define_class, 0), Err(Refusal::Exists));
     assert_eq!(rt; change(&mut pools, &delete_disk, 0), Err(Refusal::NotFound));
-    assert_eq!(rt; change(&mut pools, &delete_class, 0), Err(Refusal::InUse(By::Pool(2))));
+    assert_eq!(rt;
+        change(&mut pools, &delete_class, 0),
+        Err(Refusal::InUse(By::Pool(2)))
+    );
 
     let t1 = volume(Verb::Define, name(alloc, "T1")?, 2, 5)?;
     let again = volume(Verb::Define, name(alloc, "T1")?, 2, 6)?;
@@ -25,11 +28,23 @@ fn what_is_used_stays(rt: HostRuntime) -> Result<(), Fail> {
     put(&mut pools, 8, &segment(5, 0, 10))?;
     put(&mut pools, 7, &segment(5, 42, 10))?;
     let delete_t1 = volume(Verb::Delete, name(alloc, "T1")?, 2, 5)?;
-    assert_eq!(rt; change(&mut pools, &delete_t1, 0), Err(Refusal::InUse(By::Object(7))));
+    assert_eq!(rt;
+        change(&mut pools, &delete_t1, 0),
+        Err(Refusal::InUse(By::Object(7)))
+    );
 
     let rule = settings(None, 0, 0)?;
-    let delete_tape = pool(Verb::Delete, name(alloc, "TAPE")?, name(alloc, "F")?, PoolKind::Primary, rule);
-    assert_eq!(rt; change(&mut pools, &delete_tape, 0), Err(Refusal::InUse(By::Volume(5))));
+    let delete_tape = pool(
+        Verb::Delete,
+        name(alloc, "TAPE")?,
+        name(alloc, "F")?,
+        PoolKind::Primary,
+        rule,
+    );
+    assert_eq!(rt;
+        change(&mut pools, &delete_tape, 0),
+        Err(Refusal::InUse(By::Volume(5)))
+    );
     Ok(())
 }
 
@@ -37,12 +52,33 @@ fn what_is_used_stays(rt: HostRuntime) -> Result<(), Fail> {
 fn what_is_not_used_goes(rt: HostRuntime) -> Result<(), Fail> {
     let alloc = rt.alloc();
     let mut pools = with_tape(alloc, 0, 0)?;
-    let before = pool(Verb::Define, name(alloc, "B")?, name(alloc, "F")?, PoolKind::Primary, settings(Some(2), 0, 0)?);
+    let before = pool(
+        Verb::Define,
+        name(alloc, "B")?,
+        name(alloc, "F")?,
+        PoolKind::Primary,
+        settings(Some(2), 0, 0)?,
+    );
     let rule = settings(None, 0, 0)?;
-    let delete_b = pool(Verb::Delete, name(alloc, "B")?, name(alloc, "F")?, PoolKind::Primary, rule);
-    let delete_tape = pool(Verb::Delete, name(alloc, "TAPE")?, name(alloc, "F")?, PoolKind::Primary, rule);
+    let delete_b = pool(
+        Verb::Delete,
+        name(alloc, "B")?,
+        name(alloc, "F")?,
+        PoolKind::Primary,
+        rule,
+    );
+    let delete_tape = pool(
+        Verb::Delete,
+        name(alloc, "TAPE")?,
+        name(alloc, "F")?,
+        PoolKind::Primary,
+        rule,
+    );
     assert_eq!(rt; change(&mut pools, &before, 3), Ok(()));
-    assert_eq!(rt; change(&mut pools, &delete_tape, 0), Err(Refusal::InUse(By::Pool(3))));
+    assert_eq!(rt;
+        change(&mut pools, &delete_tape, 0),
+        Err(Refusal::InUse(By::Pool(3)))
+    );
     assert_eq!(rt; change(&mut pools, &delete_b, 0), Ok(()));
     assert_eq!(rt; change(&mut pools, &delete_b, 0), Err(Refusal::NotFound));
     assert_eq!(rt; change(&mut pools, &delete_tape, 0), Ok(()));

@@ -13,6 +13,15 @@ fn add(pools: &mut Pools, pool: u32, file: u32) -> Result<(), Refusal> {
     pools.add_scratch(pool, file)
 }
 
+/// Takes the row of a scratch volume without segments away.
+fn drop(pools: &mut Pools, file: u32) -> bool {
+    let is_bare = pools.is_bare_scratch(file);
+    if is_bare {
+        pools.drop_scratch(file);
+    }
+    is_bare
+}
+
 fn status(pools: &Pools, file: u32) -> Option<Status> {
     match pools.volumes().get(&file) {
         Some(_) => Some(pools.status(file)),
@@ -56,7 +65,10 @@ fn a_scratch_volume_is_filled_emptied_and_reused(rt: HostRuntime) -> Result<(), 
     // 65,536 - 61,440 are 4,096 bytes; one byte more, and the volume is FULL.
     put(&mut pools, 5, &segment(7, 0, 61408))?;
     assert_eq!(rt; status(&pools, 7), Some(Status::Filling));
-    assert_eq!(rt; reuse(&mut pools, 7, day(9)?), Err(Refusal::InUse(By::Object(5))));
+    assert_eq!(rt;
+        reuse(&mut pools, 7, day(9)?),
+        Err(Refusal::InUse(By::Object(5)))
+    );
     pools.take_segment(5, &segment(7, 0, 61408), day(9)?)?;
     assert_eq!(rt; status(&pools, 7), Some(Status::Pending));
     put(&mut pools, 6, &segment(7, 61440, 0))?;
@@ -83,5 +95,9 @@ fn a_copy_is_equal_and_its_own(rt: HostRuntime) -> Result<(), Fail> {
     assert_eq!(rt; copy.volumes().len(), 1);
     let access = copy.volumes().get(&7).map(|volume| volume.access);
     assert_eq!(rt; access, Some(Access::ReadWrite));
+    assert!(rt; !drop(&mut pools, 7));
+    pools.take_segment(5, &segment(7, 0, 19629), day(3)?)?;
+    assert!(rt; drop(&mut pools, 7));
+    assert_eq!(rt; pools.volumes().len(), 0);
     Ok(())
 }

@@ -1,6 +1,6 @@
 use Rattle.std.proofs.Common.{Option, Some, None, is_some, if◌then◌else◌, ◌&&◌, List, ℕ, sym, ap, ◌∙◌}
 use Rattle.volume_rows.specs.declared.volume.Volume.{Volume}
-use Rattle.pool_tables.specs.Names.{row_named, are_apart}
+use Rattle.pool_tables.specs.Names.{row_named}
 use Rattle.pool_tables.specs.Scratch.{volume_name, are_rightly_named}
 use Rattle.pool_tables.proofs.Ascending.{none_from, row_absent, next_row, twice_so, also_named}
 use Rattle.pool_tables.proofs.volume_table.VolumeTable.from_rows.Goals as goal

@@ -1,10 +1,10 @@
-use Rattle.std.proofs.Common.{ℕ, ◌<◌, ◌^◌, length, List, Ok, Option, Some, None, cond, sym, ap, subst, ◌∙◌, arith}
+use Rattle.std.proofs.Common.{ℕ, ◌<◌, ◌^◌, length, List, Option, Some, None, cond, sym, ap, subst, ◌∙◌, arith}
 use Rattle.std.specs.BTreeMap.{is_at}
 use Rattle.std.specs.Cmp.Lexicographic.{slice_cmp}
 use Rattle.std.specs.Ordering.{nat_cmp}
 use Rattle.volume_rows.specs.declared.volume.Volume.{Volume}
 use Rattle.pool_tables.specs.declared.totals.Totals.{Totals}
-use Rattle.pool_tables.specs.Rows.{named, row_at, with_row}
+use Rattle.pool_tables.specs.Rows.{named, row_at}
 use Rattle.pool_tables.specs.Names.{row_named}
 use Rattle.pool_tables.specs.Scratch.{volume_name}
 use Rattle.pool_tables.specs.Counted.{AreWithin}

@@ -1,4 +1,4 @@
-use Rattle.std.proofs.Common.{ℕ, ◌<◌, ◌^◌, length, sym, ap, subst, ◌∙◌, arith}
+use Rattle.std.proofs.Common.{◌<◌, ◌^◌, length, sym, subst, arith}
 use Rattle.pool_tables.specs.declared.totals.Totals.{Totals}
 use Rattle.pool_tables.specs.Counted.{AreWithin}
 use Rattle.pool_tables.proofs.Sound.{totals_little, counts_little}
