@@ -8,6 +8,8 @@ mod made;
 #[cfg(test)]
 mod percentages;
 #[cfg(test)]
+mod reclaim;
+#[cfg(test)]
 mod refusals;
 #[cfg(test)]
 mod rows;
