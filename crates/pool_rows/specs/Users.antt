@@ -1,0 +1,14 @@
+use Rattle.std.specs.Prelude.{ℕ}
+use Rattle.kinds.specs.declared.refusal.By.TheVariants.{Pool, Volume, Object}
+use Rattle.kinds.specs.declared.refusal.Refusal.{Refusal}
+use Rattle.kinds.specs.declared.refusal.Refusal.TheVariants.{InUse}
+
+-- the refusals that name what stands in the way
+abbrev pub used_by_pool : ℕ → Refusal
+used_by_pool pool = InUse (Pool pool)
+
+abbrev pub used_by_volume : ℕ → Refusal
+used_by_volume file = InUse (Volume file)
+
+abbrev pub used_by_object : ℕ → Refusal
+used_by_object object = InUse (Object object)
