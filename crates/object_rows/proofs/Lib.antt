@@ -1,0 +1,10 @@
+pub mod ByNumber
+pub mod InFilespaces
+pub mod IndexLaws
+pub mod Kept
+pub mod PutLaws
+pub mod RowLaws
+pub mod Splices
+pub mod Stands
+pub mod Steps
+pub mod VersionLists

@@ -1,0 +1,4 @@
+pub mod Filespaces
+pub mod Index
+pub mod Places
+pub mod Rows

@@ -1,0 +1,11 @@
+//! The client nodes, their filespaces and the backup versions in them. A version is found by its object's number, or by its
+//! filespace and path.
+#![tactic(auto)]
+
+mod filespaces;
+mod indexed;
+mod objects;
+mod place;
+
+pub use objects::Objects;
+pub use place::Node;
