@@ -103,3 +103,14 @@ module _ {K V : Type 0} {R : K → K → Ordering} (o : IsTotalOrder R) where
             let behind : length new ≡ length s.before + length s.after = ap length s.becomes ∙ length-append s.before s.after in
             omega arith;
       }
+
+  -- what was put into the index and is taken out again
+  pub index-back : (e : K × V) (index more fewer pairs : List (K × V)) → IsIndex R index pairs → lookup (is_at (R e.0)) index ≡ None
+      → ((q : K) → lookup (is_at (R q)) more ≡ cond (is_at (R e.0) q) (Some e.1) (lookup (is_at (R q)) index))
+      → (was : Option V) → was ≡ lookup (is_at (R e.0)) index → length more ≡ length index + cond (is_some was) 0 1
+      → ((q : K) → lookup (is_at (R q)) fewer ≡ cond (is_at (R e.0) q) None (lookup (is_at (R q)) more))
+      → (taken : Option V) → taken ≡ lookup (is_at (R e.0)) more → length fewer + cond (is_some taken) 1 0 ≡ length more → IsIndex R fewer pairs
+  index-back e index more fewer pairs i fresh put was had long took taken there short =
+      index-fewer e more fewer (e ∷ pairs) pairs
+      (index-more e index more pairs (e ∷ pairs) i fresh (record { before = []; after = pairs; was = refl; becomes = refl }) put was had long)
+      (record { before = []; after = pairs; was = refl; becomes = refl }) took taken there short

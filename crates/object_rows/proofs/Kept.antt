@@ -24,7 +24,7 @@ use Rattle.object_rows.specs.declared.place.Place.{Place}
 use Rattle.object_rows.specs.Filespaces.{at_number, filespaces_after, filespaces_altered_at, filespaces_with, in_filespace, versions_at, versions_of}
 use Rattle.object_rows.specs.Index.{IsIndex}
 use Rattle.object_rows.specs.Places.{AreAllByPath, Indexed, listed, listed_at}
-use Rattle.object_rows.proofs.IndexLaws.{index-more, index-fewer}
+use Rattle.object_rows.proofs.IndexLaws.{index-back, index-fewer, index-more}
 use Rattle.object_rows.proofs.Splices.{Splices, splice_in, splice_same}
 use Rattle.object_rows.proofs.Stands.{distinct-listed, has-listed}
 use Rattle.object_rows.proofs.Steps.{Within, alter_of, change_of, keys-within, listed-retired, listed-without_object, named_in, put_of, versions-within, within}
@@ -71,7 +71,7 @@ indexed_alter places n path k change fs new i h by_path =
     h
 
 -- ---- an object comes
-none_from : {V : Type 0} (o : Option V) → is_some o ≡ false → o ≡ None
+pub none_from : {V : Type 0} (o : Option V) → is_some o ≡ false → o ≡ None
 none_from None h = refl
 none_from (Some v) h = absurd (false≢true (sym h))
 
@@ -96,10 +96,8 @@ pub indexed_back : (places more fewer : List (ℕ × Place)) (k : ℕ) (place : 
     → ((q : ℕ) → lookup (at_number q) fewer ≡ cond (at_number k q) None (lookup (at_number q) more))
     → (taken : Option Place) → taken ≡ lookup (at_number k) more → length fewer + cond (is_some taken) 1 0 ≡ length more → Indexed fewer fs
 indexed_back places more fewer k place fs i fresh put was had long took taken there short =
-    let between : IsIndex nat_cmp more ((k, place) ∷ listed fs) =
-    index-more nat_cmp_total (k, place) places more (listed fs) ((k, place) ∷ listed fs) i.index (unlisted places fs k i fresh) (record { before = []; after = listed fs; was = refl; becomes = refl }) put was had long in
     record {
-      index = index-fewer nat_cmp_total (k, place) more fewer ((k, place) ∷ listed fs) (listed fs) between (record { before = []; after = listed fs; was = refl; becomes = refl }) took taken there short;
+      index = index-back nat_cmp_total (k, place) places more fewer (listed fs) i.index (unlisted places fs k i fresh) put was had long took taken there short;
       by_number = i.by_number;
       by_path = i.by_path;
     }

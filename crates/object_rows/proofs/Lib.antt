@@ -2,8 +2,11 @@ pub mod ByNumber
 pub mod InFilespaces
 pub mod IndexLaws
 pub mod Kept
+pub mod Least
+pub mod NodeLaws
 pub mod PutLaws
 pub mod RowLaws
+pub mod SpaceLaws
 pub mod Splices
 pub mod Stands
 pub mod Steps

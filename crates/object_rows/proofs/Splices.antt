@@ -63,6 +63,15 @@ module _ {K X A : Type 0} (flat : K → X → List A) where
         | Greater ↦ λ _ t. splice_behind (flat e.0 e.1) (splice_new R k y es t)
       ] refl h
 
+  -- one entry fewer
+  pub splice_remove : (test : K → Bool) (es : List (K × X)) (x : X) → lookup test es ≡ Some x → (k : K) × (test k ≡ true) × Splices (flat k x) [] (flatten es) (flatten (remove_entry test es))
+  splice_remove test [] x h = absurd (cc)
+  splice_remove test (e ∷ es) x h =
+      elim (test e.0) as (λ b. test e.0 ≡ b → cond b (Some e.1) (lookup test es) ≡ Some x → (k : K) × (test k ≡ true) × Splices (flat k x) [] (flat e.0 e.1 ++ flatten es) (flatten (cond b es (e ∷ remove_entry test es)))) [
+        | true ↦ λ yes t. let same : e.1 ≡ x = cc in (e.0, yes, record { before = []; after = flatten es; was = ap (λ z. flat e.0 z ++ flatten es) same; becomes = refl })
+        | false ↦ λ no t. let w : (k : K) × (test k ≡ true) × Splices (flat k x) [] (flatten es) (flatten (remove_entry test es)) = splice_remove test es x t in (w.0, w.1, splice_behind (flat e.0 e.1) w.2)
+      ] refl h
+
   -- an entry that holds nothing goes
   pub flatten-remove_entry : (test : K → Bool) (es : List (K × X)) (x : X) → lookup test es ≡ Some x → ((k : K) → flat k x ≡ []) → flatten (remove_entry test es) ≡ flatten es
   flatten-remove_entry test [] x h none = refl

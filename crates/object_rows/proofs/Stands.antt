@@ -121,7 +121,7 @@ lookup-first test (x ∷ xs) ys v h =
     ] h
 
 -- an entry that isn't the first of its map: no search that finds it stops at the first
-passed : {K V : Type 0} {R : K → K → Ordering} (o : IsTotalOrder R) (k : K) (e : K × V) (es : List (K × V)) (v : V) → IsStrictlySortedBy R (keys_of (e ∷ es)) → lookup (is_at (R k)) es ≡ Some v → lookup (is_at (R k)) (e ∷ es) ≡ Some v
+pub passed : {K V : Type 0} {R : K → K → Ordering} (o : IsTotalOrder R) (k : K) (e : K × V) (es : List (K × V)) (v : V) → IsStrictlySortedBy R (keys_of (e ∷ es)) → lookup (is_at (R k)) es ≡ Some v → lookup (is_at (R k)) (e ∷ es) ≡ Some v
 passed {K} {V} {R} o k e es v sorted h =
     elim (is_eq (R k e.0)) as (λ b. is_eq (R k e.0) ≡ b → cond b (Some e.1) (lookup (is_at (R k)) es) ≡ Some v) [
       | true ↦ λ same.

@@ -1,4 +1,6 @@
+pub mod Changes
 pub mod Filespaces
 pub mod Index
+pub mod Names
 pub mod Places
 pub mod Rows

@@ -4,8 +4,10 @@
 
 mod filespaces;
 mod indexed;
+mod nodes;
 mod objects;
 mod place;
+mod spaces;
 
 pub use objects::Objects;
 pub use place::Node;

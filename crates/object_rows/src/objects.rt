@@ -6,13 +6,17 @@ ghost use Rattle.version_groups.specs.Versions.{has_object, is_active, are_disti
 ghost use Rattle.version_groups.specs.declared.group.GroupChange.TheVariants.{Gone, Remove, Rebind, Undo};
 ghost use Rattle.version_groups.specs.declared.copies.CopyChange.TheVariants.{Add, Replace, Drop};
 ghost use Rattle.version_groups.specs.Copies.{Alters};
+ghost use Rattle.object_rows.specs.Changes.{Changes, HasFreeNumber, rows_changed};
+ghost use Rattle.object_rows.specs.Names.{filespace_named, node_named};
 ghost use Rattle.object_rows.specs.Filespaces.{group_at, versions_at, versions_of};
 ghost use Rattle.object_rows.specs.Rows.{IsNew, FreePool, rows_with, rows_after, rows_altered, UndoGivesBack};
 
 use crate::indexed;
+use crate::nodes;
 use crate::place::{Node, Place};
-use kinds::{Day, Name, Path, Refusal};
-use std::alloc::Global;
+use crate::spaces;
+use kinds::{Day, DefineOrDelete, FilespaceName, Name, NodeName, ObjectChange, Path, Refusal};
+use std::alloc::{AllocError, Global};
 use std::collections::BTreeMap;
 use std::marker::Model;
 use version_groups::{CopyChange, CopyRow, Filespace, Group, Version};
@@ -23,12 +27,15 @@ const MOST_VERSIONS: usize = 1 << 20;
 /// The client nodes, their filespaces and the versions in them.
 #[derive(Debug, Drop)]
 pub struct Objects {
+    alloc: Global,
     nodes: BTreeMap<u32, Node>,
+    names: BTreeMap<NodeName, u32>,
     filespaces: BTreeMap<u32, Filespace>,
     places: BTreeMap<u64, Place>,
 }
 
 impl Model for Objects {
+    ghost use Rattle.object_rows.specs.Names.{NodesIndexed};
     ghost use Rattle.object_rows.specs.Places.{Indexed};
     ghost use Rattle.object_rows.specs.Rows.{Rows};
 
@@ -36,7 +43,7 @@ impl Model for Objects {
 
     ghost view = { λ o. record { nodes = o.nodes.entries; filespaces = o.filespaces.entries } };
 
-    ghost invariant = { λ o. Indexed o.places.entries o.filespaces.entries };
+    ghost invariant = { λ o. NodesIndexed o.names.entries o.nodes.entries × Indexed o.places.entries o.filespaces.entries };
 }
 
 impl Objects {
@@ -45,7 +52,9 @@ impl Objects {
         ensures { result ≡ record { nodes = []; filespaces = [] } }
     {
         Objects {
+            alloc,
             nodes: BTreeMap::new(alloc),
+            names: BTreeMap::new(alloc),
             filespaces: BTreeMap::new(alloc),
             places: BTreeMap::new(alloc),
         }
@@ -65,6 +74,20 @@ impl Objects {
         &self.filespaces
     }
 
+    /// The number of the node with this name. It takes no memory.
+    pub fn node_named(&self, name: &NodeName) -> Option<u32>
+        ensures { result ≡ node_named name.now self.now.nodes }
+    {
+        nodes::named(&self.names, &self.nodes, name)
+    }
+
+    /// The number of the node's filespace with this name. It takes no memory.
+    pub fn filespace_named(&self, node: u32, name: &FilespaceName) -> Option<u32>
+        ensures { result ≡ filespace_named node name.now self.now.filespaces }
+    {
+        spaces::named(&self.filespaces, node, name)
+    }
+
     /// The version of the object. It takes no memory.
     pub fn find(&self, object: u64) -> Option<&Version>
         ensures value { option_copied result ≡ version_of object (versions_of self.now.filespaces) }
@@ -80,6 +103,47 @@ impl Objects {
         match self.filespaces.get(&filespace) {
             None => None,
             Some(filespace) => filespace.groups.get(path),
+        }
+    }
+
+    /// Defines or deletes a node or a filespace. A node that is defined gets this number, which no node has. What is not there
+    /// is `NotFound`: the node of a filespace that is defined, and the node or filespace that is deleted; a name that is taken is
+    /// `Exists`; a node with filespaces, or a filespace with versions, that is deleted is in use by the least of them. A
+    /// filespace is deleted by its number, and its node and name are not looked at, nor is the domain of a node that is deleted.
+    pub fn change(&mut self, change: &ObjectChange, number: u32) -> Result<(), Refusal>
+        requires { HasFreeNumber change.now number self.old }
+        ensures { Changes change.now result self.old self.new (rows_changed change.now number self.old) }
+    {
+        match change {
+            ObjectChange::Node {
+                verb: DefineOrDelete::Define,
+                node,
+                domain,
+            } => nodes::define(&mut self.names, &mut self.nodes, node, domain, number),
+            ObjectChange::Node {
+                verb: DefineOrDelete::Delete,
+                node,
+                ..
+            } => nodes::delete(&mut self.names, &mut self.nodes, &self.filespaces, node),
+            ObjectChange::Filespace {
+                verb: DefineOrDelete::Define,
+                node,
+                name,
+                filespace,
+            } => spaces::define(
+                self.alloc,
+                &self.nodes,
+                &self.places,
+                &mut self.filespaces,
+                *node,
+                name,
+                *filespace,
+            ),
+            ObjectChange::Filespace {
+                verb: DefineOrDelete::Delete,
+                filespace,
+                ..
+            } => spaces::delete(&self.places, &mut self.filespaces, *filespace),
         }
     }
 
@@ -205,5 +269,19 @@ impl Objects {
         ensures { Alters change result self.old self.new (rows_altered object change self.old) }
     {
         indexed::alter(&self.places, &mut self.filespaces, object, change)
+    }
+}
+
+impl Clone for Objects {
+    ghost is_clone = { λ objects copy. copy ≡ objects };
+
+    fn clone(&self) -> Result<Self, AllocError> {
+        Ok(Objects {
+            alloc: self.alloc,
+            nodes: self.nodes.clone()?,
+            names: self.names.clone()?,
+            filespaces: self.filespaces.clone()?,
+            places: self.places.clone()?,
+        })
     }
 }

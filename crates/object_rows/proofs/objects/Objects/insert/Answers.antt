@@ -14,7 +14,7 @@ use Rattle.object_rows.proofs.objects.Objects.insert.Goals as goal
 pub returns-then-len-ge-MOST_VERSIONS-clause-value : goal.returns-then-len-ge-MOST_VERSIONS-clause-value
 returns-then-len-ge-MOST_VERSIONS-clause-value c =
     let there : is_some (filespace_at c.args.filespace c.self.inside.filespaces.entries) ≡ true = sym c.contains_key.ensures ∙ c.if-not-contains_key.false in
-    let kept : length c.self.inside.places.entries ≡ length (versions_of c.self.inside.filespaces.entries) = length-places c.self.inside.places.entries c.self.inside.filespaces.entries c.self.invariant in
+    let kept : length c.self.inside.places.entries ≡ length (versions_of c.self.inside.filespaces.entries) = length-places c.self.inside.places.entries c.self.inside.filespaces.entries c.self.invariant.1 in
     let full : 1048576 ≤ length (versions_of c.self.inside.filespaces.entries) = omega arith in (
       refl,
       inr (ap (rows_with c.args.filespace c.args.path.now c.args.class.now c.args.version) (sym c.self.view_is)
@@ -24,7 +24,7 @@ returns-then-len-ge-MOST_VERSIONS-clause-value c =
 pub returns-clause-value : goal.returns-clause-value
 returns-clause-value c =
     let there : is_some (filespace_at c.args.filespace c.self.inside.filespaces.entries) ≡ true = sym c.contains_key.ensures ∙ c.if-not-contains_key.false in
-    let kept : length c.self.inside.places.entries ≡ length (versions_of c.self.inside.filespaces.entries) = length-places c.self.inside.places.entries c.self.inside.filespaces.entries c.self.invariant in
+    let kept : length c.self.inside.places.entries ≡ length (versions_of c.self.inside.filespaces.entries) = length-places c.self.inside.places.entries c.self.inside.filespaces.entries c.self.invariant.1 in
     let room : length (versions_of c.self.inside.filespaces.entries) < 1048576 = omega arith in
     subst (λ (rows : Rows). Becomes c.put.result rows (record { nodes = c.self.inside.nodes.entries; filespaces = c.put.new.filespaces.entries }) (rows_with c.args.filespace c.args.path.now c.args.class.now c.args.version rows)) c.self.view_is
     (subst (λ (class : List ℕ). Becomes c.put.result (record { nodes = c.self.inside.nodes.entries; filespaces = c.self.inside.filespaces.entries }) (record { nodes = c.self.inside.nodes.entries; filespaces = c.put.new.filespaces.entries })
@@ -36,12 +36,12 @@ returns-clause-newest c =
     subst (λ (rows : Rows). OnOk c.put.result (versions_at c.args.filespace c.args.path.now c.put.new.filespaces.entries ≡ c.args.version ∷ superseded c.args.version.stored (versions_at c.args.filespace c.args.path.now rows.filespaces))) c.self.view_is
     (became_ok (versions_at c.args.filespace c.args.path.now c.put.new.filespaces.entries ≡ c.args.version ∷ superseded c.args.version.stored (versions_at c.args.filespace c.args.path.now c.self.inside.filespaces.entries))
     c.put.result c.self.inside.filespaces.entries c.put.new.filespaces.entries (filespaces_with c.args.filespace c.args.path.now c.in_ok-class.class c.args.version c.self.inside.filespaces.entries) c.put.ensures.value
-    (put_newest c.args.filespace c.args.path.now c.in_ok-class.class c.args.version c.self.inside.filespaces.entries c.put.new.filespaces.entries c.self.invariant.by_path))
+    (put_newest c.args.filespace c.args.path.now c.in_ok-class.class c.args.version c.self.inside.filespaces.entries c.put.new.filespaces.entries c.self.invariant.1.by_path))
 
 pub returns-clause-found : goal.returns-clause-found
 returns-clause-found c =
     became_ok _ c.put.result c.self.inside.filespaces.entries c.put.new.filespaces.entries (filespaces_with c.args.filespace c.args.path.now c.in_ok-class.class c.args.version c.self.inside.filespaces.entries) c.put.ensures.value
-    (put_found c.self.inside.places.entries c.put.new.places.entries c.args.filespace c.args.path.now c.in_ok-class.class c.args.version c.self.inside.filespaces.entries c.put.new.filespaces.entries c.self.invariant c.put.ensures.indexed
+    (put_found c.self.inside.places.entries c.put.new.places.entries c.args.filespace c.args.path.now c.in_ok-class.class c.args.version c.self.inside.filespaces.entries c.put.new.filespaces.entries c.self.invariant.1 c.put.ensures.indexed
     (subst (IsNew c.args.version.object) (sym c.self.view_is) c.requires.new))
 
 pub returns-clause-undone : goal.returns-clause-undone
@@ -49,4 +49,4 @@ returns-clause-undone c =
     subst (λ (rows : Rows). OnOk c.put.result (UndoGivesBack c.args.filespace c.args.path.now rows (record { nodes = c.self.inside.nodes.entries; filespaces = c.put.new.filespaces.entries }))) c.self.view_is
     (became_ok (UndoGivesBack c.args.filespace c.args.path.now (record { nodes = c.self.inside.nodes.entries; filespaces = c.self.inside.filespaces.entries }) (record { nodes = c.self.inside.nodes.entries; filespaces = c.put.new.filespaces.entries }))
     c.put.result c.self.inside.filespaces.entries c.put.new.filespaces.entries (filespaces_with c.args.filespace c.args.path.now c.in_ok-class.class c.args.version c.self.inside.filespaces.entries) c.put.ensures.value
-    (λ said was active so. ap (with_filespaces (record { nodes = c.self.inside.nodes.entries; filespaces = c.put.new.filespaces.entries })) (put_undone c.args.filespace c.args.path.now c.in_ok-class.class c.args.version c.self.inside.filespaces.entries c.put.new.filespaces.entries c.self.invariant.by_path said was active so)))
+    (λ said was active so. ap (with_filespaces (record { nodes = c.self.inside.nodes.entries; filespaces = c.put.new.filespaces.entries })) (put_undone c.args.filespace c.args.path.now c.in_ok-class.class c.args.version c.self.inside.filespaces.entries c.put.new.filespaces.entries c.self.invariant.1.by_path said was active so)))
