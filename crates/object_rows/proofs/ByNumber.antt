@@ -1,11 +1,10 @@
 -- A change of the copies of an object's version, at its place and by its number.
-use Rattle.std.proofs.Common.{◌≡◌, ℕ, Bool, true, false, cond, eqb, ◌||◌, List, [], ◌∷◌, ◌++◌, map, Option, Some, None, Result, Ok, Err, refl, sym, ap, subst, ◌∙◌}
-use Rattle.std.proofs.lemmas.Bool.{false≢true, or_parts}
+use Rattle.std.proofs.Common.{◌≡◌, ℕ, Bool, true, false, cond, eqb, ◌||◌, List, [], ◌∷◌, ◌++◌, map, Option, Some, None, Ok, Err, refl, sym, ap, subst, ◌∙◌}
+use Rattle.std.proofs.lemmas.Bool.{or_parts}
 use Rattle.std.proofs.lemmas.List.Folds.{list_any-append}
 use Rattle.std.specs.List.{flat_map}
 use Rattle.std.specs.Map.{lookup, set_value}
 use Rattle.std.specs.Option.{option_map_or}
-use Rattle.kinds.specs.declared.refusal.Refusal.{Refusal}
 use Rattle.kinds.specs.declared.refusal.Refusal.TheVariants.{NotFound}
 use Rattle.version_groups.specs.declared.copies.CopyChange.{CopyChange}
 use Rattle.version_groups.specs.declared.copies.CopyRow.{CopyRow}
@@ -16,13 +15,13 @@ use Rattle.version_groups.specs.Copies.{Alters, copies_after}
 use Rattle.version_groups.specs.Entries.{on_ok, if_found}
 use Rattle.version_groups.specs.Groups.{at_path, group_altered, groups_altered}
 use Rattle.version_groups.specs.Groups as grouped
-use Rattle.version_groups.specs.Versions.{copies_of, has_object, are_distinct, version_of, with_copies, versions_altered}
+use Rattle.version_groups.specs.Versions.{copies_of, has_object, are_distinct, version_of, with_copies}
 use Rattle.version_groups.proofs.Altered.{Alters-missing}
 use Rattle.version_groups.proofs.Lists.{version_of-none}
 use Rattle.object_rows.specs.declared.place.Place.{Place}
-use Rattle.object_rows.specs.Filespaces.{at_number, filespace_after, filespace_at, filespace_copied, filespaces_altered, filespaces_altered_at, filespaces_copied, group_copied, groups_copied, groups_in, versions_at, versions_in, versions_of}
+use Rattle.object_rows.specs.Filespaces.{at_number, filespace_after, filespace_at, filespace_copied, filespaces_altered, filespaces_altered_at, filespaces_copied, group_copied, groups_in, versions_at, versions_in, versions_of}
 use Rattle.object_rows.proofs.Stands.{Stands}
-use Rattle.object_rows.proofs.VersionLists.{Parted, apart_behind, parted, with_copies-others}
+use Rattle.object_rows.proofs.VersionLists.{apart_behind, parted, with_copies-others}
 
 or-true : (b : Bool) → (b || true) ≡ true
 or-true true = refl

@@ -1,5 +1,5 @@
 -- What is done to the groups of one filespace is done to all filespaces.
-use Rattle.std.proofs.Common.{◌≡◌, ℕ, Bool, true, false, cond, List, Option, Some, None, Result, refl, sym, ap, subst, ◌∙◌}
+use Rattle.std.proofs.Common.{◌≡◌, ℕ, Bool, List, Some, Result, sym, ap, subst}
 use Rattle.std.proofs.lemmas.Map.Steps.{set_value_same}
 use Rattle.std.specs.Map.{lookup, set_value}
 use Rattle.kinds.specs.Answers.{Becomes, Makes}
@@ -10,7 +10,6 @@ use Rattle.version_groups.specs.declared.group.Group.{Group}
 use Rattle.version_groups.specs.declared.groups.Filespace.{Filespace}
 use Rattle.version_groups.specs.Copies.{Alters}
 use Rattle.version_groups.specs.Entries.{on_ok, if_found, changed_at}
-use Rattle.version_groups.specs.Groups.{AreByPath}
 use Rattle.version_groups.proofs.Altered.{Alters-lift, Becomes-lift}
 use Rattle.version_groups.proofs.Maps.{Alters-entry}
 use Rattle.object_rows.specs.Filespaces.{at_number, filespace_after, filespace_at, in_filespace}

@@ -1,4 +1,7 @@
+pub mod Answered
+pub mod Builds
 pub mod ByNumber
+pub mod Full
 pub mod InFilespaces
 pub mod IndexLaws
 pub mod Kept

@@ -1,16 +1,15 @@
 -- The index of the nodes' names after each change.
-use Rattle.std.proofs.Common.{◌≡◌, ℕ, ◌+◌, Bool, true, false, cond, List, [], ◌∷◌, ◌++◌, length, Option, Some, None, refl, sym, ap, subst, ◌∙◌}
+use Rattle.std.proofs.Common.{◌≡◌, ℕ, ◌+◌, true, false, cond, List, [], ◌∷◌, length, Option, Some, None, refl, sym, ap, subst, ◌∙◌}
 use Rattle.std.proofs.lemmas.Map.Keys.{sorted_tail}
 use Rattle.std.specs.BTreeMap.{insert_entry}
 use Rattle.std.specs.Cmp.{nat_cmp_total}
-use Rattle.std.specs.Cmp.Lexicographic.{slice_cmp, nat_list_cmp_total}
+use Rattle.std.specs.Cmp.Lexicographic.{nat_list_cmp_total}
 use Rattle.std.specs.List.Sorted.{IsStrictlySortedBy}
 use Rattle.std.specs.Map.{keys_of, lookup, remove_entry}
 use Rattle.std.specs.Option.{is_some}
 use Rattle.std.specs.Ordering.{nat_cmp}
 use Rattle.object_rows.specs.declared.place.Node.{Node}
 use Rattle.object_rows.specs.Filespaces.{at_number}
-use Rattle.object_rows.specs.Index.{IsIndex}
 use Rattle.object_rows.specs.Names.{NodesIndexed, at_name, named, node_named}
 use Rattle.object_rows.proofs.IndexLaws.{index-back, index-fewer, index-more}
 use Rattle.object_rows.proofs.Splices.{Splices, splice_new, splice_remove}
@@ -49,8 +48,8 @@ nodes_removed names fewer nodes new name n i found entries sorted took taken the
     record {
       index = index-fewer nat_list_cmp_total (name, n) names fewer (named nodes) (named new) i.index
           (subst (λ (t : List (ℕ × Node)). Splices ((name, n) ∷ []) [] (named nodes) (named t)) (sym entries)
-            (subst (λ (m : ℕ). Splices ((name, m) ∷ []) [] (named nodes) (named (remove_entry (at_number n) nodes))) (sym (same_number n s.0 s.1))
-              (subst (λ (t : List ℕ). Splices ((t, s.0) ∷ []) [] (named nodes) (named (remove_entry (at_number n) nodes))) w.2 s.2)))
+          (subst (λ (m : ℕ). Splices ((name, m) ∷ []) [] (named nodes) (named (remove_entry (at_number n) nodes))) (sym (same_number n s.0 s.1))
+          (subst (λ (t : List ℕ). Splices ((t, s.0) ∷ []) [] (named nodes) (named (remove_entry (at_number n) nodes))) w.2 s.2)))
           took taken there short;
       by_number = sorted;
     }

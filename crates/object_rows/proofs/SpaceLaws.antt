@@ -1,6 +1,6 @@
 -- The index of places once a filespace is defined or deleted.
-use Rattle.std.proofs.Common.{◌≡◌, ℕ, Bool, true, false, cond, eqb, ◌&&◌, List, [], ◌∷◌, ◌++◌, length, Option, Some, None, Ordering, refl, sym, ap, subst, ◌∙◌}
-use Rattle.std.specs.BTreeMap.{insert_entry, is_at}
+use Rattle.std.proofs.Common.{◌≡◌, ℕ, Bool, true, false, cond, eqb, ◌&&◌, List, [], ◌∷◌, ◌++◌, Some, None, refl, sym, ap, subst, ◌∙◌}
+use Rattle.std.specs.BTreeMap.{insert_entry}
 use Rattle.std.specs.List.Sorted.{IsStrictlySortedBy}
 use Rattle.std.specs.Map.{keys_of, lookup, remove_entry}
 use Rattle.std.specs.Ordering.{match_ordering, nat_cmp}
@@ -13,23 +13,23 @@ use Rattle.object_rows.specs.Changes.{least_object}
 use Rattle.object_rows.specs.Filespaces.{at_number, filespace_at, versions_in}
 use Rattle.object_rows.specs.Index.{IsIndex}
 use Rattle.object_rows.specs.Names.{at_name, filespace_named, named_of}
-use Rattle.object_rows.specs.Places.{AreAllByPath, Indexed, listed, listed_in}
+use Rattle.object_rows.specs.Places.{AreAllOrderly, AreOrderly, Indexed, listed, listed_in}
 use Rattle.object_rows.proofs.Least.{least_of_none}
 use Rattle.object_rows.proofs.Splices.{Splices, flatten-remove_entry, splice_new, splice_same}
 use Rattle.object_rows.proofs.Stands.{keys-listed_in, numbers}
 
-by_path-insert : (fs : List (ℕ × Filespace)) (n : ℕ) (f : Filespace) → AreAllByPath fs → AreByPath f.groups → AreAllByPath (insert_entry nat_cmp fs n f)
-by_path-insert [] n f a h = (h, tt)
-by_path-insert (e ∷ fs) n f a h =
-    elim (nat_cmp n e.0) as (λ r. AreAllByPath (match_ordering r ((n, f) ∷ e ∷ fs) ((e.0, f) ∷ fs) (e ∷ insert_entry nat_cmp fs n f))) [
+orderly-insert : (fs : List (ℕ × Filespace)) (n : ℕ) (f : Filespace) → AreAllOrderly fs → AreOrderly f.groups → AreAllOrderly (insert_entry nat_cmp fs n f)
+orderly-insert [] n f a h = (h, tt)
+orderly-insert (e ∷ fs) n f a h =
+    elim (nat_cmp n e.0) as (λ r. AreAllOrderly (match_ordering r ((n, f) ∷ e ∷ fs) ((e.0, f) ∷ fs) (e ∷ insert_entry nat_cmp fs n f))) [
       | Less ↦ (h, a)
       | Equal ↦ (h, a.1)
-      | Greater ↦ (a.0, by_path-insert fs n f a.1 h)
+      | Greater ↦ (a.0, orderly-insert fs n f a.1 h)
     ]
 
-by_path-remove : (test : ℕ → Bool) (fs : List (ℕ × Filespace)) → AreAllByPath fs → AreAllByPath (remove_entry test fs)
-by_path-remove test [] a = a
-by_path-remove test (e ∷ fs) a = elim (test e.0) as (λ b. AreAllByPath (cond b fs (e ∷ remove_entry test fs))) [ | true ↦ a.1 | false ↦ (a.0, by_path-remove test fs a.1) ]
+orderly-remove : (test : ℕ → Bool) (fs : List (ℕ × Filespace)) → AreAllOrderly fs → AreAllOrderly (remove_entry test fs)
+orderly-remove test [] a = a
+orderly-remove test (e ∷ fs) a = elim (test e.0) as (λ b. AreAllOrderly (cond b fs (e ∷ remove_entry test fs))) [ true ↦ a.1 | false ↦ (a.0, orderly-remove test fs a.1) ]
 
 no_groups : AreByPath []
 unfolding IsStrictlySortedBy
@@ -42,7 +42,7 @@ space_defined places fs new n f i free empty entries sorted =
     record {
       index = subst (IsIndex nat_cmp places) (sym same) i.index;
       by_number = sorted;
-      by_path = subst AreAllByPath (sym entries) (by_path-insert fs n f i.by_path (subst AreByPath (sym empty) no_groups));
+      orderly = subst AreAllOrderly (sym entries) (orderly-insert fs n f i.orderly (subst AreOrderly (sym empty) (no_groups, refl)));
     }
 
 no_keys : (xs : List (ℕ × Place)) → keys_of xs ≡ [] → xs ≡ []
@@ -56,9 +56,9 @@ space_deleted places fs new n f i there unused entries sorted =
     record {
       index = subst (IsIndex nat_cmp places) (sym same) i.index;
       by_number = sorted;
-      by_path = subst AreAllByPath (sym entries) (by_path-remove (at_number n) fs i.by_path);
+      orderly = subst AreAllOrderly (sym entries) (orderly-remove (at_number n) fs i.orderly);
     }
 
 -- a search by name goes past a filespace that is another node's or has another name
 pub named_more : (node : ℕ) (name : List ℕ) (e : ℕ × Filespace) (es : List (ℕ × Filespace)) → filespace_named node name (e ∷ es) ≡ cond (eqb e.1.node node && at_name name e.1.name) (Some e.0) (filespace_named node name es)
-named_more node name e es = elim (eqb e.1.node node) as (λ b. lookup (at_name name) (cond b ((e.1.name, e.0) ∷ []) [] ++ named_of node es) ≡ cond (b && at_name name e.1.name) (Some e.0) (filespace_named node name es)) [ | true ↦ refl | false ↦ refl ]
+named_more node name e es = elim (eqb e.1.node node) as (λ b. lookup (at_name name) (cond b ((e.1.name, e.0) ∷ []) [] ++ named_of node es) ≡ cond (b && at_name name e.1.name) (Some e.0) (filespace_named node name es)) [ true ↦ refl | false ↦ refl ]

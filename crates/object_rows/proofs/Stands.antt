@@ -1,6 +1,6 @@
 -- What the list of places says of the versions, and where the place that is found by an object's number leads.
-use Rattle.std.proofs.Common.{◌≡◌, ℕ, Bool, true, false, cond, eqb, not, ◌&&◌, ◌||◌, List, [], ◌∷◌, ◌++◌, map, Option, Some, None, Ordering, refl, sym, ap, subst, ◌∙◌}
-use Rattle.std.proofs.lemmas.Bool.{false≢true, and_from, eqb-true, eq-eqb, ne_eqb}
+use Rattle.std.proofs.Common.{◌≡◌, ℕ, Bool, true, false, cond, eqb, ◌||◌, List, [], ◌∷◌, ◌++◌, map, Option, Some, None, Ordering, refl, sym, ap, ◌∙◌}
+use Rattle.std.proofs.lemmas.Bool.{false≢true, and_from, and_parts, eq-eqb, ne_eqb}
 use Rattle.std.proofs.lemmas.List.{map-append}
 use Rattle.std.proofs.lemmas.Map.{lookup-none}
 use Rattle.std.proofs.lemmas.Map.Entries.{none_past_head}
@@ -12,7 +12,7 @@ use Rattle.std.specs.Cmp.Lexicographic.{slice_cmp, nat_list_cmp_total}
 use Rattle.std.specs.List.Sorted.{IsStrictlySortedBy}
 use Rattle.std.specs.Map.{keys_of, lookup}
 use Rattle.std.specs.Option.{is_some}
-use Rattle.std.specs.Ordering.{is_eq, nat_cmp, eq_by_cmp}
+use Rattle.std.specs.Ordering.{is_eq, nat_cmp}
 use Rattle.std.specs.declared.cmp.Ordering.TheVariants.{Less, Equal, Greater}
 use Rattle.version_groups.specs.declared.group.Group.{Group}
 use Rattle.version_groups.specs.declared.groups.Filespace.{Filespace}
@@ -22,9 +22,9 @@ use Rattle.version_groups.specs.Versions.{has_object, are_distinct, version_of}
 use Rattle.version_groups.proofs.Lists.{are_of_others, of_others}
 use Rattle.object_rows.specs.declared.place.Place.{Place}
 use Rattle.object_rows.specs.Filespaces.{at_number, filespace_at, versions_in, versions_of}
-use Rattle.object_rows.specs.Index.{AreDistinct, IsIndex}
-use Rattle.object_rows.specs.Places.{AreAllByPath, Indexed, listed, listed_at, listed_in}
-use Rattle.object_rows.proofs.VersionLists.{version_of-front, version_of-behind}
+use Rattle.object_rows.specs.Index.{AreDistinct}
+use Rattle.object_rows.specs.Places.{AreAllOrderly, listed, listed_at, listed_in}
+use Rattle.object_rows.proofs.VersionLists.{none_of_others, version_of-front, version_of-behind}
 
 pub equal : (r : Ordering) → is_eq r ≡ true → r ≡ Equal
 equal Less h = absurd (false≢true h)
@@ -103,6 +103,22 @@ distinct_numbers (x ∷ xs) (v ∷ vs) h d =
 pub distinct-listed : (fs : List (ℕ × Filespace)) → AreDistinct nat_cmp (listed fs) → are_distinct (versions_of fs) ≡ true
 distinct-listed fs d = distinct_numbers (listed fs) (versions_of fs) (keys-listed fs) d
 
+none_of : {V : Type 0} (o : Option V) → is_some o ≡ false → o ≡ None
+none_of None h = refl
+none_of (Some v) h = absurd (false≢true (sym h))
+
+distinct_places : (xs : List (ℕ × Place)) (vs : List Version) → keys_of xs ≡ numbers vs → are_distinct vs ≡ true → AreDistinct nat_cmp xs
+distinct_places [] vs h d = tt
+distinct_places (x ∷ xs) [] h d = absurd (cc)
+distinct_places (x ∷ xs) (v ∷ vs) h d =
+    let head : x.0 ≡ v.object = cc in
+    let rest : keys_of xs ≡ numbers vs = cc in
+    let ds : (are_of_others v.object vs ≡ true) × (are_distinct vs ≡ true) = and_parts (are_of_others v.object vs) (are_distinct vs) d in
+    (none_of (lookup (at_number x.0) xs) (has-keys x.0 xs vs rest ∙ ap (λ n. has_object n vs) head ∙ none_of_others v.object vs ds.0), distinct_places xs vs rest ds.1)
+
+pub listed-distinct : (fs : List (ℕ × Filespace)) → are_distinct (versions_of fs) ≡ true → AreDistinct nat_cmp (listed fs)
+listed-distinct fs d = distinct_places (listed fs) (versions_of fs) (keys-listed fs) d
+
 -- ---- a search of joined lists
 lookup-behind : {K V : Type 0} (test : K → Bool) (xs ys : List (K × V)) → lookup test xs ≡ None → lookup test (xs ++ ys) ≡ lookup test ys
 lookup-behind test [] ys h = refl
@@ -179,37 +195,37 @@ stands_in k n (e ∷ es) place sorted h =
 pub record Stands (k : ℕ) (place : Place) (fs : List (ℕ × Filespace)) : Type 0 where
   pub filespace : Filespace
   pub there : filespace_at place.filespace fs ≡ Some filespace
-  pub by_path : AreByPath filespace.groups
+  pub orderly : AreByPath filespace.groups
   pub group : Group
   pub group_there : group_at place.path filespace.groups ≡ Some group
   pub has : has_object k group.versions ≡ true
   pub found : version_of k (versions_of fs) ≡ version_of k group.versions
 
-pub stands : (k : ℕ) (fs : List (ℕ × Filespace)) (place : Place) → IsStrictlySortedBy nat_cmp (keys_of fs) → AreAllByPath fs → lookup (at_number k) (listed fs) ≡ Some place → Stands k place fs
-stands k [] place sorted by_path h = absurd (cc)
-stands k (e ∷ es) place sorted by_path h =
+pub stands : (k : ℕ) (fs : List (ℕ × Filespace)) (place : Place) → IsStrictlySortedBy nat_cmp (keys_of fs) → AreAllOrderly fs → lookup (at_number k) (listed fs) ≡ Some place → Stands k place fs
+stands k [] place sorted orderly h = absurd (cc)
+stands k (e ∷ es) place sorted orderly h =
     elim (lookup (at_number k) (listed_in e.0 e.1.groups)) as (λ o. lookup (at_number k) (listed_in e.0 e.1.groups) ≡ o → Stands k place (e ∷ es)) [
       | Some q ↦ λ here.
           let first : lookup (at_number k) (listed (e ∷ es)) ≡ Some q = lookup-first (at_number k) (listed_in e.0 e.1.groups) (listed es) q here in
           let same : q ≡ place = cc in
-          let w : StandsIn k e.0 place e.1.groups = stands_in k e.0 e.1.groups place by_path.0 (here ∙ ap Some same) in
+          let w : StandsIn k e.0 place e.1.groups = stands_in k e.0 e.1.groups place orderly.0.0 (here ∙ ap Some same) in
           let has : has_object k (versions_in e.1.groups) ≡ true = sym (has-keys k (listed_in e.0 e.1.groups) (versions_in e.1.groups) (keys-listed_in e.0 e.1.groups)) ∙ ap is_some here in
           record {
             filespace = e.1;
             there = ap (λ n. filespace_at n (e ∷ es)) w.number ∙ ap (λ b. cond b (Some e.1) (filespace_at e.0 es)) (at_itself e.0);
-            by_path = by_path.0;
+            orderly = orderly.0.0;
             group = w.group;
             group_there = w.there;
             has = w.has;
             found = version_of-front k (versions_in e.1.groups) (versions_of es) has ∙ w.found;
           }
       | None ↦ λ none.
-          let w : Stands k place es = stands k es place (sorted_tail nat_cmp e.0 (keys_of es) sorted) by_path.1 (sym (lookup-behind (at_number k) (listed_in e.0 e.1.groups) (listed es) none) ∙ h) in
+          let w : Stands k place es = stands k es place (sorted_tail nat_cmp e.0 (keys_of es) sorted) orderly.1 (sym (lookup-behind (at_number k) (listed_in e.0 e.1.groups) (listed es) none) ∙ h) in
           let not_here : has_object k (versions_in e.1.groups) ≡ false = sym (has-keys k (listed_in e.0 e.1.groups) (versions_in e.1.groups) (keys-listed_in e.0 e.1.groups)) ∙ ap is_some none in
           record {
             filespace = w.filespace;
             there = passed nat_cmp_total place.filespace e es w.filespace sorted w.there;
-            by_path = w.by_path;
+            orderly = w.orderly;
             group = w.group;
             group_there = w.group_there;
             has = w.has;

@@ -1,11 +1,10 @@
 -- What each change of the filespaces makes of the list of places.
-use Rattle.std.proofs.Common.{◌≡◌, ℕ, ◌+◌, Bool, true, false, cond, eqb, not, ◌&&◌, ◌||◌, List, [], ◌∷◌, ◌++◌, map, Option, Some, None, Result, Ok, Err, refl, sym, ap, subst, ◌∙◌}
+use Rattle.std.proofs.Common.{◌≡◌, ℕ, true, false, cond, eqb, not, ◌||◌, List, [], ◌∷◌, Option, Some, None, Result, Ok, Err, refl, sym, ap, subst, ◌∙◌}
 use Rattle.std.proofs.lemmas.Bool.{false≢true, and_parts, eqb-true}
 use Rattle.std.proofs.lemmas.Map.{keys-set_value}
-use Rattle.std.specs.BTreeMap.{is_at, insert_entry}
+use Rattle.std.specs.BTreeMap.{insert_entry}
 use Rattle.std.specs.Cmp.Lexicographic.{slice_cmp, nat_list_cmp_total}
-use Rattle.std.specs.List.{AllByRecursion}
-use Rattle.std.specs.Map.{keys_of, lookup, set_value, remove_entry}
+use Rattle.std.specs.Map.{keys_of, set_value, remove_entry}
 use Rattle.std.specs.Ordering.{nat_cmp}
 use Rattle.kinds.specs.declared.refusal.Refusal.{Refusal}
 use Rattle.version_groups.specs.declared.copies.CopyChange.{CopyChange}
@@ -15,7 +14,7 @@ use Rattle.version_groups.specs.declared.group.GroupChange.{GroupChange}
 use Rattle.version_groups.specs.declared.groups.Filespace.{Filespace}
 use Rattle.version_groups.specs.declared.versions.Version.{Version}
 use Rattle.version_groups.specs.Copies.{copies_after}
-use Rattle.version_groups.specs.Entries.{on_ok, if_found, changed_at}
+use Rattle.version_groups.specs.Entries.{on_ok, if_found}
 use Rattle.version_groups.specs.Groups as grouped
 use Rattle.version_groups.specs.Groups.{AreByPath, at_path, class_after, group_altered, group_with, groups_after, groups_altered, groups_with, names_kept, versions_after, without_empty}
 use Rattle.version_groups.specs.Versions.{has_object, are_distinct, is_empty, retired, superseded, with_copies, without_object, version_of, versions_altered}
@@ -24,8 +23,8 @@ use Rattle.version_groups.proofs.Lists.{are_of_others}
 use Rattle.version_groups.proofs.Maps.{insert_present}
 use Rattle.object_rows.specs.declared.place.Place.{Place}
 use Rattle.object_rows.specs.Filespaces.{at_number, filespace_at, filespace_after, filespaces_after, filespaces_altered_at, filespaces_with, groups_in, in_filespace, versions_at, versions_in, versions_of}
-use Rattle.object_rows.specs.Places.{AreAllByPath, listed, listed_at, listed_in}
-use Rattle.object_rows.proofs.Splices.{Splices, splice_in, splice_same, splice_self, splice_set, splice_new, splice_behind, flatten-remove_entry, remove_entry-absent}
+use Rattle.object_rows.specs.Places.{AreAllOrderly, AreOrderly, listed, listed_at, listed_in}
+use Rattle.object_rows.proofs.Splices.{Splices, splice_in, splice_same, splice_set, splice_new, splice_behind, flatten-remove_entry, remove_entry-absent}
 use Rattle.object_rows.proofs.Stands.{same_number, same_path}
 use Rattle.object_rows.proofs.VersionLists.{none_of_others, without_object-others}
 
@@ -171,32 +170,32 @@ listed-within n by fs new w =
     subst (λ (t : List (ℕ × Filespace)). Splices (listed_in n w.filespace.groups) (listed_in n w.groups) (listed fs) (listed t)) w.becomes
     (subst (λ (m : ℕ). Splices (listed_in m w.filespace.groups) (listed_in m w.groups) (listed fs) (listed (set_value (at_number n) fs f))) (sym (same_number n s.0 s.1)) s.2)
 
-pub by_path_at : (n : ℕ) (fs : List (ℕ × Filespace)) (f : Filespace) → AreAllByPath fs → filespace_at n fs ≡ Some f → AreByPath f.groups
-by_path_at n [] f a h = absurd (cc)
-by_path_at n (e ∷ fs) f a h =
-    elim (at_number n e.0) as (λ b. cond b (Some e.1) (filespace_at n fs) ≡ Some f → AreByPath f.groups) [
-      | true ↦ λ t. let same : e.1 ≡ f = cc in subst (λ (x : Filespace). AreByPath x.groups) same a.0
-      | false ↦ λ t. by_path_at n fs f a.1 t
+pub orderly_at : (n : ℕ) (fs : List (ℕ × Filespace)) (f : Filespace) → AreAllOrderly fs → filespace_at n fs ≡ Some f → AreOrderly f.groups
+orderly_at n [] f a h = absurd (cc)
+orderly_at n (e ∷ fs) f a h =
+    elim (at_number n e.0) as (λ b. cond b (Some e.1) (filespace_at n fs) ≡ Some f → AreOrderly f.groups) [
+      | true ↦ λ t. let same : e.1 ≡ f = cc in subst (λ (x : Filespace). AreOrderly x.groups) same a.0
+      | false ↦ λ t. orderly_at n fs f a.1 t
     ] h
 
-pub by_path-set : (n : ℕ) (fs : List (ℕ × Filespace)) (f : Filespace) → AreAllByPath fs → AreByPath f.groups → AreAllByPath (set_value (at_number n) fs f)
-by_path-set n [] f a h = a
-by_path-set n (e ∷ fs) f a h =
-    elim (at_number n e.0) as (λ b. AreAllByPath (cond b ((e.0, f) ∷ fs) (e ∷ set_value (at_number n) fs f))) [
+pub orderly-set : (n : ℕ) (fs : List (ℕ × Filespace)) (f : Filespace) → AreAllOrderly fs → AreOrderly f.groups → AreAllOrderly (set_value (at_number n) fs f)
+orderly-set n [] f a h = a
+orderly-set n (e ∷ fs) f a h =
+    elim (at_number n e.0) as (λ b. AreAllOrderly (cond b ((e.0, f) ∷ fs) (e ∷ set_value (at_number n) fs f))) [
       | true ↦ (h, a.1)
-      | false ↦ (a.0, by_path-set n fs f a.1 h)
+      | false ↦ (a.0, orderly-set n fs f a.1 h)
     ]
 
 -- ---- all filespaces
-pub put_of : (n : ℕ) (path class : List ℕ) (v : Version) (fs new : List (ℕ × Filespace)) → AreAllByPath fs → filespaces_with n path class v fs ≡ Ok new
+pub put_of : (n : ℕ) (path class : List ℕ) (v : Version) (fs new : List (ℕ × Filespace)) → AreAllOrderly fs → filespaces_with n path class v fs ≡ Ok new
     → Splices [] ((v.object, record { filespace = n; path = path }) ∷ []) (listed fs) (listed new)
-put_of n path class v fs new by_path h =
+put_of n path class v fs new orderly h =
     let by : List (List ℕ × Group) → Result (List (List ℕ × Group)) Refusal = λ groups. Ok (groups_with path class v groups) in
     let w : Within n by fs new = within n by fs new h in
     let after : by w.filespace.groups ≡ Ok w.groups = w.after in
     let same : groups_with path class v w.filespace.groups ≡ w.groups = cc in
     splice_in (subst (λ (t : List (List ℕ × Group)). Splices [] ((v.object, record { filespace = n; path = path }) ∷ []) (listed_in n w.filespace.groups) (listed_in n t)) same
-    (put_in n path class v w.filespace.groups (by_path_at n fs w.filespace by_path w.there)))
+    (put_in n path class v w.filespace.groups (orderly_at n fs w.filespace orderly w.there).0))
     (listed-within n by fs new w)
 
 pub change_of : (n : ℕ) (path : List ℕ) (change : GroupChange) (fs new : List (ℕ × Filespace)) → filespaces_after n path change fs ≡ Ok new

@@ -1,12 +1,11 @@
 -- Lists of versions, joined and searched by object.
-use Rattle.std.proofs.Common.{◌≡◌, ℕ, Bool, true, false, cond, eqb, not, ◌&&◌, ◌||◌, List, [], ◌∷◌, ◌++◌, map, Option, Some, None, refl, sym, ap, subst, ◌∙◌}
-use Rattle.std.proofs.lemmas.Bool.{false≢true, and_parts, and_from, or_parts, or_from, not-true, not_from_false, eqb-true, eq-eqb, ne_eqb}
+use Rattle.std.proofs.Common.{◌≡◌, ℕ, true, false, cond, eqb, not, ◌||◌, List, [], ◌∷◌, ◌++◌, Some, refl, sym, ap, ◌∙◌}
+use Rattle.std.proofs.lemmas.Bool.{false≢true, and_parts, and_from, or_parts, or_from, not-true, eqb-true}
 use Rattle.std.proofs.lemmas.List.Folds.{list_all-append, list_any-append}
-use Rattle.std.specs.List.{list_all, list_any}
 use Rattle.version_groups.specs.declared.copies.CopyRow.{CopyRow}
 use Rattle.version_groups.specs.declared.versions.Version.{Version}
 use Rattle.version_groups.specs.Versions.{has_object, are_distinct, version_of, with_copies, without_object}
-use Rattle.version_groups.proofs.Lists.{are_of_others, of_others}
+use Rattle.version_groups.proofs.Lists.{are_of_others}
 use Rattle.object_rows.proofs.Splices.{Splices}
 
 pub version_of-front : (k : ℕ) (vs ws : List Version) → has_object k vs ≡ true → version_of k (vs ++ ws) ≡ version_of k vs

@@ -1,11 +1,10 @@
 -- What each change of nodes and filespaces makes of the rows, or how it is refused: what isn't there first, then what is there
 -- already, then what is used.
-use Rattle.std.specs.Prelude.{◌≡◌, ⊤, ℕ, min, List, [], ◌∷◌, map, Option, Some, None, is_some, Result, Ok, Err, if◌then◌else◌}
+use Rattle.std.specs.Prelude.{◌≡◌, ⊤, ℕ, false, min, List, [], ◌∷◌, map, Option, Some, None, is_some, Result, Ok, Err, if◌then◌else◌}
 use Rattle.std.specs.BTreeMap.{insert_entry}
 use Rattle.std.specs.Map.{lookup, remove_entry}
 use Rattle.std.specs.Ordering.{nat_cmp}
 use Rattle.kinds.specs.Answers.{Becomes, Makes}
-use Rattle.kinds.specs.declared.change.DefineOrDelete.{DefineOrDelete}
 use Rattle.kinds.specs.declared.change.DefineOrDelete.TheVariants.{Define, Delete}
 use Rattle.kinds.specs.declared.change.ObjectChange.{ObjectChange}
 use Rattle.kinds.specs.declared.change.ObjectChange.TheVariants as change
@@ -82,9 +81,9 @@ rows_changed (change.Filespace Delete node name filespace) number rows = with_fi
 
 -- nothing has the number of what is defined
 abbrev pub HasFreeNumber : ObjectChange → ℕ → Rows → Type 0
-HasFreeNumber (change.Node Define name domain) number rows = lookup (at_number number) rows.nodes ≡ None
+HasFreeNumber (change.Node Define name domain) number rows = is_some (lookup (at_number number) rows.nodes) ≡ false
 HasFreeNumber (change.Node Delete name domain) number rows = ⊤
-HasFreeNumber (change.Filespace Define node name filespace) number rows = filespace_at filespace rows.filespaces ≡ None
+HasFreeNumber (change.Filespace Define node name filespace) number rows = is_some (filespace_at filespace rows.filespaces) ≡ false
 HasFreeNumber (change.Filespace Delete node name filespace) number rows = ⊤
 
 -- a change makes of the old rows what is said; only a definition takes memory

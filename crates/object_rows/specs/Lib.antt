@@ -1,3 +1,4 @@
+pub mod Build
 pub mod Changes
 pub mod Filespaces
 pub mod Index

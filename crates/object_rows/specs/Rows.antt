@@ -1,5 +1,5 @@
 -- Nodes and filespaces with their versions, and their changes.
-use Rattle.std.specs.Prelude.{◌≡◌, ℕ, ◌^◌, Bool, false, nat_le, List, [], ◌∷◌, length, Option, Some, None, IsTrue, Result, Ok, Err, if◌then◌else◌}
+use Rattle.std.specs.Prelude.{◌≡◌, ℕ, ◌^◌, Bool, true, false, nat_le, List, [], ◌∷◌, length, Option, Some, None, IsTrue, Result, Ok, Err, if◌then◌else◌}
 use Rattle.kinds.specs.declared.refusal.Refusal.{Refusal}
 use Rattle.kinds.specs.declared.refusal.Refusal.TheVariants.{InventoryFull}
 use Rattle.version_groups.specs.declared.copies.CopyChange.{CopyChange}
@@ -10,9 +10,14 @@ use Rattle.version_groups.specs.declared.versions.Version.{Version}
 use Rattle.version_groups.specs.Copies.{takes_free_pool}
 use Rattle.version_groups.specs.Entries.{on_ok, if_found}
 use Rattle.version_groups.specs.Groups.{WasSo}
-use Rattle.version_groups.specs.Versions.{has_object, copies_of}
+use Rattle.version_groups.specs.Versions.{has_object, are_distinct, copies_of}
+use Rattle.std.specs.Cmp.Lexicographic.{slice_cmp}
+use Rattle.std.specs.Ordering.{nat_cmp}
 use Rattle.object_rows.specs.declared.place.Node.{Node}
 use Rattle.object_rows.specs.Filespaces.{filespace_at, filespaces_after, filespaces_altered, filespaces_with, group_at, versions_of}
+use Rattle.object_rows.specs.Index.{AreDistinct}
+use Rattle.object_rows.specs.Names.{named}
+use Rattle.object_rows.specs.Places.{are_all_full}
 
 -- what the database keeps of nodes and of filespaces with their versions, each in ascending order of the numbers
 pub record Rows : Type 0 where
@@ -57,3 +62,14 @@ UndoGivesBack n path old new = (class : List ℕ) (active : Bool) → WasSo clas
 abbrev pub NewestIs : Option ℕ → List Version → Type 0
 NewestIs None versions = versions ≡ []
 NewestIs (Some object) versions = (newest : Version) × (older : List Version) × (versions ≡ newest ∷ older) × (newest.object ≡ object)
+
+-- what holds of all rows that are kept: no two nodes have one name, no two versions are of one object, and each group has a version
+pub record IsSound (rows : Rows) : Type 0 where
+  pub names : AreDistinct (slice_cmp nat_cmp) (named rows.nodes)
+  pub objects : are_distinct (versions_of rows.filespaces) ≡ true
+  pub full : are_all_full rows.filespaces ≡ true
+
+-- the rows, where they are sound, and none where they aren't
+abbrev pub IsMadeOf : Rows → Option Rows → Type 0
+IsMadeOf rows None = IsSound rows → ⊥
+IsMadeOf rows (Some made) = (made ≡ rows) × IsSound rows

@@ -3,7 +3,7 @@ ghost use Rattle.kinds.specs.Answers.{Becomes, Makes};
 ghost use Rattle.version_groups.specs.Copies.{takes_free_pool, Alters};
 ghost use Rattle.version_groups.specs.Versions.{has_object, copies_of};
 ghost use Rattle.object_rows.specs.Filespaces.{filespaces_after, filespaces_altered_at, filespaces_with, versions_at};
-ghost use Rattle.object_rows.specs.Places.{AreAllByPath};
+ghost use Rattle.object_rows.specs.Places.{AreAllOrderly};
 
 use kinds::{Name, Path, Refusal};
 use std::collections::BTreeMap;
@@ -19,7 +19,7 @@ pub(crate) fn put(
 ) -> Result<(), Refusal>
     requires { has_object version.object (versions_at number path.now map.old.entries) ≡ false }
     ensures value { Becomes result map.old.entries map.new.entries (filespaces_with number path.now class version map.old.entries) }
-    ensures by_path { AreAllByPath map.old.entries → AreAllByPath map.new.entries }
+    ensures orderly { AreAllOrderly map.old.entries → AreAllOrderly map.new.entries }
 {
     match map.get_mut(&number) {
         None => Err(Refusal::NotFound),
@@ -35,7 +35,7 @@ pub(crate) fn change(
     by: GroupChange,
 ) -> Result<(), Refusal>
     ensures value { Makes result map.old.entries map.new.entries (filespaces_after number path.now by map.old.entries) }
-    ensures by_path { AreAllByPath map.old.entries → AreAllByPath map.new.entries }
+    ensures orderly { AreAllOrderly map.old.entries → AreAllOrderly map.new.entries }
 {
     match map.get_mut(&number) {
         None => Err(Refusal::NotFound),
@@ -53,7 +53,7 @@ pub(crate) fn alter(
 ) -> Result<(), Refusal>
     requires { IsTrue (takes_free_pool by (copies_of object (versions_at number path.now map.old.entries))) }
     ensures value { Alters by result map.old.entries map.new.entries (filespaces_altered_at number path.now object by map.old.entries) }
-    ensures by_path { AreAllByPath map.old.entries → AreAllByPath map.new.entries }
+    ensures orderly { AreAllOrderly map.old.entries → AreAllOrderly map.new.entries }
 {
     match map.get_mut(&number) {
         None => Err(Refusal::NotFound),

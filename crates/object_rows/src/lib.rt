@@ -2,6 +2,7 @@
 //! filespace and path.
 #![tactic(auto)]
 
+mod build;
 mod filespaces;
 mod indexed;
 mod nodes;

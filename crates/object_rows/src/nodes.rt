@@ -1,4 +1,4 @@
-ghost use Rattle.std.specs.Prelude.{◌≡◌, Some, None};
+ghost use Rattle.std.specs.Prelude.{◌≡◌, false, is_some, Some};
 ghost use Rattle.std.specs.Map.{lookup, remove_entry};
 ghost use Rattle.kinds.specs.Answers.{Becomes, Makes};
 ghost use Rattle.object_rows.specs.Changes.{nodes_with, nodes_without};
@@ -32,7 +32,7 @@ pub(crate) fn define(
     number: u32,
 ) -> Result<(), Refusal>
     requires indexed { NodesIndexed names.old.entries nodes.old.entries }
-    requires free { lookup (at_number number) nodes.old.entries ≡ None }
+    requires free { is_some (lookup (at_number number) nodes.old.entries) ≡ false }
     ensures value { Becomes result nodes.old.entries nodes.new.entries (nodes_with name.now domain.now number nodes.old.entries) }
     ensures indexed { NodesIndexed names.new.entries nodes.new.entries }
 {

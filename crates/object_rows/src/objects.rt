@@ -1,20 +1,19 @@
-ghost use Rattle.std.specs.Prelude.{◌≡◌, ◌<◌, ◌∷◌, true, IsTrue, Ok, Err, OnOk, Some, None, [], length};
+ghost use Rattle.std.specs.Prelude.{◌≡◌, ◌<◌, MatchResult, ◌∷◌, true, IsTrue, Ok, Err, OnOk, Some, None, [], length};
 ghost use Rattle.std.specs.Bool.{OnTrue};
 ghost use Rattle.std.specs.Option.{option_copied};
 ghost use Rattle.kinds.specs.Answers.{Becomes, Makes};
-ghost use Rattle.version_groups.specs.Versions.{has_object, is_active, are_distinct, superseded, version_of};
+ghost use Rattle.kinds.specs.declared.refusal.Refusal.TheVariants.{Memory};
+ghost use Rattle.version_groups.specs.Versions.{copies_of, has_object, is_active, are_distinct, superseded, version_of};
 ghost use Rattle.version_groups.specs.declared.group.GroupChange.TheVariants.{Gone, Remove, Rebind, Undo};
 ghost use Rattle.version_groups.specs.declared.copies.CopyChange.TheVariants.{Add, Replace, Drop};
-ghost use Rattle.version_groups.specs.Copies.{Alters};
+ghost use Rattle.version_groups.specs.Copies.{has_copy, Alters};
 ghost use Rattle.object_rows.specs.Changes.{Changes, HasFreeNumber, rows_changed};
 ghost use Rattle.object_rows.specs.Names.{filespace_named, node_named};
 ghost use Rattle.object_rows.specs.Filespaces.{group_at, versions_at, versions_of};
-ghost use Rattle.object_rows.specs.Rows.{IsNew, FreePool, rows_with, rows_after, rows_altered, UndoGivesBack};
+ghost use Rattle.object_rows.specs.Rows.{IsNew, FreePool, IsMadeOf, IsSound, rows_with, rows_after, rows_altered, UndoGivesBack};
 
-use crate::indexed;
-use crate::nodes;
 use crate::place::{Node, Place};
-use crate::spaces;
+use crate::{build, indexed, nodes, spaces};
 use kinds::{Day, DefineOrDelete, FilespaceName, Name, NodeName, ObjectChange, Path, Refusal};
 use std::alloc::{AllocError, Global};
 use std::collections::BTreeMap;
@@ -60,6 +59,37 @@ impl Objects {
         }
     }
 
+    /// These nodes and filespaces; none where two nodes have one name, two versions are of one object, or a group has no
+    /// version.
+    pub fn from_parts(
+        alloc: Global,
+        nodes: BTreeMap<u32, Node>,
+        filespaces: BTreeMap<u32, Filespace>,
+    ) -> Result<Option<Self>, Refusal>
+        ensures { MatchResult result (IsMadeOf (record { nodes = nodes.entries; filespaces = filespaces.entries })) (λ e. e ≡ Memory) }
+    {
+        if !build::are_all_full(&filespaces) {
+            return Ok(None);
+        }
+        let mut names = BTreeMap::new(alloc);
+        if !build::add_nodes(&mut names, &nodes)? {
+            return Ok(None);
+        }
+        let mut places = BTreeMap::new(alloc);
+        if !build::add_filespaces(&mut places, &filespaces)? {
+            return Ok(None);
+        }
+        let _ = nodes.len();
+        let _ = filespaces.len();
+        Ok(Some(Objects {
+            alloc,
+            nodes,
+            names,
+            filespaces,
+            places,
+        }))
+    }
+
     /// The nodes by number.
     pub fn nodes(&self) -> &BTreeMap<u32, Node>
         ensures { result.now.entries ≡ self.now.nodes }
@@ -69,7 +99,8 @@ impl Objects {
 
     /// The filespaces by number.
     pub fn filespaces(&self) -> &BTreeMap<u32, Filespace>
-        ensures { result.now.entries ≡ self.now.filespaces }
+        ensures value { result.now.entries ≡ self.now.filespaces }
+        ensures sound { IsSound self.now }
     {
         &self.filespaces
     }
@@ -96,6 +127,23 @@ impl Objects {
         indexed::find(&self.places, &self.filespaces, object)
     }
 
+    /// Whether a version that is kept is of the object. It takes no memory.
+    pub fn has_object(&self, object: u64) -> bool
+        ensures { result ≡ has_object object (versions_of self.now.filespaces) }
+    {
+        self.places.contains_key(&object)
+    }
+
+    /// Whether a copy of the object lies in the pool. It takes no memory.
+    pub fn has_copy(&self, object: u64, pool: u32) -> bool
+        ensures { result ≡ has_copy pool (copies_of object (versions_of self.now.filespaces)) }
+    {
+        match self.find(object) {
+            None => false,
+            Some(version) => version.copies.is_in(pool),
+        }
+    }
+
     /// The group of a path of a filespace. It takes no memory.
     pub fn group(&self, filespace: u32, path: &Path) -> Option<&Group>
         ensures { option_copied result ≡ group_at filespace path.now self.now.filespaces }
@@ -103,6 +151,36 @@ impl Objects {
         match self.filespaces.get(&filespace) {
             None => None,
             Some(filespace) => filespace.groups.get(path),
+        }
+    }
+
+    /// How many versions a path of a filespace has. It takes no memory.
+    pub fn count_at(&self, filespace: u32, path: &Path) -> usize
+        ensures { result ≡ length (versions_at filespace path.now self.now.filespaces) }
+    {
+        match self.group(filespace, path) {
+            None => 0,
+            Some(group) => group.versions.as_slice().len(),
+        }
+    }
+
+    /// Whether the object has a version at a path of a filespace. It takes no memory.
+    pub fn has_at(&self, filespace: u32, path: &Path, object: u64) -> bool
+        ensures { result ≡ has_object object (versions_at filespace path.now self.now.filespaces) }
+    {
+        match self.group(filespace, path) {
+            None => false,
+            Some(group) => group.versions.contains(object),
+        }
+    }
+
+    /// Whether the object's version is the active one of a path of a filespace. It takes no memory.
+    pub fn is_active(&self, filespace: u32, path: &Path, object: u64) -> bool
+        ensures { result ≡ is_active object (versions_at filespace path.now self.now.filespaces) }
+    {
+        match self.group(filespace, path) {
+            None => false,
+            Some(group) => group.versions.is_active(object),
         }
     }
 

@@ -1,4 +1,4 @@
-ghost use Rattle.std.specs.Prelude.{◌≡◌, ◌∷◌, ◌==◌, ◌&&◌, Some, None, map, length, Ok};
+ghost use Rattle.std.specs.Prelude.{◌≡◌, false, is_some, ◌∷◌, ◌==◌, ◌&&◌, Some, None, map, length, Ok};
 ghost use Rattle.std.specs.Map.{lookup, remove_entry};
 ghost use Rattle.kinds.specs.Answers.{Becomes, Makes};
 ghost use Rattle.object_rows.specs.Changes.{lesser, least, least_object, filespaces_defined, filespaces_without};
@@ -92,7 +92,7 @@ pub(crate) fn define(
     number: u32,
 ) -> Result<(), Refusal>
     requires indexed { Indexed places.now.entries filespaces.old.entries }
-    requires free { filespace_at number filespaces.old.entries ≡ None }
+    requires free { is_some (filespace_at number filespaces.old.entries) ≡ false }
     ensures value { Becomes result filespaces.old.entries filespaces.new.entries (filespaces_defined node name.now number nodes.now.entries filespaces.old.entries) }
     ensures indexed { Indexed places.now.entries filespaces.new.entries }
 {

@@ -1,11 +1,12 @@
-use Rattle.std.proofs.Common.{◌≡◌, List, ℕ, sym, subst}
+use Rattle.std.proofs.Common.{List, ℕ, sym, subst}
 use Rattle.version_groups.specs.Copies.{Alters}
 use Rattle.version_groups.specs.Groups as grouped
 use Rattle.version_groups.specs.declared.groups.Filespace.{Filespace}
-use Rattle.object_rows.specs.Filespaces.{at_number, filespaces_altered_at}
-use Rattle.object_rows.specs.Places.{AreAllByPath}
+use Rattle.object_rows.specs.Filespaces.{filespaces_altered_at}
+use Rattle.object_rows.specs.Places.{AreAllOrderly}
+use Rattle.object_rows.proofs.Full.{full_alter}
 use Rattle.object_rows.proofs.InFilespaces.{Alters-in}
-use Rattle.object_rows.proofs.Steps.{by_path-set}
+use Rattle.object_rows.proofs.Steps.{orderly_at, orderly-set}
 use Rattle.object_rows.proofs.filespaces.alter.Goals as goal
 
 pub returns-in-Some-clause-value : goal.returns-in-Some-clause-value
@@ -14,7 +15,8 @@ returns-in-Some-clause-value c =
     (sym (c.get_mut.follows.holds (record c.in-Some.filespace.now { groups = c.alter.new.self })).0)
     (Alters-in c.args.by c.alter.result c.args.number (grouped.groups_altered c.args.path.now c.args.object c.args.by) c.args.map.now.entries c.in-Some.filespace.now c.alter.new.self (sym c.in-Some.ensures.value) c.alter.ensures.value)
 
-pub returns-in-Some-clause-by_path : goal.returns-in-Some-clause-by_path
-returns-in-Some-clause-by_path c = λ by_path.
-    subst AreAllByPath (sym (c.get_mut.follows.holds (record c.in-Some.filespace.now { groups = c.alter.new.self })).0)
-    (by_path-set c.args.number c.args.map.now.entries (record c.in-Some.filespace.now { groups = c.alter.new.self }) by_path c.alter.ensures.ordered)
+pub returns-in-Some-clause-orderly : goal.returns-in-Some-clause-orderly
+returns-in-Some-clause-orderly c = λ orderly.
+    subst AreAllOrderly (sym (c.get_mut.follows.holds (record c.in-Some.filespace.now { groups = c.alter.new.self })).0)
+    (orderly-set c.args.number c.args.map.now.entries (record c.in-Some.filespace.now { groups = c.alter.new.self }) orderly
+    (c.alter.ensures.ordered, full_alter c.args.by c.alter.result c.args.path.now c.args.object c.in-Some.filespace.now.groups c.alter.new.self c.alter.ensures.value (orderly_at c.args.number c.args.map.now.entries c.in-Some.filespace.now orderly (sym c.in-Some.ensures.value)).1))

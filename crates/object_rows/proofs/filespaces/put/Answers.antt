@@ -1,11 +1,12 @@
-use Rattle.std.proofs.Common.{◌≡◌, List, ℕ, Ok, sym, subst}
+use Rattle.std.proofs.Common.{List, ℕ, Ok, sym, subst}
 use Rattle.kinds.specs.Answers.{Becomes}
 use Rattle.version_groups.specs.Groups as grouped
 use Rattle.version_groups.specs.declared.groups.Filespace.{Filespace}
-use Rattle.object_rows.specs.Filespaces.{at_number, filespaces_with}
-use Rattle.object_rows.specs.Places.{AreAllByPath}
+use Rattle.object_rows.specs.Filespaces.{filespaces_with}
+use Rattle.object_rows.specs.Places.{AreAllOrderly}
+use Rattle.object_rows.proofs.Full.{full_put}
 use Rattle.object_rows.proofs.InFilespaces.{Becomes-in}
-use Rattle.object_rows.proofs.Steps.{by_path-set}
+use Rattle.object_rows.proofs.Steps.{orderly_at, orderly-set}
 use Rattle.object_rows.proofs.filespaces.put.Goals as goal
 
 pub returns-in-Some-clause-value : goal.returns-in-Some-clause-value
@@ -14,7 +15,8 @@ returns-in-Some-clause-value c =
     (sym (c.get_mut.follows.holds (record c.in-Some.filespace.now { groups = c.put.new.self })).0)
     (Becomes-in c.put.result c.args.number (λ groups. Ok (grouped.groups_with c.args.path.now c.args.class c.args.version groups)) c.args.map.now.entries c.in-Some.filespace.now c.put.new.self (sym c.in-Some.ensures.value) c.put.ensures.value)
 
-pub returns-in-Some-clause-by_path : goal.returns-in-Some-clause-by_path
-returns-in-Some-clause-by_path c = λ by_path.
-    subst AreAllByPath (sym (c.get_mut.follows.holds (record c.in-Some.filespace.now { groups = c.put.new.self })).0)
-    (by_path-set c.args.number c.args.map.now.entries (record c.in-Some.filespace.now { groups = c.put.new.self }) by_path c.put.ensures.ordered)
+pub returns-in-Some-clause-orderly : goal.returns-in-Some-clause-orderly
+returns-in-Some-clause-orderly c = λ orderly.
+    subst AreAllOrderly (sym (c.get_mut.follows.holds (record c.in-Some.filespace.now { groups = c.put.new.self })).0)
+    (orderly-set c.args.number c.args.map.now.entries (record c.in-Some.filespace.now { groups = c.put.new.self }) orderly
+    (c.put.ensures.ordered, full_put c.put.result c.args.path.now c.args.class c.args.version c.in-Some.filespace.now.groups c.put.new.self c.put.ensures.value (orderly_at c.args.number c.args.map.now.entries c.in-Some.filespace.now orderly (sym c.in-Some.ensures.value)).1))

@@ -1,4 +1,4 @@
-use Rattle.std.proofs.Common.{◌≡◌, ℕ, List, Option, Some, None, sym, ap, ◌∙◌}
+use Rattle.std.proofs.Common.{◌≡◌, Option, Some, None, sym, ap, ◌∙◌}
 use Rattle.version_groups.specs.declared.groups.Filespace.{Filespace}
 use Rattle.version_groups.specs.Groups as grouped
 use Rattle.version_groups.specs.Versions.{version_of}
@@ -16,7 +16,7 @@ returns-in-None c =
 pub returns-in-None-get : goal.returns-in-None-get
 returns-in-None-get c =
     let s : Stands c.args.object c.in-Some.place.now c.args.filespaces.now.entries =
-    stands c.args.object c.args.filespaces.now.entries c.in-Some.place.now c.requires.by_number c.requires.by_path (sym (c.requires.index.found c.args.object) ∙ sym c.in-Some.ensures.value) in
+    stands c.args.object c.args.filespaces.now.entries c.in-Some.place.now c.requires.by_number c.requires.orderly (sym (c.requires.index.found c.args.object) ∙ sym c.in-Some.ensures.value) in
     let clash : None ≡ Some s.filespace = c.in-None-get.ensures.value ∙ s.there in
     absurd (cc)
 
@@ -25,4 +25,4 @@ returns-in-Some-get c =
     c.find.ensures
     ∙ ap (λ (o : Option Filespace). version_of c.args.object (grouped.versions_at c.in-Some.place.now.path (groups_in o))) c.in-Some-get.ensures.value
     ∙ found-there c.args.object c.args.filespaces.now.entries c.in-Some.place.now
-    (stands c.args.object c.args.filespaces.now.entries c.in-Some.place.now c.requires.by_number c.requires.by_path (sym (c.requires.index.found c.args.object) ∙ sym c.in-Some.ensures.value))
+    (stands c.args.object c.args.filespaces.now.entries c.in-Some.place.now c.requires.by_number c.requires.orderly (sym (c.requires.index.found c.args.object) ∙ sym c.in-Some.ensures.value))

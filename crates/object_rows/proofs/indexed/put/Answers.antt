@@ -1,6 +1,5 @@
-use Rattle.std.proofs.Common.{◌≡◌, ℕ, List, cond, Option, Some, sym, ap, subst, ◌∙◌}
+use Rattle.std.proofs.Common.{ℕ, List, cond, Some, sym, ap, subst, ◌∙◌}
 use Rattle.std.specs.Map.{lookup}
-use Rattle.object_rows.specs.declared.place.Place.{Place}
 use Rattle.object_rows.specs.Filespaces.{at_number, versions_at, versions_of}
 use Rattle.object_rows.specs.Places.{Indexed}
 use Rattle.object_rows.proofs.Kept.{indexed_put, indexed_back}
@@ -16,7 +15,7 @@ put-requires c =
 pub returns-in-Ok-clause-indexed : goal.returns-in-Ok-clause-indexed
 returns-in-Ok-clause-indexed c =
     indexed_put c.args.places.now.entries c.insert.new.self.entries c.args.number c.args.path.now c.args.class c.args.version c.args.filespaces.now.entries c.put.new.map.entries c.requires.indexed c.requires.new c.in-Ok.ensures.value
-    (c.in-Ok.ensures.by_path c.requires.indexed.by_path)
+    (c.in-Ok.ensures.orderly c.requires.indexed.orderly)
     (λ q. c.in_ok-insert.ensures.updates.0 q ∙ ap (λ (p : List ℕ). cond (at_number c.args.version.object q) (Some (record { filespace = c.args.number; path = p })) (lookup (at_number q) c.args.places.now.entries)) c.in_ok-clone.ensures.cases)
     c.in_ok-insert.field-0 c.in_ok-insert.ensures.old c.in_ok-insert.ensures.len
 

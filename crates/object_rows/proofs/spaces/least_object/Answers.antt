@@ -1,4 +1,4 @@
-use Rattle.std.proofs.Common.{◌≡◌, ◌∷◌, List, ℕ, map, Option, sym, ap, ◌∙◌}
+use Rattle.std.proofs.Common.{List, ℕ, map, Option, sym, ap, ◌∙◌}
 use Rattle.version_groups.specs.declared.group.Group.{Group}
 use Rattle.version_groups.specs.declared.versions.Version.{Version}
 use Rattle.object_rows.specs.Changes.{least, least_object, lesser}

@@ -1,12 +1,10 @@
-use Rattle.std.proofs.Common.{◌≡◌, ◌<◌, ◌≤◌, ℕ, List, ◌∷◌, length, Bool, true, Ok, inr, refl, sym, ap, subst, ◌∙◌, arith}
+use Rattle.std.proofs.Common.{◌≡◌, ◌<◌, ◌≤◌, ℕ, List, ◌∷◌, length, true, inr, refl, sym, ap, subst, ◌∙◌, arith}
 use Rattle.std.specs.Option.{is_some}
 use Rattle.std.specs.Result.{OnOk}
 use Rattle.kinds.specs.Answers.{Becomes}
-use Rattle.kinds.specs.declared.refusal.Refusal.TheVariants.{InventoryFull}
-use Rattle.version_groups.specs.Groups.{WasSo}
 use Rattle.version_groups.specs.Versions.{superseded}
-use Rattle.object_rows.specs.Filespaces.{filespace_at, filespaces_with, group_at, versions_at, versions_of}
-use Rattle.object_rows.specs.Rows.{Rows, IsNew, most_versions, rows_with, with_filespaces, UndoGivesBack}
+use Rattle.object_rows.specs.Filespaces.{filespace_at, filespaces_with, versions_at, versions_of}
+use Rattle.object_rows.specs.Rows.{Rows, IsNew, rows_with, with_filespaces, UndoGivesBack}
 use Rattle.object_rows.proofs.PutLaws.{put_newest, put_found, put_undone, became_ok}
 use Rattle.object_rows.proofs.RowLaws.{becomes_rows, length-places, rows_full}
 use Rattle.object_rows.proofs.objects.Objects.insert.Goals as goal
@@ -36,7 +34,7 @@ returns-clause-newest c =
     subst (λ (rows : Rows). OnOk c.put.result (versions_at c.args.filespace c.args.path.now c.put.new.filespaces.entries ≡ c.args.version ∷ superseded c.args.version.stored (versions_at c.args.filespace c.args.path.now rows.filespaces))) c.self.view_is
     (became_ok (versions_at c.args.filespace c.args.path.now c.put.new.filespaces.entries ≡ c.args.version ∷ superseded c.args.version.stored (versions_at c.args.filespace c.args.path.now c.self.inside.filespaces.entries))
     c.put.result c.self.inside.filespaces.entries c.put.new.filespaces.entries (filespaces_with c.args.filespace c.args.path.now c.in_ok-class.class c.args.version c.self.inside.filespaces.entries) c.put.ensures.value
-    (put_newest c.args.filespace c.args.path.now c.in_ok-class.class c.args.version c.self.inside.filespaces.entries c.put.new.filespaces.entries c.self.invariant.1.by_path))
+    (put_newest c.args.filespace c.args.path.now c.in_ok-class.class c.args.version c.self.inside.filespaces.entries c.put.new.filespaces.entries c.self.invariant.1.orderly))
 
 pub returns-clause-found : goal.returns-clause-found
 returns-clause-found c =
@@ -49,4 +47,4 @@ returns-clause-undone c =
     subst (λ (rows : Rows). OnOk c.put.result (UndoGivesBack c.args.filespace c.args.path.now rows (record { nodes = c.self.inside.nodes.entries; filespaces = c.put.new.filespaces.entries }))) c.self.view_is
     (became_ok (UndoGivesBack c.args.filespace c.args.path.now (record { nodes = c.self.inside.nodes.entries; filespaces = c.self.inside.filespaces.entries }) (record { nodes = c.self.inside.nodes.entries; filespaces = c.put.new.filespaces.entries }))
     c.put.result c.self.inside.filespaces.entries c.put.new.filespaces.entries (filespaces_with c.args.filespace c.args.path.now c.in_ok-class.class c.args.version c.self.inside.filespaces.entries) c.put.ensures.value
-    (λ said was active so. ap (with_filespaces (record { nodes = c.self.inside.nodes.entries; filespaces = c.put.new.filespaces.entries })) (put_undone c.args.filespace c.args.path.now c.in_ok-class.class c.args.version c.self.inside.filespaces.entries c.put.new.filespaces.entries c.self.invariant.1.by_path said was active so)))
+    (λ said was active so. ap (with_filespaces (record { nodes = c.self.inside.nodes.entries; filespaces = c.put.new.filespaces.entries })) (put_undone c.args.filespace c.args.path.now c.in_ok-class.class c.args.version c.self.inside.filespaces.entries c.put.new.filespaces.entries c.self.invariant.1.orderly said was active so)))
