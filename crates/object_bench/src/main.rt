@@ -3,8 +3,8 @@
 #![tactic(auto)]
 
 use kinds::{
-    Day, DefineOrDelete, Digest, FilespaceName, Name, NodeName, ObjectChange, Path, Refusal, Segment,
-    Segments,
+    Day, DefineOrDelete, Digest, FilespaceName, Name, NodeName, ObjectChange, Path, Refusal,
+    Segment, Segments,
 };
 use object_rows::Objects;
 use std::alloc::Global;
@@ -159,7 +159,9 @@ fn remove_half(objects: &mut Objects, paths: &[Path], count: u32) -> u32 {
         return 0;
     }
     for number in 0..count {
-        if number % 2 == 0 && let Some(path) = paths.get(number as usize % paths.len()) {
+        if number % 2 == 0
+            && let Some(path) = paths.get(number as usize % paths.len())
+        {
             if objects.remove(1, path, number as u64).is_ok() {
                 removed = removed.wrapping_add(1);
             }
@@ -176,7 +178,11 @@ fn run(alloc: Global, count: u32, steps: u32) -> Result<Totals, Refusal> {
     } else {
         insert_all(alloc, &mut objects, paths.as_slice(), count)?
     };
-    let found = if steps < 3 { 0 } else { find_all(&objects, count) };
+    let found = if steps < 3 {
+        0
+    } else {
+        find_all(&objects, count)
+    };
     let removed = if steps < 4 {
         0
     } else {
@@ -201,11 +207,13 @@ fn main(rt: HostRuntime) -> io::Result<()> {
         .and_then(|word| word.as_str().parse::<u32>().ok())
         .unwrap_or(ALL_STEPS);
     match run(rt.alloc(), count, steps) {
-        Ok(Totals {
-            inserted,
-            found,
-            removed,
-        }) => println!(&rt; "{inserted} inserted, {found} found, {removed} removed"),
+        Ok(
+            Totals {
+                inserted,
+                found,
+                removed,
+            },
+        ) => println!(&rt; "{inserted} inserted, {found} found, {removed} removed"),
         Err(Refusal::InventoryFull) => println!(&rt; "no room for more versions"),
         Err(_) => println!(&rt; "want of memory"),
     }

@@ -1,7 +1,7 @@
 //! Calls that look first whether they may be made, and what the tests begin with.
 use kinds::{
-    Day, DefineOrDelete, Digest, FilespaceName, Name, NodeName, ObjectChange, Path, Refusal, Segment,
-    Segments,
+    Day, DefineOrDelete, Digest, FilespaceName, Name, NodeName, ObjectChange, Path, Refusal,
+    Segment, Segments,
 };
 use object_rows::Objects;
 use std::alloc::Global;
@@ -131,7 +131,11 @@ pub fn replace_copy(objects: &mut Objects, object: u64, copy: CopyRow) -> Result
 pub fn one_filespace(alloc: Global) -> Result<Objects, Fail> {
     let mut objects = Objects::new(alloc);
     change(&mut objects, &of_tom(alloc, DefineOrDelete::Define)?, 1)?;
-    change(&mut objects, &of_home(alloc, DefineOrDelete::Define, 1, 1)?, 0)?;
+    change(
+        &mut objects,
+        &of_home(alloc, DefineOrDelete::Define, 1, 1)?,
+        0,
+    )?;
     Ok(objects)
 }
 
