@@ -7,6 +7,7 @@ pub mod IndexLaws
 pub mod Kept
 pub mod Least
 pub mod NodeLaws
+pub mod OtherCopies
 pub mod PutLaws
 pub mod RowLaws
 pub mod SpaceLaws

@@ -6,7 +6,7 @@ ghost use Rattle.kinds.specs.declared.refusal.Refusal.TheVariants.{Memory};
 ghost use Rattle.version_groups.specs.Versions.{copies_of, has_object, is_active, are_distinct, superseded, version_of};
 ghost use Rattle.version_groups.specs.declared.group.GroupChange.TheVariants.{Gone, Remove, Rebind, Undo};
 ghost use Rattle.version_groups.specs.declared.copies.CopyChange.TheVariants.{Add, Replace, Drop};
-ghost use Rattle.version_groups.specs.Copies.{has_copy, Alters};
+ghost use Rattle.version_groups.specs.Copies.{has_copy, without_copy, Alters};
 ghost use Rattle.object_rows.specs.Changes.{Changes, HasFreeNumber, rows_changed};
 ghost use Rattle.object_rows.specs.Names.{filespace_named, node_named};
 ghost use Rattle.object_rows.specs.Filespaces.{group_at, versions_at, versions_of};
@@ -142,6 +142,14 @@ impl Objects {
             None => false,
             Some(version) => version.copies.is_in(pool),
         }
+    }
+
+    /// Whether a copy of the object, other than the one in the pool `from`, lies in the pool. It takes no memory.
+    #[tactic(auto, using(crate::proofs::OtherCopies::has_copy_of_others))]
+    pub fn has_other_copy(&self, object: u64, from: u32, pool: u32) -> bool
+        ensures { result ≡ has_copy pool (without_copy from (copies_of object (versions_of self.now.filespaces))) }
+    {
+        from != pool && self.has_copy(object, pool)
     }
 
     /// The group of a path of a filespace. It takes no memory.

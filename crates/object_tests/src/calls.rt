@@ -122,9 +122,17 @@ pub fn add_copy(objects: &mut Objects, object: u64, copy: CopyRow) -> Result<(),
     objects.add_copy(object, copy)
 }
 
-/// Replaces the copy of the object in a pool by one in the same pool.
-pub fn replace_copy(objects: &mut Objects, object: u64, copy: CopyRow) -> Result<(), Refusal> {
-    objects.replace_copy(object, copy.pool, copy)
+/// Replaces the copy of the object in the pool `from` by one in a pool where the object has no other.
+pub fn replace_copy(
+    objects: &mut Objects,
+    object: u64,
+    from: u32,
+    copy: CopyRow,
+) -> Result<(), Refusal> {
+    if objects.has_other_copy(object, from, copy.pool) {
+        return Err(Refusal::BadValue(0));
+    }
+    objects.replace_copy(object, from, copy)
 }
 
 /// The node TOM, 1, and its filespace /home, 1.

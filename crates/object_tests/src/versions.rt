@@ -81,15 +81,18 @@ fn copies_come_and_go(rt: HostRuntime) -> Result<(), Fail> {
         add_copy(&mut objects, 3, copy(alloc, 3, 4)?),
         Err(Refusal::NotFound)
     );
-    assert_eq!(rt; replace_copy(&mut objects, 1, copy(alloc, 3, 6)?), Ok(()));
     assert_eq!(rt;
-        replace_copy(&mut objects, 1, copy(alloc, 4, 6)?),
+        replace_copy(&mut objects, 1, 3, copy(alloc, 4, 6)?),
+        Ok(())
+    );
+    assert_eq!(rt;
+        replace_copy(&mut objects, 1, 3, copy(alloc, 5, 6)?),
         Err(Refusal::NotFound)
     );
-    assert_eq!(rt; objects.has_copy(1, 3), true);
-    assert_eq!(rt; objects.drop_copy(1, 3), Ok(()));
+    assert_eq!(rt; objects.has_copy(1, 4), true);
     assert_eq!(rt; objects.drop_copy(1, 3), Err(Refusal::NotFound));
-    assert_eq!(rt; objects.has_copy(1, 3), false);
+    assert_eq!(rt; objects.drop_copy(1, 4), Ok(()));
+    assert_eq!(rt; objects.has_copy(1, 4), false);
     Ok(())
 }
 
