@@ -1,0 +1,17 @@
+pub mod Answered
+pub mod Builds
+pub mod ByNumber
+pub mod Full
+pub mod InFilespaces
+pub mod IndexLaws
+pub mod Kept
+pub mod Least
+pub mod NodeLaws
+pub mod OtherCopies
+pub mod PutLaws
+pub mod RowLaws
+pub mod SpaceLaws
+pub mod Splices
+pub mod Stands
+pub mod Steps
+pub mod VersionLists

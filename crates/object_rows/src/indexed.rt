@@ -1,0 +1,177 @@
+ghost use Rattle.std.specs.Prelude.{◌≡◌, ◌<◌, ◌∷◌, false, IsTrue, Ok, Err, [], length};
+ghost use Rattle.std.specs.Option.{option_copied};
+ghost use Rattle.kinds.specs.Answers.{Becomes, Makes};
+ghost use Rattle.kinds.specs.declared.refusal.Refusal.TheVariants.{NotFound};
+ghost use Rattle.version_groups.specs.Copies.{takes_free_pool, Alters};
+ghost use Rattle.version_groups.specs.Versions.{has_object, copies_of, version_of};
+ghost use Rattle.version_groups.specs.declared.group.GroupChange.TheVariants.{Gone, Remove, Rebind, Undo};
+ghost use Rattle.object_rows.specs.Filespaces.{filespaces_after, filespaces_altered, filespaces_with, versions_at, versions_of};
+ghost use Rattle.object_rows.specs.Places.{Indexed};
+ghost use Rattle.object_rows.specs.Rows.{NewestIs};
+
+use crate::filespaces;
+use crate::place::Place;
+use kinds::{Day, Name, Path, Refusal};
+use std::collections::BTreeMap;
+use version_groups::{CopyChange, Filespace, GroupChange, Version};
+
+/// The version of the object.
+pub(crate) fn find<'a>(
+    places: &BTreeMap<u64, Place>,
+    filespaces: &'a BTreeMap<u32, Filespace>,
+    object: u64,
+) -> Option<&'a Version>
+    requires { Indexed places.now.entries filespaces.now.entries }
+    ensures { option_copied result ≡ version_of object (versions_of filespaces.now.entries) }
+{
+    match places.get(&object) {
+        None => None,
+        Some(place) => match filespaces.get(&place.filespace) {
+            None => None,
+            Some(filespace) => filespace.groups.find(&place.path, object),
+        },
+    }
+}
+
+/// Puts a version of a new object in front of those of a path of a filespace, which has to be there.
+pub(crate) fn put(
+    places: &mut BTreeMap<u64, Place>,
+    filespaces: &mut BTreeMap<u32, Filespace>,
+    number: u32,
+    path: &Path,
+    class: Name,
+    version: Version,
+) -> Result<(), Refusal>
+    requires indexed { Indexed places.old.entries filespaces.old.entries }
+    requires new { has_object version.object (versions_of filespaces.old.entries) ≡ false }
+    ensures value { Becomes result filespaces.old.entries filespaces.new.entries (filespaces_with number path.now class version filespaces.old.entries) }
+    ensures indexed { Indexed places.new.entries filespaces.new.entries }
+{
+    let place = Place {
+        filespace: number,
+        path: path.clone()?,
+    };
+    let object = version.object;
+    places.insert(object, place)?;
+    match filespaces::put(filespaces, number, path, class, version) {
+        Ok(()) => Ok(()),
+        Err(refusal) => {
+            places.remove(&object);
+            Err(refusal)
+        }
+    }
+}
+
+/// Takes the object's version out of a path.
+pub(crate) fn remove(
+    places: &mut BTreeMap<u64, Place>,
+    filespaces: &mut BTreeMap<u32, Filespace>,
+    number: u32,
+    path: &Path,
+    object: u64,
+) -> Result<(), Refusal>
+    requires { Indexed places.old.entries filespaces.old.entries }
+    ensures value { Makes result filespaces.old.entries filespaces.new.entries (filespaces_after number path.now (Remove object) filespaces.old.entries) }
+    ensures indexed { Indexed places.new.entries filespaces.new.entries }
+{
+    match filespaces::change(filespaces, number, path, GroupChange::Remove { object }) {
+        Ok(()) => {
+            places.remove(&object);
+            Ok(())
+        }
+        Err(refusal) => Err(refusal),
+    }
+}
+
+/// Makes the newest version of a path inactive from today on.
+pub(crate) fn retire(
+    places: &BTreeMap<u64, Place>,
+    filespaces: &mut BTreeMap<u32, Filespace>,
+    number: u32,
+    path: &Path,
+    object: u64,
+    today: Day,
+) -> Result<(), Refusal>
+    requires { Indexed places.now.entries filespaces.old.entries }
+    ensures value { Makes result filespaces.old.entries filespaces.new.entries (filespaces_after number path.now (Gone object today) filespaces.old.entries) }
+    ensures indexed { Indexed places.now.entries filespaces.new.entries }
+{
+    let gone = GroupChange::Gone { object, today };
+    filespaces::change(filespaces, number, path, gone)
+}
+
+/// Binds a path to a class.
+pub(crate) fn rebind(
+    places: &BTreeMap<u64, Place>,
+    filespaces: &mut BTreeMap<u32, Filespace>,
+    number: u32,
+    path: &Path,
+    class: Name,
+) -> Result<(), Refusal>
+    requires { Indexed places.now.entries filespaces.old.entries }
+    ensures value { Makes result filespaces.old.entries filespaces.new.entries (filespaces_after number path.now (Rebind class) filespaces.old.entries) }
+    ensures indexed { Indexed places.now.entries filespaces.new.entries }
+{
+    filespaces::change(filespaces, number, path, GroupChange::Rebind { class })
+}
+
+/// Takes the newest version of a path out, makes the next one active if so wanted, and binds the path to a class.
+pub(crate) fn undo(
+    places: &mut BTreeMap<u64, Place>,
+    filespaces: &mut BTreeMap<u32, Filespace>,
+    number: u32,
+    path: &Path,
+    class: Name,
+    active: bool,
+)
+    requires indexed { Indexed places.old.entries filespaces.old.entries }
+    requires there { 0 < length (versions_at number path.now filespaces.old.entries) }
+    ensures value { filespaces_after number path.now (Undo class active) filespaces.old.entries ≡ Ok filespaces.new.entries }
+    ensures indexed { Indexed places.new.entries filespaces.new.entries }
+{
+    if let Some(object) = newest(filespaces, number, path) {
+        let undo = GroupChange::Undo { class, active };
+        match filespaces::change(filespaces, number, path, undo) {
+            Ok(()) => {
+                places.remove(&object);
+            }
+            Err(_) => {}
+        }
+    }
+}
+
+/// Changes the copies of the object's version.
+pub(crate) fn alter(
+    places: &BTreeMap<u64, Place>,
+    filespaces: &mut BTreeMap<u32, Filespace>,
+    object: u64,
+    change: CopyChange,
+) -> Result<(), Refusal>
+    requires indexed { Indexed places.now.entries filespaces.old.entries }
+    requires free { IsTrue (takes_free_pool change (copies_of object (versions_of filespaces.old.entries))) }
+    ensures value { Alters change result filespaces.old.entries filespaces.new.entries (filespaces_altered object change filespaces.old.entries) }
+    ensures indexed { Indexed places.now.entries filespaces.new.entries }
+{
+    match places.get(&object) {
+        None => Err(Refusal::NotFound),
+        Some(place) => {
+            filespaces::alter(filespaces, place.filespace, &place.path, object, change)
+        }
+    }
+}
+
+/// The object of the newest version of a path of a filespace.
+fn newest(filespaces: &BTreeMap<u32, Filespace>, number: u32, path: &Path) -> Option<u64>
+    ensures { NewestIs result (versions_at number path.now filespaces.now.entries) }
+{
+    match filespaces.get(&number) {
+        None => None,
+        Some(filespace) => match filespace.groups.get(path) {
+            None => None,
+            Some(group) => match group.versions.as_slice() {
+                [] => None,
+                [newest, ..] => Some(newest.object),
+            },
+        },
+    }
+}

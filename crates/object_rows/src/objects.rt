@@ -1,0 +1,373 @@
+ghost use Rattle.std.specs.Prelude.{◌≡◌, ◌<◌, MatchResult, ◌∷◌, true, IsTrue, Ok, Err, OnOk, Some, None, [], length};
+ghost use Rattle.std.specs.Bool.{OnTrue};
+ghost use Rattle.std.specs.Option.{option_copied};
+ghost use Rattle.kinds.specs.Answers.{Becomes, Makes};
+ghost use Rattle.kinds.specs.declared.refusal.Refusal.TheVariants.{Memory};
+ghost use Rattle.version_groups.specs.Versions.{copies_of, has_object, is_active, are_distinct, superseded, version_of};
+ghost use Rattle.version_groups.specs.declared.group.GroupChange.TheVariants.{Gone, Remove, Rebind, Undo};
+ghost use Rattle.version_groups.specs.declared.copies.CopyChange.TheVariants.{Add, Replace, Drop};
+ghost use Rattle.version_groups.specs.Copies.{has_copy, without_copy, Alters};
+ghost use Rattle.object_rows.specs.Changes.{Changes, HasFreeNumber, rows_changed};
+ghost use Rattle.object_rows.specs.Names.{filespace_named, node_named};
+ghost use Rattle.object_rows.specs.Filespaces.{group_at, versions_at, versions_of};
+ghost use Rattle.object_rows.specs.Rows.{IsNew, FreePool, IsMadeOf, IsSound, rows_with, rows_after, rows_altered, UndoGivesBack};
+
+use crate::place::{Node, Place};
+use crate::{build, indexed, nodes, spaces};
+use kinds::{Day, DefineOrDelete, FilespaceName, Name, NodeName, ObjectChange, Path, Refusal};
+use std::alloc::{AllocError, Global};
+use std::collections::BTreeMap;
+use std::marker::Model;
+use version_groups::{CopyChange, CopyRow, Filespace, Group, Version};
+
+/// How many versions may be kept.
+const MOST_VERSIONS: usize = 1 << 20;
+
+/// The client nodes, their filespaces and the versions in them.
+#[derive(Debug, Drop)]
+pub struct Objects {
+    alloc: Global,
+    nodes: BTreeMap<u32, Node>,
+    names: BTreeMap<NodeName, u32>,
+    filespaces: BTreeMap<u32, Filespace>,
+    places: BTreeMap<u64, Place>,
+}
+
+impl Model for Objects {
+    ghost use Rattle.object_rows.specs.Names.{NodesIndexed};
+    ghost use Rattle.object_rows.specs.Places.{Indexed};
+    ghost use Rattle.object_rows.specs.Rows.{Rows};
+
+    ghost Value = { Rows };
+
+    ghost view = { λ o. record { nodes = o.nodes.entries; filespaces = o.filespaces.entries } };
+
+    ghost invariant = { λ o. NodesIndexed o.names.entries o.nodes.entries × Indexed o.places.entries o.filespaces.entries };
+}
+
+impl Objects {
+    /// No nodes and no filespaces. It takes no memory.
+    pub fn new(alloc: Global) -> Self
+        ensures { result ≡ record { nodes = []; filespaces = [] } }
+    {
+        Objects {
+            alloc,
+            nodes: BTreeMap::new(alloc),
+            names: BTreeMap::new(alloc),
+            filespaces: BTreeMap::new(alloc),
+            places: BTreeMap::new(alloc),
+        }
+    }
+
+    /// These nodes and filespaces; none where two nodes have one name, two versions are of one object, or a group has no
+    /// version.
+    pub fn from_parts(
+        alloc: Global,
+        nodes: BTreeMap<u32, Node>,
+        filespaces: BTreeMap<u32, Filespace>,
+    ) -> Result<Option<Self>, Refusal>
+        ensures { MatchResult result (IsMadeOf (record { nodes = nodes.entries; filespaces = filespaces.entries })) (λ e. e ≡ Memory) }
+    {
+        if !build::are_all_full(&filespaces) {
+            return Ok(None);
+        }
+        let mut names = BTreeMap::new(alloc);
+        if !build::add_nodes(&mut names, &nodes)? {
+            return Ok(None);
+        }
+        let mut places = BTreeMap::new(alloc);
+        if !build::add_filespaces(&mut places, &filespaces)? {
+            return Ok(None);
+        }
+        let _ = nodes.len();
+        let _ = filespaces.len();
+        Ok(Some(Objects {
+            alloc,
+            nodes,
+            names,
+            filespaces,
+            places,
+        }))
+    }
+
+    /// The nodes by number.
+    pub fn nodes(&self) -> &BTreeMap<u32, Node>
+        ensures { result.now.entries ≡ self.now.nodes }
+    {
+        &self.nodes
+    }
+
+    /// The filespaces by number.
+    pub fn filespaces(&self) -> &BTreeMap<u32, Filespace>
+        ensures value { result.now.entries ≡ self.now.filespaces }
+        ensures sound { IsSound self.now }
+    {
+        &self.filespaces
+    }
+
+    /// The number of the node with this name. It takes no memory.
+    pub fn node_named(&self, name: &NodeName) -> Option<u32>
+        ensures { result ≡ node_named name.now self.now.nodes }
+    {
+        nodes::named(&self.names, &self.nodes, name)
+    }
+
+    /// The number of the node's filespace with this name. It takes no memory.
+    pub fn filespace_named(&self, node: u32, name: &FilespaceName) -> Option<u32>
+        ensures { result ≡ filespace_named node name.now self.now.filespaces }
+    {
+        spaces::named(&self.filespaces, node, name)
+    }
+
+    /// The version of the object. It takes no memory.
+    pub fn find(&self, object: u64) -> Option<&Version>
+        ensures value { option_copied result ≡ version_of object (versions_of self.now.filespaces) }
+        ensures distinct { are_distinct (versions_of self.now.filespaces) ≡ true }
+    {
+        indexed::find(&self.places, &self.filespaces, object)
+    }
+
+    /// Whether a version that is kept is of the object. It takes no memory.
+    pub fn has_object(&self, object: u64) -> bool
+        ensures { result ≡ has_object object (versions_of self.now.filespaces) }
+    {
+        self.places.contains_key(&object)
+    }
+
+    /// Whether a copy of the object lies in the pool. It takes no memory.
+    pub fn has_copy(&self, object: u64, pool: u32) -> bool
+        ensures { result ≡ has_copy pool (copies_of object (versions_of self.now.filespaces)) }
+    {
+        match self.find(object) {
+            None => false,
+            Some(version) => version.copies.is_in(pool),
+        }
+    }
+
+    /// Whether a copy of the object, other than the one in the pool `from`, lies in the pool. It takes no memory.
+    #[tactic(auto, using(crate::proofs::OtherCopies::has_copy_of_others))]
+    pub fn has_other_copy(&self, object: u64, from: u32, pool: u32) -> bool
+        ensures { result ≡ has_copy pool (without_copy from (copies_of object (versions_of self.now.filespaces))) }
+    {
+        from != pool && self.has_copy(object, pool)
+    }
+
+    /// The group of a path of a filespace. It takes no memory.
+    pub fn group(&self, filespace: u32, path: &Path) -> Option<&Group>
+        ensures { option_copied result ≡ group_at filespace path.now self.now.filespaces }
+    {
+        match self.filespaces.get(&filespace) {
+            None => None,
+            Some(filespace) => filespace.groups.get(path),
+        }
+    }
+
+    /// How many versions a path of a filespace has. It takes no memory.
+    pub fn count_at(&self, filespace: u32, path: &Path) -> usize
+        ensures { result ≡ length (versions_at filespace path.now self.now.filespaces) }
+    {
+        match self.group(filespace, path) {
+            None => 0,
+            Some(group) => group.versions.as_slice().len(),
+        }
+    }
+
+    /// Whether the object has a version at a path of a filespace. It takes no memory.
+    pub fn has_at(&self, filespace: u32, path: &Path, object: u64) -> bool
+        ensures { result ≡ has_object object (versions_at filespace path.now self.now.filespaces) }
+    {
+        match self.group(filespace, path) {
+            None => false,
+            Some(group) => group.versions.contains(object),
+        }
+    }
+
+    /// Whether the object's version is the active one of a path of a filespace. It takes no memory.
+    pub fn is_active(&self, filespace: u32, path: &Path, object: u64) -> bool
+        ensures { result ≡ is_active object (versions_at filespace path.now self.now.filespaces) }
+    {
+        match self.group(filespace, path) {
+            None => false,
+            Some(group) => group.versions.is_active(object),
+        }
+    }
+
+    /// Defines or deletes a node or a filespace. A node that is defined gets this number, which no node has. What is not there
+    /// is `NotFound`: the node of a filespace that is defined, and the node or filespace that is deleted; a name that is taken is
+    /// `Exists`; a node with filespaces, or a filespace with versions, that is deleted is in use by the least of them. A
+    /// filespace is deleted by its number, and its node and name are not looked at, nor is the domain of a node that is deleted.
+    pub fn change(&mut self, change: &ObjectChange, number: u32) -> Result<(), Refusal>
+        requires { HasFreeNumber change.now number self.old }
+        ensures { Changes change.now result self.old self.new (rows_changed change.now number self.old) }
+    {
+        match change {
+            ObjectChange::Node {
+                verb: DefineOrDelete::Define,
+                node,
+                domain,
+            } => nodes::define(&mut self.names, &mut self.nodes, node, domain, number),
+            ObjectChange::Node {
+                verb: DefineOrDelete::Delete,
+                node,
+                ..
+            } => nodes::delete(&mut self.names, &mut self.nodes, &self.filespaces, node),
+            ObjectChange::Filespace {
+                verb: DefineOrDelete::Define,
+                node,
+                name,
+                filespace,
+            } => spaces::define(
+                self.alloc,
+                &self.nodes,
+                &self.places,
+                &mut self.filespaces,
+                *node,
+                name,
+                *filespace,
+            ),
+            ObjectChange::Filespace {
+                verb: DefineOrDelete::Delete,
+                filespace,
+                ..
+            } => spaces::delete(&self.places, &mut self.filespaces, *filespace),
+        }
+    }
+
+    /// Puts a new version in front of those of a path of a filespace, and binds the path to this class; the former active
+    /// version is inactive from the day on which the new one was stored. A filespace that is not there is `NotFound`; where
+    /// 2^20 versions are kept already it is `InventoryFull`.
+    pub fn insert(
+        &mut self,
+        filespace: u32,
+        path: &Path,
+        class: &Name,
+        version: Version,
+    ) -> Result<(), Refusal>
+        requires new { IsNew version.object self.old }
+        requires active { version.since ≡ None }
+        ensures value { Becomes result self.old self.new (rows_with filespace path.now class.now version self.old) }
+        ensures newest { OnOk result (versions_at filespace path.now self.new.filespaces ≡ version ∷ superseded version.stored (versions_at filespace path.now self.old.filespaces)) }
+        ensures found { OnOk result (version_of version.object (versions_of self.new.filespaces) ≡ Some version) }
+        ensures undone { OnOk result (UndoGivesBack filespace path.now self.old self.new) }
+    {
+        if !self.filespaces.contains_key(&filespace) {
+            return Err(Refusal::NotFound);
+        }
+        if self.places.len() >= MOST_VERSIONS {
+            return Err(Refusal::InventoryFull);
+        }
+        let class = class.clone()?;
+        indexed::put(
+            &mut self.places,
+            &mut self.filespaces,
+            filespace,
+            path,
+            class,
+            version,
+        )
+    }
+
+    /// Makes the object, which is the path's active version, inactive from today on. A filespace, a path or an object in it
+    /// that is not there is `NotFound`. It takes no memory.
+    pub fn mark_gone(
+        &mut self,
+        filespace: u32,
+        path: &Path,
+        object: u64,
+        today: Day,
+    ) -> Result<(), Refusal>
+        requires { OnTrue (has_object object (versions_at filespace path.now self.old.filespaces)) (IsTrue (is_active object (versions_at filespace path.now self.old.filespaces))) }
+        ensures { Makes result self.old self.new (rows_after filespace path.now (Gone object today) self.old) }
+    {
+        indexed::retire(
+            &self.places,
+            &mut self.filespaces,
+            filespace,
+            path,
+            object,
+            today,
+        )
+    }
+
+    /// Takes the object's version away; a group without versions goes. A filespace, a path or an object in it that is not
+    /// there is `NotFound`. It takes no memory.
+    pub fn remove(&mut self, filespace: u32, path: &Path, object: u64) -> Result<(), Refusal>
+        ensures { Makes result self.old self.new (rows_after filespace path.now (Remove object) self.old) }
+    {
+        indexed::remove(
+            &mut self.places,
+            &mut self.filespaces,
+            filespace,
+            path,
+            object,
+        )
+    }
+
+    /// Binds the path to this class. A filespace or a path that is not there is `NotFound`. It takes no memory.
+    pub fn rebind(&mut self, filespace: u32, path: &Path, class: Name) -> Result<(), Refusal>
+        ensures { Makes result self.old self.new (rows_after filespace path.now (Rebind class) self.old) }
+    {
+        indexed::rebind(&self.places, &mut self.filespaces, filespace, path, class)
+    }
+
+    /// Takes the newest version of the path away, makes the next one active if so wanted, and binds the path to this class; a
+    /// group without versions goes. It takes no memory.
+    pub fn undo_insert(&mut self, filespace: u32, path: &Path, class: Name, active: bool)
+        requires { 0 < length (versions_at filespace path.now self.old.filespaces) }
+        ensures { rows_after filespace path.now (Undo class active) self.old ≡ Ok self.new }
+    {
+        indexed::undo(
+            &mut self.places,
+            &mut self.filespaces,
+            filespace,
+            path,
+            class,
+            active,
+        );
+    }
+
+    /// Adds a copy of the object. An object that is not there is `NotFound`.
+    pub fn add_copy(&mut self, object: u64, copy: CopyRow) -> Result<(), Refusal>
+        requires { FreePool (Add copy) object self.old }
+        ensures { Becomes result self.old self.new (rows_altered object (Add copy) self.old) }
+    {
+        self.alter(object, CopyChange::Add(copy))
+    }
+
+    /// Replaces the copy of the object in the pool `from`. An object, or a copy, that is not there is `NotFound`. It takes no
+    /// memory.
+    pub fn replace_copy(&mut self, object: u64, from: u32, copy: CopyRow) -> Result<(), Refusal>
+        requires { FreePool (Replace from copy) object self.old }
+        ensures { Makes result self.old self.new (rows_altered object (Replace from copy) self.old) }
+    {
+        self.alter(object, CopyChange::Replace { from, copy })
+    }
+
+    /// Takes the copy of the object in the pool away. An object, or a copy, that is not there is `NotFound`. It takes no memory.
+    pub fn drop_copy(&mut self, object: u64, pool: u32) -> Result<(), Refusal>
+        ensures { Makes result self.old self.new (rows_altered object (Drop pool) self.old) }
+    {
+        self.alter(object, CopyChange::Drop(pool))
+    }
+
+    fn alter(&mut self, object: u64, change: CopyChange) -> Result<(), Refusal>
+        requires { FreePool change object self.old }
+        ensures { Alters change result self.old self.new (rows_altered object change self.old) }
+    {
+        indexed::alter(&self.places, &mut self.filespaces, object, change)
+    }
+}
+
+impl Clone for Objects {
+    ghost is_clone = { λ objects copy. copy ≡ objects };
+
+    fn clone(&self) -> Result<Self, AllocError> {
+        Ok(Objects {
+            alloc: self.alloc,
+            nodes: self.nodes.clone()?,
+            names: self.names.clone()?,
+            filespaces: self.filespaces.clone()?,
+            places: self.places.clone()?,
+        })
+    }
+}

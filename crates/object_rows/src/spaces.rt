@@ -1,0 +1,135 @@
+ghost use Rattle.std.specs.Prelude.{◌≡◌, false, is_some, ◌∷◌, ◌==◌, ◌&&◌, Some, None, map, length, Ok};
+ghost use Rattle.std.specs.Map.{lookup, remove_entry};
+ghost use Rattle.kinds.specs.Answers.{Becomes, Makes};
+ghost use Rattle.object_rows.specs.Changes.{lesser, least, least_object, filespaces_defined, filespaces_without};
+ghost use Rattle.object_rows.specs.Filespaces.{at_number, filespace_at};
+ghost use Rattle.object_rows.specs.Names.{at_name, filespace_named, filespace_of};
+ghost use Rattle.object_rows.specs.Places.{Indexed};
+
+use crate::place::{Node, Place};
+use kinds::{By, FilespaceName, Path, Refusal};
+use std::alloc::Global;
+use std::collections::BTreeMap;
+use version_groups::{Filespace, Group, Groups, Version};
+
+/// Whether the filespace is the node's and has this name.
+fn is_named(filespace: &Filespace, node: u32, name: &FilespaceName) -> bool
+    ensures { result ≡ (filespace.now.node == node && at_name name.now filespace.now.name) }
+{
+    filespace.node == node && name.cmp(&filespace.name).is_eq()
+}
+
+/// The number of the node's filespace with this name.
+#[tactic(auto, using(crate::proofs::SpaceLaws::named_more))]
+pub(crate) fn named(
+    filespaces: &BTreeMap<u32, Filespace>,
+    node: u32,
+    name: &FilespaceName,
+) -> Option<u32>
+    ensures { result ≡ filespace_named node name.now filespaces.now.entries }
+{
+    'filespaces: for (number, filespace) in filespaces.iter() {
+        if is_named(filespace, node, name) {
+            return Some(*number);
+        }
+    }
+    None
+}
+
+/// The least number of a filespace of the node.
+pub(crate) fn of_node(filespaces: &BTreeMap<u32, Filespace>, node: u32) -> Option<u32>
+    ensures { result ≡ filespace_of node filespaces.now.entries }
+{
+    'filespaces: for (number, filespace) in filespaces.iter() {
+        if filespace.node == node {
+            return Some(*number);
+        }
+    }
+    None
+}
+
+/// The lesser of two numbers, of which each may be missing.
+fn lesser(a: Option<u64>, b: Option<u64>) -> Option<u64>
+    ensures { result ≡ lesser a b }
+{
+    match (a, b) {
+        (Some(a), Some(b)) => Some(a.min(b)),
+        (Some(a), None) => Some(a),
+        (None, b) => b,
+    }
+}
+
+/// The least object of the versions.
+fn least_of(versions: &[Version]) -> Option<u64>
+    ensures { result ≡ least (map (λ v. v.object) versions.now) }
+{
+    let mut found = None;
+    'versions: for version in versions {
+        found = lesser(found, Some(version.object));
+    }
+    found
+}
+
+/// The least object that has a version in the groups.
+fn least_object(groups: &BTreeMap<Path, Group>) -> Option<u64>
+    ensures { result ≡ least_object groups.now.entries }
+{
+    let mut found = None;
+    'groups: for (_, group) in groups.iter() {
+        found = lesser(found, least_of(group.versions.as_slice()));
+    }
+    found
+}
+
+/// Defines a filespace without groups. A node that is not there is `NotFound`, a name that the node has given is `Exists`.
+pub(crate) fn define(
+    alloc: Global,
+    nodes: &BTreeMap<u32, Node>,
+    places: &BTreeMap<u64, Place>,
+    filespaces: &mut BTreeMap<u32, Filespace>,
+    node: u32,
+    name: &FilespaceName,
+    number: u32,
+) -> Result<(), Refusal>
+    requires indexed { Indexed places.now.entries filespaces.old.entries }
+    requires free { is_some (filespace_at number filespaces.old.entries) ≡ false }
+    ensures value { Becomes result filespaces.old.entries filespaces.new.entries (filespaces_defined node name.now number nodes.now.entries filespaces.old.entries) }
+    ensures indexed { Indexed places.now.entries filespaces.new.entries }
+{
+    if !nodes.contains_key(&node) {
+        return Err(Refusal::NotFound);
+    }
+    if named(filespaces, node, name).is_some() {
+        return Err(Refusal::Exists);
+    }
+    let filespace = Filespace {
+        node,
+        name: name.clone()?,
+        groups: Groups::new(alloc),
+    };
+    filespaces.insert(number, filespace)?;
+    Ok(())
+}
+
+/// Takes a filespace away that has no version. One that is not there is `NotFound`, one with versions is in use by the least
+/// of their objects.
+pub(crate) fn delete(
+    places: &BTreeMap<u64, Place>,
+    filespaces: &mut BTreeMap<u32, Filespace>,
+    number: u32,
+) -> Result<(), Refusal>
+    requires { Indexed places.now.entries filespaces.old.entries }
+    ensures value { Makes result filespaces.old.entries filespaces.new.entries (filespaces_without number filespaces.old.entries) }
+    ensures indexed { Indexed places.now.entries filespaces.new.entries }
+{
+    match filespaces.get(&number) {
+        None => return Err(Refusal::NotFound),
+        Some(filespace) => {
+            if let Some(object) = least_object(filespace.groups.as_map()) {
+                return Err(Refusal::InUse(By::Object(object)));
+            }
+        }
+    }
+    filespaces.remove(&number);
+    Ok(())
+}
