@@ -1,4 +1,5 @@
 // Images byte by byte.
+use crate::step::step;
 use db_image::{Image, Mark, Phase, Progress};
 use kinds::OpenRefused;
 use mem_store::MemStore;
@@ -107,10 +108,10 @@ fn long_payload(alloc: Global, len: usize) -> Result<Vec<u8>, Fail> {
 
 /// Steps until the image is done, at most ten.
 fn steps(store: &mut MemStore, image: &mut Image) -> usize {
-    for step in 1..10 {
-        match image.next(store) {
+    for count in 1..10 {
+        match step(store, image) {
             Ok(Progress::More) => {}
-            Ok(Progress::Done) => return step,
+            Ok(Progress::Done) => return count,
             Err(_) => return 0,
         }
     }

@@ -4,4 +4,6 @@
 #[cfg(test)]
 mod bytes;
 #[cfg(test)]
+mod step;
+#[cfg(test)]
 mod stops;

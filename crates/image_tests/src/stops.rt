@@ -1,4 +1,5 @@
 // Each device call fails in turn, and the machine stops there.
+use crate::step::step;
 use db_image::{Image, Mark, Progress};
 use mem_store::MemStore;
 use std::alloc::Global;
@@ -17,7 +18,7 @@ enum Held {
 /// Writes an image, and answers whether each step succeeded.
 fn written(store: &mut MemStore, image: &mut Image) -> bool {
     for _ in 0..4 {
-        match image.next(store) {
+        match step(store, image) {
             Ok(Progress::More) => {}
             Ok(Progress::Done) => return true,
             Err(_) => return false,
