@@ -1,13 +1,13 @@
 use crate::calls::{change, class, of_home, of_tom, one_filespace, path, put};
 use kinds::{By, DefineOrDelete, FilespaceName, NodeName, Refusal};
+use object_rows::Objects;
+use std::alloc::Global;
 use std::test::Fail;
 
 #[test]
-fn nodes_and_filespaces_come_and_go(rt: HostRuntime) -> Result<(), Fail> {
+fn names_lead_to_numbers(rt: HostRuntime) -> Result<(), Fail> {
     let alloc = rt.alloc();
-    let define = of_tom(alloc, DefineOrDelete::Define)?;
-    let delete = of_tom(alloc, DefineOrDelete::Delete)?;
-    let mut objects = one_filespace(alloc)?;
+    let objects = one_filespace(alloc)?;
     assert_eq!(rt;
         objects.node_named(&NodeName::read(alloc, b"tom", 64)?),
         Some(1)
@@ -16,32 +16,48 @@ fn nodes_and_filespaces_come_and_go(rt: HostRuntime) -> Result<(), Fail> {
         objects.filespace_named(1, &FilespaceName::read(alloc, b"/home")?),
         Some(1)
     );
+    Ok(())
+}
+
+#[test]
+fn a_node_is_defined_once_and_stays_with_a_filespace(rt: HostRuntime) -> Result<(), Fail> {
+    let alloc = rt.alloc();
+    let define = of_tom(alloc, DefineOrDelete::Define)?;
+    let delete = of_tom(alloc, DefineOrDelete::Delete)?;
+    let mut objects = one_filespace(alloc)?;
     assert_eq!(rt; change(&mut objects, &define, 2), Err(Refusal::Exists));
     assert_eq!(rt;
         change(&mut objects, &delete, 2),
         Err(Refusal::InUse(By::Filespace(1)))
     );
-    for (node, filespace, refusal) in [(2, 2, Refusal::NotFound), (1, 2, Refusal::Exists)] {
-        let home = of_home(alloc, DefineOrDelete::Define, node, filespace)?;
-        assert_eq!(rt; change(&mut objects, &home, 0), Err(refusal));
-    }
+    Ok(())
+}
+
+#[test]
+fn a_filespace_is_defined_once_of_a_node_that_is_there(rt: HostRuntime) -> Result<(), Fail> {
+    let alloc = rt.alloc();
+    let mut objects = one_filespace(alloc)?;
+    let of_nobody = of_home(alloc, DefineOrDelete::Define, 2, 2)?;
+    assert_eq!(rt; change(&mut objects, &of_nobody, 0), Err(Refusal::NotFound));
+    let again = of_home(alloc, DefineOrDelete::Define, 1, 2)?;
+    assert_eq!(rt; change(&mut objects, &again, 0), Err(Refusal::Exists));
+    Ok(())
+}
+
+/// The filespace with the versions 8 of /b and 9 of /a.
+fn two_paths(alloc: Global) -> Result<Objects, Fail> {
+    let mut objects = one_filespace(alloc)?;
+    let one = class(alloc, b"one")?;
+    put(alloc, &mut objects, &path(alloc, b"/b")?, &one, 8, 1)?;
+    put(alloc, &mut objects, &path(alloc, b"/a")?, &one, 9, 1)?;
+    Ok(objects)
+}
+
+#[test]
+fn a_filespace_with_versions_stays(rt: HostRuntime) -> Result<(), Fail> {
+    let alloc = rt.alloc();
     let home = of_home(alloc, DefineOrDelete::Delete, 1, 1)?;
-    put(
-        alloc,
-        &mut objects,
-        &path(alloc, b"/b")?,
-        &class(alloc, b"one")?,
-        8,
-        1,
-    )?;
-    put(
-        alloc,
-        &mut objects,
-        &path(alloc, b"/a")?,
-        &class(alloc, b"one")?,
-        9,
-        1,
-    )?;
+    let mut objects = two_paths(alloc)?;
     assert_eq!(rt;
         change(&mut objects, &home, 0),
         Err(Refusal::InUse(By::Object(8)))
