@@ -1,6 +1,6 @@
 // Rows that a decoder has read, and a segment that is undone.
 use crate::made::{change, name, put, segment, settings, volume, with_tape};
-use kinds::{Access, Capacity, Day, PoolKind, Refusal, Verb};
+use kinds::{Access, Capacity, Day, PoolKind, Segment, Verb};
 use pool_rows::{Pool, Pools};
 use std::alloc::Global;
 use std::collections::BTreeMap;
@@ -61,6 +61,15 @@ fn rows_have_names_of_their_own(rt: HostRuntime) -> Result<(), Fail> {
     Ok(())
 }
 
+/// Undoes a segment that stands on its volume; false where it does not.
+fn undo(pools: &mut Pools, object: u64, segment: &Segment, end: u64, emptied: Option<Day>) -> bool {
+    let stands = pools.holds(object, segment);
+    if stands {
+        pools.undo_segment(object, segment, end, emptied);
+    }
+    stands
+}
+
 #[test]
 fn a_segment_is_undone(rt: HostRuntime) -> Result<(), Fail> {
     let alloc = rt.alloc();
@@ -74,10 +83,7 @@ fn a_segment_is_undone(rt: HostRuntime) -> Result<(), Fail> {
     pools.take_segment(1, &segment(4, 0, 100), Day::new(7).ok_or("a day")?)?;
     put(&mut pools, 2, &segment(4, 132, 60000))?;
     assert!(rt; pools.percent_at_least(2, 91));
-    if !pools.holds(2, &segment(4, 132, 60000)) {
-        return Err(Fail::from(Refusal::NotFound));
-    }
-    pools.undo_segment(2, &segment(4, 132, 60000), 132, Day::new(7));
+    assert!(rt; undo(&mut pools, 2, &segment(4, 132, 60000), 132, Day::new(7)));
     assert!(rt; pools.percent_at_most(2, 0));
     let row = pools.volumes().get(&4).ok_or("a volume")?;
     assert_eq!(rt; (row.end, row.emptied), (132, Day::new(7)));
