@@ -1,16 +1,15 @@
 -- Lines that say the same are accepted as the same command.
-use Rattle.std.proofs.Common.{◌≡◌, ℕ, ◌+◌, Bool, true, false, cond, ◌==◌, List, [], ◌∷◌, ◌++◌, length, map, take, drop, refl, ap, sym, subst, ◌∙◌, Option, Some, None, Result, Ok, Err}
+use Rattle.std.proofs.Common.{◌≡◌, ℕ, ◌+◌, Bool, true, false, cond, ◌==◌, List, [], ◌∷◌, ◌++◌, length, map, take, drop, refl, ap, subst, ◌∙◌, Option, Some, None, Result, Ok, Err}
 use Rattle.std.specs.Prelude.{is_some, slice_get, count_by}
 use Rattle.std.specs.List.{position_from}
 use Rattle.kinds.specs.declared.refusal.Refusal.{Refusal}
-use Rattle.kinds.specs.declared.refusal.Refusal.TheVariants.{Syntax, BadValue, Ambiguous, UnknownWord}
+use Rattle.kinds.specs.declared.refusal.Refusal.TheVariants.{Syntax, BadValue, Ambiguous}
 use Rattle.command_words.specs.declared.value.Kind.{Kind}
 use Rattle.command_words.specs.Choice.{begins, is_whole, spelled, choice, choose}
 use Rattle.command_words.specs.Reading.{◌>>=◌}
-use Rattle.command_words.specs.Rows.{Place, Slot, Given, equals_at, is_for_place, place_taken, places_from, is_settled, is_complete, slot_value, chosen_value, key_value, keyword_at, keyword, keywords_from, row_values}
+use Rattle.command_words.specs.Rows.{Place, Slot, Given, equals_at, is_for_place, places_from, is_settled, is_complete, slot_value, chosen_value, key_value, keyword_at, keyword, keywords_from, row_values}
 use Rattle.command_words.specs.Values.{unquoted, has_words, fits, one_of, valued}
 use Rattle.command_words.specs.Words.{Word, words, torn_at}
-use Rattle.admin_words.specs.declared.command.Command.{Command}
 use Rattle.admin_words.specs.Command.{command_of}
 use Rattle.admin_words.specs.Line.{row_found, row_named, row_among, verb_found, row_of, row_command, command_by, command}
 use Rattle.admin_words.specs.Rows.{Row, Verb, verbs, is_bare}

@@ -1,5 +1,5 @@
 -- What was given for a row fits it.
-use Rattle.std.proofs.Common.{◌≡◌, ℕ, ◌+◌, Bool, List, length, refl, sym, subst, Option, Some, None, Result, Ok, Err}
+use Rattle.std.proofs.Common.{◌≡◌, ℕ, ◌+◌, Bool, List, length, subst, Result, Ok, Err}
 use Rattle.std.specs.Prelude.{OnOk, IfOk}
 use Rattle.kinds.specs.declared.refusal.Refusal.{Refusal}
 use Rattle.command_words.specs.Rows.{Given, row_values}

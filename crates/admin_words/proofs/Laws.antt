@@ -1,5 +1,5 @@
 -- The laws of the table, by computing them.
-use Rattle.std.proofs.Common.{◌≡◌, Bool, true, false, List, ℕ, map, refl}
+use Rattle.std.proofs.Common.{◌≡◌, Bool, true, false, map, refl}
 use Rattle.admin_words.specs.declared.table.FirstWord.{FirstWord}
 use Rattle.admin_words.specs.declared.table.FirstWord.TheVariants.{Activate, And, Assign, Audit, Backup, Checkpoint, Day, Define, Delete, Dsmc, End, Erase, Expire, Get, Migrate, Move, Parallel, Put, Query, Reclaim, Register, Remove, Restore, Reuse, Update, Validate, Write}
 use Rattle.admin_words.specs.Rows.{Verb, rows_of, verbs}

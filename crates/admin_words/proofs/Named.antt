@@ -1,6 +1,5 @@
 -- The row that the first words of a line name.
-use Rattle.std.proofs.Common.{◌≡◌, ℕ, zero, suc, ◌<◌, ◌+◌, Bool, true, false, ◌==◌, List, [], ◌∷◌, length, map, drop, get_or, refl, sym, ap, subst, ◌∙◌, arith, Option, Some, None, Result, Ok, Err, add-one}
-use Rattle.std.specs.Prelude.{slice_get}
+use Rattle.std.proofs.Common.{◌≡◌, ℕ, ◌<◌, ◌+◌, Bool, List, [], ◌∷◌, length, map, drop, get_or, refl, sym, ◌∙◌, arith, Ok, Err, add-one}
 use Rattle.std.specs.Borrow.{Bor}
 use Rattle.std.proofs.lemmas.Simd.{map-map}
 use Rattle.std.proofs.Math.Seq.{drop-nil}
@@ -8,7 +7,7 @@ use Rattle.kinds.specs.declared.refusal.Refusal.{Refusal}
 use Rattle.command_words.specs.declared.value.Kind.{Kind}
 use Rattle.command_words.specs.declared.row.Need.{Need}
 use Rattle.command_words.specs.Choice.{choose}
-use Rattle.command_words.specs.Words.{Word, word_view}
+use Rattle.command_words.specs.Words.{word_view}
 use Rattle.command_words.proofs.Keys.{get_map}
 use Rattle.admin_words.specs.declared.table.Form.{Form}
 use Rattle.admin_words.specs.declared.table.FirstWord.{FirstWord}

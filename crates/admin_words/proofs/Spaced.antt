@@ -1,12 +1,12 @@
 -- Lines with the same words say the same, whatever blanks stand between these.
-use Rattle.std.proofs.Common.{◌≡◌, ℕ, ◌+◌, Bool, true, false, cond, ◌==◌, List, [], ◌∷◌, length, map, take, drop, refl, ap, sym, subst, ◌∙◌, Option, Some, None, Result, Ok, Err}
+use Rattle.std.proofs.Common.{◌≡◌, ℕ, Bool, true, false, cond, List, [], ◌∷◌, map, refl, ap, sym, subst, ◌∙◌, Option, Some, None, Result, Ok, Err}
 use Rattle.std.specs.Prelude.{is_some, slice_get}
 use Rattle.kinds.specs.declared.refusal.Refusal.{Refusal}
 use Rattle.command_words.specs.Choice.{choose}
 use Rattle.command_words.specs.Reading.{◌>>=◌}
 use Rattle.command_words.specs.Rows.{Place, Slot, equals_at, is_for_place}
 use Rattle.command_words.specs.Words.{Word, words, torn_at}
-use Rattle.admin_words.specs.Line.{row_found, row_named, row_among, verb_found, row_of, command}
+use Rattle.admin_words.specs.Line.{row_found, row_named, verb_found, row_of, command}
 use Rattle.admin_words.specs.Rows.{Row, Verb, verbs, is_bare}
 use Rattle.admin_words.specs.Spelling.{accepted, SameKeyAt, SameKeys, SameForPlace, SameBehind, SameRow, SameWords, SameTexts, single_spaced}
 use Rattle.admin_words.proofs.Alike.{choose_same, alike_lines}

@@ -6,7 +6,7 @@ use Rattle.kinds.specs.declared.refusal.Refusal.{Refusal}
 use Rattle.command_words.specs.declared.value.Kind.{Kind}
 use Rattle.command_words.specs.declared.value.Kind.TheVariants.{Name, NodeName, Path, FilespaceName, Number}
 use Rattle.command_words.specs.Choice.{is_whole, choose}
-use Rattle.command_words.specs.Rows.{Place, Slot}
+use Rattle.command_words.specs.Rows.{Place}
 use Rattle.command_words.specs.Values.{has_words}
 use Rattle.admin_words.specs.declared.table.Form.{Form}
 use Rattle.admin_words.specs.declared.table.Form.TheVariants.{ActivateSet, AssignClass, AuditVolume, BackupPool, Day, DefineClass, DefineDevClass, DefineDomain, DefineGroup, DefinePool, DefineSet, DefineVolume, DeleteClass, DeleteDevClass, DeleteDomain, DeleteFilespace, DeleteGroup, DeletePool, DeleteSet, DeleteVolume, Erase, Get, Incremental, MigratePool, MoveData, Put, QueryBackup, QueryClass, QueryContent, QueryGroup, QuerySet, ReclaimPool, RegisterNode, RemoveNode, RestoreFiles, RestorePool, RestoreVolume, UpdateDomain, UpdateGroup, UpdatePool, UpdateVolume, ValidateSet, Write}

@@ -1,4 +1,3 @@
-use Rattle.std.proofs.Common.{arith}
 use Rattle.admin_words.proofs.Named.{noun_refused, noun_chosen}
 use Rattle.admin_words.proofs.line.row_named.Goals as goal
 

@@ -1,4 +1,3 @@
-use Rattle.std.proofs.Common.{arith}
 use Rattle.std.proofs.lemmas.List.{take_rest}
 use Rattle.admin_words.proofs.Named.{verb_refused, named_refused, named_found}
 use Rattle.admin_words.proofs.line.row_of.Goals as goal
