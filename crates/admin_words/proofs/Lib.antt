@@ -1,0 +1,6 @@
+mod Alike
+mod Blanks
+mod Fitted
+mod Laws
+mod Named
+mod Spaced

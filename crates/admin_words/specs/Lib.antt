@@ -1,0 +1,13 @@
+pub mod Chosen
+pub mod Command
+pub mod Database
+pub mod Files
+pub mod Legible
+pub mod Line
+pub mod Nodes
+pub mod Policy
+pub mod Pools
+pub mod Rows
+pub mod Spelling
+pub mod Table
+pub mod Volumes

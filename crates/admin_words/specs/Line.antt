@@ -1,0 +1,56 @@
+-- What a line says: a command, or the refusal at its first offending word.
+use Rattle.std.specs.Prelude.{ℕ, ◌+◌, Bool, ◌&&◌, ◌||◌, nat_eq, List, [], ◌∷◌, map, length, codes, slice_get, if◌then◌else◌, Option, Some, None, Result, Ok, Err}
+use Rattle.std.specs.List.{list_all, starts_with, ends_with}
+use Rattle.kinds.specs.declared.refusal.Refusal.{Refusal}
+use Rattle.kinds.specs.declared.refusal.Refusal.TheVariants.{Syntax}
+use Rattle.command_words.specs.Choice.{choose}
+use Rattle.command_words.specs.Reading.{◌>>=◌}
+use Rattle.command_words.specs.Rows.{row_values}
+use Rattle.command_words.specs.Words.{Word, is_blank, words, torn_at}
+use Rattle.admin_words.specs.declared.command.Command.{Command}
+use Rattle.admin_words.specs.Command.{command_of}
+use Rattle.admin_words.specs.Rows.{Row, Verb, verbs, is_bare}
+
+-- a row that was found, and the words behind
+abbrev pub row_found : ℕ → Option Row → List Word → Result (Row × List Word) Refusal
+row_found end None ws = Err (Syntax end)
+row_found end (Some r) ws = Ok (r, ws)
+
+-- the row that the second word names
+abbrev pub row_named : ℕ → List Row → List Word → Result (Row × List Word) Refusal
+row_named end rows [] = Err (Syntax end)
+row_named end rows (w ∷ ws) = choose w.column w.text (map (λ r. r.word) rows) >>= λ at. row_found end (slice_get rows at) ws
+
+-- the row among those of a first word
+abbrev pub row_among : ℕ → List Row → List Word → Result (Row × List Word) Refusal
+row_among end rows ws = if is_bare rows then row_found end (slice_get rows 0) ws else row_named end rows ws
+
+abbrev pub verb_found : ℕ → Option Verb → List Word → Result (Row × List Word) Refusal
+verb_found end None ws = Err (Syntax end)
+verb_found end (Some v) ws = row_among end v.rows ws
+
+-- the row that the first words of a line name, and the words behind them
+abbrev pub row_of : ℕ → List Verb → List Word → Result (Row × List Word) Refusal
+row_of end verbs [] = Err (Syntax end)
+row_of end verbs (w ∷ ws) = choose w.column w.text (map (λ v. v.word) verbs) >>= λ at. verb_found end (slice_get verbs at) ws
+
+-- the command of a row, with what the words behind its own give
+abbrev pub row_command : ℕ → Row × List Word → Result Command Refusal
+row_command end r = row_values r.0.places r.0.slots end r.1 >>= λ given. Ok (command_of r.0.form given.0 given.1)
+
+-- what a line says by the table, where the quotes of the word at this column are wrong
+abbrev pub command_by : List Verb → List Word → ℕ → Option ℕ → Result Command Refusal
+command_by table ws end (Some column) = Err (Syntax column)
+command_by table ws end None = row_of end table ws >>= λ r. row_command end r
+
+-- what a line says: its command, or the refusal at its first offending word. A missing word has the line's length plus 1
+abbrev pub command : List ℕ → Bool → Result Command Refusal
+command line in_block = command_by (verbs in_block) (words line) (length line + 1) (torn_at (words line))
+
+-- a line that begins with `/*` and ends with `*/`
+abbrev pub is_marked : List ℕ → Bool
+is_marked line = starts_with nat_eq line (codes "/*") && ends_with nat_eq line (codes "*/")
+
+-- a comment: a line of blanks, or one that is marked so
+abbrev pub is_comment : List ℕ → Bool
+is_comment line = list_all is_blank line || is_marked line

@@ -1,0 +1,89 @@
+-- Commands of policy: domains, policy sets, management classes and copy groups.
+use Rattle.std.specs.Prelude.{List, unwrap_or}
+use Rattle.admin_words.specs.declared.policy.NamedDomain.{NamedDomain}
+use Rattle.admin_words.specs.declared.policy.DomainDefinition.{DomainDefinition}
+use Rattle.admin_words.specs.declared.policy.DomainUpdate.{DomainUpdate}
+use Rattle.admin_words.specs.declared.policy.NamedSet.{NamedSet}
+use Rattle.admin_words.specs.declared.policy.NamedClass.{NamedClass}
+use Rattle.admin_words.specs.declared.policy.GroupDefinition.{GroupDefinition}
+use Rattle.admin_words.specs.declared.policy.GroupUpdate.{GroupUpdate}
+use Rattle.admin_words.specs.declared.words.Mode.TheVariants.{Modified}
+use Rattle.kinds.specs.declared.rule.Still.TheVariants.{ShrStatic}
+use Rattle.kinds.specs.declared.rule.Limit.TheVariants.{At}
+use Rattle.command_words.specs.Rows.{Given, text_at}
+use Rattle.command_words.specs.Fields.{limit_of, name_if, name_of, number_of}
+use Rattle.admin_words.specs.Chosen.{mode_of, still_of}
+
+-- A domain by its name.
+abbrev pub named_domain : List Given → List Given → NamedDomain
+named_domain places keys =
+    record {
+      domain = name_of 30 (text_at 0 places);
+    }
+
+-- DEFINE DOMAIN. BACKRETENTION is 30 days where it is not given.
+abbrev pub domain_definition : List Given → List Given → DomainDefinition
+domain_definition places keys =
+    record {
+      domain = name_of 30 (text_at 0 places);
+      back_retention = unwrap_or (number_of 9999 (text_at 0 keys)) 30;
+    }
+
+-- UPDATE DOMAIN.
+abbrev pub domain_update : List Given → List Given → DomainUpdate
+domain_update places keys =
+    record {
+      domain = name_of 30 (text_at 0 places);
+      back_retention = unwrap_or (number_of 9999 (text_at 0 keys)) 30;
+    }
+
+-- A policy set by its domain and its name.
+abbrev pub named_set : List Given → List Given → NamedSet
+named_set places keys =
+    record {
+      domain = name_of 30 (text_at 0 places);
+      set = name_of 30 (text_at 1 places);
+    }
+
+-- A management class by its domain, its policy set and its name.
+abbrev pub named_class : List Given → List Given → NamedClass
+named_class places keys =
+    record {
+      domain = name_of 30 (text_at 0 places);
+      set = name_of 30 (text_at 1 places);
+      class = name_of 30 (text_at 2 places);
+    }
+
+-- DEFINE COPYGROUP: the copy group of a class, with the usual values where none are given.
+abbrev pub group_definition : List Given → List Given → GroupDefinition
+group_definition places keys =
+    record {
+      domain = name_of 30 (text_at 0 places);
+      set = name_of 30 (text_at 1 places);
+      class = name_of 30 (text_at 2 places);
+      destination = name_of 30 (text_at 1 keys);
+      frequency = unwrap_or (number_of 9999 (text_at 2 keys)) 0;
+      ver_exists = unwrap_or (limit_of (text_at 3 keys)) (At 2);
+      ver_deleted = unwrap_or (limit_of (text_at 4 keys)) (At 1);
+      ret_extra = unwrap_or (limit_of (text_at 5 keys)) (At 30);
+      ret_only = unwrap_or (limit_of (text_at 6 keys)) (At 60);
+      mode = unwrap_or (mode_of (text_at 7 keys)) Modified;
+      still = unwrap_or (still_of (text_at 8 keys)) ShrStatic;
+    }
+
+-- UPDATE COPYGROUP: what is not given stays.
+abbrev pub group_update : List Given → List Given → GroupUpdate
+group_update places keys =
+    record {
+      domain = name_of 30 (text_at 0 places);
+      set = name_of 30 (text_at 1 places);
+      class = name_of 30 (text_at 2 places);
+      destination = name_if 30 (text_at 1 keys);
+      frequency = number_of 9999 (text_at 2 keys);
+      ver_exists = limit_of (text_at 3 keys);
+      ver_deleted = limit_of (text_at 4 keys);
+      ret_extra = limit_of (text_at 5 keys);
+      ret_only = limit_of (text_at 6 keys);
+      mode = mode_of (text_at 7 keys);
+      still = still_of (text_at 8 keys);
+    }
