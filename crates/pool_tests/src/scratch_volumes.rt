@@ -55,11 +55,16 @@ fn a_scratch_volume_has_the_name_of_its_file(rt: HostRuntime) -> Result<(), Fail
     Ok(())
 }
 
-#[test]
-fn a_scratch_volume_is_filled_emptied_and_reused(rt: HostRuntime) -> Result<(), Fail> {
-    let alloc = rt.alloc();
+/// The scratch volume 7 of TAPE, whose volumes rest for three days.
+fn with_scratch(alloc: Global) -> Result<Pools, Fail> {
     let mut pools = with_tape(alloc, 3, 1)?;
     add(&mut pools, 2, 7)?;
+    Ok(pools)
+}
+
+#[test]
+fn a_scratch_volume_is_filled(rt: HostRuntime) -> Result<(), Fail> {
+    let mut pools = with_scratch(rt.alloc())?;
     assert_eq!(rt; status(&pools, 7), Some(Status::Empty));
     assert_eq!(rt; reuse(&mut pools, 7, day(9)?), Err(Refusal::NotFound));
     // 65,536 - 61,440 are 4,096 bytes; one byte more, and the volume is FULL.
@@ -69,12 +74,27 @@ fn a_scratch_volume_is_filled_emptied_and_reused(rt: HostRuntime) -> Result<(), 
         reuse(&mut pools, 7, day(9)?),
         Err(Refusal::InUse(By::Object(5)))
     );
+    Ok(())
+}
+
+#[test]
+fn a_scratch_volume_is_emptied_and_full(rt: HostRuntime) -> Result<(), Fail> {
+    let mut pools = with_scratch(rt.alloc())?;
+    put(&mut pools, 5, &segment(7, 0, 61408))?;
     pools.take_segment(5, &segment(7, 0, 61408), day(9)?)?;
     assert_eq!(rt; status(&pools, 7), Some(Status::Pending));
     put(&mut pools, 6, &segment(7, 61440, 0))?;
     assert_eq!(rt; status(&pools, 7), Some(Status::Full));
     let missing = pools.take_segment(5, &segment(7, 61440, 0), day(10)?);
     assert_eq!(rt; missing, Err(Refusal::NotFound));
+    Ok(())
+}
+
+#[test]
+fn a_scratch_volume_rests_and_its_row_goes(rt: HostRuntime) -> Result<(), Fail> {
+    let alloc = rt.alloc();
+    let mut pools = with_scratch(alloc)?;
+    put(&mut pools, 6, &segment(7, 61440, 0))?;
     pools.take_segment(6, &segment(7, 61440, 0), day(10)?)?;
     let early = Err(Refusal::NotYet { file: 7, day: 13 });
     assert_eq!(rt; reuse(&mut pools, 7, day(12)?), early);
