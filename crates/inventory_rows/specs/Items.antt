@@ -1,0 +1,38 @@
+-- How much a database holds.
+use Rattle.std.specs.Prelude.{ℕ, ◌+◌, ◌*◌, ◌^◌, List, length}
+use Rattle.std.specs.List.{sum_by}
+use Rattle.policy_domains.specs.Rows.{DomainRow}
+use Rattle.version_groups.specs.declared.group.Group.{Group}
+use Rattle.version_groups.specs.declared.groups.Filespace.{Filespace}
+use Rattle.version_groups.specs.declared.versions.Version.{Version}
+use Rattle.inventory_rows.specs.declared.backup.Backup.{Backup}
+use Rattle.inventory_rows.specs.State.{Inv}
+
+-- how many versions may be kept
+abbrev pub most_versions : ℕ
+most_versions = 2 ^ 20
+
+-- how many items the lists of a database may have together
+abbrev pub most_items : ℕ
+most_items = 15 * 2 ^ 20
+
+abbrev pub items_of_domain : DomainRow → ℕ
+items_of_domain d = length d.sets + sum_by (λ s. length s.1.classes) d.sets
+
+abbrev pub items_of_version : Version → ℕ
+items_of_version version = length version.copies + sum_by (λ c. length c.segments) version.copies
+
+abbrev pub items_of_group : Group → ℕ
+items_of_group group = length group.versions + sum_by items_of_version group.versions
+
+abbrev pub items_of_filespace : Filespace → ℕ
+items_of_filespace f = length f.groups + sum_by (λ g. items_of_group g.1) f.groups
+
+-- how many items the lists of a database have together: domains, sets and classes; nodes; filespaces, groups, versions, copies and segments;
+-- device classes, pools and volumes; database backups and their delays
+abbrev pub count_items : Inv → ℕ
+count_items v =
+    length v.domains + sum_by (λ d. items_of_domain d.1) v.domains
+    + (length v.clients.nodes + (length v.clients.filespaces + sum_by (λ f. items_of_filespace f.1) v.clients.filespaces))
+    + (length v.stores.classes + (length v.stores.pools + length v.stores.volumes))
+    + (length v.backups + sum_by (λ b. length b.1.delays) v.backups)

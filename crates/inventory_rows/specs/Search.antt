@@ -1,0 +1,101 @@
+-- Where things stand in the database, and what uses them.
+use Rattle.std.specs.Prelude.{◌≡◌, ℕ, Bool, true, false, not, ◌==◌, ◌&&◌, ◌||◌, is_some, List, [], ◌∷◌, map, filter, Option, Some, None, option_and_then}
+use Rattle.std.specs.List.{list_all, list_any, flat_map, find}
+use Rattle.std.specs.Map.{lookup}
+use Rattle.std.specs.Option.{option_map, option_map_or}
+use Rattle.kinds.specs.declared.pool.PoolKind.{PoolKind}
+use Rattle.kinds.specs.declared.pool.PoolKind.TheVariants.{Primary, Copy}
+use Rattle.kinds.specs.declared.rule.BackupRule.{BackupRule}
+use Rattle.kinds.specs.declared.rule.RuleFound.{RuleFound}
+use Rattle.kinds.specs.declared.segment.Segment.{Segment}
+use Rattle.policy_domains.specs.Rows.{SetRow, DomainRow, is_same_name}
+use Rattle.policy_domains.specs.Rules.{rule_of}
+use Rattle.version_groups.specs.declared.copies.CopyRow.{CopyRow}
+use Rattle.version_groups.specs.declared.group.Group.{Group}
+use Rattle.version_groups.specs.declared.groups.Filespace.{Filespace}
+use Rattle.version_groups.specs.declared.versions.Version.{Version}
+use Rattle.version_groups.specs.Versions.{version_of}
+use Rattle.object_rows.specs.declared.place.Node.{Node}
+use Rattle.object_rows.specs.declared.place.Place.{Place}
+use Rattle.object_rows.specs.Filespaces.{at_number, filespace_at, group_at, versions_of}
+use Rattle.object_rows.specs.Places.{listed}
+use Rattle.pool_tables.specs.declared.pool.Pool.{Pool}
+use Rattle.pool_rows.specs.PoolRows.{PoolRows}
+use Rattle.pool_tables.specs.Rows.{row_at, number_where}
+use Rattle.inventory_rows.specs.State.{Inv}
+
+-- all versions that are kept
+abbrev pub versions : Inv → List Version
+versions v = versions_of v.clients.filespaces
+
+-- the version of an object
+abbrev pub version : ℕ → Inv → Option Version
+version object v = version_of object (versions v)
+
+-- the filespace and the path under which the version of an object stands
+abbrev pub place : ℕ → Inv → Option Place
+place object v = lookup (at_number object) (listed v.clients.filespaces)
+
+-- the group of a path
+abbrev pub group : ℕ → List ℕ → Inv → Option Group
+group filespace path v = group_at filespace path v.clients.filespaces
+
+-- the copy of a version in a pool
+abbrev pub copy_in : ℕ → Version → Option CopyRow
+copy_in pool version = find (λ c. c.pool == pool) version.copies
+
+-- one of the copy's segments lies on the volume
+abbrev pub lies_on : ℕ → CopyRow → Bool
+lies_on file copy = list_any (λ s. s.file == file) copy.segments
+
+-- the pool with this number
+abbrev pub pool : ℕ → Inv → Option Pool
+pool number v = row_at number v.stores.pools
+
+abbrev pub is_primary_kind : PoolKind → Bool
+is_primary_kind Primary = true
+is_primary_kind Copy = false
+
+-- the pool is there and a primary one
+abbrev pub is_primary : ℕ → Inv → Bool
+is_primary number v = option_map_or (λ p. is_primary_kind p.kind) (pool number v) false
+
+-- the name of the domain of a node
+abbrev pub domain_of_node : ℕ → Inv → Option (List ℕ)
+domain_of_node node v = option_map (λ n. n.domain) (lookup (at_number node) v.clients.nodes)
+
+-- the name of the domain of a filespace's node
+abbrev pub domain_of : ℕ → Inv → Option (List ℕ)
+domain_of filespace v = option_and_then (λ f. domain_of_node f.node v) (filespace_at filespace v.clients.filespaces)
+
+-- the rule by which the versions of a class are kept in a filespace
+abbrev pub rule_in : ℕ → List ℕ → Inv → Option RuleFound
+rule_in filespace class v = option_and_then (λ domain. rule_of v.domains domain class) (domain_of filespace v)
+
+-- the copy groups of a set
+abbrev pub rules_of_set : SetRow → List BackupRule
+rules_of_set set = flat_map (λ c. option_map_or (λ rule. rule ∷ []) c.1 []) set.classes
+
+-- the copy groups of all sets of all domains
+abbrev pub rules : Inv → List BackupRule
+rules v = flat_map (λ d. flat_map (λ s. rules_of_set s.1) d.1.sets) v.domains
+
+-- a copy group has the pool as its destination
+abbrev pub is_destination : ℕ → Inv → Bool
+is_destination pool v = list_any (λ rule. rule.destination == pool) (rules v)
+
+-- the least node of a domain
+abbrev pub node_in : List ℕ → Inv → Option ℕ
+node_in domain v = number_where (λ n. is_same_name n.domain domain) v.clients.nodes
+
+-- the copies of all versions, each with its object
+abbrev pub copies : Inv → List (ℕ × CopyRow)
+copies v = flat_map (λ version. map (λ c. (version.object, c)) version.copies) (versions v)
+
+-- a copy lies in the pool
+abbrev pub holds_copy : ℕ → Inv → Bool
+holds_copy pool v = list_any (λ e. e.1.pool == pool) (copies v)
+
+-- the segments on a volume, each with its object
+abbrev pub segments_on : ℕ → Inv → List (ℕ × Segment)
+segments_on file v = flat_map (λ e. map (λ s. (e.0, s)) (filter (λ s. s.file == file) e.1.segments)) (copies v)

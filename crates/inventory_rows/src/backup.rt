@@ -1,0 +1,82 @@
+ghost use Rattle.std.specs.Prelude.{◌≡◌, []};
+
+use kinds::{Day, Days};
+use std::alloc::{AllocError, Global};
+use std::collections::BTreeMap;
+use std::marker::Model;
+
+/// The least REUSEDELAY of each of some pools, by the pools' numbers, in ascending order.
+#[derive(Debug, Drop)]
+pub struct Delays {
+    map: BTreeMap<u32, Days>,
+}
+
+impl Model for Delays {
+    ghost use Rattle.std.specs.Prelude.{List, ℕ};
+
+    ghost Value = { List (ℕ × ℕ) };
+
+    ghost view = { λ delays. delays.map.entries };
+}
+
+impl Delays {
+    /// No delays. It takes no memory.
+    pub fn new(alloc: Global) -> Self
+        ensures { result ≡ [] }
+    {
+        Delays {
+            map: BTreeMap::new(alloc),
+        }
+    }
+
+    /// These delays. It takes no memory.
+    pub fn from_map(map: BTreeMap<u32, Days>) -> Self
+        ensures { result ≡ map.entries }
+    {
+        let _ = map.len();
+        Delays { map }
+    }
+
+    /// The delays by pool.
+    pub fn as_map(&self) -> &BTreeMap<u32, Days>
+        ensures { result.now.entries ≡ self.now }
+    {
+        &self.map
+    }
+}
+
+impl Clone for Delays {
+    ghost is_clone = { λ delays copy. copy ≡ delays };
+
+    fn clone(&self) -> Result<Self, AllocError> {
+        Ok(Delays {
+            map: self.map.clone()?,
+        })
+    }
+}
+
+/// A database backup that is listed.
+#[derive(Debug, Drop)]
+pub struct Backup {
+    /// The day on which it was taken.
+    pub taken: Day,
+    /// The number of the last transaction that it holds.
+    pub number: u64,
+    /// Whether its file is whole.
+    pub is_done: bool,
+    /// For each sequential pool that held a copy when it was taken, the least REUSEDELAY that the pool has had since.
+    pub delays: Delays,
+}
+
+impl Clone for Backup {
+    ghost is_clone = { λ backup copy. copy ≡ backup };
+
+    fn clone(&self) -> Result<Self, AllocError> {
+        Ok(Backup {
+            taken: self.taken,
+            number: self.number,
+            is_done: self.is_done,
+            delays: self.delays.clone()?,
+        })
+    }
+}

@@ -1,0 +1,7 @@
+pub mod Effects
+pub mod Held
+pub mod Journal
+pub mod Kept
+pub mod Refused
+pub mod RefusedData
+pub mod Valid
