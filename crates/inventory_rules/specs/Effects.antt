@@ -106,10 +106,14 @@ new_version v item = record {
   copies = record { pool = item.pool; placed = this v; segments = item.segments } ∷ [];
 }
 
+-- the next object number lies behind a number that was drawn
+abbrev pub after_object : NewVersion → Inv → ℕ
+after_object item v = max v.next_object (item.object + 1)
+
 abbrev pub back_up : ℕ → NewVersion → Inv → Inv
 back_up filespace item v =
     put item.object item.segments
-    (record (with_filespaces (or_same v.clients.filespaces (filespaces_with filespace item.path item.class (new_version v item) v.clients.filespaces)) v) { next_object = max v.next_object (item.object + 1) })
+    (record (with_filespaces (or_same v.clients.filespaces (filespaces_with filespace item.path item.class (new_version v item) v.clients.filespaces)) v) { next_object = after_object item v })
 
 -- the versions of a path change
 abbrev pub change_group : ℕ → List ℕ → GroupChange → Inv → Inv
@@ -127,9 +131,17 @@ abbrev pub copies_of : Option Version → List CopyRow
 copies_of None = []
 copies_of (Some version) = version.copies
 
+-- the copies of an object's version
+abbrev pub copies_at : ℕ → Inv → List CopyRow
+copies_at object v = copies_of (version object v)
+
+-- their segments go from their volumes
+abbrev pub take_versions : ℕ → Inv → Inv
+take_versions object v = take_all object (copies_at object v) v
+
 -- a version goes, and its copies with it
 abbrev pub remove : ℕ → List ℕ → ℕ → Inv → Inv
-remove filespace path object v = change_group filespace path (group.Remove object) (take_all object (copies_of (version object v)) v)
+remove filespace path object v = change_group filespace path (group.Remove object) (take_versions object v)
 
 abbrev pub expire : ℕ → NamedVersion → Inv → Inv
 expire filespace item v = remove filespace item.path item.object v
@@ -151,20 +163,36 @@ abbrev pub segments_in : ℕ → Option Version → List Segment
 segments_in pool None = []
 segments_in pool (Some version) = option_map_or (λ c. c.segments) (copy_in pool version) []
 
--- a copy moves from one pool to another
+abbrev pub version_at : ℕ → Inv → Option Version
+version_at object v = version object v
+
+-- what is placed now stands in its pool by the number of this transaction
+abbrev pub placed_now : ℕ → List Segment → Inv → CopyRow
+placed_now pool segments v = record { pool = pool; placed = this v; segments = segments }
+
+-- a copy moves from one pool to another: its segments go from their volumes, it takes the place of the former one, and its new segments come
+abbrev pub take_moved : MovedCopy → Inv → Inv
+take_moved item v = take_away item.object (segments_in item.from (version_at item.object v)) v
+
+abbrev pub moved : MovedCopy → Inv → CopyChange
+moved item v = copy.Replace item.from (placed_now item.pool item.segments v)
+
 abbrev pub move_copy : MovedCopy → Inv → Inv
-move_copy item v =
-    put item.object item.segments
-    (change_copy item.object (copy.Replace item.from (record { pool = item.pool; placed = this v; segments = item.segments }))
-    (take_away item.object (segments_in item.from (version item.object v)) v))
+move_copy item v = put item.object item.segments (change_copy item.object (moved item v) (take_moved item v))
 
 -- a copy is made beside others
+abbrev pub added : NewCopy → Inv → CopyChange
+added item v = copy.Add (placed_now item.pool item.segments v)
+
 abbrev pub add_copy : NewCopy → Inv → Inv
-add_copy item v = put item.object item.segments (change_copy item.object (copy.Add (record { pool = item.pool; placed = this v; segments = item.segments })) v)
+add_copy item v = put item.object item.segments (change_copy item.object (added item v) v)
 
 -- a copy goes
+abbrev pub dropped : DroppedCopy → CopyChange
+dropped item = copy.Drop item.pool
+
 abbrev pub drop_copy : DroppedCopy → Inv → Inv
-drop_copy item v = change_copy item.object (copy.Drop item.pool) (take_away item.object (segments_in item.pool (version item.object v)) v)
+drop_copy item v = change_copy item.object (dropped item) (take_away item.object (segments_in item.pool (version_at item.object v)) v)
 
 -- ---- rows of clients and stores
 

@@ -4,4 +4,5 @@ pub mod Journal
 pub mod Kept
 pub mod Refused
 pub mod RefusedData
+pub mod Touched
 pub mod Valid

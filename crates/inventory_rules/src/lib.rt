@@ -1,11 +1,5 @@
-//! The whole database as one value.
+//! The rules of the server's database: when it is valid, why a transaction is refused, what a transaction makes of it, and
+//! what it keeps for its clients. They are definitions in specs/; here stand the laws that they keep.
 #![tactic(auto)]
 
-ghost use Rattle.std.specs.Prelude.{◌≡◌, true, None};
-ghost use Rattle.inventory_rows.specs.Fresh.{fresh};
-ghost use Rattle.inventory_rules.specs.Valid.{is_valid};
-
-/// The database of a server that was just formatted is valid.
-pub fn fresh_is_valid()
-    ensures { is_valid fresh ≡ true }
-{}
+pub mod laws;

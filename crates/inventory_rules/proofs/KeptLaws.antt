@@ -1,0 +1,395 @@
+-- What a database keeps for its clients changes as it is said, whatever copies there are.
+use Rattle.std.proofs.Common.{◌≡◌, ℕ, Bool, true, false, cond, not, List, [], ◌∷◌, ◌++◌, map, Option, Some, None, Result, Ok, Err, refl, sym, ap, ◌∙◌}
+use Rattle.std.specs.Prelude.{◌==◌, ◌||◌, filter, is_none, is_some, if◌then◌else◌}
+use Rattle.std.specs.Option.{option_map, option_map_or}
+use Rattle.std.specs.List.{list_any, flat_map}
+use Rattle.std.specs.Map.{lookup, remove_entry}
+use Rattle.std.specs.BTreeMap.{insert_entry}
+use Rattle.std.specs.Ordering.{nat_cmp}
+use Rattle.std.specs.Cmp.Lexicographic.{slice_cmp}
+use Rattle.std.proofs.lemmas.Map.Made.{lookup-map_values}
+use Rattle.std.proofs.lemmas.List.{map-append}
+use Rattle.kinds.specs.declared.change.DefineOrDelete.TheVariants as two
+use Rattle.kinds.specs.declared.change.ObjectChange.{ObjectChange}
+use Rattle.kinds.specs.declared.change.ObjectChange.TheVariants as client
+use Rattle.kinds.specs.declared.refusal.Refusal.{Refusal}
+use Rattle.kinds.specs.declared.refusal.Refusal.TheVariants.{Exists, NotFound}
+use Rattle.kinds.specs.declared.segment.Segment.{Segment}
+use Rattle.change_items.specs.declared.items.DiscardedVersion.{DiscardedVersion}
+use Rattle.change_items.specs.declared.items.DroppedCopy.{DroppedCopy}
+use Rattle.change_items.specs.declared.items.MovedCopy.{MovedCopy}
+use Rattle.change_items.specs.declared.items.NamedVersion.{NamedVersion}
+use Rattle.change_items.specs.declared.items.NewCopy.{NewCopy}
+use Rattle.change_items.specs.declared.items.NewVersion.{NewVersion}
+use Rattle.change_items.specs.declared.items.Rebinding.{Rebinding}
+use Rattle.change_items.specs.declared.items.ScratchVolume.{ScratchVolume}
+use Rattle.changes.specs.declared.change.Change.{Change}
+use Rattle.changes.specs.declared.change.Change.TheVariants as change
+use Rattle.version_groups.specs.declared.copies.CopyChange.{CopyChange}
+use Rattle.version_groups.specs.declared.copies.CopyRow.{CopyRow}
+use Rattle.version_groups.specs.declared.group.Group.{Group}
+use Rattle.version_groups.specs.declared.group.GroupChange.{GroupChange}
+use Rattle.version_groups.specs.declared.group.GroupChange.TheVariants as group
+use Rattle.version_groups.specs.declared.groups.Filespace.{Filespace}
+use Rattle.version_groups.specs.declared.versions.Version.{Version}
+use Rattle.version_groups.specs.Copies.{copies_after}
+use Rattle.version_groups.specs.Entries.{on_ok, if_found, changed_at}
+use Rattle.version_groups.specs.Groups.{at_path, group_after, group_at, group_with, groups_after, groups_with, names_kept, versions_after, versions_at, versions_in, without_empty}
+use Rattle.version_groups.specs.Versions.{has_active, has_object, having_copies, is_empty, retired, superseded, undone, version_of, with_copies, without_object}
+use Rattle.object_rows.specs.declared.place.Node.{Node}
+use Rattle.object_rows.specs.declared.place.Place.{Place}
+use Rattle.kinds.specs.declared.change.PoolChange.{PoolChange}
+use Rattle.kinds.specs.declared.change.PoolChange.TheVariants as store
+use Rattle.kinds.specs.declared.change.Verb.TheVariants as verb
+use Rattle.kinds.specs.declared.refusal.By.{By}
+use Rattle.object_rows.specs.Changes.{by_filespace, by_object, filespaces_defined, filespaces_without, least, least_object, nodes_with, nodes_without, rows_changed, unless_used, with_nodes}
+use Rattle.object_rows.specs.Filespaces as filespace
+use Rattle.object_rows.specs.Names.{at_name, filespace_named, filespace_of, first_number, named_of, node_named}
+use Rattle.object_rows.specs.Places.{listed, listed_at, listed_in}
+use Rattle.object_rows.specs.Rows.{Rows, with_filespaces}
+use Rattle.inventory_rows.specs.State.{Inv}
+use Rattle.inventory_rules.specs.Effects as effect
+use Rattle.inventory_rules.specs.Kept as kept
+use Rattle.inventory_rules.proofs.MapValues.{values, remove_entry-values, insert_entry-values, changed_at-values}
+
+
+-- ---- the versions of a path
+
+has_object-bare : (object : ℕ) (ws : List Version) → has_object object (map kept.without_copies ws) ≡ has_object object ws
+has_object-bare object [] = refl
+has_object-bare object (w ∷ ws) = ap (λ z. (w.object == object) || z) (has_object-bare object ws)
+
+has_active-bare : (ws : List Version) → has_active (map kept.without_copies ws) ≡ has_active ws
+has_active-bare [] = refl
+has_active-bare (w ∷ ws) = refl
+
+retired-bare : (day : ℕ) (ws : List Version) → retired day (map kept.without_copies ws) ≡ map kept.without_copies (retired day ws)
+retired-bare day [] = refl
+retired-bare day (w ∷ ws) = refl
+
+superseded-bare : (day : ℕ) (ws : List Version) → superseded day (map kept.without_copies ws) ≡ map kept.without_copies (superseded day ws)
+superseded-bare day [] = refl
+superseded-bare day (w ∷ ws) =
+    elim (is_none w.since) as (λ b. cond b (retired day (map kept.without_copies (w ∷ ws))) (map kept.without_copies (w ∷ ws)) ≡ map kept.without_copies (cond b (retired day (w ∷ ws)) (w ∷ ws))) [
+      | true ↦ refl
+      | false ↦ refl
+    ]
+
+without_object-bare : (object : ℕ) (ws : List Version) → without_object object (map kept.without_copies ws) ≡ map kept.without_copies (without_object object ws)
+without_object-bare object [] = refl
+without_object-bare object (w ∷ ws) =
+    elim (not (w.object == object)) as (λ b. cond b (kept.without_copies w ∷ without_object object (map kept.without_copies ws)) (without_object object (map kept.without_copies ws)) ≡ map kept.without_copies (cond b (w ∷ without_object object ws) (without_object object ws))) [
+      | true ↦ ap (λ z. kept.without_copies w ∷ z) (without_object-bare object ws)
+      | false ↦ without_object-bare object ws
+    ]
+
+undone-bare : (active : Bool) (ws : List Version) → undone active (map kept.without_copies ws) ≡ map kept.without_copies (undone active ws)
+undone-bare active [] = refl
+undone-bare true (w ∷ []) = refl
+undone-bare true (w ∷ v ∷ ws) = refl
+undone-bare false (w ∷ ws) = refl
+
+versions_after-bare : (c : GroupChange) (ws : List Version) → versions_after c (map kept.without_copies ws) ≡ map kept.without_copies (versions_after c ws)
+versions_after-bare (group.Gone object today) ws = retired-bare today ws
+versions_after-bare (group.Remove object) ws = without_object-bare object ws
+versions_after-bare (group.Rebind class) ws = refl
+versions_after-bare (group.Undo class active) ws = undone-bare active ws
+
+names_kept-bare : (c : GroupChange) (ws : List Version) → names_kept c (map kept.without_copies ws) ≡ names_kept c ws
+names_kept-bare (group.Gone object today) ws = has_object-bare object ws
+names_kept-bare (group.Remove object) ws = has_object-bare object ws
+names_kept-bare (group.Rebind class) ws = refl
+names_kept-bare (group.Undo class active) ws = refl
+
+-- ---- the group of a path
+
+group_after-bare : (c : GroupChange) (g : Group) → group_after c (kept.bare_group g) ≡ on_ok kept.bare_group (group_after c g)
+group_after-bare c g = rw (names_kept-bare c g.versions, versions_after-bare c g.versions) (elim (names_kept c g.versions) [ | true ↦ refl | false ↦ refl ])
+
+group_with-bare : (class : List ℕ) (w : Version) (o : Option Group) → group_with class (kept.without_copies w) (option_map kept.bare_group o) ≡ kept.bare_group (group_with class w o)
+group_with-bare class w None = refl
+group_with-bare class w (Some g) = rw (superseded-bare w.stored g.versions) refl
+
+-- ---- the groups of a filespace
+
+groups_with-bare : (path class : List ℕ) (w : Version) (gs : List (List ℕ × Group)) → groups_with path class (kept.without_copies w) (values kept.bare_group gs) ≡ values kept.bare_group (groups_with path class w gs)
+groups_with-bare path class w gs =
+    ap (λ o. insert_entry (slice_cmp nat_cmp) (values kept.bare_group gs) path (group_with class (kept.without_copies w) o)) (lookup-map_values kept.bare_group (at_path path) gs)
+    ∙ ap (λ g. insert_entry (slice_cmp nat_cmp) (values kept.bare_group gs) path g) (group_with-bare class w (group_at path gs))
+    ∙ insert_entry-values kept.bare_group (slice_cmp nat_cmp) gs path (group_with class w (group_at path gs))
+
+is_empty-bare : (o : Option Group) → is_empty (versions_in (option_map kept.bare_group o)) ≡ is_empty (versions_in o)
+is_empty-bare None = refl
+is_empty-bare (Some g) = elim g.versions as (λ ws. is_empty (map kept.without_copies ws) ≡ is_empty ws) [ | [] ↦ refl | w ∷ ws ↦ refl ]
+
+without_empty-bare : (path : List ℕ) (gs : List (List ℕ × Group)) → without_empty path (values kept.bare_group gs) ≡ values kept.bare_group (without_empty path gs)
+without_empty-bare path gs =
+    rw (lookup-map_values kept.bare_group (at_path path) gs, is_empty-bare (group_at path gs), remove_entry-values kept.bare_group (at_path path) gs)
+    (elim (is_empty (versions_at path gs)) [ | true ↦ refl | false ↦ refl ])
+
+emptied-bare : (path : List ℕ) (r : Result (List (List ℕ × Group)) Refusal) → on_ok (without_empty path) (on_ok (values kept.bare_group) r) ≡ on_ok (values kept.bare_group) (on_ok (without_empty path) r)
+emptied-bare path (Ok gs) = ap Ok (without_empty-bare path gs)
+emptied-bare path (Err e) = refl
+
+groups_after-bare : (path : List ℕ) (c : GroupChange) (gs : List (List ℕ × Group)) → groups_after path c (values kept.bare_group gs) ≡ on_ok (values kept.bare_group) (groups_after path c gs)
+groups_after-bare path c gs =
+    ap (on_ok (without_empty path)) (changed_at-values kept.bare_group (at_path path) (group_after c) (group_after c) (group_after-bare c) gs)
+    ∙ emptied-bare path (changed_at (at_path path) (group_after c) gs)
+
+-- ---- filespaces
+
+filespace_after-bare : (step other : List (List ℕ × Group) → Result (List (List ℕ × Group)) Refusal) → ((gs : List (List ℕ × Group)) → other (values kept.bare_group gs) ≡ on_ok (values kept.bare_group) (step gs)) → (f : Filespace)
+    → filespace.filespace_after other (kept.bare_filespace f) ≡ on_ok kept.bare_filespace (filespace.filespace_after step f)
+filespace_after-bare step other same f = rw (same f.groups) (elim (step f.groups) [ | Ok gs ↦ refl | Err e ↦ refl ])
+
+in_filespace-bare : (n : ℕ) (step other : List (List ℕ × Group) → Result (List (List ℕ × Group)) Refusal) → ((gs : List (List ℕ × Group)) → other (values kept.bare_group gs) ≡ on_ok (values kept.bare_group) (step gs)) → (fs : List (ℕ × Filespace))
+    → filespace.in_filespace n other (kept.bare fs) ≡ on_ok kept.bare (filespace.in_filespace n step fs)
+in_filespace-bare n step other same fs =
+    changed_at-values kept.bare_filespace (filespace.at_number n) (filespace.filespace_after step) (filespace.filespace_after other) (filespace_after-bare step other same) fs
+
+filespaces_with-bare : (n : ℕ) (path class : List ℕ) (w : Version) (fs : List (ℕ × Filespace)) → filespace.filespaces_with n path class (kept.without_copies w) (kept.bare fs) ≡ on_ok kept.bare (filespace.filespaces_with n path class w fs)
+filespaces_with-bare n path class w fs =
+    in_filespace-bare n (λ gs. Ok (groups_with path class w gs)) (λ gs. Ok (groups_with path class (kept.without_copies w) gs)) (λ gs. ap Ok (groups_with-bare path class w gs)) fs
+
+filespaces_after-bare : (n : ℕ) (path : List ℕ) (c : GroupChange) (fs : List (ℕ × Filespace)) → filespace.filespaces_after n path c (kept.bare fs) ≡ on_ok kept.bare (filespace.filespaces_after n path c fs)
+filespaces_after-bare n path c fs = in_filespace-bare n (groups_after path c) (groups_after path c) (groups_after-bare path c) fs
+
+or_same-bare : (fs : List (ℕ × Filespace)) (r : Result (List (ℕ × Filespace)) Refusal) → effect.or_same (kept.bare fs) (on_ok kept.bare r) ≡ kept.bare (effect.or_same fs r)
+or_same-bare fs (Ok new) = refl
+or_same-bare fs (Err e) = refl
+
+-- ---- copies are not seen
+
+having-bare : (object : ℕ) (copies : List CopyRow) (w : Version) → kept.without_copies (having_copies object copies w) ≡ kept.without_copies w
+having-bare object copies w = elim (w.object == object) as (λ b. kept.without_copies (cond b (record w { copies = copies }) w) ≡ kept.without_copies w) [ | true ↦ refl | false ↦ refl ]
+
+with_copies-bare : (object : ℕ) (copies : List CopyRow) (ws : List Version) → map kept.without_copies (with_copies object copies ws) ≡ map kept.without_copies ws
+with_copies-bare object copies [] = refl
+with_copies-bare object copies (w ∷ ws) = rw (having-bare object copies w, with_copies-bare object copies ws) refl
+
+groups_copied-bare : (object : ℕ) (copies : List CopyRow) (gs : List (List ℕ × Group)) → values kept.bare_group (filespace.groups_copied object copies gs) ≡ values kept.bare_group gs
+groups_copied-bare object copies [] = refl
+groups_copied-bare object copies (g ∷ gs) = rw (with_copies-bare object copies g.1.versions, groups_copied-bare object copies gs) refl
+
+filespaces_copied-bare : (object : ℕ) (copies : List CopyRow) (fs : List (ℕ × Filespace)) → kept.bare (filespace.filespaces_copied object copies fs) ≡ kept.bare fs
+filespaces_copied-bare object copies [] = refl
+filespaces_copied-bare object copies (f ∷ fs) = rw (groups_copied-bare object copies f.1.groups, filespaces_copied-bare object copies fs) refl
+
+altered-bare : (object : ℕ) (c : CopyChange) (fs : List (ℕ × Filespace)) → kept.bare (effect.or_same fs (filespace.filespaces_altered object c fs)) ≡ kept.bare fs
+altered-bare object c fs = found (version_of object (filespace.versions_of fs)) where
+  copied : (r : Result (List CopyRow) Refusal) → kept.bare (effect.or_same fs (on_ok (λ copies. filespace.filespaces_copied object copies fs) r)) ≡ kept.bare fs
+  copied (Ok copies) = filespaces_copied-bare object copies fs
+  copied (Err e) = refl
+
+  found : (o : Option Version) → kept.bare (effect.or_same fs (if_found o (λ v. on_ok (λ copies. filespace.filespaces_copied object copies fs) (copies_after c v.copies)))) ≡ kept.bare fs
+  found None = refl
+  found (Some v) = copied (copies_after c v.copies)
+
+-- ---- where versions stand
+
+listed_at-bare : (n : ℕ) (path : List ℕ) (ws : List Version) → listed_at n path (map kept.without_copies ws) ≡ listed_at n path ws
+listed_at-bare n path [] = refl
+listed_at-bare n path (w ∷ ws) = ap (λ z. (w.object, record { filespace = n; path = path }) ∷ z) (listed_at-bare n path ws)
+
+listed_in-bare : (n : ℕ) (gs : List (List ℕ × Group)) → listed_in n (values kept.bare_group gs) ≡ listed_in n gs
+listed_in-bare n [] = refl
+listed_in-bare n (g ∷ gs) = rw (listed_at-bare n g.0 g.1.versions, listed_in-bare n gs) refl
+
+listed-bare : (fs : List (ℕ × Filespace)) → listed (kept.bare fs) ≡ listed fs
+listed-bare [] = refl
+listed-bare (f ∷ fs) = rw (listed_in-bare f.0 f.1.groups, listed-bare fs) refl
+
+-- ---- nodes and filespaces
+
+named_of-bare : (node : ℕ) (fs : List (ℕ × Filespace)) → named_of node (kept.bare fs) ≡ named_of node fs
+named_of-bare node [] = refl
+named_of-bare node (f ∷ fs) = ap (λ z. (if f.1.node == node then (f.1.name, f.0) ∷ [] else []) ++ z) (named_of-bare node fs)
+
+objects-bare : (ws : List Version) → map (λ (w : Version). w.object) (map kept.without_copies ws) ≡ map (λ (w : Version). w.object) ws
+objects-bare [] = refl
+objects-bare (w ∷ ws) = ap (λ z. w.object ∷ z) (objects-bare ws)
+
+objects_in-bare : (gs : List (List ℕ × Group)) → map (λ (w : Version). w.object) (filespace.versions_in (values kept.bare_group gs)) ≡ map (λ (w : Version). w.object) (filespace.versions_in gs)
+objects_in-bare [] = refl
+objects_in-bare (g ∷ gs) =
+    map-append (λ (w : Version). w.object) (map kept.without_copies g.1.versions) (filespace.versions_in (values kept.bare_group gs))
+    ∙ rw (objects-bare g.1.versions, objects_in-bare gs) refl
+    ∙ sym (map-append (λ (w : Version). w.object) g.1.versions (filespace.versions_in gs))
+
+bare_rows : Rows → Rows
+bare_rows rows = record { nodes = rows.nodes; filespaces = kept.bare rows.filespaces }
+
+nodes_changed-bare : (rows : Rows) (r : Result (List (ℕ × Node)) Refusal) → with_nodes (bare_rows rows) r ≡ on_ok bare_rows (with_nodes rows r)
+nodes_changed-bare rows (Ok nodes) = refl
+nodes_changed-bare rows (Err e) = refl
+
+filespaces_changed-bare : (rows : Rows) (r : Result (List (ℕ × Filespace)) Refusal) → with_filespaces (bare_rows rows) (on_ok kept.bare r) ≡ on_ok bare_rows (with_filespaces rows r)
+filespaces_changed-bare rows (Ok fs) = refl
+filespaces_changed-bare rows (Err e) = refl
+
+nodes_without-bare : (name : List ℕ) (fs : List (ℕ × Filespace)) (nodes : List (ℕ × Node)) → nodes_without name (kept.bare fs) nodes ≡ nodes_without name fs nodes
+nodes_without-bare name fs nodes = found (node_named name nodes) where
+  found : (o : Option ℕ) → if_found o (λ number. unless_used (by_filespace (filespace_of number (kept.bare fs))) (remove_entry (filespace.at_number number) nodes))
+      ≡ if_found o (λ number. unless_used (by_filespace (filespace_of number fs)) (remove_entry (filespace.at_number number) nodes))
+  found None = refl
+  found (Some number) = ap (λ z. unless_used (by_filespace (first_number z)) (remove_entry (filespace.at_number number) nodes)) (named_of-bare number fs)
+
+new_filespace : ℕ → List ℕ → Filespace
+new_filespace node name = record { node = node; name = name; groups = [] }
+
+filespaces_defined-bare : (node : ℕ) (name : List ℕ) (number : ℕ) (nodes : List (ℕ × Node)) (fs : List (ℕ × Filespace)) → filespaces_defined node name number nodes (kept.bare fs) ≡ on_ok kept.bare (filespaces_defined node name number nodes fs)
+filespaces_defined-bare node name number nodes fs = found (lookup (filespace.at_number node) nodes) where
+  defined : (b : Bool) → cond b (Err Exists) (Ok (insert_entry nat_cmp (kept.bare fs) number (new_filespace node name))) ≡ on_ok kept.bare (cond b (Err Exists) (Ok (insert_entry nat_cmp fs number (new_filespace node name))))
+  defined true = refl
+  defined false = ap Ok (insert_entry-values kept.bare_filespace nat_cmp fs number (new_filespace node name))
+
+  found : (o : Option Node) → if_found o (λ _. if is_some (filespace_named node name (kept.bare fs)) then Err Exists else Ok (insert_entry nat_cmp (kept.bare fs) number (new_filespace node name)))
+      ≡ on_ok kept.bare (if_found o (λ _. if is_some (filespace_named node name fs) then Err Exists else Ok (insert_entry nat_cmp fs number (new_filespace node name))))
+  found None = refl
+  found (Some n) =
+      ap (λ z. cond (is_some (lookup (at_name name) z)) (Err Exists) (Ok (insert_entry nat_cmp (kept.bare fs) number (new_filespace node name)))) (named_of-bare node fs)
+      ∙ defined (is_some (filespace_named node name fs))
+
+filespaces_without-bare : (number : ℕ) (fs : List (ℕ × Filespace)) → filespaces_without number (kept.bare fs) ≡ on_ok kept.bare (filespaces_without number fs)
+filespaces_without-bare number fs =
+    ap (λ o. if_found o (λ f. unless_used (by_object (least_object f.groups)) (remove_entry (filespace.at_number number) (kept.bare fs)))) (lookup-map_values kept.bare_filespace (filespace.at_number number) fs)
+    ∙ found (filespace.filespace_at number fs)
+  where
+    used : (b : Option By) → unless_used b (kept.bare (remove_entry (filespace.at_number number) fs)) ≡ on_ok kept.bare (unless_used b (remove_entry (filespace.at_number number) fs))
+    used None = refl
+    used (Some user) = refl
+
+    found : (o : Option Filespace) → if_found (option_map kept.bare_filespace o) (λ f. unless_used (by_object (least_object f.groups)) (remove_entry (filespace.at_number number) (kept.bare fs)))
+        ≡ on_ok kept.bare (if_found o (λ f. unless_used (by_object (least_object f.groups)) (remove_entry (filespace.at_number number) fs)))
+    found None = refl
+    found (Some f) =
+        ap (λ z. unless_used (by_object (least z)) (remove_entry (filespace.at_number number) (kept.bare fs))) (objects_in-bare f.groups)
+        ∙ ap (unless_used (by_object (least_object f.groups))) (remove_entry-values kept.bare_filespace (filespace.at_number number) fs)
+        ∙ used (by_object (least_object f.groups))
+
+rows_changed-bare : (c : ObjectChange) (number : ℕ) (rows : Rows) → rows_changed c number (bare_rows rows) ≡ on_ok bare_rows (rows_changed c number rows)
+rows_changed-bare (client.Node two.Define name domain) number rows = nodes_changed-bare rows (nodes_with name domain number rows.nodes)
+rows_changed-bare (client.Node two.Delete name domain) number rows =
+    ap (with_nodes (bare_rows rows)) (nodes_without-bare name rows.filespaces rows.nodes) ∙ nodes_changed-bare rows (nodes_without name rows.filespaces rows.nodes)
+rows_changed-bare (client.Filespace two.Define node name n) number rows =
+    ap (with_filespaces (bare_rows rows)) (filespaces_defined-bare node name n rows.nodes rows.filespaces) ∙ filespaces_changed-bare rows (filespaces_defined node name n rows.nodes rows.filespaces)
+rows_changed-bare (client.Filespace two.Delete node name n) number rows =
+    ap (with_filespaces (bare_rows rows)) (filespaces_without-bare n rows.filespaces) ∙ filespaces_changed-bare rows (filespaces_without n rows.filespaces)
+
+or_same_rows-bare : (rows : Rows) (r : Result Rows Refusal) → effect.or_same (bare_rows rows) (on_ok bare_rows r) ≡ bare_rows (effect.or_same rows r)
+or_same_rows-bare rows (Ok new) = refl
+or_same_rows-bare rows (Err e) = refl
+
+-- ---- steps
+
+with_rows : Inv → Rows → kept.Kept
+with_rows v rows = record { today = v.today; next_node = v.next_node; domains = v.domains; clients = rows }
+
+-- the kept part, with these filespaces
+with_spaces : Inv → List (ℕ × Filespace) → kept.Kept
+with_spaces v fs = with_rows v (record { nodes = v.clients.nodes; filespaces = fs })
+
+put-kept : (object : ℕ) (segments : List Segment) (v : Inv) → kept.kept (effect.put object segments v) ≡ kept.kept v
+put-kept object [] v = refl
+put-kept object (s ∷ segments) v = put-kept object segments (effect.put object (s ∷ []) v)
+
+take_away-kept : (object : ℕ) (segments : List Segment) (v : Inv) → kept.kept (effect.take_away object segments v) ≡ kept.kept v
+take_away-kept object [] v = refl
+take_away-kept object (s ∷ segments) v = take_away-kept object segments (effect.take_away object (s ∷ []) v)
+
+take_all-kept : (object : ℕ) (copies : List CopyRow) (v : Inv) → kept.kept (effect.take_all object copies v) ≡ kept.kept v
+take_all-kept object [] v = refl
+take_all-kept object (c ∷ copies) v = take_all-kept object copies (effect.take_away object c.segments v) ∙ take_away-kept object c.segments v
+
+each-kept : {X : Type 0} (step : X → Inv → Inv) (other : X → kept.Kept → kept.Kept) → ((x : X) (v : Inv) → kept.kept (step x v) ≡ other x (kept.kept v)) → (xs : List X) (v : Inv) → kept.kept (effect.each step xs v) ≡ kept.each other xs (kept.kept v)
+each-kept step other same [] v = refl
+each-kept step other same (x ∷ xs) v = each-kept step other same xs (step x v) ∙ ap (kept.each other xs) (same x v)
+
+each-same : {X : Type 0} (step : X → Inv → Inv) → ((x : X) (v : Inv) → kept.kept (step x v) ≡ kept.kept v) → (xs : List X) (v : Inv) → kept.kept (effect.each step xs v) ≡ kept.kept v
+each-same step same [] v = refl
+each-same step same (x ∷ xs) v = each-same step same xs (step x v) ∙ same x v
+
+scratch-kept : (scratch : List ScratchVolume) (v : Inv) → kept.kept (effect.each effect.make_scratch scratch v) ≡ kept.kept v
+scratch-kept scratch v = each-same effect.make_scratch (λ s w. refl) scratch v
+
+change_group-kept : (n : ℕ) (path : List ℕ) (c : GroupChange) (v : Inv) → kept.kept (effect.change_group n path c v) ≡ kept.change_group n path c (kept.kept v)
+change_group-kept n path c v =
+    ap (with_spaces v) (sym (ap (effect.or_same (kept.bare v.clients.filespaces)) (filespaces_after-bare n path c v.clients.filespaces) ∙ or_same-bare v.clients.filespaces (filespace.filespaces_after n path c v.clients.filespaces)))
+
+back_up-kept : (n : ℕ) (item : NewVersion) (v : Inv) → kept.kept (effect.back_up n item v) ≡ kept.back_up n item (kept.kept v)
+back_up-kept n item v =
+    let w = effect.new_version v item in
+    put-kept item.object item.segments (record (effect.with_filespaces (effect.or_same v.clients.filespaces (filespace.filespaces_with n item.path item.class w v.clients.filespaces)) v) { next_object = effect.after_object item v })
+    ∙ ap (with_spaces v) (sym (ap (effect.or_same (kept.bare v.clients.filespaces)) (filespaces_with-bare n item.path item.class w v.clients.filespaces) ∙ or_same-bare v.clients.filespaces (filespace.filespaces_with n item.path item.class w v.clients.filespaces)))
+
+remove-kept : (n : ℕ) (path : List ℕ) (object : ℕ) (v : Inv) → kept.kept (effect.remove n path object v) ≡ kept.change_group n path (group.Remove object) (kept.kept v)
+remove-kept n path object v =
+    change_group-kept n path (group.Remove object) (effect.take_versions object v)
+    ∙ ap (kept.change_group n path (group.Remove object)) (take_all-kept object (effect.copies_at object v) v)
+
+discard_at-kept : (object : ℕ) (o : Option Place) (v : Inv) → kept.kept (effect.discard_at object o v) ≡ kept.discard_at object o (kept.kept v)
+discard_at-kept object None v = refl
+discard_at-kept object (Some place) v = remove-kept place.filespace place.path object v
+
+discard-kept : (item : DiscardedVersion) (v : Inv) → kept.kept (effect.discard item v) ≡ kept.discard item (kept.kept v)
+discard-kept item v =
+    discard_at-kept item.object (lookup (filespace.at_number item.object) (listed v.clients.filespaces)) v
+    ∙ ap (λ z. kept.discard_at item.object (lookup (filespace.at_number item.object) z) (kept.kept v)) (sym (listed-bare v.clients.filespaces))
+
+change_copy-kept : (object : ℕ) (c : CopyChange) (v : Inv) → kept.kept (effect.change_copy object c v) ≡ kept.kept v
+change_copy-kept object c v = ap (with_spaces v) (altered-bare object c v.clients.filespaces)
+
+move_copy-kept : (item : MovedCopy) (v : Inv) → kept.kept (effect.move_copy item v) ≡ kept.kept v
+move_copy-kept item v =
+    put-kept item.object item.segments (effect.change_copy item.object (effect.moved item v) (effect.take_moved item v))
+    ∙ (change_copy-kept item.object (effect.moved item v) (effect.take_moved item v)
+    ∙ take_away-kept item.object (effect.segments_in item.from (effect.version_at item.object v)) v)
+
+add_copy-kept : (item : NewCopy) (v : Inv) → kept.kept (effect.add_copy item v) ≡ kept.kept v
+add_copy-kept item v = put-kept item.object item.segments (effect.change_copy item.object (effect.added item v) v) ∙ change_copy-kept item.object (effect.added item v) v
+
+drop_copy-kept : (item : DroppedCopy) (v : Inv) → kept.kept (effect.drop_copy item v) ≡ kept.kept v
+drop_copy-kept item v =
+    change_copy-kept item.object (effect.dropped item) (effect.take_away item.object (effect.segments_in item.pool (effect.version_at item.object v)) v)
+    ∙ take_away-kept item.object (effect.segments_in item.pool (effect.version_at item.object v)) v
+
+client-kept : (c : ObjectChange) (v : Inv) → kept.kept (effect.client_changed c v) ≡ kept.client_changed c (kept.kept v)
+client-kept c v =
+    drawn c (effect.or_same v.clients (rows_changed c v.next_node v.clients)) v
+    ∙ ap (λ z. record { today = v.today; next_node = kept.drawn c v.next_node; domains = v.domains; clients = z })
+    (sym (ap (effect.or_same (bare_rows v.clients)) (rows_changed-bare c v.next_node v.clients) ∙ or_same_rows-bare v.clients (rows_changed c v.next_node v.clients)))
+  where
+    drawn : (c : ObjectChange) (rows : Rows) (v : Inv) → kept.kept (effect.drawn_for_client c (record v { clients = rows })) ≡ record { today = v.today; next_node = kept.drawn c v.next_node; domains = v.domains; clients = bare_rows rows }
+    drawn (client.Node two.Define name domain) rows v = refl
+    drawn (client.Node two.Delete name domain) rows v = refl
+    drawn (client.Filespace two.Define node name n) rows v = refl
+    drawn (client.Filespace two.Delete node name n) rows v = refl
+
+store-kept : (c : PoolChange) (v : Inv) → kept.kept (effect.store_changed c v) ≡ kept.kept v
+store-kept (store.DevClass v1 name capacity) v = refl
+store-kept (store.Pool verb.Define name class kind rule) v = refl
+store-kept (store.Pool verb.Update name class kind rule) v = refl
+store-kept (store.Pool verb.Delete name class kind rule) v = refl
+store-kept (store.Volume verb.Define name pool file capacity access) v = refl
+store-kept (store.Volume verb.Update name pool file capacity access) v = refl
+store-kept (store.Volume verb.Delete name pool file capacity access) v = refl
+
+-- what a database keeps after a transaction is what the transaction makes of what it kept
+pub effect-kept : (c : Change) (v : Inv) → kept.kept (effect.effect c v) ≡ kept.kept_after c (kept.kept v)
+unfolding effect.effect, kept.kept_after
+effect-kept (change.Day day) v = refl
+effect-kept (change.Policy c) v = refl
+effect-kept (change.Object c) v = client-kept c v
+effect-kept (change.Pool c) v = store-kept c v
+effect-kept (change.Backup c) v = each-kept (effect.back_up c.filespace) (kept.back_up c.filespace) (back_up-kept c.filespace) c.items (effect.each effect.make_scratch c.scratch v) ∙ ap (kept.each (kept.back_up c.filespace) c.items) (scratch-kept c.scratch v)
+effect-kept (change.Rebind c) v = each-kept (effect.rebind c.filespace) (kept.rebind c.filespace) (λ item w. change_group-kept c.filespace item.path (group.Rebind item.class) w) c.items v
+effect-kept (change.Gone c) v = each-kept (effect.mark_gone c.filespace) (kept.mark_gone c.filespace) (λ item w. change_group-kept c.filespace item.path (group.Gone item.object w.today) w) c.items v
+effect-kept (change.Move c) v = each-same effect.move_copy move_copy-kept c.items (effect.each effect.make_scratch c.scratch v) ∙ scratch-kept c.scratch v
+effect-kept (change.Copy c) v = each-same effect.add_copy add_copy-kept c.items (effect.each effect.make_scratch c.scratch v) ∙ scratch-kept c.scratch v
+effect-kept (change.DropCopies c) v = each-same effect.drop_copy drop_copy-kept c.items v
+effect-kept (change.Expire c) v = each-kept (effect.expire c.filespace) (kept.expire c.filespace) (λ item w. remove-kept c.filespace item.path item.object w) c.items v
+effect-kept (change.Discard c) v = each-kept effect.discard kept.discard discard-kept c.items v
+effect-kept (change.Reuse file) v = refl
+effect-kept (change.DbBegin file) v = refl
+effect-kept (change.DbEnd file) v = refl
+effect-kept (change.DbDelete file) v = refl
