@@ -1,8 +1,7 @@
 -- What a database keeps for its clients changes as it is said, whatever copies there are.
 use Rattle.std.proofs.Common.{◌≡◌, ℕ, Bool, true, false, cond, not, List, [], ◌∷◌, ◌++◌, map, Option, Some, None, Result, Ok, Err, refl, sym, ap, ◌∙◌}
-use Rattle.std.specs.Prelude.{◌==◌, ◌||◌, filter, is_none, is_some, if◌then◌else◌}
-use Rattle.std.specs.Option.{option_map, option_map_or}
-use Rattle.std.specs.List.{list_any, flat_map}
+use Rattle.std.specs.Prelude.{◌==◌, ◌||◌, is_none, is_some, if◌then◌else◌}
+use Rattle.std.specs.Option.{option_map}
 use Rattle.std.specs.Map.{lookup, remove_entry}
 use Rattle.std.specs.BTreeMap.{insert_entry}
 use Rattle.std.specs.Ordering.{nat_cmp}
@@ -18,10 +17,8 @@ use Rattle.kinds.specs.declared.segment.Segment.{Segment}
 use Rattle.change_items.specs.declared.items.DiscardedVersion.{DiscardedVersion}
 use Rattle.change_items.specs.declared.items.DroppedCopy.{DroppedCopy}
 use Rattle.change_items.specs.declared.items.MovedCopy.{MovedCopy}
-use Rattle.change_items.specs.declared.items.NamedVersion.{NamedVersion}
 use Rattle.change_items.specs.declared.items.NewCopy.{NewCopy}
 use Rattle.change_items.specs.declared.items.NewVersion.{NewVersion}
-use Rattle.change_items.specs.declared.items.Rebinding.{Rebinding}
 use Rattle.change_items.specs.declared.items.ScratchVolume.{ScratchVolume}
 use Rattle.changes.specs.declared.change.Change.{Change}
 use Rattle.changes.specs.declared.change.Change.TheVariants as change
@@ -34,7 +31,7 @@ use Rattle.version_groups.specs.declared.groups.Filespace.{Filespace}
 use Rattle.version_groups.specs.declared.versions.Version.{Version}
 use Rattle.version_groups.specs.Copies.{copies_after}
 use Rattle.version_groups.specs.Entries.{on_ok, if_found, changed_at}
-use Rattle.version_groups.specs.Groups.{at_path, group_after, group_at, group_with, groups_after, groups_with, names_kept, versions_after, versions_at, versions_in, without_empty}
+use Rattle.version_groups.specs.Groups.{at_path, class_after, group_after, group_at, group_with, groups_after, groups_with, names_kept, versions_after, versions_at, versions_in, without_empty}
 use Rattle.version_groups.specs.Versions.{has_active, has_object, having_copies, is_empty, retired, superseded, undone, version_of, with_copies, without_object}
 use Rattle.object_rows.specs.declared.place.Node.{Node}
 use Rattle.object_rows.specs.declared.place.Place.{Place}
@@ -51,7 +48,6 @@ use Rattle.inventory_rows.specs.State.{Inv}
 use Rattle.inventory_rules.specs.Effects as effect
 use Rattle.inventory_rules.specs.Kept as kept
 use Rattle.inventory_rules.proofs.MapValues.{values, remove_entry-values, insert_entry-values, changed_at-values}
-
 
 -- ---- the versions of a path
 
@@ -104,7 +100,11 @@ names_kept-bare (group.Undo class active) ws = refl
 -- ---- the group of a path
 
 group_after-bare : (c : GroupChange) (g : Group) → group_after c (kept.bare_group g) ≡ on_ok kept.bare_group (group_after c g)
-group_after-bare c g = rw (names_kept-bare c g.versions, versions_after-bare c g.versions) (elim (names_kept c g.versions) [ | true ↦ refl | false ↦ refl ])
+group_after-bare c g = rw (names_kept-bare c g.versions, versions_after-bare c g.versions) (go (names_kept c g.versions)) where
+  go : (b : Bool) → cond {A = Result Group Refusal} b (Ok (record { class = class_after c g.class; versions = map kept.without_copies (versions_after c g.versions) })) (Err NotFound)
+      ≡ on_ok kept.bare_group (cond b (Ok (record { class = class_after c g.class; versions = versions_after c g.versions })) (Err NotFound))
+  go true = refl
+  go false = refl
 
 group_with-bare : (class : List ℕ) (w : Version) (o : Option Group) → group_with class (kept.without_copies w) (option_map kept.bare_group o) ≡ kept.bare_group (group_with class w o)
 group_with-bare class w None = refl
@@ -120,12 +120,16 @@ groups_with-bare path class w gs =
 
 is_empty-bare : (o : Option Group) → is_empty (versions_in (option_map kept.bare_group o)) ≡ is_empty (versions_in o)
 is_empty-bare None = refl
-is_empty-bare (Some g) = elim g.versions as (λ ws. is_empty (map kept.without_copies ws) ≡ is_empty ws) [ | [] ↦ refl | w ∷ ws ↦ refl ]
+is_empty-bare (Some g) = elim g.versions as (λ ws. is_empty (map kept.without_copies ws) ≡ is_empty ws) [ [] ↦ refl | w ∷ ws ↦ refl ]
 
 without_empty-bare : (path : List ℕ) (gs : List (List ℕ × Group)) → without_empty path (values kept.bare_group gs) ≡ values kept.bare_group (without_empty path gs)
 without_empty-bare path gs =
     rw (lookup-map_values kept.bare_group (at_path path) gs, is_empty-bare (group_at path gs), remove_entry-values kept.bare_group (at_path path) gs)
-    (elim (is_empty (versions_at path gs)) [ | true ↦ refl | false ↦ refl ])
+    (go (is_empty (versions_at path gs)))
+  where
+    go : (b : Bool) → cond b (values kept.bare_group (remove_entry (at_path path) gs)) (values kept.bare_group gs) ≡ values kept.bare_group (cond b (remove_entry (at_path path) gs) gs)
+    go true = refl
+    go false = refl
 
 emptied-bare : (path : List ℕ) (r : Result (List (List ℕ × Group)) Refusal) → on_ok (without_empty path) (on_ok (values kept.bare_group) r) ≡ on_ok (values kept.bare_group) (on_ok (without_empty path) r)
 emptied-bare path (Ok gs) = ap Ok (without_empty-bare path gs)
@@ -140,7 +144,10 @@ groups_after-bare path c gs =
 
 filespace_after-bare : (step other : List (List ℕ × Group) → Result (List (List ℕ × Group)) Refusal) → ((gs : List (List ℕ × Group)) → other (values kept.bare_group gs) ≡ on_ok (values kept.bare_group) (step gs)) → (f : Filespace)
     → filespace.filespace_after other (kept.bare_filespace f) ≡ on_ok kept.bare_filespace (filespace.filespace_after step f)
-filespace_after-bare step other same f = rw (same f.groups) (elim (step f.groups) [ | Ok gs ↦ refl | Err e ↦ refl ])
+filespace_after-bare step other same f = rw (same f.groups) (go (step f.groups)) where
+  go : (r : Result (List (List ℕ × Group)) Refusal) → on_ok (λ (groups : List (List ℕ × Group)). record (kept.bare_filespace f) { groups = groups }) (on_ok (values kept.bare_group) r) ≡ on_ok kept.bare_filespace (on_ok (λ (groups : List (List ℕ × Group)). record f { groups = groups }) r)
+  go (Ok gs) = refl
+  go (Err e) = refl
 
 in_filespace-bare : (n : ℕ) (step other : List (List ℕ × Group) → Result (List (List ℕ × Group)) Refusal) → ((gs : List (List ℕ × Group)) → other (values kept.bare_group gs) ≡ on_ok (values kept.bare_group) (step gs)) → (fs : List (ℕ × Filespace))
     → filespace.in_filespace n other (kept.bare fs) ≡ on_ok kept.bare (filespace.in_filespace n step fs)
@@ -161,7 +168,7 @@ or_same-bare fs (Err e) = refl
 -- ---- copies are not seen
 
 having-bare : (object : ℕ) (copies : List CopyRow) (w : Version) → kept.without_copies (having_copies object copies w) ≡ kept.without_copies w
-having-bare object copies w = elim (w.object == object) as (λ b. kept.without_copies (cond b (record w { copies = copies }) w) ≡ kept.without_copies w) [ | true ↦ refl | false ↦ refl ]
+having-bare object copies w = elim (w.object == object) as (λ b. kept.without_copies (cond b (record w { copies = copies }) w) ≡ kept.without_copies w) [ true ↦ refl | false ↦ refl ]
 
 with_copies-bare : (object : ℕ) (copies : List CopyRow) (ws : List Version) → map kept.without_copies (with_copies object copies ws) ≡ map kept.without_copies ws
 with_copies-bare object copies [] = refl
@@ -216,7 +223,7 @@ objects_in-bare (g ∷ gs) =
     ∙ rw (objects-bare g.1.versions, objects_in-bare gs) refl
     ∙ sym (map-append (λ (w : Version). w.object) g.1.versions (filespace.versions_in gs))
 
-bare_rows : Rows → Rows
+abbrev bare_rows : Rows → Rows
 bare_rows rows = record { nodes = rows.nodes; filespaces = kept.bare rows.filespaces }
 
 nodes_changed-bare : (rows : Rows) (r : Result (List (ℕ × Node)) Refusal) → with_nodes (bare_rows rows) r ≡ on_ok bare_rows (with_nodes rows r)
@@ -234,7 +241,7 @@ nodes_without-bare name fs nodes = found (node_named name nodes) where
   found None = refl
   found (Some number) = ap (λ z. unless_used (by_filespace (first_number z)) (remove_entry (filespace.at_number number) nodes)) (named_of-bare number fs)
 
-new_filespace : ℕ → List ℕ → Filespace
+abbrev new_filespace : ℕ → List ℕ → Filespace
 new_filespace node name = record { node = node; name = name; groups = [] }
 
 filespaces_defined-bare : (node : ℕ) (name : List ℕ) (number : ℕ) (nodes : List (ℕ × Node)) (fs : List (ℕ × Filespace)) → filespaces_defined node name number nodes (kept.bare fs) ≡ on_ok kept.bare (filespaces_defined node name number nodes fs)
@@ -282,11 +289,11 @@ or_same_rows-bare rows (Err e) = refl
 
 -- ---- steps
 
-with_rows : Inv → Rows → kept.Kept
+abbrev with_rows : Inv → Rows → kept.Kept
 with_rows v rows = record { today = v.today; next_node = v.next_node; domains = v.domains; clients = rows }
 
 -- the kept part, with these filespaces
-with_spaces : Inv → List (ℕ × Filespace) → kept.Kept
+abbrev with_spaces : Inv → List (ℕ × Filespace) → kept.Kept
 with_spaces v fs = with_rows v (record { nodes = v.clients.nodes; filespaces = fs })
 
 put-kept : (object : ℕ) (segments : List Segment) (v : Inv) → kept.kept (effect.put object segments v) ≡ kept.kept v
@@ -376,7 +383,7 @@ store-kept (store.Volume verb.Delete name pool file capacity access) v = refl
 
 -- what a database keeps after a transaction is what the transaction makes of what it kept
 pub effect-kept : (c : Change) (v : Inv) → kept.kept (effect.effect c v) ≡ kept.kept_after c (kept.kept v)
-unfolding effect.effect, kept.kept_after
+unfolding effect.effect kept.kept_after
 effect-kept (change.Day day) v = refl
 effect-kept (change.Policy c) v = refl
 effect-kept (change.Object c) v = client-kept c v

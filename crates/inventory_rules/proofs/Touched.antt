@@ -1,5 +1,5 @@
 -- What a transaction on versions and copies leaves as it was.
-use Rattle.std.proofs.Common.{◌≡◌, ℕ, ◌+◌, true, false, List, [], ◌∷◌, Option, Some, None, Result, Ok, Err, refl, ap, ◌∙◌}
+use Rattle.std.proofs.Common.{◌≡◌, ℕ, ◌+◌, true, List, [], ◌∷◌, Option, Some, None, Result, Ok, Err, refl, ◌∙◌}
 use Rattle.kinds.specs.declared.change.DefineOrDelete.TheVariants as two
 use Rattle.kinds.specs.declared.change.ObjectChange.{ObjectChange}
 use Rattle.kinds.specs.declared.change.ObjectChange.TheVariants as client
@@ -8,7 +8,6 @@ use Rattle.kinds.specs.declared.change.PoolChange.TheVariants as store
 use Rattle.kinds.specs.declared.change.Verb.TheVariants as verb
 use Rattle.kinds.specs.declared.refusal.Refusal.{Refusal}
 use Rattle.kinds.specs.declared.segment.Segment.{Segment}
-use Rattle.change_items.specs.declared.items.DiscardedVersion.{DiscardedVersion}
 use Rattle.change_items.specs.declared.items.DroppedCopy.{DroppedCopy}
 use Rattle.change_items.specs.declared.items.MovedCopy.{MovedCopy}
 use Rattle.change_items.specs.declared.items.NewCopy.{NewCopy}
@@ -23,7 +22,6 @@ use Rattle.version_groups.specs.declared.group.GroupChange.TheVariants as group
 use Rattle.version_groups.specs.declared.groups.Filespace.{Filespace}
 use Rattle.volume_rows.specs.declared.volume.Volume.{Volume}
 use Rattle.object_rows.specs.declared.place.Place.{Place}
-use Rattle.pool_rows.specs.PoolRows.{PoolRows}
 use Rattle.pool_tables.specs.Rows.{change_row}
 use Rattle.pool_rows.specs.PoolRows.{is_sequential_at}
 use Rattle.pool_rows.specs.Segments.{with_volumes}
@@ -31,7 +29,7 @@ use Rattle.pool_tables.specs.RowChanges as row
 use Rattle.volume_rows.specs.Held.{held_of}
 use Rattle.inventory_rows.specs.State.{Inv}
 use Rattle.inventory_rows.specs.Search.{place}
-use Rattle.inventory_rules.specs.Effects.{or_same, each, put, take_away, take_all, take_versions, make_scratch, back_up, change_group, rebind, mark_gone, remove, expire, discard_at, discard, change_copy, move_copy, add_copy, drop_copy, copies_at, segments_in, version_at, take_moved, moved, added, dropped, after_object, with_filespaces, with_stores, effect}
+use Rattle.inventory_rules.specs.Effects.{or_same, each, put, take_away, take_all, take_versions, make_scratch, back_up, change_group, rebind, mark_gone, remove, expire, discard_at, discard, change_copy, move_copy, add_copy, drop_copy, copies_at, segments_in, version_at, take_moved, moved, added, dropped, with_filespaces, with_stores, effect}
 use Rattle.inventory_rules.specs.Touched.{is_of_data, OnlyData}
 
 same : (v : Inv) → OnlyData v v

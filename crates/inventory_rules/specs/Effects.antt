@@ -1,7 +1,7 @@
 -- What a transaction makes of the database. Each effect is total: of an entry that isn't legal it is what the rules below give, and nobody asks.
-use Rattle.std.specs.Prelude.{◌≡◌, ℕ, ◌+◌, max, min, Bool, true, false, ◌==◌, ◌&&◌, nat_lt, if◌then◌else◌, List, [], ◌∷◌, map, filter, Option, Some, None, Result, Ok, Err, is_some}
+use Rattle.std.specs.Prelude.{ℕ, ◌+◌, max, true, false, ◌&&◌, if◌then◌else◌, List, [], ◌∷◌, map, Option, Some, None, Result, Ok, Err}
 use Rattle.std.specs.BTreeMap.{insert_entry, is_at}
-use Rattle.std.specs.List.{flat_map, list_any}
+use Rattle.std.specs.List.{flat_map}
 use Rattle.std.specs.Map.{lookup, remove_entry, set_value}
 use Rattle.std.specs.Ordering.{nat_cmp}
 use Rattle.std.specs.Option.{option_map_or}
@@ -11,7 +11,6 @@ use Rattle.kinds.specs.declared.change.ObjectChange.{ObjectChange}
 use Rattle.kinds.specs.declared.change.ObjectChange.TheVariants as client
 use Rattle.kinds.specs.declared.change.PoolChange.{PoolChange}
 use Rattle.kinds.specs.declared.change.PoolChange.TheVariants as store
-use Rattle.kinds.specs.declared.pool.PoolRule.{PoolRule}
 use Rattle.kinds.specs.declared.refusal.Refusal.{Refusal}
 use Rattle.kinds.specs.declared.segment.Segment.{Segment}
 use Rattle.change_items.specs.declared.items.NewVersion.{NewVersion}
@@ -35,7 +34,6 @@ use Rattle.version_groups.specs.declared.versions.Version.{Version}
 use Rattle.object_rows.specs.declared.place.Place.{Place}
 use Rattle.object_rows.specs.Changes.{rows_changed}
 use Rattle.object_rows.specs.Filespaces.{filespaces_with, filespaces_after, filespaces_altered}
-use Rattle.object_rows.specs.Rows.{Rows}
 use Rattle.pool_rows.specs.Changed as stores
 use Rattle.pool_rows.specs.PoolRows.{PoolRows, pool_capacity, pool_named, is_sequential}
 use Rattle.pool_tables.specs.Rows.{with_row}

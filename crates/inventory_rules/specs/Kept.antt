@@ -1,5 +1,5 @@
 -- The versions that a client may still ask for, as a fold that knows no pool, volume, segment or copy.
-use Rattle.std.specs.Prelude.{ℕ, ◌+◌, max, List, [], ◌∷◌, map, Option, Some, None, Result}
+use Rattle.std.specs.Prelude.{ℕ, ◌+◌, List, [], ◌∷◌, map, Option, Some, None}
 use Rattle.kinds.specs.declared.change.DefineOrDelete.TheVariants as two
 use Rattle.kinds.specs.declared.change.ObjectChange.{ObjectChange}
 use Rattle.kinds.specs.declared.change.ObjectChange.TheVariants as client

@@ -1,5 +1,5 @@
 -- Why a transaction on versions and copies is refused. Each item is judged on the database before the transaction.
-use Rattle.std.specs.Prelude.{ℕ, ◌+◌, ◌-◌, Bool, true, false, not, ◌==◌, ◌&&◌, ◌||◌, nat_le, is_some, if◌then◌else◌, List, [], ◌∷◌, ◌++◌, length, map, Option, Some, None, option_and_then}
+use Rattle.std.specs.Prelude.{ℕ, ◌+◌, Bool, true, false, not, ◌==◌, ◌&&◌, ◌||◌, nat_le, is_some, if◌then◌else◌, List, [], ◌∷◌, ◌++◌, length, map, Option, Some, None}
 use Rattle.std.specs.List.{list_all, list_any, flat_map, find}
 use Rattle.std.specs.Option.{option_map_or}
 use Rattle.kinds.specs.declared.refusal.By.TheVariants as by
@@ -29,7 +29,7 @@ use Rattle.object_rows.specs.declared.place.Place.{Place}
 use Rattle.object_rows.specs.Filespaces.{filespace_at, versions_at}
 use Rattle.inventory_rows.specs.Items.{most_versions}
 use Rattle.inventory_rules.specs.Journal.{Journal}
-use Rattle.inventory_rows.specs.Search.{versions, version, place, group, copy_in, lies_on, is_primary, is_primary_kind, pool, rule_in}
+use Rattle.inventory_rows.specs.Search.{versions, version, place, group, copy_in, lies_on, is_primary, pool, rule_in}
 use Rattle.inventory_rows.specs.State.{Inv}
 
 -- the refusal, unless the test holds

@@ -1,5 +1,5 @@
 -- What a transaction leaves as it was.
-use Rattle.std.specs.Prelude.{◌≡◌, ℕ, Bool, true, false, List}
+use Rattle.std.specs.Prelude.{◌≡◌, Bool, true, false}
 use Rattle.changes.specs.declared.change.Change.{Change}
 use Rattle.changes.specs.declared.change.Change.TheVariants as change
 use Rattle.inventory_rows.specs.State.{Inv}

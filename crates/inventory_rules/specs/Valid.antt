@@ -1,30 +1,27 @@
 -- Under which conditions a database is one: what cites something finds it, numbers and names are given once, and what the rows say of
 -- one another agrees.
-use Rattle.std.specs.Prelude.{◌≡◌, ℕ, ◌+◌, ◌-◌, ◌*◌, ◌/◌, ◌%◌, ◌^◌, Bool, true, false, not, nat_lt, nat_le, ◌==◌, ◌&&◌, ◌||◌, is_some, is_none, if◌then◌else◌, List, [], ◌∷◌, ◌++◌, map, filter, length, codes, Option, Some, None}
-use Rattle.std.specs.List.{list_all, list_any, flat_map, sum_by}
+use Rattle.std.specs.Prelude.{ℕ, ◌+◌, ◌-◌, ◌*◌, ◌/◌, ◌%◌, ◌^◌, Bool, true, false, not, nat_lt, nat_le, ◌==◌, ◌&&◌, ◌||◌, is_some, is_none, if◌then◌else◌, List, [], ◌∷◌, ◌++◌, map, filter, length, Option, Some, None}
+use Rattle.std.specs.List.{list_all, sum_by}
 use Rattle.std.specs.Map.{keys_of, lookup}
 use Rattle.std.specs.Option.{option_map_or}
 use Rattle.kinds.specs.declared.pool.Access.{Access}
 use Rattle.kinds.specs.declared.pool.Access.TheVariants.{ReadWrite, ReadOnly, Unavailable, Offsite, Destroyed}
 use Rattle.kinds.specs.declared.segment.Segment.{Segment}
-use Rattle.policy_domains.specs.Rows.{SetRow, DomainRow, active_set, row_of}
+use Rattle.policy_domains.specs.Rows.{SetRow, active_set, row_of}
 use Rattle.version_groups.specs.declared.copies.CopyRow.{CopyRow}
 use Rattle.version_groups.specs.declared.group.Group.{Group}
-use Rattle.version_groups.specs.declared.groups.Filespace.{Filespace}
 use Rattle.version_groups.specs.declared.versions.Version.{Version}
 use Rattle.version_groups.specs.Entries.{all_later, is_nil}
 use Rattle.version_groups.specs.Copies.{are_by_pool}
 use Rattle.version_groups.specs.Versions.{are_distinct, is_empty}
 use Rattle.volume_rows.specs.declared.volume.Volume.{Volume}
-use Rattle.object_rows.specs.Filespaces.{at_number, filespace_at}
-use Rattle.pool_tables.specs.declared.pool.Pool.{Pool}
-use Rattle.pool_rows.specs.PoolRows.{PoolRows, is_sequential, pool_capacity}
+use Rattle.object_rows.specs.Filespaces.{at_number}
+use Rattle.pool_rows.specs.PoolRows.{is_sequential, pool_capacity}
 use Rattle.pool_rows.specs.Hierarchy.{comes_to}
 use Rattle.pool_tables.specs.Rows.{named, row_at, is_same_name}
 use Rattle.pool_tables.specs.Scratch.{scratch_name, is_scratch_name}
 use Rattle.inventory_rows.specs.Items.{count_items, most_items, most_versions}
 use Rattle.inventory_rows.specs.Search.{versions, copies, pool, rules, is_primary_kind, segments_on}
-use Rattle.inventory_rows.specs.declared.backup.Backup.{Backup}
 use Rattle.inventory_rows.specs.State.{Inv}
 
 -- no number stands twice

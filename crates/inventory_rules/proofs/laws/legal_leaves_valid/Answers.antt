@@ -3,7 +3,7 @@ use Rattle.kinds.specs.declared.refusal.Refusal.{Refusal}
 use Rattle.kinds.specs.Refusals.{foremost}
 use Rattle.std.proofs.Common.{◌++◌}
 use Rattle.inventory_rules.specs.Effects.{effect}
-use Rattle.inventory_rules.specs.Refused.{causes, sizes_refused, then_valid}
+use Rattle.inventory_rules.specs.Refused.{causes, refused, sizes_refused, then_valid}
 use Rattle.inventory_rules.specs.Valid.{is_valid}
 use Rattle.inventory_rules.proofs.laws.legal_leaves_valid.Goals as goal
 
@@ -13,4 +13,5 @@ valid_then None true h = refl
 valid_then None false h = absurd cc
 
 pub returns-clause-valid : goal.returns-clause-valid
+unfolding refused
 returns-clause-valid c j change v h = valid_then (foremost (causes j change v ++ sizes_refused change v)) (is_valid (effect change v)) h
