@@ -1,5 +1,5 @@
--- How full a pool is: what is used of a whole, compared without a division.
-use Rattle.std.specs.Prelude.{ℕ, ◌+◌, ◌*◌, ◌==◌, ◌&&◌, max, Bool, nat_le, Option, Some, None, if◌then◌else◌}
+-- How full a pool is: what is used of a whole. Comparisons go without a division; a percentage that is shown is rounded down.
+use Rattle.std.specs.Prelude.{ℕ, ◌+◌, ◌*◌, ◌/◌, ◌==◌, ◌&&◌, max, Bool, nat_le, Option, Some, None, if◌then◌else◌}
 use Rattle.pool_tables.specs.declared.pool.Pool.{Pool}
 use Rattle.pool_tables.specs.Rows.{row_at}
 use Rattle.pool_tables.specs.Sums.{used_blocks_on, blocks_of_volume, live_bytes_on, defined_one, scratch_one, total_of}
@@ -36,3 +36,11 @@ percent_at_least pool percent s = reaches percent (used_of pool s (pool_capacity
 -- the pool's percentage is at most this one
 abbrev pub percent_at_most : ℕ → ℕ → PoolRows → Bool
 percent_at_most pool percent s = stays_within percent (used_of pool s (pool_capacity pool s)) (whole_of pool s (pool_capacity pool s))
+
+-- what is used in hundredths of the whole, rounded down; 0 where the whole is nothing
+abbrev pub rounded : ℕ → ℕ → ℕ
+rounded used whole = if whole == 0 then 0 else used * 100 / whole
+
+-- the pool's percentage, rounded down
+abbrev pub percent_of : ℕ → PoolRows → ℕ
+percent_of pool s = rounded (used_of pool s (pool_capacity pool s)) (whole_of pool s (pool_capacity pool s))

@@ -2,7 +2,7 @@
 
 ghost use Rattle.std.specs.Prelude.{◌≡◌, ◌*◌, ◌<◌, ◌≤◌, ◌^◌};
 ghost use Rattle.pool_tables.specs.Rows.{row_at};
-ghost use Rattle.pool_rows.specs.Shares.{scratch_limit, used_of, whole_of, reaches, stays_within, percent_at_least, percent_at_most};
+ghost use Rattle.pool_rows.specs.Shares.{scratch_limit, used_of, whole_of, reaches, stays_within, rounded, percent_at_least, percent_at_most, percent_of};
 
 use crate::pools::Pools;
 use kinds::Capacity;
@@ -25,6 +25,13 @@ fn stays_within(percent: u8, used: u128, whole: u128) -> bool
     ensures { result ≡ stays_within percent used whole }
 {
     used * 100 <= percent as u128 * whole
+}
+
+fn rounded(used: u128, whole: u128) -> u128
+    requires { used ≤ 2 ^ 119 }
+    ensures { result ≡ rounded used whole }
+{
+    if whole == 0 { 0 } else { used * 100 / whole }
 }
 
 /// The bytes of so many volumes of this capacity.
@@ -88,5 +95,15 @@ impl Pools {
         let used = self.used_of(pool, self.pool_capacity(pool));
         let whole = self.whole_of(pool, self.pool_capacity(pool));
         stays_within(low, used, whole)
+    }
+
+    /// The percentage of the pool that is used, rounded down: of its blocks, or of the bytes of the volumes that it has or may
+    /// have. It is 0 where there is nothing to use, and for a pool that is not there.
+    pub fn percent_of(&self, pool: u32) -> u128
+        ensures { result ≡ percent_of pool self.now }
+    {
+        let used = self.used_of(pool, self.pool_capacity(pool));
+        let whole = self.whole_of(pool, self.pool_capacity(pool));
+        rounded(used, whole)
     }
 }
