@@ -1,0 +1,32 @@
+-- What the database answers to queries.
+use Rattle.std.specs.Prelude.{Result, Ok}
+use Rattle.kinds.specs.declared.refusal.Refusal.{Refusal}
+use Rattle.version_groups.specs.Entries.{on_ok}
+use Rattle.inventory_rows.specs.State.{Inv}
+use Rattle.inventory_answers.specs.declared.reply.Answer.{Answer}
+use Rattle.inventory_answers.specs.declared.reply.Rows.{Rows}
+use Rattle.inventory_answers.specs.declared.reply.Rows.TheVariants as rows
+use Rattle.inventory_answers.specs.declared.query.Query.{Query}
+use Rattle.inventory_answers.specs.declared.query.Query.TheVariants as query
+use Rattle.inventory_answers.specs.Clients.{node_lines, filespaces_of, versions_of}
+use Rattle.inventory_answers.specs.Policy.{domain_lines, sets_of, classes_of, groups_of}
+use Rattle.inventory_answers.specs.Stores.{device_lines, pools_of, volumes_of, backup_lines}
+
+-- the rows that a query asks for, or its refusal
+abbrev pub rows_of : Query → Inv → Result Rows Refusal
+rows_of query.Today v = Ok rows.Today
+rows_of query.Domains v = Ok (rows.Domains (domain_lines v.domains))
+rows_of (query.Sets domain) v = on_ok rows.Sets (sets_of domain v.domains)
+rows_of (query.Classes domain set) v = on_ok rows.Classes (classes_of domain set v.domains)
+rows_of (query.Groups domain set) v = on_ok rows.Groups (groups_of domain set v.domains v.stores)
+rows_of query.Nodes v = Ok (rows.Nodes (node_lines v.clients))
+rows_of (query.Filespaces node) v = on_ok rows.Filespaces (filespaces_of node v.clients)
+rows_of query.Devices v = Ok (rows.Devices (device_lines v.stores))
+rows_of (query.Pools pool) v = on_ok rows.Pools (pools_of pool v.stores)
+rows_of (query.Volumes volume pool) v = on_ok rows.Volumes (volumes_of volume pool v.stores)
+rows_of query.History v = Ok (rows.History (backup_lines v.backups))
+rows_of (query.Versions node filespace) v = on_ok rows.Versions (versions_of node filespace v)
+
+-- what is answered: the number of the last transaction, the day, and the rows
+abbrev pub answered : Query → Inv → Result Answer Refusal
+answered query v = on_ok (λ rows. record { n = v.number; today = v.today; rows = rows }) (rows_of query v)

@@ -1,0 +1,86 @@
+-- The rows of device classes, storage pools, volumes and database backups.
+use Rattle.std.specs.Prelude.{ℕ, ◌*◌, Bool, List, map, Option, Result, Ok, Err, if◌then◌else◌}
+use Rattle.std.specs.List.{flat_map}
+use Rattle.kinds.specs.declared.refusal.Refusal.{Refusal}
+use Rattle.version_groups.specs.Entries.{on_ok}
+use Rattle.volume_rows.specs.declared.volume.Volume.{Volume}
+use Rattle.volume_rows.specs.Holdings.{live_bytes, used_blocks}
+use Rattle.volume_rows.specs.Volumes.{status_of}
+use Rattle.pool_tables.specs.declared.pool.Pool.{Pool}
+use Rattle.pool_rows.specs.PoolRows.{PoolRows, is_sequential}
+use Rattle.pool_rows.specs.Shares.{percent_of}
+use Rattle.inventory_rows.specs.declared.backup.Backup.{Backup}
+use Rattle.inventory_answers.specs.declared.lines.DeviceLine.{DeviceLine}
+use Rattle.inventory_answers.specs.declared.lines.PoolLine.{PoolLine}
+use Rattle.inventory_answers.specs.declared.lines.VolumeLine.{VolumeLine}
+use Rattle.inventory_answers.specs.declared.lines.BackupLine.{BackupLine}
+use Rattle.inventory_answers.specs.Look.{name_of_pool, next_name, pool_asked, volume_asked, chosen, is_asked, only}
+
+-- a device class
+abbrev pub device_line : List ℕ × Option ℕ → DeviceLine
+device_line c = record { name = c.0; capacity = c.1 }
+
+-- all device classes, by name
+abbrev pub device_lines : PoolRows → List DeviceLine
+device_lines s = map device_line s.classes
+
+-- a storage pool, with its percentage and the name of the next pool
+abbrev pub pool_line : PoolRows → ℕ × Pool → PoolLine
+pool_line s p = record {
+  number = p.0;
+  name = p.1.name;
+  kind = p.1.kind;
+  class = p.1.class;
+  next = next_name p.1.settings.next s;
+  percent = percent_of p.0 s;
+  settings = p.1.settings;
+}
+
+-- all storage pools by number, or the one with this number
+abbrev pub pool_lines : Option ℕ → PoolRows → List PoolLine
+pool_lines number s = map (pool_line s) (chosen number s.pools)
+
+-- all storage pools, or the one that is named, which has to be there
+abbrev pub pools_of : Option (List ℕ) → PoolRows → Result (List PoolLine) Refusal
+pools_of name s = on_ok (λ number. pool_lines number s) (pool_asked name s)
+
+-- the bytes that are used on a volume: of live frames on a sequential one, of used blocks on a random one
+abbrev pub used_on : Bool → Volume → ℕ
+used_on sequential v = if sequential then live_bytes v.segments else used_blocks v.segments * 4096
+
+-- a volume, with its status and the name of its pool
+abbrev pub volume_line : PoolRows → ℕ × Volume → VolumeLine
+volume_line s e = record {
+  name = e.1.name;
+  file = e.0;
+  pool = name_of_pool e.1.pool s;
+  status = status_of (is_sequential e.1.pool s) e.1;
+  access = e.1.access;
+  used = used_on (is_sequential e.1.pool s) e.1;
+  capacity = e.1.capacity;
+}
+
+-- the volume, where it lies in the pool that is asked for
+abbrev pub volume_lines_of : PoolRows → Option ℕ → ℕ × Volume → List VolumeLine
+volume_lines_of s pool e = only (is_asked pool e.1.pool) (volume_line s e)
+
+-- the volumes of all pools or of one, by file number, or the one with this file number where it is among them
+abbrev pub volume_lines : Option ℕ → Option ℕ → PoolRows → List VolumeLine
+volume_lines file pool s = flat_map (volume_lines_of s pool) (chosen file s.volumes)
+
+abbrev pub volumes_asked : Result (Option ℕ) Refusal → Result (Option ℕ) Refusal → PoolRows → Result (List VolumeLine) Refusal
+volumes_asked (Err e) pool s = Err e
+volumes_asked (Ok file) (Err e) s = Err e
+volumes_asked (Ok file) (Ok pool) s = Ok (volume_lines file pool s)
+
+-- the volumes that have the one name and lie in the pool with the other, where these are given; what is named has to be there
+abbrev pub volumes_of : Option (List ℕ) → Option (List ℕ) → PoolRows → Result (List VolumeLine) Refusal
+volumes_of volume pool s = volumes_asked (volume_asked volume s) (pool_asked pool s) s
+
+-- a database backup
+abbrev pub backup_line : ℕ × Backup → BackupLine
+backup_line b = record { file = b.0; taken = b.1.taken; number = b.1.number; done = b.1.is_done }
+
+-- all database backups, by the numbers of their files
+abbrev pub backup_lines : List (ℕ × Backup) → List BackupLine
+backup_lines backups = map backup_line backups

@@ -1,0 +1,56 @@
+ghost use Rattle.std.specs.Prelude.{◌≡◌};
+ghost use Rattle.kinds.specs.Answers.{Answers};
+ghost use Rattle.inventory_rows.specs.State.{inv_of};
+ghost use Rattle.inventory_answers.specs.Answered.{rows_of, answered};
+
+use crate::clients::{filespaces_of, node_lines, versions_of};
+use crate::policy::{classes_of, domain_lines, groups_of, sets_of};
+use crate::query::Query;
+use crate::reply::{Answer, Rows};
+use crate::stores::{backup_lines, device_lines, pools_of, volumes_of};
+use inventory_rows::Tables;
+use kinds::Refusal;
+use std::alloc::Global;
+
+fn rows_of(alloc: Global, tables: &Tables, query: &Query) -> Result<Rows, Refusal>
+    ensures { Answers result (rows_of query.now (inv_of tables.now)) }
+{
+    let domains = &tables.domains;
+    let objects = &tables.objects;
+    let pools = &tables.pools;
+    match query {
+        Query::Today => Ok(Rows::Today),
+        Query::Domains => Ok(Rows::Domains(domain_lines(alloc, domains)?)),
+        Query::Sets { domain } => Ok(Rows::Sets(sets_of(alloc, domains, domain)?)),
+        Query::Classes { domain, set } => {
+            Ok(Rows::Classes(classes_of(alloc, domains, domain, set)?))
+        }
+        Query::Groups { domain, set } => {
+            Ok(Rows::Groups(groups_of(alloc, domains, pools, domain, set)?))
+        }
+        Query::Nodes => Ok(Rows::Nodes(node_lines(alloc, objects)?)),
+        Query::Filespaces { node } => Ok(Rows::Filespaces(filespaces_of(alloc, objects, node)?)),
+        Query::Devices => Ok(Rows::Devices(device_lines(alloc, pools)?)),
+        Query::Pools { pool } => Ok(Rows::Pools(pools_of(alloc, pools, pool)?)),
+        Query::Volumes { volume, pool } => {
+            Ok(Rows::Volumes(volumes_of(alloc, pools, volume, pool)?))
+        }
+        Query::History => Ok(Rows::History(backup_lines(alloc, &tables.backups)?)),
+        Query::Versions { node, filespace } => {
+            Ok(Rows::Versions(versions_of(alloc, tables, node, filespace)?))
+        }
+    }
+}
+
+/// What the database answers to a query: the number of the last transaction, the day, and the rows that are asked for.
+/// `NotFound` exactly where something that the query names is not there; else its one refusal is want of memory.
+pub fn answer(alloc: Global, tables: &Tables, query: &Query) -> Result<Answer, Refusal>
+    ensures { Answers result (answered query.now (inv_of tables.now)) }
+{
+    let rows = rows_of(alloc, tables, query)?;
+    Ok(Answer {
+        n: tables.number,
+        today: tables.today,
+        rows,
+    })
+}
