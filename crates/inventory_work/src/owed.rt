@@ -1,18 +1,19 @@
 // Which versions their rules retain.
 ghost use Rattle.std.specs.Prelude.{◌≡◌};
 ghost use Rattle.std.specs.Option.{option_copied};
+ghost use Rattle.kinds.specs.Answers.{AnswersBy};
 ghost use Rattle.copy_groups.specs.Retention.{retained};
 ghost use Rattle.policy_domains.specs.Rules.{rule_of};
 ghost use Rattle.inventory_rows.specs.Search.{domain_of_node, domain_of, rule_in};
 ghost use Rattle.inventory_rows.specs.State.{inv_of};
-ghost use Rattle.inventory_answers.specs.Owed.{is_owed};
+ghost use Rattle.inventory_work.specs.Owed.{is_owed};
 
 use inventory_rows::Tables;
-use kinds::{Day, Name, RuleFound};
+use kinds::{Day, Name, Refusal, RuleFound};
 use policy_domains::Domains;
 use version_groups::Version;
 
-fn domain_of_node(tables: &Tables, node: u32) -> Option<&Name>
+pub(crate) fn domain_of_node(tables: &Tables, node: u32) -> Option<&Name>
     ensures { option_copied result ≡ domain_of_node node (inv_of tables.now) }
 {
     match tables.objects.nodes().get(&node) {
@@ -30,7 +31,7 @@ fn domain_of(tables: &Tables, filespace: u32) -> Option<&Name>
     }
 }
 
-fn rule_of(domains: &Domains, domain: &Name, class: &Name) -> Option<RuleFound>
+pub(crate) fn rule_of(domains: &Domains, domain: &Name, class: &Name) -> Option<RuleFound>
     ensures { result ≡ rule_of domains.now domain.now class.now }
 {
     if domains.rows().contains_key(domain) {
@@ -41,7 +42,7 @@ fn rule_of(domains: &Domains, domain: &Name, class: &Name) -> Option<RuleFound>
 }
 
 /// The rule by which the versions of a class are kept in a filespace.
-pub(crate) fn rule_in(tables: &Tables, filespace: u32, class: &Name) -> Option<RuleFound>
+pub fn rule_in(tables: &Tables, filespace: u32, class: &Name) -> Option<RuleFound>
     ensures { result ≡ rule_in filespace class.now (inv_of tables.now) }
 {
     match domain_of(tables, filespace) {
@@ -59,7 +60,7 @@ fn retained_by(rule: &RuleFound, active: bool, since: Day, today: Day, place: u3
 }
 
 /// Whether a version at this place of a group is retained today.
-pub(crate) fn is_owed(
+pub fn is_owed(
     rule: &Option<RuleFound>,
     active: bool,
     today: Day,
@@ -72,5 +73,15 @@ pub(crate) fn is_owed(
         (Some(rule), Some(since)) => retained_by(rule, active, since, today, place),
         (None, _) => true,
         (Some(_), None) => true,
+    }
+}
+
+/// A place among the versions of a path, counted from 0; one of 2^32, of which no memory holds so many, is want of memory.
+pub fn place_of(place: usize) -> Result<u32, Refusal>
+    ensures { AnswersBy (λ n. n) result place }
+{
+    match u32::try_from(place) {
+        Ok(place) => Ok(place),
+        Err(_) => Err(Refusal::Memory),
     }
 }

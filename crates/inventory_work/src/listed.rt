@@ -3,7 +3,7 @@ ghost use Rattle.std.specs.Prelude.{◌≡◌};
 use std::marker::Model;
 
 /// Some rows, in their order.
-#[derive(Debug, Drop)]
+#[derive(Drop)]
 pub struct Listed<T: Drop> {
     items: Vec<T>,
 }

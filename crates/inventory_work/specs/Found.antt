@@ -1,0 +1,27 @@
+-- Things by their names.
+use Rattle.std.specs.Prelude.{ℕ, List, Option, Result, Ok}
+use Rattle.kinds.specs.declared.refusal.Refusal.{Refusal}
+use Rattle.version_groups.specs.Entries.{if_found}
+use Rattle.object_rows.specs.Names.{node_named}
+use Rattle.pool_tables.specs.Rows.{named}
+use Rattle.pool_rows.specs.PoolRows.{PoolRows, pool_named, volume_named}
+use Rattle.inventory_rows.specs.State.{Inv}
+use Rattle.inventory_work.specs.declared.search.Found.{Found}
+use Rattle.inventory_work.specs.declared.search.Found.TheVariants as found
+use Rattle.inventory_work.specs.declared.search.Named.{Named}
+use Rattle.inventory_work.specs.declared.search.Named.TheVariants as thing
+
+-- the number, which has to be there
+abbrev pub number_found : Option ℕ → Result Found Refusal
+number_found number = if_found number (λ n. Ok (found.Number n))
+
+-- the capacity of a device class, which has to be there
+abbrev pub device_found : List ℕ → PoolRows → Result Found Refusal
+device_found class s = if_found (named class s.classes) (λ capacity. Ok (found.DevClass capacity))
+
+-- what a name leads to: a number, or the capacity of a device class
+abbrev pub find_named : Named → Inv → Result Found Refusal
+find_named (thing.Node name) v = number_found (node_named name v.clients.nodes)
+find_named (thing.DevClass name) v = device_found name v.stores
+find_named (thing.Pool name) v = number_found (pool_named name v.stores)
+find_named (thing.Volume name) v = number_found (volume_named name v.stores)

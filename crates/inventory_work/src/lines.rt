@@ -1,0 +1,57 @@
+use crate::listed::Listed;
+use kinds::{Day, Digest, Name, Path, RuleFound};
+
+/// A management class of a domain's policy set ACTIVE.
+#[derive(Drop)]
+pub struct ClassRule {
+    pub class: Name,
+    /// The rule by which files of the class are kept.
+    pub rule: RuleFound,
+}
+
+/// How the files of a node are kept.
+#[derive(Drop)]
+pub struct Rules {
+    /// The default class of the set ACTIVE of the node's domain, where it has such a set and the set has a default class.
+    pub default_class: Option<Name>,
+    /// The classes of that set, by name.
+    pub classes: Listed<ClassRule>,
+}
+
+/// A stored copy of an object.
+#[derive(Drop)]
+pub struct CopyLine {
+    /// The object's number.
+    pub object: u64,
+    /// How many bytes the object has.
+    pub size: u32,
+    /// The SHA-256 of the object's bytes.
+    pub digest: Digest,
+    /// The day on which the version was stored.
+    pub stored: Day,
+    /// The number of the client node.
+    pub node: u32,
+    /// The number of the pool in which the copy lies.
+    pub pool: u32,
+    /// The number of the transaction that placed the copy there.
+    pub placed: u64,
+}
+
+/// An object of which a copy is missing.
+#[derive(Drop)]
+pub struct MissingLine {
+    /// The object's number.
+    pub object: u64,
+    /// How many bytes the object has.
+    pub size: u32,
+}
+
+/// A version that its rule does not retain.
+#[derive(Drop)]
+pub struct UnretainedLine {
+    /// The filespace's number.
+    pub filespace: u32,
+    pub path: Path,
+    /// The object's number.
+    pub object: u64,
+}
