@@ -3,12 +3,18 @@ use Rattle.std.specs.Prelude.{Result, Ok}
 use Rattle.kinds.specs.declared.refusal.Refusal.{Refusal}
 use Rattle.version_groups.specs.Entries.{on_ok}
 use Rattle.inventory_rows.specs.State.{Inv}
+use Rattle.inventory_work.specs.Copies.{on_pool, on_volume, missing}
+use Rattle.inventory_work.specs.Expiring.{unretained}
+use Rattle.inventory_work.specs.Found.{find_named}
+use Rattle.inventory_work.specs.Rules.{rules_of}
+use Rattle.inventory_work.specs.Volumes.{eligible, emptied}
 use Rattle.inventory_answers.specs.declared.reply.Answer.{Answer}
 use Rattle.inventory_answers.specs.declared.reply.Rows.{Rows}
 use Rattle.inventory_answers.specs.declared.reply.Rows.TheVariants as rows
 use Rattle.inventory_answers.specs.declared.query.Query.{Query}
 use Rattle.inventory_answers.specs.declared.query.Query.TheVariants as query
 use Rattle.inventory_answers.specs.Clients.{node_lines, filespaces_of, versions_of}
+use Rattle.inventory_answers.specs.Content.{content_of}
 use Rattle.inventory_answers.specs.Policy.{domain_lines, sets_of, classes_of, groups_of}
 use Rattle.inventory_answers.specs.Stores.{device_lines, pools_of, volumes_of, backup_lines}
 
@@ -24,8 +30,18 @@ rows_of (query.Filespaces node) v = on_ok rows.Filespaces (filespaces_of node v.
 rows_of query.Devices v = Ok (rows.Devices (device_lines v.stores))
 rows_of (query.Pools pool) v = on_ok rows.Pools (pools_of pool v.stores)
 rows_of (query.Volumes volume pool) v = on_ok rows.Volumes (volumes_of volume pool v.stores)
+rows_of (query.Content volume) v = on_ok rows.Content (content_of volume v)
 rows_of query.History v = Ok (rows.History (backup_lines v.backups))
 rows_of (query.Versions node filespace) v = on_ok rows.Versions (versions_of node filespace v)
+rows_of (query.Lookup named) v = on_ok rows.Lookup (find_named named v)
+rows_of (query.Rules node) v = on_ok rows.Rules (rules_of node v)
+rows_of (query.OnPool pool) v = on_ok rows.OnPool (on_pool pool v)
+rows_of (query.OnVolume file) v = on_ok rows.OnVolume (on_volume file v)
+rows_of (query.Missing primary copy) v = on_ok rows.Missing (missing primary copy v)
+rows_of (query.Eligible pool threshold) v = on_ok rows.Eligible (eligible pool threshold v)
+rows_of query.Unretained v = Ok (rows.Unretained (unretained v))
+rows_of query.Emptied v = Ok (rows.Emptied (emptied v))
+rows_of query.LogBytes v = Ok (rows.LogBytes 0)
 
 -- what is answered: the number of the last transaction, the day, and the rows
 abbrev pub answered : Query → Inv → Result Answer Refusal

@@ -17,8 +17,9 @@ use Rattle.inventory_rows.specs.State.{Inv}
 use Rattle.inventory_answers.specs.declared.lines.NodeLine.{NodeLine}
 use Rattle.inventory_answers.specs.declared.lines.FilespaceLine.{FilespaceLine}
 use Rattle.inventory_answers.specs.declared.lines.VersionLine.{VersionLine}
-use Rattle.inventory_answers.specs.Look.{name_of_node, node_asked, is_asked, only}
-use Rattle.inventory_answers.specs.Owed.{is_owed}
+use Rattle.inventory_answers.specs.Look.{name_of_node, node_asked, is_asked}
+use Rattle.inventory_work.specs.Lists.{only}
+use Rattle.inventory_work.specs.Owed.{is_owed}
 
 -- a client node
 abbrev pub node_line : ℕ × Node → NodeLine

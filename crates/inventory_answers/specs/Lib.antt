@@ -1,6 +1,6 @@
 pub mod Answered
 pub mod Clients
+pub mod Content
 pub mod Look
-pub mod Owed
 pub mod Policy
 pub mod Stores

@@ -1,9 +1,8 @@
 -- What a name or a number leads to.
-use Rattle.std.specs.Prelude.{ℕ, ◌==◌, List, [], ◌∷◌, ◌++◌, Bool, true, false, Option, Some, None, option_and_then, Result, Ok, Err, ◌≡◌}
+use Rattle.std.specs.Prelude.{ℕ, ◌==◌, List, [], ◌∷◌, Bool, true, Option, Some, None, option_and_then, Result, Ok}
 use Rattle.std.specs.Map.{lookup}
 use Rattle.std.specs.Option.{option_map, option_map_or}
 use Rattle.kinds.specs.declared.refusal.Refusal.{Refusal}
-use Rattle.kinds.specs.declared.refusal.Refusal.TheVariants.{Memory}
 use Rattle.policy_domains.specs.Rows.{SetRow, DomainRow, row_of}
 use Rattle.version_groups.specs.Entries.{if_found}
 use Rattle.object_rows.specs.Filespaces.{at_number}
@@ -51,13 +50,3 @@ chosen (Some number) rows = option_map_or (λ row. (number, row) ∷ []) (row_at
 abbrev pub is_asked : Option ℕ → ℕ → Bool
 is_asked None number = true
 is_asked (Some n) number = number == n
-
--- one line, where the test holds
-abbrev pub only : {A : Type 0} → Bool → A → List A
-only true line = line ∷ []
-only false line = []
-
--- rows are written behind those that were there, or memory is wanted
-abbrev pub Writes : {A : Type 0} → Result (Unit {0}) Refusal → List A → List A → List A → Type 0
-Writes (Ok _) old new more = new ≡ old ++ more
-Writes (Err e) old new more = e ≡ Memory

@@ -14,7 +14,8 @@ use Rattle.inventory_answers.specs.declared.lines.DeviceLine.{DeviceLine}
 use Rattle.inventory_answers.specs.declared.lines.PoolLine.{PoolLine}
 use Rattle.inventory_answers.specs.declared.lines.VolumeLine.{VolumeLine}
 use Rattle.inventory_answers.specs.declared.lines.BackupLine.{BackupLine}
-use Rattle.inventory_answers.specs.Look.{name_of_pool, next_name, pool_asked, volume_asked, chosen, is_asked, only}
+use Rattle.inventory_answers.specs.Look.{name_of_pool, next_name, pool_asked, volume_asked, chosen, is_asked}
+use Rattle.inventory_work.specs.Lists.{only}
 
 -- a device class
 abbrev pub device_line : List ℕ × Option ℕ → DeviceLine

@@ -4,11 +4,15 @@ ghost use Rattle.inventory_rows.specs.State.{inv_of};
 ghost use Rattle.inventory_answers.specs.Answered.{rows_of, answered};
 
 use crate::clients::{filespaces_of, node_lines, versions_of};
+use crate::content::content_of;
 use crate::policy::{classes_of, domain_lines, groups_of, sets_of};
 use crate::query::Query;
 use crate::reply::{Answer, Rows};
 use crate::stores::{backup_lines, device_lines, pools_of, volumes_of};
 use inventory_rows::Tables;
+use inventory_work::{
+    eligible, emptied, find_named, missing, on_pool, on_volume, rules_of, unretained,
+};
 use kinds::Refusal;
 use std::alloc::Global;
 
@@ -35,10 +39,24 @@ fn rows_of(alloc: Global, tables: &Tables, query: &Query) -> Result<Rows, Refusa
         Query::Volumes { volume, pool } => {
             Ok(Rows::Volumes(volumes_of(alloc, pools, volume, pool)?))
         }
+        Query::Content { volume } => Ok(Rows::Content(content_of(alloc, tables, volume)?)),
         Query::History => Ok(Rows::History(backup_lines(alloc, &tables.backups)?)),
         Query::Versions { node, filespace } => {
             Ok(Rows::Versions(versions_of(alloc, tables, node, filespace)?))
         }
+        Query::Lookup { named } => Ok(Rows::Lookup(find_named(tables, named)?)),
+        Query::Rules { node } => Ok(Rows::Rules(rules_of(alloc, tables, *node)?)),
+        Query::OnPool { pool } => Ok(Rows::OnPool(on_pool(alloc, tables, *pool)?)),
+        Query::OnVolume { file } => Ok(Rows::OnVolume(on_volume(alloc, tables, *file)?)),
+        Query::Missing { primary, copy } => {
+            Ok(Rows::Missing(missing(alloc, tables, *primary, *copy)?))
+        }
+        Query::Eligible { pool, threshold } => {
+            Ok(Rows::Eligible(eligible(alloc, tables, *pool, *threshold)?))
+        }
+        Query::Unretained => Ok(Rows::Unretained(unretained(alloc, tables)?)),
+        Query::Emptied => Ok(Rows::Emptied(emptied(alloc, tables)?)),
+        Query::LogBytes => Ok(Rows::LogBytes(0)),
     }
 }
 

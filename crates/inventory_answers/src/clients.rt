@@ -2,14 +2,13 @@
 ghost use Rattle.std.specs.Prelude.{◌≡◌, [], ◌∷◌};
 ghost use Rattle.kinds.specs.Answers.{Answers, AnswersBy};
 ghost use Rattle.inventory_rows.specs.State.{inv_of};
-ghost use Rattle.inventory_answers.specs.Look.{Writes};
+ghost use Rattle.inventory_work.specs.Lists.{Writes};
 ghost use Rattle.inventory_answers.specs.Clients.{node_line, active_files, filespace_asked, version_line_at, node_lines, files_in, versions_in, filespace_line, filespace_lines_of, filespace_lines, filespaces_of, version_line, lines_from, group_versions, version_lines, versions_at, versions_of};
 
 use crate::lines::{FilespaceLine, NodeLine, VersionLine};
-use crate::listed::Listed;
 use crate::look::{is_asked, name_of_node, node_asked, plus};
-use crate::owed::{is_owed, rule_in};
 use inventory_rows::Tables;
+use inventory_work::{Listed, is_owed, place_of, rule_in};
 use kinds::{Day, FilespaceName, Name, NodeName, Path, Refusal, RuleFound};
 use object_rows::{Node, Objects};
 use std::alloc::Global;
@@ -142,16 +141,6 @@ fn version_line(
         owed,
         digest: version.digest,
     })
-}
-
-/// A place among the versions of a path; 2^32, of which no memory holds so many, is want of memory.
-fn place_of(place: usize) -> Result<u32, Refusal>
-    ensures { AnswersBy (λ n. n) result place }
-{
-    match u32::try_from(place) {
-        Ok(place) => Ok(place),
-        Err(_) => Err(Refusal::Memory),
-    }
 }
 
 fn write_version(

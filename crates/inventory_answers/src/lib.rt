@@ -3,10 +3,9 @@
 
 mod answers;
 mod clients;
+mod content;
 mod lines;
-mod listed;
 mod look;
-mod owed;
 mod policy;
 mod query;
 mod reply;
@@ -14,9 +13,8 @@ mod stores;
 
 pub use answers::answer;
 pub use lines::{
-    BackupLine, ClassLine, DeviceLine, DomainLine, FilespaceLine, GroupLine, NodeLine, PoolLine,
-    SetLine, VersionLine, VolumeLine,
+    BackupLine, ClassLine, ContentLine, DeviceLine, DomainLine, FilespaceLine, GroupLine, NodeLine,
+    PoolLine, SetLine, VersionLine, VolumeLine,
 };
-pub use listed::Listed;
 pub use query::Query;
 pub use reply::{Answer, Rows};

@@ -5,7 +5,7 @@ use kinds::{
 use volume_rows::Status;
 
 /// A policy domain.
-#[derive(Debug, Drop)]
+#[derive(Drop)]
 pub struct DomainLine {
     pub name: Name,
     /// BACKRETENTION.
@@ -15,7 +15,7 @@ pub struct DomainLine {
 }
 
 /// A policy set.
-#[derive(Debug, Drop)]
+#[derive(Drop)]
 pub struct SetLine {
     pub domain: Name,
     pub set: Name,
@@ -24,7 +24,7 @@ pub struct SetLine {
 }
 
 /// A management class.
-#[derive(Debug, Drop)]
+#[derive(Drop)]
 pub struct ClassLine {
     pub domain: Name,
     pub set: Name,
@@ -34,7 +34,7 @@ pub struct ClassLine {
 }
 
 /// A backup copy group.
-#[derive(Debug, Drop)]
+#[derive(Drop)]
 pub struct GroupLine {
     pub domain: Name,
     pub set: Name,
@@ -45,7 +45,7 @@ pub struct GroupLine {
 }
 
 /// A client node.
-#[derive(Debug, Drop)]
+#[derive(Drop)]
 pub struct NodeLine {
     pub number: u32,
     pub name: NodeName,
@@ -53,7 +53,7 @@ pub struct NodeLine {
 }
 
 /// A filespace of a client node.
-#[derive(Debug, Drop)]
+#[derive(Drop)]
 pub struct FilespaceLine {
     /// The node's name, where the node is there.
     pub node: Option<NodeName>,
@@ -66,7 +66,7 @@ pub struct FilespaceLine {
 }
 
 /// A version of a file.
-#[derive(Debug, Drop)]
+#[derive(Drop)]
 pub struct VersionLine {
     pub path: Path,
     /// The object's number.
@@ -88,7 +88,7 @@ pub struct VersionLine {
 }
 
 /// A device class.
-#[derive(Debug, Drop)]
+#[derive(Drop)]
 pub struct DeviceLine {
     pub name: Name,
     /// How many bytes its volumes have; none for DISK, whose volumes are of random access.
@@ -96,7 +96,7 @@ pub struct DeviceLine {
 }
 
 /// A storage pool.
-#[derive(Debug, Drop)]
+#[derive(Drop)]
 pub struct PoolLine {
     pub number: u32,
     pub name: Name,
@@ -112,7 +112,7 @@ pub struct PoolLine {
 }
 
 /// A volume.
-#[derive(Debug, Drop)]
+#[derive(Drop)]
 pub struct VolumeLine {
     pub name: Name,
     /// The volume's file number.
@@ -126,8 +126,20 @@ pub struct VolumeLine {
     pub capacity: Capacity,
 }
 
+/// An object on a volume.
+#[derive(Drop)]
+pub struct ContentLine {
+    pub volume: Name,
+    /// The object's number.
+    pub object: u64,
+    /// How many bytes the object has, where a version of it is kept.
+    pub size: Option<u32>,
+    /// How many of the object's segments lie on the volume.
+    pub segments: u64,
+}
+
 /// A database backup.
-#[derive(Debug, Drop)]
+#[derive(Drop)]
 pub struct BackupLine {
     /// The number of the backup's file.
     pub file: u32,

@@ -1,7 +1,8 @@
+use inventory_work::Named;
 use kinds::{FilespaceName, Name, NodeName};
 
 /// What is asked of the database.
-#[derive(Debug, Drop)]
+#[derive(Drop)]
 pub enum Query {
     /// The number of the last transaction and the day alone.
     Today,
@@ -38,6 +39,10 @@ pub enum Query {
         volume: Option<Name>,
         pool: Option<Name>,
     },
+    /// The objects on a volume.
+    Content {
+        volume: Name,
+    },
     /// The database backups.
     History,
     /// The versions of a filespace's files.
@@ -45,4 +50,36 @@ pub enum Query {
         node: NodeName,
         filespace: FilespaceName,
     },
+    /// What a name leads to.
+    Lookup {
+        named: Named,
+    },
+    /// The rules of the management classes of a node's domain.
+    Rules {
+        node: u32,
+    },
+    /// The copies in a pool.
+    OnPool {
+        pool: u32,
+    },
+    /// The copies with a segment on a volume.
+    OnVolume {
+        file: u32,
+    },
+    /// The objects with a copy in the primary pool and none in the copy pool.
+    Missing {
+        primary: u32,
+        copy: u32,
+    },
+    /// The volumes of a pool that are to be reclaimed at this threshold, in hundredths.
+    Eligible {
+        pool: u32,
+        threshold: u8,
+    },
+    /// The versions that their rules do not retain today.
+    Unretained,
+    /// The volumes that may be reused today.
+    Emptied,
+    /// How many bytes the log of transactions has: the rows don't say it, and who keeps the log answers it.
+    LogBytes,
 }

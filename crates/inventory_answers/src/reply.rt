@@ -1,12 +1,12 @@
 use crate::lines::{
-    BackupLine, ClassLine, DeviceLine, DomainLine, FilespaceLine, GroupLine, NodeLine, PoolLine,
-    SetLine, VersionLine, VolumeLine,
+    BackupLine, ClassLine, ContentLine, DeviceLine, DomainLine, FilespaceLine, GroupLine, NodeLine,
+    PoolLine, SetLine, VersionLine, VolumeLine,
 };
-use crate::listed::Listed;
+use inventory_work::{CopyLine, Found, Listed, MissingLine, Rules, UnretainedLine};
 use kinds::Day;
 
 /// The rows that answer a query, one variant for each.
-#[derive(Debug, Drop)]
+#[derive(Drop)]
 pub enum Rows {
     Today,
     /// By name.
@@ -27,14 +27,32 @@ pub enum Rows {
     Pools(Listed<PoolLine>),
     /// By file number.
     Volumes(Listed<VolumeLine>),
+    /// By object.
+    Content(Listed<ContentLine>),
     /// By file number.
     History(Listed<BackupLine>),
     /// By path, the newest first.
     Versions(Listed<VersionLine>),
+    Lookup(Found),
+    Rules(Rules),
+    /// By filespace, path and version, the newest first.
+    OnPool(Listed<CopyLine>),
+    /// By filespace, path and version, the newest first.
+    OnVolume(Listed<CopyLine>),
+    /// By filespace, path and version, the newest first.
+    Missing(Listed<MissingLine>),
+    /// File numbers, in ascending order.
+    Eligible(Listed<u32>),
+    /// By filespace, path and version, the oldest first.
+    Unretained(Listed<UnretainedLine>),
+    /// File numbers, in ascending order.
+    Emptied(Listed<u32>),
+    /// In bytes; always 0 here.
+    LogBytes(u64),
 }
 
 /// What the database answers.
-#[derive(Debug, Drop)]
+#[derive(Drop)]
 pub struct Answer {
     /// The number of the last transaction.
     pub n: u64,

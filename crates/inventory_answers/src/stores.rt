@@ -2,13 +2,13 @@
 ghost use Rattle.std.specs.Prelude.{◌≡◌, Some, None};
 ghost use Rattle.kinds.specs.Answers.{Answers, AnswersBy};
 ghost use Rattle.pool_rows.specs.Shares.{percent_of};
-ghost use Rattle.inventory_answers.specs.Look.{Writes};
+ghost use Rattle.inventory_work.specs.Lists.{Writes};
 ghost use Rattle.inventory_answers.specs.Stores.{device_line, device_lines, pool_line, pool_lines, pools_of, used_on, volume_line, volume_lines_of, volume_lines, volumes_of, backup_line, backup_lines};
 
 use crate::lines::{BackupLine, DeviceLine, PoolLine, VolumeLine};
-use crate::listed::Listed;
 use crate::look::{is_asked, name_of_pool, next_name, pool_asked, times, volume_asked};
 use inventory_rows::Backup;
+use inventory_work::Listed;
 use kinds::{Capacity, Name, Refusal};
 use pool_rows::Pools;
 use pool_tables::Pool;
