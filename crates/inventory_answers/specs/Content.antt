@@ -1,6 +1,7 @@
 -- The objects on a volume.
-use Rattle.std.specs.Prelude.{ℕ, ◌+◌, List, [], ◌∷◌, map, unwrap_or, ◌≡◌, Option, option_and_then, Result, Ok, Err}
+use Rattle.std.specs.Prelude.{ℕ, ◌+◌, List, [], ◌∷◌, map, unwrap_or, ◌≡◌, Option, option_and_then, Result, Ok, Err, if◌then◌else◌}
 use Rattle.std.specs.BTreeMap.{insert_entry}
+use Rattle.std.specs.List.{sum_by}
 use Rattle.std.specs.Option.{option_map}
 use Rattle.std.specs.Ordering.{nat_cmp}
 use Rattle.kinds.specs.declared.refusal.Refusal.{Refusal}
@@ -8,6 +9,7 @@ use Rattle.kinds.specs.declared.refusal.Refusal.TheVariants.{Memory}
 use Rattle.version_groups.specs.Entries.{if_found}
 use Rattle.volume_rows.specs.declared.held.HeldSegment.{HeldSegment}
 use Rattle.volume_rows.specs.declared.volume.Volume.{Volume}
+use Rattle.object_rows.specs.Filespaces.{at_number}
 use Rattle.pool_tables.specs.Rows.{row_at}
 use Rattle.pool_rows.specs.PoolRows.{PoolRows, volume_named}
 use Rattle.inventory_rows.specs.Search.{version}
@@ -26,6 +28,10 @@ with_segment counts e = insert_entry nat_cmp counts e.0.object (so_far e.0.objec
 abbrev pub counted : List (ℕ × ℕ) → List (HeldSegment × ℕ) → List (ℕ × ℕ)
 counted counts [] = counts
 counted counts (e ∷ held) = counted (with_segment counts e) held
+
+-- how many of the segments are the object's
+abbrev pub segments_of : ℕ → List (HeldSegment × ℕ) → ℕ
+segments_of object held = sum_by (λ e. if at_number object e.0.object then e.1 + 1 else 0) held
 
 -- the size of an object of which a version is kept
 abbrev pub size_of_object : ℕ → Inv → Option ℕ

@@ -1,9 +1,10 @@
 // The objects on a volume.
-ghost use Rattle.std.specs.Prelude.{◌≡◌, []};
+ghost use Rattle.std.specs.Prelude.{◌≡◌, ℕ, List, []};
 ghost use Rattle.std.specs.Option.{option_copied};
 ghost use Rattle.kinds.specs.Answers.{Answers, AnswersBy};
+ghost use Rattle.volume_rows.specs.declared.held.HeldSegment.{HeldSegment};
 ghost use Rattle.inventory_rows.specs.State.{inv_of};
-ghost use Rattle.inventory_answers.specs.Content.{so_far, with_segment, counted, content_line, content_lines, size_of_object, volume_at, content_of, Counts};
+ghost use Rattle.inventory_answers.specs.Content.{so_far, with_segment, counted, content_line, content_lines, size_of_object, volume_at, content_of, Counts, segments_of};
 
 use crate::lines::ContentLine;
 use crate::look::plus;
@@ -109,3 +110,9 @@ pub(crate) fn content_of(
         None => Err(Refusal::NotFound),
     }
 }
+
+/// The segments that are counted for an object on a volume are those that are the object's.
+#[tactic(auto, using(crate::proofs::Counting::counted_all))]
+pub fn segments_are_counted()
+    ensures { (object : ℕ) (held : List (HeldSegment × ℕ)) → so_far object (counted [] held) ≡ segments_of object held }
+{}

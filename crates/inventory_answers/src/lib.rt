@@ -12,6 +12,7 @@ mod reply;
 mod stores;
 
 pub use answers::answer;
+pub use content::segments_are_counted;
 pub use lines::{
     BackupLine, ClassLine, ContentLine, DeviceLine, DomainLine, FilespaceLine, GroupLine, NodeLine,
     PoolLine, SetLine, VersionLine, VolumeLine,
