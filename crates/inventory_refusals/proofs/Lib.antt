@@ -1,0 +1,4 @@
+pub mod Changes
+pub mod Foremost
+pub mod Drawn
+pub mod Users

@@ -1,0 +1,92 @@
+//! What rows use one another.
+
+ghost use Rattle.std.specs.Prelude.{◌≡◌, ◌==◌, true, false};
+ghost use Rattle.std.specs.List.{list_any};
+ghost use Rattle.inventory_rows.specs.State.{inv_of};
+ghost use Rattle.inventory_rows.specs.Search.{is_primary, is_primary_kind, is_destination, node_in, rules_of_set};
+ghost use Rattle.inventory_refusals.specs.Users.{goes_to, classes_go_to, sets_go_to, domains_go_to};
+
+use inventory_rows::Tables;
+use kinds::{CopyGroup, Name, PoolKind};
+use policy_domains::{PolicyDomain, PolicySet};
+use std::collections::BTreeMap;
+
+pub(crate) fn is_primary_kind(kind: PoolKind) -> bool
+    ensures { result ≡ is_primary_kind kind }
+{
+    match kind {
+        PoolKind::Primary => true,
+        PoolKind::Copy => false,
+    }
+}
+
+/// Whether the pool is there and a primary one.
+pub(crate) fn is_primary(tables: &Tables, pool: u32) -> bool
+    ensures { result ≡ is_primary pool (inv_of tables.now) }
+{
+    match tables.pools.pools().get(&pool) {
+        Some(pool) => is_primary_kind(pool.kind),
+        None => false,
+    }
+}
+
+/// The least node of a domain.
+pub(crate) fn node_in(tables: &Tables, domain: &Name) -> Option<u32>
+    ensures { result ≡ node_in domain.now (inv_of tables.now) }
+{
+    'nodes: for (number, node) in tables.objects.nodes() {
+        if node.domain == *domain {
+            return Some(*number);
+        }
+    }
+    None
+}
+
+fn goes_to(group: Option<CopyGroup>, pool: u32) -> bool
+    ensures { result ≡ goes_to pool group }
+{
+    match group {
+        Some(group) => group.rule().destination == pool,
+        None => false,
+    }
+}
+
+fn classes_go_to(classes: &BTreeMap<Name, Option<CopyGroup>>, pool: u32) -> bool
+    ensures { result ≡ classes_go_to pool classes.now.entries }
+{
+    'classes: for (_, group) in classes {
+        if goes_to(*group, pool) {
+            return true;
+        }
+    }
+    false
+}
+
+fn sets_go_to(sets: &BTreeMap<Name, PolicySet>, pool: u32) -> bool
+    ensures { result ≡ sets_go_to pool sets.now.entries }
+{
+    'sets: for (_, set) in sets {
+        if classes_go_to(set.classes(), pool) {
+            return true;
+        }
+    }
+    false
+}
+
+fn domains_go_to(domains: &BTreeMap<Name, PolicyDomain>, pool: u32) -> bool
+    ensures { result ≡ domains_go_to pool domains.now.entries }
+{
+    'domains: for (_, domain) in domains {
+        if sets_go_to(domain.sets(), pool) {
+            return true;
+        }
+    }
+    false
+}
+
+/// Whether a copy group of any set has the pool as its destination.
+pub(crate) fn is_destination(tables: &Tables, pool: u32) -> bool
+    ensures { result ≡ is_destination pool (inv_of tables.now) }
+{
+    domains_go_to(tables.domains.rows(), pool)
+}
