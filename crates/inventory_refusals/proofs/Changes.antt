@@ -6,6 +6,8 @@ use Rattle.policy_domains.specs.Rows.{SetRow, DomainRow, row_of, within, changed
 use Rattle.policy_domains.specs.Sets.{in_sets}
 use Rattle.policy_domains.specs.Changes.{IsRefusedLike}
 use Rattle.version_groups.specs.Entries.{on_ok}
+use Rattle.kinds.specs.Refusals.{foremost}
+use Rattle.inventory_rules.specs.Refused.{refusal_of}
 use Rattle.inventory_refusals.specs.Errors.{error_of, error_at, set_at}
 
 pub error_within : {A B : Type 0} (place : A → B) (said : Result A Refusal) → error_of (within place said) ≡ error_of said
@@ -48,3 +50,8 @@ pub error_like : {A B : Type 0} (result : Result A Refusal) (said : Result B Ref
 error_like (Ok a) (Ok b) h = refl
 error_like (Ok a) (Err e) h = absurd h
 error_like (Err e) said h = ap error_of h
+
+-- a change of rows gives no refusal, or one
+pub foremost_of_change : {S : Type 0} (said : Result S Refusal) → foremost (refusal_of said) ≡ error_of said
+foremost_of_change (Ok s) = refl
+foremost_of_change (Err e) = refl

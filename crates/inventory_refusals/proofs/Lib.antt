@@ -1,4 +1,2 @@
 pub mod Changes
-pub mod Foremost
-pub mod Drawn
 pub mod Users

@@ -7,10 +7,9 @@ ghost use Rattle.inventory_rows.specs.State.{inv_of};
 ghost use Rattle.inventory_rules.specs.Refused.{client_bounds, client_refused};
 ghost use Rattle.inventory_refusals.specs.Errors.{error_of};
 
-use crate::causes::{bad_value, unless};
 use crate::least::{filespace_of, least_object};
-use crate::numbers::full_at;
 use inventory_rows::Tables;
+use item_refusals::{bad_value, full_at, unless};
 use kinds::{By, DefineOrDelete, FilespaceName, NodeName, ObjectChange, Refusal, sooner_of};
 use object_rows::Objects;
 
@@ -98,7 +97,7 @@ fn change_refusal(objects: &Objects, change: &ObjectChange, number: u32) -> Opti
 }
 
 /// The domain of a new node isn't there; a new filespace has another number than the next; or the next number would reach its bound.
-#[tactic(auto, using(crate::proofs::Foremost::foremost_append))]
+#[tactic(auto, using(item_refusals::proofs::Foremost::foremost_append))]
 fn bounds_refusal(tables: &Tables, change: &ObjectChange) -> Option<Refusal>
     ensures { result ≡ foremost (client_bounds change.now (inv_of tables.now)) }
 {
@@ -139,7 +138,7 @@ fn bounds_refusal(tables: &Tables, change: &ObjectChange) -> Option<Refusal>
 /// Why the database refuses a change of client nodes and filespaces: a filespace that is defined under another number than the next one is
 /// `BadValue`; what is named and not there is `NotFound`; a name that is taken is `Exists`; a node with filespaces, or a filespace with
 /// versions, that is deleted is `InUse` by the least of them; and a next number that would reach its bound is `InventoryFull`. It takes no memory.
-#[tactic(auto, using(crate::proofs::Foremost::foremost_append, crate::proofs::Foremost::foremost_of_change))]
+#[tactic(auto, using(item_refusals::proofs::Foremost::foremost_append, crate::proofs::Changes::foremost_of_change))]
 pub fn client_refused(tables: &Tables, change: &ObjectChange) -> Option<Refusal>
     ensures { result ≡ foremost (client_refused change.now (inv_of tables.now)) }
 {

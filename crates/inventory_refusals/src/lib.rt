@@ -1,17 +1,17 @@
 //! Why the database refuses a transaction: of all the refusals that hold of it, the one that is answered.
 #![tactic(auto)]
 
-mod causes;
+mod backups;
 mod client;
 mod hierarchy;
 mod least;
-mod numbers;
-mod past;
 mod policy;
+mod reuse;
 mod rules;
 mod store;
 
+pub use backups::{begin_refused, delete_refused, end_refused};
 pub use client::client_refused;
-pub use past::{NoPast, Past};
 pub use policy::policy_refused;
+pub use reuse::reuse_refused;
 pub use store::store_refused;

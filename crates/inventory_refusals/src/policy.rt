@@ -10,9 +10,9 @@ ghost use Rattle.inventory_rows.specs.State.{inv_of};
 ghost use Rattle.inventory_rules.specs.Refused.{destination_refused, domain_used, policy_refused};
 ghost use Rattle.inventory_refusals.specs.Errors.{error_of, set_at};
 
-use crate::causes::{bad_value, unless};
-use crate::rules::{is_primary, node_in};
+use crate::rules::node_in;
 use inventory_rows::Tables;
+use item_refusals::{bad_value, is_primary, unless};
 use kinds::{By, CopyGroup, Days, DefineOrDelete, Name, PolicyChange, Refusal, Verb, sooner_of};
 use policy_domains::{Domains, PolicyDomain, PolicySet, names_active};
 use std::collections::BTreeMap;
@@ -248,7 +248,7 @@ fn domain_use(tables: &Tables, change: &PolicyChange) -> Option<Refusal>
 /// Why the database refuses a change of the policy domains: a change of the set ACTIVE is `BadValue`, what is named and not there, a
 /// destination that is no primary pool included, is `NotFound`, what is there already is `Exists`, a domain with nodes that is deleted is
 /// `InUse` by the least of them, and a set without a default class that is activated is `NoDefaultClass`. It takes no memory.
-#[tactic(auto, using(crate::proofs::Foremost::foremost_append, crate::proofs::Foremost::foremost_of_change))]
+#[tactic(auto, using(item_refusals::proofs::Foremost::foremost_append, crate::proofs::Changes::foremost_of_change))]
 pub fn policy_refused(tables: &Tables, change: &PolicyChange) -> Option<Refusal>
     ensures { result ≡ foremost (policy_refused change.now (inv_of tables.now)) }
 {

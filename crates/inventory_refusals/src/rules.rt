@@ -3,32 +3,13 @@
 ghost use Rattle.std.specs.Prelude.{◌≡◌, ◌==◌, true, false};
 ghost use Rattle.std.specs.List.{list_any};
 ghost use Rattle.inventory_rows.specs.State.{inv_of};
-ghost use Rattle.inventory_rows.specs.Search.{is_primary, is_primary_kind, is_destination, node_in, rules_of_set};
+ghost use Rattle.inventory_rows.specs.Search.{is_destination, node_in, rules_of_set};
 ghost use Rattle.inventory_refusals.specs.Users.{goes_to, classes_go_to, sets_go_to, domains_go_to};
 
 use inventory_rows::Tables;
-use kinds::{CopyGroup, Name, PoolKind};
+use kinds::{CopyGroup, Name};
 use policy_domains::{PolicyDomain, PolicySet};
 use std::collections::BTreeMap;
-
-pub(crate) fn is_primary_kind(kind: PoolKind) -> bool
-    ensures { result ≡ is_primary_kind kind }
-{
-    match kind {
-        PoolKind::Primary => true,
-        PoolKind::Copy => false,
-    }
-}
-
-/// Whether the pool is there and a primary one.
-pub(crate) fn is_primary(tables: &Tables, pool: u32) -> bool
-    ensures { result ≡ is_primary pool (inv_of tables.now) }
-{
-    match tables.pools.pools().get(&pool) {
-        Some(pool) => is_primary_kind(pool.kind),
-        None => false,
-    }
-}
 
 /// The least node of a domain.
 pub(crate) fn node_in(tables: &Tables, domain: &Name) -> Option<u32>

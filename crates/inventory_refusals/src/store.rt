@@ -14,12 +14,11 @@ ghost use Rattle.inventory_rules.specs.Refused.{is_same_kind, stays, pool_by_nam
 ghost use Rattle.inventory_rules.specs.Valid.{may_have};
 ghost use Rattle.inventory_refusals.specs.Errors.{error_of};
 
-use crate::causes::{bad_value, unless};
 use crate::hierarchy::{is_bad_hierarchy, is_bad_row, is_next_there};
 use crate::least::{pool_before, pool_of_class, volume_of_pool};
-use crate::numbers::{file_bound, file_refusal, full_at};
-use crate::rules::{is_destination, is_primary_kind};
+use crate::rules::is_destination;
 use inventory_rows::Tables;
+use item_refusals::{bad_value, file_bound, file_refusal, full_at, is_primary_kind, unless};
 use kinds::{
     Access, By, Capacity, DefineOrDelete, Name, PoolChange, PoolKind, PoolSettings, Refusal, Verb,
     sooner_of,
@@ -312,7 +311,7 @@ fn pool_bounds(
     }
 }
 
-#[tactic(auto, using(crate::proofs::Foremost::foremost_append))]
+#[tactic(auto, using(item_refusals::proofs::Foremost::foremost_append))]
 fn volume_bounds(
     tables: &Tables,
     verb: Verb,
@@ -356,7 +355,7 @@ fn bounds_refusal(tables: &Tables, change: &PoolChange) -> Option<Refusal>
 /// a volume of its pool may not have, or a file number below 4 or in use is `BadValue`; what is named and not there is `NotFound`; a name that
 /// is taken is `Exists`; what is deleted while it is used is `InUse` by a pool, a volume, an object or a destination; pools that would form no
 /// hierarchies are `BadHierarchy`; and a next number that would reach its bound is `InventoryFull`. It takes no memory.
-#[tactic(auto, using(crate::proofs::Foremost::foremost_append, crate::proofs::Foremost::foremost_of_change))]
+#[tactic(auto, using(item_refusals::proofs::Foremost::foremost_append, crate::proofs::Changes::foremost_of_change))]
 pub fn store_refused(tables: &Tables, change: &PoolChange) -> Option<Refusal>
     ensures { result ≡ foremost (store_refused change.now (inv_of tables.now)) }
 {

@@ -1,0 +1,47 @@
+//! Why a change of the list of database backups is refused.
+
+ghost use Rattle.std.specs.Prelude.{◌≡◌, ◌++◌, ◌∷◌, [], is_some};
+ghost use Rattle.std.specs.Option.{option_copied};
+ghost use Rattle.kinds.specs.Refusals.{foremost};
+ghost use Rattle.inventory_rows.specs.State.{inv_of};
+ghost use Rattle.inventory_rules.specs.RefusedData.{unless};
+ghost use Rattle.inventory_rules.specs.Refused.{files_refused, file_bound, is_unfinished, backup_at};
+ghost use Rattle.kinds.specs.declared.refusal.Refusal.TheVariants.{NotFound};
+
+use inventory_rows::{Backup, Tables};
+use item_refusals::{file_bound, file_refusal, unless};
+use kinds::{Refusal, sooner_of};
+
+/// Why a database backup doesn't begin: a file number that is below 4 or in use is `BadValue`, and a next file number that would reach its
+/// bound is `InventoryFull`. It takes no memory.
+#[tactic(auto, using(item_refusals::proofs::Foremost::foremost_append))]
+pub fn begin_refused(tables: &Tables, file: u32) -> Option<Refusal>
+    ensures { result ≡ foremost (files_refused (file ∷ []) (inv_of tables.now) ++ file_bound file (inv_of tables.now)) }
+{
+    sooner_of(file_refusal(tables, file), file_bound(tables, file))
+}
+
+fn is_unfinished(backup: Option<&Backup>) -> bool
+    ensures { result ≡ is_unfinished (option_copied backup.entry) }
+{
+    match backup {
+        None => false,
+        Some(backup) => !backup.is_done,
+    }
+}
+
+/// Why a database backup doesn't end: one that is not listed, or has ended, is `NotFound`. It takes no memory.
+pub fn end_refused(tables: &Tables, file: u32) -> Option<Refusal>
+    ensures { result ≡ foremost (unless (is_unfinished (backup_at file (inv_of tables.now))) NotFound) }
+{
+    let unfinished = is_unfinished(tables.backups.get(&file));
+    unless(unfinished, Refusal::NotFound)
+}
+
+/// Why a database backup is not taken off the list: one that is not listed is `NotFound`. It takes no memory.
+pub fn delete_refused(tables: &Tables, file: u32) -> Option<Refusal>
+    ensures { result ≡ foremost (unless (is_some (backup_at file (inv_of tables.now))) NotFound) }
+{
+    let listed = tables.backups.get(&file).is_some();
+    unless(listed, Refusal::NotFound)
+}

@@ -1,0 +1,6 @@
+pub mod Files
+pub mod Foremost
+pub mod Lists
+pub mod Places
+pub mod Rooms
+pub mod Standings

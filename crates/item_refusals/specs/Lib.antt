@@ -1,0 +1,6 @@
+pub mod Drawn
+pub mod Placing
+pub mod Retaining
+pub mod Room
+pub mod Standing
+pub mod Taken

@@ -1,0 +1,24 @@
+//! Why the database refuses a transaction on versions and copies, item by item, and what such transactions share with others: the numbers
+//! that are drawn, and what the journal tells of versions and copies that are not as they were named.
+#![tactic(auto)]
+
+mod apart;
+mod causes;
+mod copies;
+mod discards;
+mod numbers;
+mod past;
+mod primary;
+mod retained;
+mod room;
+mod scratch;
+mod versions;
+
+pub use causes::{bad_value, unless};
+pub use copies::{copy_list_refused, move_refused};
+pub use discards::discard_refused;
+pub use numbers::{file_bound, file_refusal, full_at};
+pub use past::{NoPast, Past};
+pub use primary::{is_primary, is_primary_kind};
+pub use scratch::{objects_refused, scratch_refused};
+pub use versions::{backup_refused, expire_refused, gone_refused, rebind_refused};

@@ -1,0 +1,138 @@
+//! Why transactions on versions are refused.
+
+ghost use Rattle.std.specs.Prelude.{◌≡◌};
+ghost use Rattle.kinds.specs.Refusals.{foremost};
+ghost use Rattle.inventory_rows.specs.State.{inv_of};
+ghost use Rattle.inventory_rules.specs.RefusedData.{filespace_there, backup_refused, rebinding_refused, rebind_refused, stale_version, named_gone_refused, gone_refused, expired_refused, expire_refused};
+
+use crate::causes::{gone_or_unknown, once, unless};
+use crate::past::Past;
+use crate::retained::is_retained;
+use crate::room::has_room;
+use change_items::{NamedVersion, NewVersion, Rebinding};
+use inventory_rows::Tables;
+use kinds::{By, Refusal, sooner_of};
+
+fn filespace_there(tables: &Tables, filespace: u32) -> Option<Refusal>
+    ensures { result ≡ foremost (filespace_there filespace (inv_of tables.now)) }
+{
+    let there = tables.objects.filespaces().contains_key(&filespace);
+    unless(there, Refusal::NotFound)
+}
+
+/// Why new versions are refused: an object that is named twice is `BadValue`, a filespace that isn't there is `NotFound`, and more than 2^20
+/// versions in all are `InventoryFull`. It takes no memory, but a walk over all paths.
+pub fn backup_refused(tables: &Tables, filespace: u32, items: &[NewVersion]) -> Option<Refusal>
+    ensures { result ≡ foremost (backup_refused filespace items.now (inv_of tables.now)) }
+{
+    let there = filespace_there(tables, filespace);
+    let once = once(items);
+    let room = unless(has_room(tables, items.len()), Refusal::InventoryFull);
+    sooner_of(there, sooner_of(once, room))
+}
+
+fn rebinding_refusal<J: Past>(
+    past: &J,
+    tables: &Tables,
+    filespace: u32,
+    item: &Rebinding,
+) -> Option<Refusal>
+    ensures { result ≡ foremost (rebinding_refused (J.journal past.now) filespace (inv_of tables.now) item.now) }
+{
+    let there = tables.objects.group(filespace, &item.path).is_some();
+    unless(
+        there,
+        gone_or_unknown(past.path_emptied(filespace, &item.path)),
+    )
+}
+
+/// Why paths are not bound to other classes: a path that is named twice is `BadValue`, and one without versions is `Gone` where the journal
+/// tells which transaction removed its last one, and else `NotFound`. It takes no memory.
+pub fn rebind_refused<J: Past>(
+    past: &J,
+    tables: &Tables,
+    filespace: u32,
+    items: &[Rebinding],
+) -> Option<Refusal>
+    ensures { result ≡ foremost (rebind_refused (J.journal past.now) filespace items.now (inv_of tables.now)) }
+{
+    let mut found = once(items);
+    'items: for item in items {
+        found = sooner_of(found, rebinding_refusal(past, tables, filespace, item));
+    }
+    found
+}
+
+/// A version is not as it was named: it was removed, or this transaction changed it, or it was never so.
+fn stale_version(removed: Option<u64>, changed: Option<u64>) -> Refusal
+    ensures { result ≡ stale_version removed changed }
+{
+    match (removed, changed) {
+        (Some(number), _) => Refusal::Gone(number),
+        (None, Some(number)) => Refusal::Stale(number),
+        (None, None) => Refusal::NotFound,
+    }
+}
+
+fn named_refusal<J: Past>(
+    past: &J,
+    tables: &Tables,
+    filespace: u32,
+    item: &NamedVersion,
+) -> Option<Refusal>
+    ensures { result ≡ foremost (named_gone_refused (J.journal past.now) filespace (inv_of tables.now) item.now) }
+{
+    let active = tables.objects.is_active(filespace, &item.path, item.object);
+    let stale = stale_version(past.removed(item.object), past.changed(item.object));
+    unless(active, stale)
+}
+
+/// Why active versions don't become inactive: an object that is named twice is `BadValue`; one that isn't the active version of its path is
+/// `Gone` or `Stale` where the journal tells which transaction removed or changed it, and else `NotFound`. It takes no memory.
+pub fn gone_refused<J: Past>(
+    past: &J,
+    tables: &Tables,
+    filespace: u32,
+    items: &[NamedVersion],
+) -> Option<Refusal>
+    ensures { result ≡ foremost (gone_refused (J.journal past.now) filespace items.now (inv_of tables.now)) }
+{
+    let mut found = once(items);
+    'items: for item in items {
+        found = sooner_of(found, named_refusal(past, tables, filespace, item));
+    }
+    found
+}
+
+fn expired_refusal<J: Past>(
+    past: &J,
+    tables: &Tables,
+    filespace: u32,
+    item: &NamedVersion,
+) -> Option<Refusal>
+    ensures { result ≡ foremost (expired_refused (J.journal past.now) filespace (inv_of tables.now) item.now) }
+{
+    if tables.objects.has_at(filespace, &item.path, item.object) {
+        let retained = is_retained(tables, filespace, &item.path, item.object);
+        unless(!retained, Refusal::InUse(By::Object(item.object)))
+    } else {
+        Some(gone_or_unknown(past.removed(item.object)))
+    }
+}
+
+/// Why versions don't expire: an object that is named twice is `BadValue`; one that is retained today is `InUse`; one that isn't there is
+/// `Gone` where the journal tells which transaction removed it, and else `NotFound`. It takes no memory.
+pub fn expire_refused<J: Past>(
+    past: &J,
+    tables: &Tables,
+    filespace: u32,
+    items: &[NamedVersion],
+) -> Option<Refusal>
+    ensures { result ≡ foremost (expire_refused (J.journal past.now) filespace items.now (inv_of tables.now)) }
+{
+    let mut found = once(items);
+    'items: for item in items {
+        found = sooner_of(found, expired_refusal(past, tables, filespace, item));
+    }
+    found
+}
