@@ -1,4 +1,5 @@
 pub mod Drawn
+pub mod Dropping
 pub mod Placing
 pub mod Retaining
 pub mod Room

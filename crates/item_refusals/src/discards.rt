@@ -89,7 +89,7 @@ fn is_in(tables: &Tables, filespace: u32, object: u64) -> bool
     is_number(filespace, filespace_of(tables.objects.filespaces(), object))
 }
 
-fn in_use(object: u64) -> Refusal
+pub(crate) fn in_use(object: u64) -> Refusal
     ensures { result ≡ in_use object }
 {
     Refusal::InUse(By::Object(object))

@@ -1,0 +1,10 @@
+use Rattle.std.proofs.Common.{◌≡◌, ◌++◌, map, take}
+use Rattle.std.specs.List.{flat_map}
+use Rattle.kinds.specs.Refusals.{foremost}
+use Rattle.change_items.specs.declared.items.DroppedCopy.{DroppedCopy}
+use Rattle.inventory_rows.specs.State.{inv_of}
+use Rattle.inventory_rules.specs.RefusedData.{unless, bad_value, name_once, dropped_refused}
+use Rattle.item_refusals.proofs.drops.drop_refused.Given as goal
+
+abbrev pub invariant-items : goal.invariant-items
+invariant-items g l = l.found ≡ foremost (unless (name_once (map (λ (i : DroppedCopy). i.object) l.items)) bad_value ++ flat_map (dropped_refused (g.J.Past.journal l.past) l.reason (inv_of l.tables)) (take l.item-index l.items))
