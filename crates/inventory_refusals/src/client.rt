@@ -35,15 +35,9 @@ fn node_delete(objects: &Objects, name: &NodeName) -> Option<Refusal>
     }
 }
 
-fn filespace_define(
-    objects: &Objects,
-    node: u32,
-    name: &FilespaceName,
-    filespace: u32,
-) -> Option<Refusal>
-    ensures { result ≡ error_of (filespaces_defined node name.now filespace objects.now.nodes objects.now.filespaces) }
+fn filespace_define(objects: &Objects, node: u32, name: &FilespaceName) -> Option<Refusal>
+    ensures { (filespace : ℕ) → result ≡ error_of (filespaces_defined node name.now filespace objects.now.nodes objects.now.filespaces) }
 {
-    let _ = filespace;
     if !objects.nodes().contains_key(&node) {
         return Some(Refusal::NotFound);
     }
@@ -67,10 +61,9 @@ fn filespace_delete(objects: &Objects, filespace: u32) -> Option<Refusal>
 
 /// How the nodes and filespaces would refuse the change if it were made.
 #[tactic(auto, using(crate::proofs::Changes::error_on_ok))]
-fn change_refusal(objects: &Objects, change: &ObjectChange, number: u32) -> Option<Refusal>
-    ensures { result ≡ error_of (rows_changed change.now number objects.now) }
+fn change_refusal(objects: &Objects, change: &ObjectChange) -> Option<Refusal>
+    ensures { (number : ℕ) → result ≡ error_of (rows_changed change.now number objects.now) }
 {
-    let _ = number;
     match change {
         ObjectChange::Node {
             verb: DefineOrDelete::Define,
@@ -86,8 +79,8 @@ fn change_refusal(objects: &Objects, change: &ObjectChange, number: u32) -> Opti
             verb: DefineOrDelete::Define,
             node,
             name,
-            filespace,
-        } => filespace_define(objects, *node, name, *filespace),
+            ..
+        } => filespace_define(objects, *node, name),
         ObjectChange::Filespace {
             verb: DefineOrDelete::Delete,
             filespace,
@@ -142,7 +135,7 @@ fn bounds_refusal(tables: &Tables, change: &ObjectChange) -> Option<Refusal>
 pub fn client_refused(tables: &Tables, change: &ObjectChange) -> Option<Refusal>
     ensures { result ≡ foremost (client_refused change.now (inv_of tables.now)) }
 {
-    let rows = change_refusal(&tables.objects, change, tables.next_node);
+    let rows = change_refusal(&tables.objects, change);
     let bounds = bounds_refusal(tables, change);
     sooner_of(rows, bounds)
 }

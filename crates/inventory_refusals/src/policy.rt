@@ -1,7 +1,8 @@
 //! Why a change of the policy domains is refused.
 
-ghost use Rattle.std.specs.Prelude.{◌≡◌};
+ghost use Rattle.std.specs.Prelude.{◌≡◌, ℕ};
 ghost use Rattle.std.specs.Option.{option_copied};
+ghost use Rattle.kinds.specs.declared.rule.BackupRule.{BackupRule};
 ghost use Rattle.kinds.specs.Refusals.{foremost};
 ghost use Rattle.policy_domains.specs.Sets.{set_changed, class_changed, assigned, in_sets};
 ghost use Rattle.policy_domains.specs.Changes.{domain_changed, group_changed, in_group, after};
@@ -13,19 +14,13 @@ ghost use Rattle.inventory_refusals.specs.Errors.{error_of, set_at};
 use crate::rules::node_in;
 use inventory_rows::Tables;
 use item_refusals::{bad_value, is_primary, unless};
-use kinds::{By, CopyGroup, Days, DefineOrDelete, Name, PolicyChange, Refusal, Verb, sooner_of};
+use kinds::{By, CopyGroup, DefineOrDelete, Name, PolicyChange, Refusal, Verb, sooner_of};
 use policy_domains::{Domains, PolicyDomain, PolicySet, names_active};
 use std::collections::BTreeMap;
 
-fn domain_refusal(
-    rows: &BTreeMap<Name, PolicyDomain>,
-    verb: Verb,
-    domain: &Name,
-    back_retention: Days,
-) -> Option<Refusal>
-    ensures { result ≡ error_of (domain_changed verb domain.now back_retention rows.now.entries) }
+fn domain_refusal(rows: &BTreeMap<Name, PolicyDomain>, verb: Verb, domain: &Name) -> Option<Refusal>
+    ensures { (days : ℕ) → result ≡ error_of (domain_changed verb domain.now days rows.now.entries) }
 {
-    let _ = back_retention.count();
     match verb {
         Verb::Define => {
             if rows.contains_key(domain) {
@@ -114,10 +109,9 @@ fn class_refusal(
     }
 }
 
-fn replace_refusal(there: Option<CopyGroup>, verb: Verb, group: CopyGroup) -> Option<Refusal>
-    ensures { result ≡ error_of (group_changed verb group there) }
+fn replace_refusal(there: Option<CopyGroup>, verb: Verb) -> Option<Refusal>
+    ensures { (rule : BackupRule) → result ≡ error_of (group_changed verb rule there) }
 {
-    let _ = group.rule();
     match (verb, there) {
         (Verb::Define, Some(_)) => Some(Refusal::Exists),
         (Verb::Define, None) | (Verb::Update, Some(_)) | (Verb::Delete, Some(_)) => None,
@@ -126,12 +120,12 @@ fn replace_refusal(there: Option<CopyGroup>, verb: Verb, group: CopyGroup) -> Op
 }
 
 #[tactic(auto, using(crate::proofs::Changes::error_within, crate::proofs::Changes::error_changed))]
-fn group_in(row: &PolicySet, verb: Verb, class: &Name, group: CopyGroup) -> Option<Refusal>
-    ensures { result ≡ error_of (in_group verb class.now group row.now) }
+fn group_in(row: &PolicySet, verb: Verb, class: &Name) -> Option<Refusal>
+    ensures { (rule : BackupRule) → result ≡ error_of (in_group verb class.now rule row.now) }
 {
     match row.classes().get(class) {
         None => Some(Refusal::NotFound),
-        Some(there) => replace_refusal(*there, verb, group),
+        Some(there) => replace_refusal(*there, verb),
     }
 }
 
@@ -142,13 +136,12 @@ fn group_refusal(
     domain: &Name,
     set: &Name,
     class: &Name,
-    group: CopyGroup,
 ) -> Option<Refusal>
-    ensures { result ≡ error_of (after (PolicyChange.Group verb domain.now set.now class.now group) domains.now) }
+    ensures { (rule : BackupRule) → result ≡ error_of (after (PolicyChange.Group verb domain.now set.now class.now rule) domains.now) }
 {
     match set_at(domains, domain, set) {
         None => Some(Refusal::NotFound),
-        Some(row) => group_in(row, verb, class, group),
+        Some(row) => group_in(row, verb, class),
     }
 }
 
@@ -187,11 +180,9 @@ fn change_refusal(domains: &Domains, change: &PolicyChange) -> Option<Refusal>
     ensures { result ≡ error_of (after change.now domains.now) }
 {
     match change {
-        PolicyChange::Domain {
-            verb,
-            domain,
-            back_retention,
-        } => domain_refusal(domains.rows(), *verb, domain, *back_retention),
+        PolicyChange::Domain { verb, domain, .. } => {
+            domain_refusal(domains.rows(), *verb, domain)
+        }
         PolicyChange::Set { verb, domain, set } => set_in_refusal(domains, *verb, domain, set),
         PolicyChange::Class {
             verb,
@@ -204,8 +195,8 @@ fn change_refusal(domains: &Domains, change: &PolicyChange) -> Option<Refusal>
             domain,
             set,
             class,
-            group,
-        } => group_refusal(domains, *verb, domain, set, class, *group),
+            ..
+        } => group_refusal(domains, *verb, domain, set, class),
         PolicyChange::Assign { domain, set, class } => assign_refusal(domains, domain, set, class),
         PolicyChange::Activate { domain, set } => activate_refusal(domains, domain, set),
     }

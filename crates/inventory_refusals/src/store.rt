@@ -20,8 +20,7 @@ use crate::rules::is_destination;
 use inventory_rows::Tables;
 use item_refusals::{bad_value, file_bound, file_refusal, full_at, is_primary_kind, unless};
 use kinds::{
-    Access, By, Capacity, DefineOrDelete, Name, PoolChange, PoolKind, PoolSettings, Refusal, Verb,
-    sooner_of,
+    Access, By, DefineOrDelete, Name, PoolChange, PoolKind, PoolSettings, Refusal, Verb, sooner_of,
 };
 use pool_rows::Pools;
 use pool_tables::Pool;
@@ -48,15 +47,9 @@ fn class_delete(pools: &Pools, class: &Name) -> Option<Refusal>
     }
 }
 
-fn class_refusal(
-    pools: &Pools,
-    verb: DefineOrDelete,
-    class: &Name,
-    capacity: Capacity,
-) -> Option<Refusal>
-    ensures { result ≡ error_of (change_class verb class.now capacity pools.now) }
+fn class_refusal(pools: &Pools, verb: DefineOrDelete, class: &Name) -> Option<Refusal>
+    ensures { (capacity : ℕ) → result ≡ error_of (change_class verb class.now capacity pools.now) }
 {
-    let _ = capacity.bytes();
     match verb {
         DefineOrDelete::Define => class_define(pools, class),
         DefineOrDelete::Delete => class_delete(pools, class),
@@ -200,11 +193,7 @@ fn change_refusal(pools: &Pools, change: &PoolChange, number: u32) -> Option<Ref
     ensures { result ≡ error_of (changed change.now number pools.now) }
 {
     match change {
-        PoolChange::DevClass {
-            verb,
-            class,
-            capacity,
-        } => class_refusal(pools, *verb, class, *capacity),
+        PoolChange::DevClass { verb, class, .. } => class_refusal(pools, *verb, class),
         PoolChange::Pool {
             verb,
             pool,
