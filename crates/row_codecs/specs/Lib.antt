@@ -1,0 +1,4 @@
+pub mod ClientForms
+pub mod PolicyForms
+pub mod StoreForms
+pub mod VersionForms
