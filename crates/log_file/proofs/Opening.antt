@@ -6,15 +6,23 @@ use Rattle.store_api.specs.declared.store.Failed.{Failed}
 use Rattle.store_api.specs.Disk.{Standing, Leaves, on, idle, settle, settled, changed, History, standing, reads, now, with_call, ImageAt}
 use Rattle.store_api.specs.Runs.{GoesOn}
 use Rattle.store_api.specs.Told.{Adds, MaySync}
-use Rattle.store_api.proofs.Standings.{standing_on}
+use Rattle.store_api.proofs.Standings.{standing_on, leaves_settled}
 use Rattle.store_api.proofs.Runs.{image_now, goes_later, goes_then, goes_weaker, goes_images, each_then, each_call}
-use Rattle.store_api.proofs.Pieces.{with_file, image_with, image_reads}
+use Rattle.store_api.proofs.Pieces.{with_file, image_with, image_reads, stable_within}
 use Rattle.kinds.specs.declared.refusal.OpenRefused.{OpenRefused}
 use Rattle.log_file.specs.Blocks.{LogEnds}
 use Rattle.log_file.specs.Cursor.{Held, Place, Shows, CameTo, Looked}
-use Rattle.log_file.specs.Starts.{KeepsEnd, Settled, Opened}
+use Rattle.log_file.specs.Starts.{KeepsEnd, KeepsLeft, Settled, Opened}
 use Rattle.log_file.proofs.Logs.{settled_left}
 use Rattle.log_file.proofs.Told.{looked_reads, looked_standing}
+
+-- what a stop leaves of a file, all of which is on the disk now, it might have left before
+left_before : (file : ℕ) (h : History) (left : List ℕ) → Leaves (settled (reads h file)) left → Leaves (standing h file) left
+unfolding settled
+left_before file h left leaves = record {
+  long = omega (arith, stable_within h file, leaves.long);
+  same = λ place lt not. leaves_settled (reads h file) left leaves place (omega (arith, lt, stable_within h file));
+}
 
 -- a sync that succeeded
 settled_ok : {T E : Type 0} (file : ℕ) (done : T) (h : History) → (let result : Result T E = Ok done in Settled file result h (with_call (on file settle) h))
@@ -27,6 +35,7 @@ settled_ok file done h =
       images = λ payloads each. each_call (on file settle) h (λ image. LogEnds (image file) payloads)
           (λ image left. each image (image_now h image left))
           (λ image left. settled_left (reads h file) (image file) payloads (each (reads h) (image_reads h)) (subst (λ s. Leaves s (image file)) same (left file)));
+      left = each_call (on file settle) h (λ image. Leaves (standing h file) (image file)) (λ image left. left file) (λ image left. left_before file h (image file) (subst (λ s. Leaves s (image file)) same (left file)));
       durable = same;
     }
 
@@ -36,6 +45,7 @@ settled_err file failed h = record {
   goes = record { calls = idle ∷ []; grew = refl; only = tt };
   same = refl;
   images = λ payloads each. each_call idle h (λ image. LogEnds (image file) payloads) (λ image left. each image (image_now h image left)) (λ image left. each image (image_now h image left));
+  left = each_call idle h (λ image. Leaves (standing h file) (image file)) (λ image left. left file) (λ image left. left file);
   durable = tt;
 }
 
@@ -56,6 +66,12 @@ keeps_looked file old mid new later keeps looked payloads each =
     each_then (λ other. ⊥) old mid new (λ image. LogEnds (image file) payloads) looked (keeps payloads each)
     (λ moment image from to here. last_image file mid (image file) payloads (λ image at_mid. keeps payloads each (now mid) image later (omega arith) at_mid) (goes_images (λ other. ⊥) mid new file (λ no. no) looked moment image from to here))
 
+-- the same of what a stop leaves of the file
+pub left_looked : (file : ℕ) (old mid new : History) → standing mid file ≡ settled (reads old file) → KeepsLeft file old mid → Looked mid new → KeepsLeft file old new
+left_looked file old mid new durable keeps looked =
+    each_then (λ other. ⊥) old mid new (λ image. Leaves (standing old file) (image file)) looked keeps
+    (λ moment image from to here. left_before file old (image file) (subst (λ s. Leaves s (image file)) durable (goes_images (λ other. ⊥) mid new file (λ no. no) looked moment image from to here)))
+
 pub goes_looked : (file : ℕ) (old mid new : History) → GoesOn (λ other. other ≡ file) old mid → Looked mid new → GoesOn (λ other. other ≡ file) old new
 goes_looked file old mid new goes looked = goes_then (λ other. other ≡ file) old mid new goes (goes_weaker (λ other. ⊥) (λ other. other ≡ file) mid new (λ other no. absurd no) looked)
 
@@ -65,6 +81,7 @@ not_opened file result failed done old mid new first looked = record {
   goes = goes_looked file old mid new first.goes looked;
   same = looked_reads mid new file looked ∙ first.same;
   images = keeps_looked file old mid new (goes_later (λ other. other ≡ file) old mid first.goes) first.images looked;
+  left = left_looked file old mid new first.durable first.left looked;
   durable = IfOk-from_err result (λ _. standing new file ≡ settled (reads old file)) failed;
   begun = IfOk-from_err result (λ cursor. CameTo (reads old file) cursor []) failed;
   small = IfOk-from_err result (λ _. length (reads old file) < 2 ^ 64) failed;
@@ -79,6 +96,7 @@ opened_ok file len done held cursor is here small old mid new first next =
       goes = goes_looked file old mid new first.goes next.0;
       same = looked_reads mid new file next.0 ∙ first.same;
       images = keeps_looked file old mid new (goes_later (λ other. other ≡ file) old mid first.goes) first.images next.0;
+      left = left_looked file old mid new first.durable first.left next.0;
       durable = looked_standing mid new file next.0 ∙ first.durable;
       begun = subst (λ (place : Place). CameTo (reads old file) place []) (sym here) (record {
         shows = subst (Shows (reads old file)) (sym is) (record { len = long; piece = refl });

@@ -109,6 +109,19 @@ one_damage bytes payloads others at place a b =
     let same = same_blocks payloads others (1 ∷ a.rest) (1 ∷ b.rest) a.fits b.fits (sym a.whole ∙ b.whole) (broken_none a.rest a.broken) (broken_none b.rest b.broken) in
     (same, a.place ∙ ap (λ (rs : List (List ℕ)). length (blocks rs) + 1) same ∙ sym b.place)
 
+-- records that stand at the start of a log are its first
+front_blocks : (ps qs : List (List ℕ)) (x y : List ℕ) → AllByRecursion Fits ps → AllByRecursion Fits qs → blocks ps ++ x ≡ blocks qs ++ y → NoRecord y → (more : List (List ℕ)) × (qs ≡ ps ++ more)
+unfolding NoRecord
+front_blocks [] qs x y fp fq e ny = (qs, refl)
+front_blocks (p ∷ ps) [] x y fp fq e ny = absurd (ny p (blocks ps ++ x) fp.0 (sym e ∙ append_assoc (block p) (blocks ps) x))
+front_blocks (p ∷ ps) (q ∷ qs) x y fp fq e ny =
+    let same = same_record p q (blocks ps ++ x) (blocks qs ++ y) fp.0 fq.0 (sym (append_assoc (block p) (blocks ps) x) ∙ e ∙ append_assoc (block q) (blocks qs) y) in
+    let behind = front_blocks ps qs x y fp.1 fq.1 same.1 ny in
+    (behind.0, ap (λ (r : List ℕ). r ∷ qs) (sym same.0) ∙ ap (λ (rs : List (List ℕ)). p ∷ rs) behind.1)
+
+pub log_front : (bytes rest : List ℕ) (payloads others : List (List ℕ)) → LogIs bytes payloads → AllByRecursion Fits others → bytes ≡ blocks others ++ rest → (more : List (List ℕ)) × (payloads ≡ others ++ more)
+log_front bytes rest payloads others is fits e = front_blocks others payloads rest is.rest fits is.fits (sym e ∙ is.whole) (closed_none is.rest is.closed)
+
 -- a record more at the end
 pub blocks-append : (payloads : List (List ℕ)) (payload : List ℕ) → blocks (payloads ++ payload ∷ []) ≡ blocks payloads ++ block payload
 blocks-append [] payload = refl_nil payload

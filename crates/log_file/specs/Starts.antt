@@ -1,7 +1,7 @@
 -- What reading a log does and finds.
 use Rattle.std.specs.Prelude.{◌≡◌, ℕ, ◌<◌, ◌^◌, List, [], ◌∷◌, ◌++◌, length, Option, None, Some, Result, IfOk, OnOk, IfErr, OnErr, map, Vec}
 use Rattle.std.specs.declared.alloc.Global.{Global}
-use Rattle.store_api.specs.Disk.{History, standing, reads, now, settled, ImageAt}
+use Rattle.store_api.specs.Disk.{Leaves, History, standing, reads, now, settled, ImageAt}
 use Rattle.store_api.specs.Runs.{GoesOn, EachImage}
 use Rattle.kinds.specs.declared.refusal.OpenRefused.{OpenRefused}
 use Rattle.log_file.specs.declared.found.Record.{Record}
@@ -13,11 +13,16 @@ use Rattle.log_file.specs.Cursor.{Place, CameTo, DamageBehind, SaysDamage, Looke
 abbrev pub KeepsEnd : ℕ → History → History → Type 0
 KeepsEnd file old new = (payloads : List (List ℕ)) → ((image : ℕ → List ℕ) → ImageAt old (now old) image → LogEnds (image file) payloads) → EachImage (now old) new (λ image. LogEnds (image file) payloads)
 
+-- Each image since has of the file what a stop might have left at the start.
+abbrev pub KeepsLeft : ℕ → History → History → Type 0
+KeepsLeft file old new = EachImage (now old) new (λ image. Leaves (standing old file) (image file))
+
 -- A file was made durable, or that failed. Nothing that is read changed.
 pub record Settled {T E : Type 0} (file : ℕ) (result : Result T E) (old new : History) : Type 0 where
   pub goes : GoesOn (λ other. other ≡ file) old new
   pub same : reads new file ≡ reads old file
   pub images : KeepsEnd file old new
+  pub left : KeepsLeft file old new
   pub durable : OnOk result (standing new file ≡ settled (reads old file))
 
 -- A cursor was opened over a file. Nothing that is read changed; on Ok all of the file is on the disk, and the cursor is before
@@ -26,6 +31,7 @@ pub record Opened {E : Type 0} (file : ℕ) (result : Result Place E) (old new :
   pub goes : GoesOn (λ other. other ≡ file) old new
   pub same : reads new file ≡ reads old file
   pub images : KeepsEnd file old new
+  pub left : KeepsLeft file old new
   pub durable : OnOk result (standing new file ≡ settled (reads old file))
   pub begun : IfOk result (λ cursor. CameTo (reads old file) cursor [])
   pub small : OnOk result (length (reads old file) < 2 ^ 64)

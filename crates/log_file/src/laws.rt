@@ -1,5 +1,6 @@
 // What the definitions mean for the layers above, as laws. Each stands on a function that does nothing.
-ghost use Rattle.std.specs.Prelude.{◌≡◌, ◌≢◌, ◌⊎◌, ℕ, ◌+◌, ◌<◌, ◌≤◌, ◌^◌, Bool, IsTrue, List, length};
+ghost use Rattle.std.specs.Prelude.{◌≡◌, ◌≢◌, ◌⊎◌, ℕ, ◌+◌, ◌<◌, ◌≤◌, ◌^◌, ◌++◌, Bool, IsTrue, List, length};
+ghost use Rattle.std.specs.List.{AllByRecursion};
 ghost use Rattle.fields.specs.Forms.{IsBytes};
 ghost use Rattle.store_api.specs.Disk.{History, Leaves, standing, reads, settled, now, ImageAt};
 ghost use Rattle.store_api.specs.Runs.{GoesOn, EachImage};
@@ -13,6 +14,11 @@ pub fn one_log()
     ensures damaged { (bytes : List ℕ) (payloads others : List (List ℕ)) (at : ℕ) → LogIs bytes payloads → DamagedAt bytes others at → ⊥ }
     ensures place { (bytes : List ℕ) (payloads others : List (List ℕ)) (at place : ℕ) → DamagedAt bytes payloads at → DamagedAt bytes others place → (payloads ≡ others) × (at ≡ place) }
     ensures ends { (bytes : List ℕ) (payloads : List (List ℕ)) → LogEnds bytes payloads → LogIs bytes payloads }
+{}
+
+/// Records that stand at the start of a log are its first ones.
+pub fn log_front()
+    ensures { (bytes rest : List ℕ) (payloads others : List (List ℕ)) → LogIs bytes payloads → AllByRecursion Fits others → bytes ≡ blocks others ++ rest → (more : List (List ℕ)) × (payloads ≡ others ++ more) }
 {}
 
 /// Any bytes are a log or damaged.
