@@ -1,9 +1,9 @@
 -- Which image the bytes of a file have.
 use Rattle.std.proofs.Common.{◌≡◌, ◌≢◌, ◌⊎◌, inl, inr, ℕ, ◌+◌, ◌-◌, ◌<◌, ◌≤◌, ◌^◌, List, [], ◌∷◌, ◌++◌, length, take, drop, refl, sym, ◌∙◌, ap, subst, append_assoc, length-append, arith}
 use Rattle.std.specs.Int.{w64, to_be_bytes, from_be_bytes}
-use Rattle.std.proofs.lemmas.List.{take_at, drop_at, take-append-drop}
+use Rattle.std.proofs.lemmas.List.{take_at, drop_at, take-append-drop, length-take}
 use Rattle.std.proofs.lemmas.Nat.{from_be_bytes-to_be_bytes_8}
-use Rattle.store_api.specs.Disk.{Standing, History, standing, reads, settled, now}
+use Rattle.store_api.specs.Disk.{Standing, Leaves, History, standing, reads, settled, now}
 use Rattle.store_api.specs.Runs.{Stands, Firm, GoesOn, EachImage}
 use Rattle.store_api.proofs.Standings.{firm_settled}
 use Rattle.store_api.proofs.Runs.{goes_standing, each_weaker}
@@ -13,7 +13,7 @@ use Rattle.db_image.specs.declared.mark.Mark.{Mark}
 use Rattle.db_image.specs.declared.mark.Mark.TheVariants.{Server, Backup}
 use Rattle.db_image.specs.declared.phase.Phase.{Phase}
 use Rattle.db_image.specs.declared.phase.Phase.TheVariants.{Begun, Written, Durable, Open, Failed}
-use Rattle.db_image.specs.Images.{mark_bytes, head_bytes, body_bytes, image_bytes, IsNumber, HasImage, IsWrong, DamagedAt, number_in, len_in}
+use Rattle.db_image.specs.Images.{mark_bytes, head_bytes, body_bytes, image_bytes, IsNumber, HasHead, HasImage, IsWrong, DamagedAt, number_in, len_in}
 use Rattle.db_image.specs.Steps.{Job, FirmShut, CanShut, UnderwayAs}
 use Rattle.db_image.proofs.Writing.{length-head_bytes}
 
@@ -128,3 +128,31 @@ module _ (theirs : ℕ → Type 0) (old new : History) (goes : GoesOn theirs old
       EachImage (now old) new (λ image. HasImage file mark (image file) number payload)
   image_since file number mark payload beside allowed small firm =
       each_weaker (now old) new _ _ (λ image stands. stands_image file number mark (image file) payload allowed small stands) (firm_since theirs old new file 0 (image_bytes mark number payload) beside goes firm)
+
+-- a head in front of as many bytes as it says is an image's
+pub head_image : (file number len : ℕ) (mark : Mark) (bytes : List ℕ) → HasHead file mark bytes number len → (payload : List ℕ) × HasImage file mark bytes number payload × (length payload ≡ len)
+head_image file number len mark bytes head =
+    let long : length (take len head.rest) ≡ len = omega (arith, length-take len head.rest, head.within) in (
+      take len head.rest,
+      record {
+        rest = drop len head.rest;
+        whole = head.whole ∙ ap (λ (l : List ℕ). 1 ∷ l) (
+            ap (λ (l : List ℕ). head_bytes mark number len ++ l) (sym (take-append-drop len head.rest)) ∙ sym (append_assoc (head_bytes mark number len) (take len head.rest) (drop len head.rest))
+            ∙ ap (λ n. (head_bytes mark number n ++ take len head.rest) ++ drop len head.rest) (sym long));
+        allowed = head.allowed;
+        small = omega (arith, long, head.small);
+      },
+      long,
+    )
+
+-- an open gate alone is no image
+not_one : (file number : ℕ) (mark : Mark) (payload : List ℕ) → HasImage file mark (1 ∷ []) number payload → ⊥
+not_one file number mark payload has =
+    let long = ap length (behind file number mark (1 ∷ []) payload has) in
+    absurd (omega (arith, long, length-head_bytes mark number (length payload), length-append (head_bytes mark number (length payload)) (payload ++ has.rest)))
+
+-- where each stop leaves a shut gate or an image, a gate that is shut is there to stay
+pub stays_shut : (file : ℕ) (mark : Mark) (bytes : List ℕ) → IsClosed bytes → ((left : List ℕ) → Leaves (settled bytes) left → IsClosed left ⊎ ((number : ℕ) × (payload : List ℕ) × HasImage file mark left number payload)) → FirmShut (settled bytes)
+unfolding settled
+stays_shut file mark [] closed each = absurd (elim (each (1 ∷ []) (record { long = omega arith; same = λ place lt not. absurd (omega (arith, lt)) })) [ inl shut ↦ shut refl | inr image ↦ not_one file image.0 mark image.1 image.2 ])
+stays_shut file mark (gate ∷ rest) closed each = record { gate = gate; closed = closed; firm = firm_settled (gate ∷ rest) 0 (gate ∷ []) (record { some = omega arith; same = refl }) }

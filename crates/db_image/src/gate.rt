@@ -13,7 +13,7 @@ const SHUT: [u8; 1] = [0];
 
 /// Shuts the gate and makes that durable, where it is open or the file is empty. A gate that is shut already is left as it
 /// is: until a sync a byte that was written over may be left as anything by a stop, and so as an open gate.
-pub(crate) fn shut_gate<S: Store>(store: &mut S, file: u32) -> Result<(), Failed>
+pub fn shut_gate<S: Store>(store: &mut S, file: u32) -> Result<(), Failed>
     requires { S.moment_of store.old + 3 ≤ 2 ^ 62 }
     ensures told { Told (S.told store.old) (S.told store.new) (Shut file result) }
     ensures time { S.moment_of store.new ≤ S.moment_of store.old + 3 }

@@ -1,11 +1,11 @@
 // What the definitions mean for the layers above, as laws. Each stands on a function that does nothing.
-ghost use Rattle.std.specs.Prelude.{◌≡◌, ◌≢◌, ℕ, ◌<◌, ◌^◌, Bool, IsTrue, List, length};
+ghost use Rattle.std.specs.Prelude.{◌≡◌, ◌≢◌, ◌⊎◌, ℕ, ◌<◌, ◌^◌, Bool, IsTrue, List, length};
 ghost use Rattle.store_api.specs.Disk.{History, Leaves, standing, settled, now, ImageAt};
 ghost use Rattle.store_api.specs.Runs.{Stands, Firm, GoesOn, EachImage};
 ghost use Rattle.log_file.specs.Blocks.{IsClosed};
 ghost use Rattle.db_image.specs.declared.mark.Mark.{Mark};
-ghost use Rattle.db_image.specs.Images.{image_bytes, IsNumber, HasImage, DamagedAt};
-ghost use Rattle.db_image.specs.Steps.{Job, CanShut, Underway};
+ghost use Rattle.db_image.specs.Images.{image_bytes, IsNumber, HasHead, HasImage, DamagedAt};
+ghost use Rattle.db_image.specs.Steps.{Job, FirmShut, CanShut, Underway};
 
 /// The bytes of a file begin with one image at most, and with none where the gate isn't open or they are damaged. They are
 /// damaged at one place at most, and then the gate is open.
@@ -32,6 +32,16 @@ pub fn image_stands()
 pub fn settled_files()
     ensures shut { (bytes : List ℕ) → CanShut (settled bytes) }
     ensures firm { (file number : ℕ) (mark : Mark) (bytes payload : List ℕ) → HasImage file mark bytes number payload → Firm (settled bytes) 0 (image_bytes mark number payload) }
+{}
+
+/// A head in front of as many bytes as it says is that of an image.
+pub fn head_of_image()
+    ensures { (file number len : ℕ) (mark : Mark) (bytes : List ℕ) → HasHead file mark bytes number len → (payload : List ℕ) × HasImage file mark bytes number payload × (length payload ≡ len) }
+{}
+
+/// Where all of a file is on the disk and its gate is shut, and each stop leaves a shut gate or an image, the gate is shut to stay.
+pub fn stays_shut()
+    ensures { (file : ℕ) (mark : Mark) (bytes : List ℕ) → IsClosed bytes → ((left : List ℕ) → Leaves (settled bytes) left → IsClosed left ⊎ ((number : ℕ) × (payload : List ℕ) × HasImage file mark left number payload)) → FirmShut (settled bytes) }
 {}
 
 /// A run on other files leaves an image as far as it was written, and each image since has one that is whole.

@@ -12,6 +12,7 @@ mod phase;
 mod reader;
 mod writer;
 
+pub use gate::shut_gate;
 pub use head::Head;
 pub use mark::Mark;
 pub use phase::{Phase, Progress};
