@@ -1,0 +1,131 @@
+-- A new image takes the place of the older one.
+use Rattle.std.proofs.Common.{◌≡◌, ◌⊎◌, ⊎_elim, inl, inr, ℕ, ◌+◌, List, [], Option, None, Some, Result, Ok, Err, refl, sym, subst, arith}
+use Rattle.store_api.specs.Disk.{History, standing, now, Leaves}
+use Rattle.store_api.specs.Runs.{GoesOn, EachImage}
+use Rattle.store_api.specs.Told.{Told}
+use Rattle.store_api.proofs.Runs.{goes_none, goes_weaker, goes_images, now_image}
+use Rattle.kinds.specs.declared.refusal.Refusal.{Refusal}
+use Rattle.log_file.specs.Blocks.{LogEnds}
+use Rattle.log_file.proofs.Logs.{sure_since, sure_left}
+use Rattle.db_image.specs.declared.mark.Mark.TheVariants.{Server}
+use Rattle.db_image.specs.Images.{HasImage}
+use Rattle.entries.specs.declared.entry.Entry.{Entry}
+use Rattle.database.specs.Meaning.{Meaning}
+use Rattle.vault.specs.Files.{image_file, log_file, IsOurs, IsOf}
+use Rattle.vault.specs.Recovery.{Older, Newest, records_of, after_all, RecoversWithin}
+use Rattle.vault.specs.Images.{IsImage, StaysOlder, Replaced}
+use Rattle.vault.specs.Vaults.{State, Holds, IsGood, at_next, IsFresh, Checkpointed}
+use Rattle.vault.proofs.Replacing.{can_shut}
+use Rattle.vault.proofs.Goodness.{image_ours, log_ours, image_log, image_next, log_next, image_again, image_left, image_beside, older_left, good_since}
+
+-- a generation's files are the vault's
+of_ours : (generation file : ℕ) → IsOf generation file → IsOurs file
+of_ours generation file (inl is) = subst IsOurs (sym is) (image_ours generation)
+of_ours generation file (inr is) = subst IsOurs (sym is) (log_ours generation)
+
+-- the newest image and its log aren't of the next generation
+pub image_apart : (generation : ℕ) → ¬ IsOf (generation + 1) (image_file generation)
+image_apart generation (inl is) = image_next generation is
+image_apart generation (inr is) = image_log generation (generation + 1) is
+
+log_apart : (generation : ℕ) → ¬ IsOf (generation + 1) (log_file generation)
+log_apart generation (inl is) = image_log (generation + 1) generation (sym is)
+log_apart generation (inr is) = log_next generation is
+
+module _ {D : Type 0} (m : Meaning D) (generation : ℕ) (base : D) (entries : List Entry) (end : ℕ) (d : D) (valid : m.Valid d) (payload : List ℕ) (spelled : payload ≡ m.spelled d) (old new : History) (holds : Holds m generation base entries end old) where
+  module _ {T E : Type 0} (result : Result T E) (replaced : Replaced (generation + 1) payload result old new) where
+    -- each image since recovers to what was there, or to what was put in its place
+    pub replaced_since : EachImage (now old) new (λ files. RecoversWithin m files (after_all m base entries) ⊎ RecoversWithin m files d)
+    replaced_since moment files from to here =
+        let stands : HasImage (image_file generation) Server (files (image_file generation)) generation (m.spelled base) =
+        image_left old (image_file generation) generation (m.spelled base) (files (image_file generation)) holds.image (goes_images (IsOf (generation + 1)) old new (image_file generation) (image_apart generation) replaced.goes moment files from to here) in
+        ⊎_elim
+        (λ older. inl (record {
+          generation = generation;
+          base = base;
+          entries = entries;
+          valid = holds.valid;
+          newest = record { stands = stands; other = older };
+          log = sure_since (IsOf (generation + 1)) old new (log_file generation) (records_of entries) end (log_apart generation) replaced.goes holds.log moment files from to here;
+          legal = holds.legal;
+          gives = refl;
+        }))
+        (λ begun. inr (record {
+          generation = generation + 1;
+          base = d;
+          entries = [];
+          valid = valid;
+          newest = record {
+            stands = subst (λ (p : List ℕ). HasImage (image_file (generation + 1)) Server (files (image_file (generation + 1))) (generation + 1) p) spelled begun.0;
+            other = subst (λ (n : ℕ). Older (generation + 1) n (files n)) (sym (image_again generation)) (inr (generation, m.spelled base, stands, omega arith));
+          };
+          log = begun.1;
+          legal = tt;
+          gives = refl;
+        }))
+        (replaced.since generation holds.other moment files from to here)
+
+    pub replaced_ours : GoesOn IsOurs old new
+    replaced_ours = goes_weaker (IsOf (generation + 1)) IsOurs old new (of_ours (generation + 1)) replaced.goes
+
+  -- the new image is there to stay
+  pub replaced_holds : {T E : Type 0} (log : T) → (let result : Result T E = Ok log in Replaced (generation + 1) payload result old new) → Holds m (generation + 1) d [] 0 new
+  replaced_holds log replaced =
+      let there = replaced.stands (can_shut generation (image_file (generation + 1)) old holds.other) in
+      record {
+        image = subst (λ (p : List ℕ). IsImage new (image_file (generation + 1)) (generation + 1) p) spelled there.0;
+        other = subst (λ (n : ℕ). StaysOlder (generation + 1) n new) (sym (image_again generation)) (inr (generation, m.spelled base, image_beside (IsOf (generation + 1)) old new replaced.goes (image_file generation) generation (m.spelled base) (image_apart generation) holds.image, omega arith));
+        log = there.1;
+        valid = valid;
+        legal = tt;
+      }
+
+-- an image of now is that database, with an empty log
+pub holds_fresh : {D : Type 0} (m : Meaning D) (generation : ℕ) (d : D) (h : History) → Holds m generation d [] 0 h → EachImage (now h) h (λ files. Newest files generation (m.spelled d) × LogEnds (files (log_file generation)) [])
+holds_fresh m generation d h holds moment files from to here =
+    let there = now_image h files (subst (λ k. Rattle.store_api.specs.Disk.ImageAt h k files) (let e : moment ≡ now h = omega (arith, from, to) in e) here) in (
+      record {
+        stands = image_left h (image_file generation) generation (m.spelled d) (files (image_file generation)) holds.image (there (image_file generation));
+        other = older_left generation (image_file (generation + 1)) h (files (image_file (generation + 1))) holds.other (there (image_file (generation + 1)));
+      },
+      sure_left h (log_file generation) [] 0 (files (log_file generation)) holds.log (there (log_file generation)),
+    )
+
+-- nothing was done
+same_vault : {D T E : Type 0} (m : Meaning D) (vault next : State D) (why : E) (h : History) → (let result : Result T E = Err why in Checkpointed m vault result next h h)
+same_vault m vault next why h = record { goes = goes_none IsOurs h; good = tt; fresh = tt; since = good_since m (λ file. ⊥) vault h h (λ file ours no. no) (goes_none (λ file. ⊥) h) }
+
+module _ {D : Type 0} (m : Meaning D) (vault : State D) (valid : m.Valid vault.database) where
+  module _ (payload : List ℕ) (spelled : payload ≡ m.spelled vault.database) (old new : History) where
+    since : {T E : Type 0} (result : Result T E) → Replaced (vault.generation + 1) payload result old new → IsGood m vault old → EachImage (now old) new (λ files. RecoversWithin m files vault.database)
+    since result replaced good moment files from to here =
+        ⊎_elim (λ before. subst (RecoversWithin m files) (sym good.gives) before) (λ after. after)
+        (replaced_since m vault.generation good.base good.entries vault.end vault.database valid payload spelled old new good.holds result replaced moment files from to here)
+
+    ours : {T E : Type 0} (result : Result T E) → Replaced (vault.generation + 1) payload result old new → GoesOn IsOurs old new
+    ours result replaced = goes_weaker (IsOf (vault.generation + 1)) IsOurs old new (of_ours (vault.generation + 1)) replaced.goes
+
+    pub not_made : {T E U F : Type 0} (next : State D) (failed : E) (why : F) → (let result : Result T E = Err failed in Replaced (vault.generation + 1) payload result old new) → (let result : Result U F = Err why in Checkpointed m vault result next old new)
+    not_made next failed why replaced = record { goes = ours (Err failed) replaced; good = tt; fresh = tt; since = since (Err failed) replaced }
+
+    pub is_made : {T E U F : Type 0} (next : State D) (log : T) (done : U) → next ≡ at_next vault → (let result : Result T E = Ok log in Replaced (vault.generation + 1) payload result old new) → (let result : Result U F = Ok done in Checkpointed m vault result next old new)
+    is_made next log done is replaced = record {
+      goes = ours (Ok log) replaced;
+      good = λ good. subst (λ (v : State D). IsGood m v new) (sym is) (record { base = vault.database; entries = []; holds = holds good; gives = refl });
+      fresh = λ good. subst (λ (v : State D). EachImage (now new) new (IsFresh m v)) (sym is) (holds_fresh m (vault.generation + 1) vault.database new (holds good));
+      since = since (Ok log) replaced;
+    }
+      where
+        holds : IsGood m vault old → Holds m (vault.generation + 1) vault.database [] 0 new
+        holds good = replaced_holds m vault.generation good.base good.entries vault.end vault.database valid payload spelled old new good.holds log replaced
+
+pub told_not : {D : Type 0} (x : Option History) (m : Meaning D) (vault next : State D) (why : Refusal) → Told x x (λ old new. let result : Result (Unit {0}) Refusal = Err why in Checkpointed m vault result next old new)
+told_not None m vault next why = tt
+told_not (Some h) m vault next why = same_vault m vault next why h
+
+-- the vault after a checkpoint, from its parts
+pub next_is : {D : Type 0} (generation end new_end : ℕ) (database : D) (journal : List Entry) (fault : Option (ℕ × ℕ)) (vault : State D)
+    → record { generation = generation; database = database; journal = journal; end = end; fault = fault } ≡ vault → new_end ≡ 0 → fault ≡ None
+    → record { generation = generation + 1; database = database; journal = journal; end = new_end; fault = fault } ≡ at_next vault
+next_is {D} generation end new_end database journal fault vault view ends none =
+    subst (λ (v : State D). record { generation = generation + 1; database = database; journal = journal; end = new_end; fault = fault } ≡ at_next v) view (rw (ends, none) refl)

@@ -1,0 +1,131 @@
+-- A database is put in the place of what files recover to.
+use Rattle.std.proofs.Common.{◌≡◌, ◌⊎◌, ⊎_elim, inl, inr, ℕ, ◌+◌, ◌<◌, ◌^◌, List, [], Option, None, Some, Result, Ok, Err, OnOk, sym, subst, arith}
+use Rattle.store_api.specs.Disk.{History, reads, standing, settled, now, ImageAt}
+use Rattle.store_api.specs.Runs.{GoesOn, EachImage, Firm}
+use Rattle.store_api.specs.Told.{Told}
+use Rattle.store_api.proofs.Runs.{goes_none, goes_then, goes_weaker, goes_later, each_then}
+use Rattle.store_api.proofs.Pieces.{image_reads}
+use Rattle.kinds.specs.declared.refusal.OpenRefused.{OpenRefused}
+use Rattle.kinds.specs.declared.refusal.OpenRefused.TheVariants.{NotFormatted, Damaged}
+use Rattle.db_image.specs.declared.mark.Mark.TheVariants.{Server}
+use Rattle.db_image.specs.Images.{image_bytes}
+use Rattle.db_image.specs.Steps.{CanShut}
+use Rattle.db_image.proofs.One.{can_shut, image_settled}
+use Rattle.database.specs.Meaning.{Meaning, IsMeaning}
+use Rattle.vault.specs.Files.{image_file, log_file, IsOurs, IsOf}
+use Rattle.vault.specs.Recovery.{records_of, Recovers, RecoversWithin}
+use Rattle.vault.specs.Images.{IsImage, StaysOlder, Replaced}
+use Rattle.vault.specs.Vaults.{State, IsGood}
+use Rattle.vault.specs.Openings.{IsSound, Calm, Opened, ImagesAre, Formatted, HadOne, PutBehind, Installed, SaysWhy}
+use Rattle.vault.proofs.Checkpointing.{replaced_since, image_apart}
+use Rattle.vault.proofs.Goodness.{image_again, image_beside, good_image, good_since}
+use Rattle.vault.proofs.Formatting.{of_ours, holds_images}
+use Rattle.vault.proofs.Sounding.{ends_log}
+use Rattle.vault.proofs.Unique.{is_formatted, not_damaged_there}
+
+module _ {D : Type 0} (m : Meaning D) (vault : State D) (d : D) where
+  -- nothing was done
+  pub none_put : {T E : Type 0} (why : E) (h : History) → (let result : Result T E = Err why in PutBehind m vault d result h h)
+  none_put why h = record { goes = goes_none IsOurs h; installed = tt; since = λ few good moment files from to here. inl (good_since m (λ file. ⊥) vault h h (λ file ours no. no) (goes_none (λ file. ⊥) h) good moment files from to here) }
+
+  -- it was behind the last generation
+  pub put_again : {T E : Type 0} (result : Result T E) (old new : History) → (vault.generation + 1 < 2 ^ 62 → ⊥) → Formatted m d result old new → PutBehind m vault d result old new
+  put_again (Ok done) old new last formatted = record { goes = formatted.goes; installed = λ start are. formatted.installed; since = λ few. absurd (last few) }
+  put_again (Err why) old new last formatted = record { goes = formatted.goes; installed = tt; since = λ few. absurd (last few) }
+
+  module _ (payload : List ℕ) (valid : m.Valid d) (spelled : payload ≡ m.spelled d) (old new : History) where
+    since : {U V : Type 0} (put : Result U V) → Replaced (vault.generation + 1) payload put old new → vault.generation + 1 < 2 ^ 62 → IsGood m vault old → EachImage (now old) new (λ files. RecoversWithin m files vault.database ⊎ RecoversWithin m files d)
+    since put replaced few good moment files from to here =
+        ⊎_elim (λ before. inl (subst (RecoversWithin m files) (sym good.gives) before)) (λ after. inr after)
+        (replaced_since m vault.generation good.base good.entries vault.end d valid payload spelled old new good.holds put replaced moment files from to here)
+
+    ours : {U V : Type 0} (put : Result U V) → Replaced (vault.generation + 1) payload put old new → GoesOn IsOurs old new
+    ours put replaced = goes_weaker (IsOf (vault.generation + 1)) IsOurs old new (of_ours (vault.generation + 1)) replaced.goes
+
+    pub not_put : {T E U V : Type 0} (why : E) (failed : V) → (let put : Result U V = Err failed in Replaced (vault.generation + 1) payload put old new) → (let result : Result T E = Err why in PutBehind m vault d result old new)
+    not_put why failed replaced = record { goes = ours (Err failed) replaced; installed = tt; since = since (Err failed) replaced }
+
+    pub is_put : {T E U V : Type 0} (done : T) (log : U) → (let put : Result U V = Ok log in Replaced (vault.generation + 1) payload put old new) → (let result : Result T E = Ok done in PutBehind m vault d result old new)
+    is_put done log replaced = record { goes = ours (Ok log) replaced; installed = installed; since = since (Ok log) replaced }
+      where
+        installed : (start : History) → ImagesAre vault.generation start old → EachImage (now new) new (λ files. RecoversWithin m files d)
+        installed start are =
+            let durable : (file : ℕ) → file < 2 → standing old file ≡ settled (reads start file) = are.durable in
+            let can : CanShut (standing old (image_file (vault.generation + 1))) = subst CanShut (sym (durable (image_file (vault.generation + 1)) (omega arith))) (can_shut (reads start (image_file (vault.generation + 1)))) in
+            let there = replaced.stands can in
+            let before : IsImage old (image_file vault.generation) vault.generation are.payload = record {
+              firm = subst (λ s. Firm s 0 (image_bytes Server vault.generation are.payload)) (sym (durable (image_file vault.generation) (omega arith))) (image_settled (image_file vault.generation) vault.generation Server (reads start (image_file vault.generation)) are.payload are.newest.stands);
+              allowed = are.newest.stands.allowed;
+              small = are.newest.stands.small;
+            } in
+            holds_images m (vault.generation + 1) d [] 0 new (record {
+              image = subst (λ (p : List ℕ). IsImage new (image_file (vault.generation + 1)) (vault.generation + 1) p) spelled there.0;
+              other = subst (λ (n : ℕ). StaysOlder (vault.generation + 1) n new) (sym (image_again vault.generation)) (inr (vault.generation, are.payload, image_beside (IsOf (vault.generation + 1)) old new replaced.goes (image_file vault.generation) vault.generation are.payload (image_apart vault.generation) before, omega arith));
+              log = there.1;
+              valid = valid;
+              legal = tt;
+            })
+
+module _ {D : Type 0} (m : Meaning D) (law : IsMeaning m) (d : D) (old mid new : History) where
+  -- while it was read each image was one of the start
+  had_one : (h : History) → Calm old h → IsSound m old → EachImage (now old) h (HadOne m old)
+  had_one h calm sound moment files from to here =
+      let start = calm.images moment files from to here in
+      let is = sound files start in
+      record { database = is.0; recovers = is.1; start = files; left = start; same = is.1 }
+
+  pub installed_behind : {T E : Type 0} (vault : State D) (result : Result T E) → (let opening : Result (State D) OpenRefused = Ok vault in Opened m opening old mid) → PutBehind m vault d result mid new → Installed m d result old new
+  installed_behind vault result opened put = record {
+    goes = goes_then IsOurs old mid new opened.calm.goes put.goes;
+    installed = on_ok result (λ f. f old opened.images) put.installed;
+    since = λ sound few.
+        each_then IsOurs old mid new (λ files. HadOne m old files ⊎ RecoversWithin m files d) put.goes (λ moment files from to here. inl (had_one mid opened.calm sound moment files from to here))
+        (λ moment files from to here. ⊎_elim
+        (λ before. inl (record {
+          database = vault.database;
+          recovers = before;
+          start = reads mid;
+          left = opened.calm.images (now mid) (reads mid) (goes_later IsOurs old mid opened.calm.goes) (omega arith) (image_reads mid);
+          same = good_image m vault mid (reads mid) (opened.good sound) (image_reads mid);
+        }))
+        (λ after. inr after)
+        (put.since (few vault.generation opened.images.payload opened.images.newest) (opened.good sound) moment files from to here));
+  }
+    where
+      on_ok : {T E : Type 0} (r : Result T E) {P Q : Type 0} → (P → Q) → OnOk r P → OnOk r Q
+      on_ok (Ok x) f p = f p
+      on_ok (Err e) f p = tt
+
+  pub installed_again : {T E : Type 0} (refusal : OpenRefused) (result : Result T E) → (((e : D) → Recovers m (reads old) e → SaysWhy m (reads old) refusal → ⊥)) → (let opening : Result (State D) OpenRefused = Err refusal in Opened m opening old mid) → Formatted m d result mid new → Installed m d result old new
+  installed_again refusal result none opened formatted = record {
+    goes = goes_then IsOurs old mid new opened.calm.goes formatted.goes;
+    installed = formatted.installed;
+    since = λ sound few. absurd (let is = sound (reads old) (image_reads old) in
+        none is.0 (record { generation = is.1.generation; base = is.1.base; entries = is.1.entries; valid = is.1.valid; newest = is.1.newest; log = ends_log (reads old (log_file is.1.generation)) (records_of is.1.entries) is.1.log; legal = is.1.legal; gives = is.1.gives }) opened.says);
+  }
+
+  pub not_formatted : (e : D) → Recovers m (reads old) e → SaysWhy m (reads old) NotFormatted → ⊥
+  not_formatted e recovers says = is_formatted m law (reads old) e recovers says
+
+  pub not_damaged : (file at : ℕ) (e : D) → Recovers m (reads old) e → SaysWhy m (reads old) (Damaged file at) → ⊥
+  not_damaged file at e recovers says = not_damaged_there m law (reads old) e recovers file at says
+
+-- the files couldn't be read
+pub not_read : {D T E : Type 0} (m : Meaning D) (d : D) (why : E) (refusal : OpenRefused) (old new : History) → (let opening : Result (State D) OpenRefused = Err refusal in Opened m opening old new) → (let result : Result T E = Err why in Installed m d result old new)
+not_read m d why refusal old new opened = record {
+  goes = opened.calm.goes;
+  installed = tt;
+  since = λ sound few moment files from to here. (let start = opened.calm.images moment files from to here in let is = sound files start in inl (record { database = is.0; recovers = is.1; start = files; left = start; same = is.1 }));
+}
+
+pub told_none_put : {D : Type 0} (x : Option History) (m : Meaning D) (vault : State D) (d : D) (why : OpenRefused) → Told x x (λ old new. let result : Result (Unit {0}) OpenRefused = Err why in PutBehind m vault d result old new)
+told_none_put None m vault d why = tt
+told_none_put (Some h) m vault d why = none_put m vault d why h
+
+pub told_not_read : {D : Type 0} (x : Option History) (m : Meaning D) (d : D) (why : OpenRefused) → Told x x (λ old new. let result : Result (Unit {0}) OpenRefused = Err why in Installed m d result old new)
+told_not_read None m d why = tt
+told_not_read (Some h) m d why = record {
+  goes = goes_none IsOurs h;
+  installed = tt;
+  since = λ sound few moment files from to here. (let start = subst (λ (k : ℕ). ImageAt h k files) (let e : moment ≡ now h = omega (arith, from, to) in e) here in let is = sound files start in inl (record { database = is.0; recovers = is.1; start = files; left = start; same = is.1 }));
+}

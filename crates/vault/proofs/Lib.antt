@@ -1,0 +1,13 @@
+mod Calming
+mod Checkpointing
+mod Committing
+mod Finding
+mod Formatting
+mod Goodness
+mod Installing
+mod Replacing
+mod Replaying
+mod Sounding
+mod Telling
+mod Unique
+mod Writing

@@ -1,0 +1,5 @@
+pub mod Files
+pub mod Recovery
+pub mod Images
+pub mod Vaults
+pub mod Openings

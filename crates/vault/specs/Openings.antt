@@ -1,0 +1,195 @@
+-- What opening finds and does, and what formatting does.
+use Rattle.std.specs.Prelude.{◌≡◌, ◌⊎◌, ℕ, ◌+◌, ◌-◌, ◌<◌, ◌≤◌, ◌^◌, nat_lt, if◌then◌else◌, Bool, true, false, List, length, Option, None, Some, Result, Ok, Err, OnOk, IfOk, IfErr}
+use Rattle.store_api.specs.Cause.{Rose}
+use Rattle.store_api.specs.Disk.{History, standing, reads, now, settled, ImageAt}
+use Rattle.store_api.specs.Runs.{GoesOn, EachImage}
+use Rattle.kinds.specs.declared.refusal.OpenRefused.{OpenRefused}
+use Rattle.kinds.specs.declared.refusal.OpenRefused.TheVariants as refused
+use Rattle.log_file.specs.Blocks.{blocks, LogIs, LogEnds}
+use Rattle.log_file.specs.Starts.{KeepsLeft}
+use Rattle.log_file.specs.Sure.{IsSure}
+use Rattle.log_file.specs.Sure as log
+use Rattle.db_image.specs.declared.mark.Mark.TheVariants.{Server}
+use Rattle.db_image.specs.Images as image
+use Rattle.db_image.specs.Steps.{FirmShut}
+use Rattle.entries.specs.declared.entry.Entry.{Entry}
+use Rattle.entries.specs.EntryForm as entry
+use Rattle.database.specs.Meaning.{Meaning, IsLegal, Spells}
+use Rattle.vault.specs.Files.{image_file, IsOurs}
+use Rattle.vault.specs.Recovery.{Newest, Headed, NotFormatted, IsDamaged, IsForeign, IsRefused, LogDamaged, Recovers, RecoversWithin, records_of, after_all, AllLegal}
+use Rattle.vault.specs.Vaults.{State, IsGood}
+
+-- The store is sound: each image of now recovers to a database, and the gate that ends its log lies within its file.
+abbrev pub IsSound : {D : Type 0} → Meaning D → History → Type 0
+IsSound {D} m h = (files : ℕ → List ℕ) → ImageAt h (now h) files → (d : D) × RecoversWithin m files d
+
+-- Calls that change nothing that is read, and after which a stop leaves no more than it might have before.
+pub record Calm (old new : History) : Type 0 where
+  pub goes : GoesOn IsOurs old new
+  pub same : (file : ℕ) → reads new file ≡ reads old file
+  pub images : EachImage (now old) new (λ files. ImageAt old (now old) files)
+
+-- the files below this one were made durable
+pub record SettledBelow (count : ℕ) (old new : History) : Type 0 where
+  pub calm : Calm old new
+  pub durable : (file : ℕ) → file < count → standing new file ≡ settled (reads old file)
+
+-- All files of the vault were made durable, or that failed.
+pub record SettledAll {T E : Type 0} (result : Result T E) (old new : History) : Type 0 where
+  pub calm : Calm old new
+  pub durable : OnOk result ((file : ℕ) → IsOurs file → standing new file ≡ settled (reads old file))
+
+-- a refusal that doesn't speak of the files' bytes
+abbrev pub SaysNothing : OpenRefused → Type 0
+SaysNothing (refused.Damaged file at) = ⊥
+SaysNothing refused.NotFormatted = ⊥
+SaysNothing (refused.ReadFault file) = Unit {0}
+SaysNothing refused.RunFull = Unit {0}
+SaysNothing refused.Memory = Unit {0}
+
+-- of two generations of which each may be there, the greater
+abbrev pub greater : Option ℕ → Option ℕ → Option ℕ
+greater None second = second
+greater (Some first) None = Some first
+greater (Some first) (Some second) = Some (if nat_lt first second then second else first)
+
+-- The heads of the images are damaged, and the first finding is this one.
+abbrev pub HeadsDamaged : (ℕ → List ℕ) → ℕ → ℕ → Type 0
+HeadsDamaged files file at = ((file ≡ 0) × image.DamagedAt 0 Server (files 0) at) ⊎ ((file ≡ 1) × Headed 0 (files 0) × image.DamagedAt 1 Server (files 1) at)
+
+-- why there is no newest image
+abbrev pub HeadsRefused : (ℕ → List ℕ) → OpenRefused → Type 0
+HeadsRefused files (refused.Damaged file at) = HeadsDamaged files file at
+HeadsRefused files refused.NotFormatted = NotFormatted files
+HeadsRefused files (refused.ReadFault file) = Unit {0}
+HeadsRefused files refused.RunFull = Unit {0}
+HeadsRefused files refused.Memory = Unit {0}
+
+-- which image is the newest
+abbrev pub FindsNewest : (ℕ → List ℕ) → Result ℕ OpenRefused → Type 0
+FindsNewest files (Ok generation) = (payload : List ℕ) × Newest files generation payload
+FindsNewest files (Err refusal) = HeadsRefused files refusal
+
+-- why a payload gives no database
+abbrev pub BaseRefused : {D : Type 0} → Meaning D → ℕ → List ℕ → OpenRefused → Type 0
+BaseRefused m generation payload (refused.Damaged file at) = (file ≡ image_file generation) × (at ≡ 24) × IsForeign m payload
+BaseRefused m generation payload refused.NotFormatted = ⊥
+BaseRefused m generation payload (refused.ReadFault file) = Unit {0}
+BaseRefused m generation payload refused.RunFull = Unit {0}
+BaseRefused m generation payload refused.Memory = Unit {0}
+
+-- which database a payload is the spelling of
+abbrev pub FindsBase : {D : Type 0} → Meaning D → ℕ → List ℕ → Result D OpenRefused → Type 0
+FindsBase m generation payload (Ok d) = Spells m payload d
+FindsBase m generation payload (Err refusal) = BaseRefused m generation payload refusal
+
+-- an entry was applied, or it isn't legal
+abbrev pub AppliesEntry : {D : Type 0} → Meaning D → Entry → D → D → Bool → Type 0
+AppliesEntry m e old new true = IsLegal m old e × (new ≡ m.after old e)
+AppliesEntry m e old new false = IsLegal m old e → ⊥
+
+-- a record was applied, or it is no entry that is legal there
+abbrev pub Applies : {D : Type 0} → Meaning D → List ℕ → D → D → Bool → Type 0
+Applies m payload old new true = (e : Entry) × entry.Spells payload e × IsLegal m old e × (new ≡ m.after old e)
+Applies m payload old new false = IsRefused m old payload
+
+-- a refusal that says that a base's log is damaged says where
+abbrev pub LogRefused : {D : Type 0} → Meaning D → D → ℕ → List ℕ → OpenRefused → Type 0
+LogRefused m base file bytes (refused.Damaged which at) = (which ≡ file) × LogDamaged m base bytes at
+LogRefused m base file bytes refused.NotFormatted = ⊥
+LogRefused m base file bytes (refused.ReadFault which) = Unit {0}
+LogRefused m base file bytes refused.RunFull = Unit {0}
+LogRefused m base file bytes refused.Memory = Unit {0}
+
+-- the log has these entries, legal one after another on the base, and this is the database after them
+pub record Replays {D : Type 0} (m : Meaning D) (base : D) (bytes : List ℕ) (d : D) (end : ℕ) : Type 0 where
+  pub entries : List Entry
+  pub log : LogIs bytes (records_of entries)
+  pub legal : AllLegal m base entries
+  pub gives : d ≡ after_all m base entries
+  pub is_end : end ≡ length (blocks (records_of entries))
+
+-- A log was made durable and its entries were applied. Nothing that is read changed.
+pub record Replayed {D : Type 0} (m : Meaning D) (base : D) (file : ℕ) (result : Result log.State OpenRefused) (d : D) (old new : History) : Type 0 where
+  pub goes : GoesOn (λ other. other ≡ file) old new
+  pub same : reads new file ≡ reads old file
+  pub left : KeepsLeft file old new
+  pub replays : IfOk result (λ log. Replays m base (reads old file) d log.end)
+  pub sure : OnOk result ((payloads : List (List ℕ)) → LogEnds (reads old file) payloads → IsSure new file payloads (length (blocks payloads)))
+  pub damaged : IfErr result (LogRefused m base file (reads old file))
+
+-- a refusal that says that the files are damaged or not formatted is right
+abbrev pub SaysWhy : {D : Type 0} → Meaning D → (ℕ → List ℕ) → OpenRefused → Type 0
+SaysWhy m files (refused.Damaged file at) = IsDamaged m files file at
+SaysWhy m files refused.NotFormatted = NotFormatted files
+SaysWhy m files (refused.ReadFault file) = Unit {0}
+SaysWhy m files refused.RunFull = Unit {0}
+SaysWhy m files refused.Memory = Unit {0}
+
+-- The newest image is of this generation, and both images' files are on the disk.
+pub record ImagesAre (generation : ℕ) (old new : History) : Type 0 where
+  pub payload : List ℕ
+  pub newest : Newest (reads old) generation payload
+  pub durable : (file : ℕ) → file < 2 → standing new file ≡ settled (reads old file)
+
+-- The vault was opened. Nothing that is read changed, and each image since is one that a stop might have left at the start. On Ok the
+-- files recover to the vault's database; what refuses as not formatted or damaged says what they are. Over a sound store no stop
+-- takes anything of the vault away.
+pub record Opened {D : Type 0} (m : Meaning D) (result : Result (State D) OpenRefused) (old new : History) : Type 0 where
+  pub calm : Calm old new
+  pub recovers : IfOk result (λ vault. Recovers m (reads old) vault.database)
+  pub images : IfOk result (λ vault. ImagesAre vault.generation old new)
+  pub says : IfErr result (SaysWhy m (reads old))
+  pub good : IsSound m old → IfOk result (λ vault. IsGood m vault new)
+
+-- Why opening was refused: a call on a file of the vault failed, the moment is all but the last, the files, or want of memory.
+abbrev pub MayRefuseOpening : (before after : ℕ → ℕ) (moment : ℕ) → OpenRefused → Type 0
+MayRefuseOpening before after moment (refused.ReadFault file) = IsOurs file × Rose (before file) (after file)
+MayRefuseOpening before after moment refused.NotFormatted = Unit {0}
+MayRefuseOpening before after moment (refused.Damaged file at) = IsOurs file
+MayRefuseOpening before after moment refused.RunFull = 2 ^ 62 - 2 ^ 24 ≤ moment
+MayRefuseOpening before after moment refused.Memory = Unit {0}
+
+-- Both images' gates were shut and both logs were begun, the files being on the disk. On Ok no stop opens a gate.
+pub record Cleared {T E : Type 0} (result : Result T E) (old new : History) : Type 0 where
+  pub goes : GoesOn IsOurs old new
+  pub shut : OnOk result (((file : ℕ) → file < 2 → standing old file ≡ settled (reads old file)) → FirmShut (standing new 0) × FirmShut (standing new 1))
+
+-- The database was put into the files. On Ok each image of now recovers to it, and the newest image is the database, with an empty log.
+pub record Formatted {D T E : Type 0} (m : Meaning D) (d : D) (result : Result T E) (old new : History) : Type 0 where
+  pub goes : GoesOn IsOurs old new
+  pub installed : OnOk result (EachImage (now new) new (λ files. RecoversWithin m files d))
+
+-- the files recover to a database to which those that a stop might have left then recover, too
+pub record HadOne {D : Type 0} (m : Meaning D) (old : History) (files : ℕ → List ℕ) : Type 0 where
+  pub database : D
+  pub recovers : RecoversWithin m files database
+  pub start : ℕ → List ℕ
+  pub left : ImageAt old (now old) start
+  pub same : RecoversWithin m start database
+
+-- A database was put into the files of a vault, whose images are on the disk, as its next generation. Where the vault was good and its
+-- generation isn't the last, each image since recovers to what it did, or to that database.
+pub record PutBehind {D T E : Type 0} (m : Meaning D) (vault : State D) (d : D) (result : Result T E) (old new : History) : Type 0 where
+  pub goes : GoesOn IsOurs old new
+  pub installed : OnOk result ((start : History) → ImagesAre vault.generation start old → EachImage (now new) new (λ files. RecoversWithin m files d))
+  pub since : vault.generation + 1 < 2 ^ 62 → IsGood m vault old → EachImage (now old) new (λ files. RecoversWithin m files vault.database ⊎ RecoversWithin m files d)
+
+-- no newest image is of the last generation
+abbrev pub NotLast : (ℕ → List ℕ) → Type 0
+NotLast files = (generation : ℕ) (payload : List ℕ) → Newest files generation payload → generation + 1 < 2 ^ 62
+
+-- The same, over a store that may be in use. Where it is sound, and its newest image not of the last generation, each image since recovers to a database that one had at the start, or to
+-- the one that is put in its place.
+pub record Installed {D T E : Type 0} (m : Meaning D) (d : D) (result : Result T E) (old new : History) : Type 0 where
+  pub goes : GoesOn IsOurs old new
+  pub installed : OnOk result (EachImage (now new) new (λ files. RecoversWithin m files d))
+  pub since : IsSound m old → NotLast (reads old) → EachImage (now old) new (λ files. HadOne m old files ⊎ RecoversWithin m files d)
+
+-- Why no database was put into the files: a call on a file of the vault failed, the moment is all but the last, or want of memory.
+abbrev pub MayRefuseFormatting : (before after : ℕ → ℕ) (moment : ℕ) → OpenRefused → Type 0
+MayRefuseFormatting before after moment (refused.ReadFault file) = IsOurs file × Rose (before file) (after file)
+MayRefuseFormatting before after moment refused.NotFormatted = ⊥
+MayRefuseFormatting before after moment (refused.Damaged file at) = ⊥
+MayRefuseFormatting before after moment refused.RunFull = 2 ^ 62 - 2 ^ 24 ≤ moment
+MayRefuseFormatting before after moment refused.Memory = Unit {0}

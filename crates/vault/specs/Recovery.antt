@@ -1,0 +1,105 @@
+-- What whole files recover to. Lists of entries stand newest first.
+use Rattle.std.specs.Prelude.{◌≡◌, ◌⊎◌, ℕ, ◌+◌, ◌<◌, List, [], ◌∷◌, ◌++◌, length}
+use Rattle.std.specs.List.{AllByRecursion}
+use Rattle.log_file.specs.Blocks.{Fits, blocks, IsClosed, LogIs, LogEnds}
+use Rattle.log_file.specs.Blocks as log
+use Rattle.db_image.specs.Images as image
+use Rattle.db_image.specs.declared.mark.Mark.TheVariants.{Server}
+use Rattle.db_image.specs.Images.{HasImage}
+use Rattle.entries.specs.declared.entry.Entry.{Entry}
+use Rattle.entries.specs.EntryForm.{entry, Spells}
+use Rattle.database.specs.Meaning.{Meaning, IsLegal}
+use Rattle.database.specs.Meaning as database
+use Rattle.vault.specs.Files.{image_file, log_file}
+
+-- No image with an open gate is in the file, or one of an older generation.
+abbrev pub Older : ℕ → ℕ → List ℕ → Type 0
+Older generation file bytes = IsClosed bytes ⊎ ((older : ℕ) × (payload : List ℕ) × HasImage file Server bytes older payload × (older < generation))
+
+-- Of the images with an open gate, the one of this generation and payload has the greater generation.
+pub record Newest (files : ℕ → List ℕ) (generation : ℕ) (payload : List ℕ) : Type 0 where
+  pub stands : HasImage (image_file generation) Server (files (image_file generation)) generation payload
+  pub other : Older generation (image_file (generation + 1)) (files (image_file (generation + 1)))
+
+-- the records of entries, in the order in which they stand in the log
+abbrev pub records_of : List Entry → List (List ℕ)
+records_of [] = []
+records_of (newest ∷ earlier) = records_of earlier ++ entry.spell newest ∷ []
+
+-- the database after entries
+abbrev pub after_all : {D : Type 0} → Meaning D → D → List Entry → D
+after_all m base [] = base
+after_all m base (newest ∷ earlier) = m.after (after_all m base earlier) newest
+
+-- Each entry is legal where it stands, and has a spelling.
+abbrev pub AllLegal : {D : Type 0} → Meaning D → D → List Entry → Type 0
+AllLegal m base [] = Unit {0}
+AllLegal m base (newest ∷ earlier) = entry.Fits newest × IsLegal m (after_all m base earlier) newest × AllLegal m base earlier
+
+-- The files recover to this database. The payload of the newest image is the spelling of a database; its log has entries
+-- that are legal one after another; and this is the database after them. `HasLog` says what it is to be a log of records.
+pub record RecoversBy {D : Type 0} (m : Meaning D) (HasLog : List ℕ → List (List ℕ) → Type 0) (files : ℕ → List ℕ) (d : D) : Type 0 where
+  pub generation : ℕ
+  pub base : D
+  pub entries : List Entry
+  pub valid : m.Valid base
+  pub newest : Newest files generation (m.spelled base)
+  pub log : HasLog (files (log_file generation)) (records_of entries)
+  pub legal : AllLegal m base entries
+  pub gives : d ≡ after_all m base entries
+
+-- The log ends at the first gate that isn't open, or at the file's end.
+abbrev pub Recovers : {D : Type 0} → Meaning D → (ℕ → List ℕ) → D → Type 0
+Recovers m files d = RecoversBy m LogIs files d
+
+-- The same, and the gate that ends the log lies within its file.
+abbrev pub RecoversWithin : {D : Type 0} → Meaning D → (ℕ → List ℕ) → D → Type 0
+RecoversWithin m files d = RecoversBy m LogEnds files d
+
+-- No image has an open gate.
+abbrev pub NotFormatted : (ℕ → List ℕ) → Type 0
+NotFormatted files = IsClosed (files 0) × IsClosed (files 1)
+
+-- no damage is in front of the payload of the file's image
+abbrev pub Headed : ℕ → List ℕ → Type 0
+Headed file bytes = IsClosed bytes ⊎ ((number : ℕ) × (payload : List ℕ) × HasImage file Server bytes number payload)
+
+-- the payload is no database's
+abbrev pub IsForeign : {D : Type 0} → Meaning D → List ℕ → Type 0
+IsForeign {D} m payload = (d : D) → database.Spells m payload d → ⊥
+
+-- the record is no entry that is legal on the database
+abbrev pub IsRefused : {D : Type 0} → Meaning D → D → List ℕ → Type 0
+IsRefused m d payload = (e : Entry) → Spells payload e → IsLegal m d e → ⊥
+
+-- Behind these entries stands a record that is no entry, or isn't legal there. The place is behind its gate and length.
+pub record RefusedAt {D : Type 0} (m : Meaning D) (base : D) (bytes : List ℕ) (entries : List Entry) (at : ℕ) : Type 0 where
+  pub payload : List ℕ
+  pub rest : List ℕ
+  pub whole : bytes ≡ blocks (records_of entries ++ payload ∷ []) ++ rest
+  pub fits : AllByRecursion Fits (records_of entries ++ payload ∷ [])
+  pub refused : IsRefused m (after_all m base entries) payload
+  pub place : at ≡ length (blocks (records_of entries)) + 5
+
+-- the first damage of the log of a base, behind entries that are legal
+pub record LogDamaged {D : Type 0} (m : Meaning D) (base : D) (bytes : List ℕ) (at : ℕ) : Type 0 where
+  pub entries : List Entry
+  pub legal : AllLegal m base entries
+  pub damage : log.DamagedAt bytes (records_of entries) at ⊎ RefusedAt m base bytes entries at
+
+-- the newest image's payload is a database's, and its log is damaged
+pub record DamagedBehind {D : Type 0} (m : Meaning D) (files : ℕ → List ℕ) (file at : ℕ) : Type 0 where
+  pub generation : ℕ
+  pub base : D
+  pub valid : m.Valid base
+  pub newest : Newest files generation (m.spelled base)
+  pub is_log : file ≡ log_file generation
+  pub damage : LogDamaged m base (files file) at
+
+-- The files are damaged, and the first finding is this one: the head of image 0, the head of image 1, the payload of the newest
+-- image, or its log.
+abbrev pub IsDamaged : {D : Type 0} → Meaning D → (ℕ → List ℕ) → ℕ → ℕ → Type 0
+IsDamaged m files file at = ((file ≡ 0) × image.DamagedAt 0 Server (files 0) at)
+    ⊎ (((file ≡ 1) × Headed 0 (files 0) × image.DamagedAt 1 Server (files 1) at)
+    ⊎ (((generation : ℕ) × (payload : List ℕ) × Newest files generation payload × IsForeign m payload × (file ≡ image_file generation) × (at ≡ 24))
+    ⊎ DamagedBehind m files file at))

@@ -1,0 +1,28 @@
+// What the definitions mean for the layers above, as laws. Each stands on a function that does nothing.
+ghost use Rattle.std.specs.Prelude.{◌≡◌, ℕ, ◌≤◌, Bool, IsTrue, List};
+ghost use Rattle.store_api.specs.Disk.{History, now, ImageAt};
+ghost use Rattle.store_api.specs.Runs.{GoesOn, EachImage};
+ghost use Rattle.vault.specs.Recovery.{NotFormatted, IsDamaged, Recovers, RecoversWithin};
+ghost use Rattle.vault.specs.Vaults.{State, IsGood};
+
+use database::Database;
+
+/// Whatever a stop right now leaves of a good vault's files recovers to its database.
+pub fn good_is_left<D: Database>()
+    ensures { (vault : State D) (h : History) (files : ℕ → List ℕ) → IsGood D.meaning vault h → ImageAt h (now h) files → RecoversWithin D.meaning files vault.database }
+{}
+
+/// A run on files from 4 on keeps a vault good, and each image since recovers to its database.
+pub fn other_files<D: Database>()
+    ensures good { (theirs : ℕ → Bool) (vault : State D) (old new : History) → ((file : ℕ) → IsTrue (theirs file) → 4 ≤ file) → GoesOn (λ f. IsTrue (theirs f)) old new →
+        IsGood D.meaning vault old → IsGood D.meaning vault new }
+    ensures images { (theirs : ℕ → Bool) (vault : State D) (old new : History) → ((file : ℕ) → IsTrue (theirs file) → 4 ≤ file) → GoesOn (λ f. IsTrue (theirs f)) old new →
+        IsGood D.meaning vault old → EachImage (now old) new (λ files. RecoversWithin D.meaning files vault.database) }
+{}
+
+/// Files recover to one database at most, and to none where they aren't formatted or are damaged.
+pub fn one_recovery<D: Database>()
+    ensures one { (files : ℕ → List ℕ) (d other : D) → Recovers D.meaning files d → Recovers D.meaning files other → d ≡ other }
+    ensures formatted { (files : ℕ → List ℕ) (d : D) → Recovers D.meaning files d → NotFormatted files → ⊥ }
+    ensures damaged { (files : ℕ → List ℕ) (d : D) (file at : ℕ) → Recovers D.meaning files d → IsDamaged D.meaning files file at → ⊥ }
+{}

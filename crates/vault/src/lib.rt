@@ -1,0 +1,16 @@
+//! The vault: a database whose transactions are durable.
+//!
+//! It keeps two images of the database and a log beside each. A transaction is appended to the log of the newest image; a
+//! checkpoint writes the next image and begins its log empty. Wherever the machine stops, what is left recovers to the
+//! database with every transaction that was acknowledged, and at most one more.
+#![tactic(auto)]
+
+mod files;
+mod format;
+pub mod laws;
+mod open;
+mod record;
+mod vault;
+mod write;
+
+pub use vault::Vault;
