@@ -175,14 +175,20 @@ abbrev pub lies_there : ℕ → Option CopyRow → Bool
 lies_there file None = false
 lies_there file (Some copy) = lies_on file copy
 
--- a copy goes from a volume where it lies, while another copy stays
-abbrev pub dropped_refused : Journal → DropReason → Inv → DroppedCopy → List Refusal
-dropped_refused j reason v item =
-    of_version j item.object (λ w.
-    copy_refused j item.object item.pool item.placed w
-    ++ (unless (lies_there (file_of reason) (copy_in item.pool w)) refusal.NotFound
+-- the copy that is named goes from a volume where it lies, while another copy stays
+abbrev pub named_drop_refused : DropReason → Inv → DroppedCopy → Version → List Refusal
+named_drop_refused reason v item w =
+    unless (lies_there (file_of reason) (copy_in item.pool w)) refusal.NotFound
     ++ (unless (nat_le 2 (length w.copies)) (refusal.InUse (by.Object item.object))
-    ++ drop_reason_refused reason item.pool w.digest item.found v))) (version item.object v)
+    ++ drop_reason_refused reason item.pool w.digest item.found v)
+
+-- where the pool holds another copy, or none, nothing else is asked
+abbrev pub version_drop_refused : Journal → DropReason → Inv → DroppedCopy → Version → List Refusal
+version_drop_refused j reason v item w =
+    if placed_by item.placed (copy_in item.pool w) then named_drop_refused reason v item w else stale_copy (j.copy_changed item.object item.pool) (copy_in item.pool w) ∷ []
+
+abbrev pub dropped_refused : Journal → DropReason → Inv → DroppedCopy → List Refusal
+dropped_refused j reason v item = of_version j item.object (version_drop_refused j reason v item) (version item.object v)
 
 abbrev pub drop_refused : Journal → DropReason → List DroppedCopy → Inv → List Refusal
 drop_refused j reason items v = unless (name_once (map (λ i. i.object) items)) bad_value ++ flat_map (dropped_refused j reason v) items

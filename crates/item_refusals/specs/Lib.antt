@@ -1,5 +1,4 @@
 pub mod Drawn
-pub mod Dropping
 pub mod Placing
 pub mod Retaining
 pub mod Room

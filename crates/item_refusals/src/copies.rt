@@ -26,7 +26,8 @@ pub(crate) fn copy_in<'a>(pool: u32, version: &'a Version) -> Option<&'a CopyRow
         .find(|copy| copy.pool == pool)
 }
 
-fn placed_by(placed: u64, copy: Option<&CopyRow>) -> bool
+/// Whether the copy is there and was placed by this transaction.
+pub(crate) fn placed_by(placed: u64, copy: Option<&CopyRow>) -> bool
     ensures { result ≡ placed_by placed (option_copied copy.entry) }
 {
     match copy {
@@ -36,7 +37,7 @@ fn placed_by(placed: u64, copy: Option<&CopyRow>) -> bool
 }
 
 /// A copy is not as it was named: this transaction changed it; or the pool holds another one, which that transaction placed; or none.
-fn stale_copy(changed: Option<u64>, copy: Option<&CopyRow>) -> Refusal
+pub(crate) fn stale_copy(changed: Option<u64>, copy: Option<&CopyRow>) -> Refusal
     ensures { result ≡ stale_copy changed (option_copied copy.entry) }
 {
     match (changed, copy) {

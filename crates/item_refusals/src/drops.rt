@@ -6,11 +6,10 @@ ghost use Rattle.kinds.specs.Refusals.{foremost};
 ghost use Rattle.kinds.specs.declared.refusal.Refusal.TheVariants.{NotFound};
 ghost use Rattle.inventory_rows.specs.Search.{copy_in};
 ghost use Rattle.inventory_rows.specs.State.{inv_of};
-ghost use Rattle.inventory_rules.specs.RefusedData.{unless, in_use, file_of, drop_reason_refused, lies_there, dropped_refused, drop_refused};
-ghost use Rattle.item_refusals.specs.Dropping.{version_refused};
+ghost use Rattle.inventory_rules.specs.RefusedData.{unless, in_use, file_of, drop_reason_refused, lies_there, named_drop_refused, version_drop_refused, dropped_refused, drop_refused};
 
 use crate::causes::{bad_value, gone_or_unknown, once, unless};
-use crate::copies::{copy_in, copy_refusal};
+use crate::copies::{copy_in, placed_by, stale_copy};
 use crate::discards::{in_use, lies_on};
 use crate::past::Past;
 use crate::primary::is_primary;
@@ -56,8 +55,24 @@ fn lies_there(file: u32, copy: Option<&CopyRow>) -> bool
     }
 }
 
-/// A copy of this version doesn't go.
+/// The copy of this version that is named doesn't go.
 #[tactic(auto, using(crate::proofs::Foremost::foremost_append))]
+fn named_refusal(
+    tables: &Tables,
+    reason: DropReason,
+    item: &DroppedCopy,
+    version: &Version,
+) -> Option<Refusal>
+    ensures { result ≡ foremost (named_drop_refused reason (inv_of tables.now) item.now version.now) }
+{
+    let lies = lies_there(file_of(reason), copy_in(item.pool, version));
+    let there = unless(lies, Refusal::NotFound);
+    let others = unless(version.copies.as_slice().len() >= 2, in_use(item.object));
+    let held = reason_refusal(tables, reason, item.pool, version.digest, item.found);
+    sooner_of(there, sooner_of(others, held))
+}
+
+/// A copy of this version doesn't go.
 fn version_refusal<J: Past>(
     past: &J,
     tables: &Tables,
@@ -65,14 +80,14 @@ fn version_refusal<J: Past>(
     item: &DroppedCopy,
     version: &Version,
 ) -> Option<Refusal>
-    ensures { result ≡ foremost (version_refused (J.journal past.now) reason (inv_of tables.now) item.now version.now) }
+    ensures { result ≡ foremost (version_drop_refused (J.journal past.now) reason (inv_of tables.now) item.now version.now) }
 {
-    let copy = copy_refusal(past, item.object, item.pool, item.placed, version);
-    let lies = lies_there(file_of(reason), copy_in(item.pool, version));
-    let there = unless(lies, Refusal::NotFound);
-    let others = unless(version.copies.as_slice().len() >= 2, in_use(item.object));
-    let held = reason_refusal(tables, reason, item.pool, version.digest, item.found);
-    sooner_of(copy, sooner_of(there, sooner_of(others, held)))
+    let copy = copy_in(item.pool, version);
+    if placed_by(item.placed, copy) {
+        named_refusal(tables, reason, item, version)
+    } else {
+        Some(stale_copy(past.copy_changed(item.object, item.pool), copy))
+    }
 }
 
 fn dropped_refusal<J: Past>(
@@ -90,8 +105,8 @@ fn dropped_refusal<J: Past>(
 }
 
 /// Why copies don't go while others stay: an object that is named twice is `BadValue`; one without a version is `Gone` or `NotFound`; of a
-/// version that is there, the least of these that hold: a copy that another transaction placed is `Stale`, one without a segment on the
-/// reason's volume `NotFound`, a version with fewer than two copies `InUse`, and after an audit a digest that is the kept one, or with a volume
+/// version that is there, a copy that isn't the one that was named is `Stale`, or `NotFound` where nothing tells of it, and of the one that was
+/// named the least of these that hold: one without a segment on the reason's volume is `NotFound`, a version with fewer than two copies `InUse`, and after an audit a digest that is the kept one, or with a volume
 /// that is deleted a primary pool, `BadValue`. It takes no memory.
 pub fn drop_refused<J: Past>(
     past: &J,
