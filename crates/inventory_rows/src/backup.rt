@@ -1,4 +1,8 @@
-ghost use Rattle.std.specs.Prelude.{◌≡◌, []};
+ghost use Rattle.std.specs.Prelude.{◌≡◌, [], min};
+ghost use Rattle.std.specs.BTreeMap.{is_at};
+ghost use Rattle.std.specs.Map.{set_value};
+ghost use Rattle.std.specs.Ordering.{nat_cmp};
+ghost use Rattle.inventory_rows.specs.Delays.{lowered};
 
 use kinds::{Day, Days};
 use std::alloc::{AllocError, Global};
@@ -9,6 +13,37 @@ use std::marker::Model;
 #[derive(Debug, Drop)]
 pub struct Delays {
     map: BTreeMap<u32, Days>,
+}
+
+/// The lesser of two delays.
+fn lesser(first: Days, second: Days) -> Days
+    ensures { result ≡ min first second }
+{
+    if second.count() < first.count() {
+        second
+    } else {
+        first
+    }
+}
+
+/// Writes the delay of a pool, where it has one.
+fn set(map: &mut BTreeMap<u32, Days>, pool: u32, delay: Days)
+    ensures { map.new.entries ≡ set_value (is_at (nat_cmp pool)) map.old.entries delay }
+{
+    if let Some(there) = map.get_mut(&pool) {
+        *there = delay;
+    }
+}
+
+/// Lowers the delay of a pool to this one, where that is less.
+fn lower(map: &mut BTreeMap<u32, Days>, pool: u32, delay: Days)
+    ensures { map.new.entries ≡ lowered pool delay map.old.entries }
+{
+    let _len = map.len();
+    match map.get(&pool).copied() {
+        Some(there) => set(map, pool, lesser(there, delay)),
+        None => {}
+    }
 }
 
 impl Model for Delays {
@@ -42,6 +77,13 @@ impl Delays {
         ensures { result.now.entries ≡ self.now }
     {
         &self.map
+    }
+
+    /// Lowers the delay of a pool to this one, where that is less. A pool that has none gets none.
+    pub fn lower(&mut self, pool: u32, delay: Days)
+        ensures { self.new ≡ lowered pool delay self.old }
+    {
+        lower(&mut self.map, pool, delay);
     }
 }
 

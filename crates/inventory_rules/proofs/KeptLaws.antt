@@ -348,9 +348,8 @@ change_copy-kept object c v = ap (with_spaces v) (altered-bare object c v.client
 
 move_copy-kept : (item : MovedCopy) (v : Inv) → kept.kept (effect.move_copy item v) ≡ kept.kept v
 move_copy-kept item v =
-    put-kept item.object item.segments (effect.change_copy item.object (effect.moved item v) (effect.take_moved item v))
-    ∙ (change_copy-kept item.object (effect.moved item v) (effect.take_moved item v)
-    ∙ take_away-kept item.object (effect.segments_in item.from (effect.version_at item.object v)) v)
+    change_copy-kept item.object (effect.moved item v) (effect.take_moved item v)
+    ∙ take_away-kept item.object (effect.segments_in item.from (effect.version_at item.object v)) v
 
 add_copy-kept : (item : NewCopy) (v : Inv) → kept.kept (effect.add_copy item v) ≡ kept.kept v
 add_copy-kept item v = put-kept item.object item.segments (effect.change_copy item.object (effect.added item v) v) ∙ change_copy-kept item.object (effect.added item v) v
@@ -391,7 +390,9 @@ effect-kept (change.Pool c) v = store-kept c v
 effect-kept (change.Backup c) v = each-kept (effect.back_up c.filespace) (kept.back_up c.filespace) (back_up-kept c.filespace) c.items (effect.each effect.make_scratch c.scratch v) ∙ ap (kept.each (kept.back_up c.filespace) c.items) (scratch-kept c.scratch v)
 effect-kept (change.Rebind c) v = each-kept (effect.rebind c.filespace) (kept.rebind c.filespace) (λ item w. change_group-kept c.filespace item.path (group.Rebind item.class) w) c.items v
 effect-kept (change.Gone c) v = each-kept (effect.mark_gone c.filespace) (kept.mark_gone c.filespace) (λ item w. change_group-kept c.filespace item.path (group.Gone item.object w.today) w) c.items v
-effect-kept (change.Move c) v = each-same effect.move_copy move_copy-kept c.items (effect.each effect.make_scratch c.scratch v) ∙ scratch-kept c.scratch v
+effect-kept (change.Move c) v =
+    each-same effect.move_copy move_copy-kept c.items (effect.each effect.put_moved c.items (effect.each effect.make_scratch c.scratch v))
+    ∙ each-same effect.put_moved (λ i w. put-kept i.object i.segments w) c.items (effect.each effect.make_scratch c.scratch v) ∙ scratch-kept c.scratch v
 effect-kept (change.Copy c) v = each-same effect.add_copy add_copy-kept c.items (effect.each effect.make_scratch c.scratch v) ∙ scratch-kept c.scratch v
 effect-kept (change.DropCopies c) v = each-same effect.drop_copy drop_copy-kept c.items v
 effect-kept (change.Expire c) v = each-kept (effect.expire c.filespace) (kept.expire c.filespace) (λ item w. remove-kept c.filespace item.path item.object w) c.items v

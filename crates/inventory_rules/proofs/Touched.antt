@@ -29,7 +29,7 @@ use Rattle.pool_tables.specs.RowChanges as row
 use Rattle.volume_rows.specs.Held.{held_of}
 use Rattle.inventory_rows.specs.State.{Inv}
 use Rattle.inventory_rows.specs.Search.{place}
-use Rattle.inventory_rules.specs.Effects.{or_same, each, put, take_away, take_all, take_versions, make_scratch, back_up, change_group, rebind, mark_gone, remove, expire, discard_at, discard, change_copy, move_copy, add_copy, drop_copy, copies_at, segments_in, version_at, take_moved, moved, added, dropped, with_filespaces, with_stores, effect}
+use Rattle.inventory_rules.specs.Effects.{or_same, each, put, take_away, take_all, take_versions, make_scratch, back_up, change_group, rebind, mark_gone, remove, expire, discard_at, discard, change_copy, put_moved, move_copy, add_copy, drop_copy, copies_at, segments_in, version_at, take_moved, moved, added, dropped, with_filespaces, with_stores, effect}
 use Rattle.inventory_rules.specs.Touched.{is_of_data, OnlyData}
 
 same : (v : Inv) → OnlyData v v
@@ -92,8 +92,7 @@ discard_at-same object (Some p) v = remove-same p.filespace p.path object v
 
 move_copy-same : (item : MovedCopy) (v : Inv) → OnlyData v (move_copy item v)
 move_copy-same item v =
-    then (take_away-same item.object (segments_in item.from (version_at item.object v)) v)
-    (then (change_copy-same item.object (moved item v) (take_moved item v)) (put-same item.object item.segments (change_copy item.object (moved item v) (take_moved item v))))
+    then (take_away-same item.object (segments_in item.from (version_at item.object v)) v) (change_copy-same item.object (moved item v) (take_moved item v))
 
 add_copy-same : (item : NewCopy) (v : Inv) → OnlyData v (add_copy item v)
 add_copy-same item v = then (change_copy-same item.object (added item v) v) (put-same item.object item.segments (change_copy item.object (added item v) v))
@@ -117,7 +116,10 @@ effect-data (change.Pool c) v h = absurd cc
 effect-data (change.Backup c) v h = counted (v.number + 1) (then (each-same make_scratch made c.scratch v) (each-same (back_up c.filespace) (back_up-same c.filespace) c.items (each make_scratch c.scratch v)))
 effect-data (change.Rebind c) v h = counted (v.number + 1) (each-same (rebind c.filespace) (λ i w. change_group-same c.filespace i.path (group.Rebind i.class) w) c.items v)
 effect-data (change.Gone c) v h = counted (v.number + 1) (each-same (mark_gone c.filespace) (λ i w. change_group-same c.filespace i.path (group.Gone i.object w.today) w) c.items v)
-effect-data (change.Move c) v h = counted (v.number + 1) (then (each-same make_scratch made c.scratch v) (each-same move_copy move_copy-same c.items (each make_scratch c.scratch v)))
+effect-data (change.Move c) v h =
+    counted (v.number + 1)
+    (then (each-same make_scratch made c.scratch v)
+    (then (each-same put_moved (λ i w. put-same i.object i.segments w) c.items (each make_scratch c.scratch v)) (each-same move_copy move_copy-same c.items (each put_moved c.items (each make_scratch c.scratch v)))))
 effect-data (change.Copy c) v h = counted (v.number + 1) (then (each-same make_scratch made c.scratch v) (each-same add_copy add_copy-same c.items (each make_scratch c.scratch v)))
 effect-data (change.DropCopies c) v h = counted (v.number + 1) (each-same drop_copy drop_copy-same c.items v)
 effect-data (change.Expire c) v h = counted (v.number + 1) (each-same (expire c.filespace) (λ i w. remove-same c.filespace i.path i.object w) c.items v)

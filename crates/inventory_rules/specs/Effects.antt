@@ -168,7 +168,11 @@ version_at object v = version object v
 abbrev pub placed_now : ℕ → List Segment → Inv → CopyRow
 placed_now pool segments v = record { pool = pool; placed = this v; segments = segments }
 
--- a copy moves from one pool to another: its segments go from their volumes, it takes the place of the former one, and its new segments come
+-- copies move from one pool to another: the new segments of all come on their volumes first; then each takes the place of the former one,
+-- whose segments go from their volumes
+abbrev pub put_moved : MovedCopy → Inv → Inv
+put_moved item v = put item.object item.segments v
+
 abbrev pub take_moved : MovedCopy → Inv → Inv
 take_moved item v = take_away item.object (segments_in item.from (version_at item.object v)) v
 
@@ -176,7 +180,7 @@ abbrev pub moved : MovedCopy → Inv → CopyChange
 moved item v = copy.Replace item.from (placed_now item.pool item.segments v)
 
 abbrev pub move_copy : MovedCopy → Inv → Inv
-move_copy item v = put item.object item.segments (change_copy item.object (moved item v) (take_moved item v))
+move_copy item v = change_copy item.object (moved item v) (take_moved item v)
 
 -- a copy is made beside others
 abbrev pub added : NewCopy → Inv → CopyChange
@@ -252,7 +256,7 @@ changed (change.Pool c) v = store_changed c v
 changed (change.Backup c) v = each (back_up c.filespace) c.items (each make_scratch c.scratch v)
 changed (change.Rebind c) v = each (rebind c.filespace) c.items v
 changed (change.Gone c) v = each (mark_gone c.filespace) c.items v
-changed (change.Move c) v = each move_copy c.items (each make_scratch c.scratch v)
+changed (change.Move c) v = each move_copy c.items (each put_moved c.items (each make_scratch c.scratch v))
 changed (change.Copy c) v = each add_copy c.items (each make_scratch c.scratch v)
 changed (change.DropCopies c) v = each drop_copy c.items v
 changed (change.Expire c) v = each (expire c.filespace) c.items v

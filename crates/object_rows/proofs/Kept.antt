@@ -19,6 +19,7 @@ use Rattle.object_rows.specs.declared.place.Place.{Place}
 use Rattle.object_rows.specs.Filespaces.{at_number, filespaces_after, filespaces_altered_at, filespaces_with, versions_at, versions_of}
 use Rattle.object_rows.specs.Index.{IsIndex}
 use Rattle.object_rows.specs.Places.{AreAllOrderly, Indexed, listed, listed_at}
+use Rattle.object_rows.specs.Rows.{filespaces_cleared}
 use Rattle.object_rows.proofs.IndexLaws.{index-back, index-fewer, index-more}
 use Rattle.object_rows.proofs.Splices.{Splices, splice_in, splice_same}
 use Rattle.object_rows.proofs.Stands.{distinct-listed, has-listed}
@@ -124,3 +125,12 @@ indexed_undo places fewer n path class active k fs new i said orderly newest old
       becomes = listed-undone n path active newest older;
     }))
     took taken there short
+
+-- the object goes from the place that the index has for it
+pub indexed_cleared : (places fewer : List (ℕ × Place)) (k : ℕ) (fs new : List (ℕ × Filespace)) → Indexed places fs → filespaces_cleared k (lookup (at_number k) places) fs ≡ Ok new → AreAllOrderly new
+    → ((q : ℕ) → lookup (at_number q) fewer ≡ cond (at_number k q) None (lookup (at_number q) places))
+    → (taken : Option Place) → taken ≡ lookup (at_number k) places → length fewer + cond (is_some taken) 1 0 ≡ length places → Indexed fewer new
+indexed_cleared places fewer k fs new i said orderly took taken there short = go (lookup (at_number k) places) said where
+  go : (o : Option Place) → filespaces_cleared k o fs ≡ Ok new → Indexed fewer new
+  go None h = absurd (cc)
+  go (Some place) h = indexed_remove places fewer place.filespace place.path k fs new i h orderly took taken there short

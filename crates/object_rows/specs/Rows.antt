@@ -4,20 +4,22 @@ use Rattle.kinds.specs.declared.refusal.Refusal.{Refusal}
 use Rattle.kinds.specs.declared.refusal.Refusal.TheVariants.{InventoryFull}
 use Rattle.version_groups.specs.declared.copies.CopyChange.{CopyChange}
 use Rattle.version_groups.specs.declared.group.GroupChange.{GroupChange}
-use Rattle.version_groups.specs.declared.group.GroupChange.TheVariants.{Undo}
+use Rattle.version_groups.specs.declared.group.GroupChange.TheVariants.{Remove, Undo}
 use Rattle.version_groups.specs.declared.groups.Filespace.{Filespace}
 use Rattle.version_groups.specs.declared.versions.Version.{Version}
 use Rattle.version_groups.specs.Copies.{takes_free_pool}
 use Rattle.version_groups.specs.Entries.{on_ok, if_found}
 use Rattle.version_groups.specs.Groups.{WasSo}
 use Rattle.version_groups.specs.Versions.{has_object, are_distinct, copies_of}
+use Rattle.std.specs.Map.{lookup}
 use Rattle.std.specs.Cmp.Lexicographic.{slice_cmp}
 use Rattle.std.specs.Ordering.{nat_cmp}
 use Rattle.object_rows.specs.declared.place.Node.{Node}
-use Rattle.object_rows.specs.Filespaces.{filespace_at, filespaces_after, filespaces_altered, filespaces_with, group_at, versions_of}
+use Rattle.object_rows.specs.declared.place.Place.{Place}
+use Rattle.object_rows.specs.Filespaces.{at_number, filespace_at, filespaces_after, filespaces_altered, filespaces_with, group_at, versions_of}
 use Rattle.object_rows.specs.Index.{AreDistinct}
 use Rattle.object_rows.specs.Names.{named}
-use Rattle.object_rows.specs.Places.{are_all_full}
+use Rattle.object_rows.specs.Places.{are_all_full, listed}
 
 -- what the database keeps of nodes and of filespaces with their versions, each in ascending order of the numbers
 pub record Rows : Type 0 where
@@ -48,6 +50,15 @@ rows_with n path class version rows =
 -- the rows after a change of the group of a path
 abbrev pub rows_after : ℕ → List ℕ → GroupChange → Rows → Result Rows Refusal
 rows_after n path change rows = with_filespaces rows (filespaces_after n path change rows.filespaces)
+
+-- the filespaces once the object's version is gone from the place that was found for it
+abbrev pub filespaces_cleared : ℕ → Option Place → List (ℕ × Filespace) → Result (List (ℕ × Filespace)) Refusal
+filespaces_cleared object found filespaces =
+    if_found found (λ place. filespaces_after place.filespace place.path (Remove object) filespaces)
+
+-- the rows once the object's version is gone, which has to be there
+abbrev pub rows_without : ℕ → Rows → Result Rows Refusal
+rows_without object rows = with_filespaces rows (filespaces_cleared object (lookup (at_number object) (listed rows.filespaces)) rows.filespaces)
 
 -- the rows after a change of the copies of an object's version, which has to be there
 abbrev pub rows_altered : ℕ → CopyChange → Rows → Result Rows Refusal

@@ -5,9 +5,10 @@ ghost use Rattle.kinds.specs.declared.refusal.Refusal.TheVariants.{NotFound};
 ghost use Rattle.version_groups.specs.Copies.{takes_free_pool, Alters};
 ghost use Rattle.version_groups.specs.Versions.{has_object, copies_of, version_of};
 ghost use Rattle.version_groups.specs.declared.group.GroupChange.TheVariants.{Gone, Remove, Rebind, Undo};
-ghost use Rattle.object_rows.specs.Filespaces.{filespaces_after, filespaces_altered, filespaces_with, versions_at, versions_of};
-ghost use Rattle.object_rows.specs.Places.{Indexed};
-ghost use Rattle.object_rows.specs.Rows.{NewestIs};
+ghost use Rattle.object_rows.specs.Filespaces.{at_number, filespaces_after, filespaces_altered, filespaces_with, versions_at, versions_of};
+ghost use Rattle.std.specs.Map.{lookup};
+ghost use Rattle.object_rows.specs.Places.{AreAllOrderly, Indexed, listed};
+ghost use Rattle.object_rows.specs.Rows.{NewestIs, filespaces_cleared};
 
 use crate::filespaces;
 use crate::place::Place;
@@ -75,6 +76,43 @@ pub(crate) fn remove(
     ensures indexed { Indexed places.new.entries filespaces.new.entries }
 {
     match filespaces::change(filespaces, number, path, GroupChange::Remove { object }) {
+        Ok(()) => {
+            places.remove(&object);
+            Ok(())
+        }
+        Err(refusal) => Err(refusal),
+    }
+}
+
+/// Takes the object's version out of its path, wherever that is.
+fn clear(
+    places: &BTreeMap<u64, Place>,
+    filespaces: &mut BTreeMap<u32, Filespace>,
+    object: u64,
+) -> Result<(), Refusal>
+    ensures value { Makes result filespaces.old.entries filespaces.new.entries (filespaces_cleared object (lookup (at_number object) places.now.entries) filespaces.old.entries) }
+    ensures orderly { AreAllOrderly filespaces.old.entries → AreAllOrderly filespaces.new.entries }
+{
+    match places.get(&object) {
+        None => Err(Refusal::NotFound),
+        Some(place) => {
+            let gone = GroupChange::Remove { object };
+            filespaces::change(filespaces, place.filespace, &place.path, gone)
+        }
+    }
+}
+
+/// Takes the object's version away, wherever it is.
+pub(crate) fn discard(
+    places: &mut BTreeMap<u64, Place>,
+    filespaces: &mut BTreeMap<u32, Filespace>,
+    object: u64,
+) -> Result<(), Refusal>
+    requires { Indexed places.old.entries filespaces.old.entries }
+    ensures value { Makes result filespaces.old.entries filespaces.new.entries (filespaces_cleared object (lookup (at_number object) (listed filespaces.old.entries)) filespaces.old.entries) }
+    ensures indexed { Indexed places.new.entries filespaces.new.entries }
+{
+    match clear(places, filespaces, object) {
         Ok(()) => {
             places.remove(&object);
             Ok(())

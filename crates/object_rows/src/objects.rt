@@ -10,7 +10,7 @@ ghost use Rattle.version_groups.specs.Copies.{has_copy, without_copy, Alters};
 ghost use Rattle.object_rows.specs.Changes.{Changes, HasFreeNumber, rows_changed};
 ghost use Rattle.object_rows.specs.Names.{filespace_named, node_named};
 ghost use Rattle.object_rows.specs.Filespaces.{group_at, versions_at, versions_of};
-ghost use Rattle.object_rows.specs.Rows.{IsNew, FreePool, IsMadeOf, IsSound, rows_with, rows_after, rows_altered, UndoGivesBack};
+ghost use Rattle.object_rows.specs.Rows.{IsNew, FreePool, IsMadeOf, IsSound, rows_with, rows_without, rows_after, rows_altered, UndoGivesBack};
 
 use crate::place::{Node, Place};
 use crate::{build, indexed, nodes, spaces};
@@ -301,6 +301,14 @@ impl Objects {
             path,
             object,
         )
+    }
+
+    /// Takes the object's version away, whatever its path; a group without versions goes. An object that is not there is
+    /// `NotFound`. It takes no memory.
+    pub fn discard(&mut self, object: u64) -> Result<(), Refusal>
+        ensures { Makes result self.old self.new (rows_without object self.old) }
+    {
+        indexed::discard(&mut self.places, &mut self.filespaces, object)
     }
 
     /// Binds the path to this class. A filespace or a path that is not there is `NotFound`. It takes no memory.

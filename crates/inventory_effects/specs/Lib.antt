@@ -1,0 +1,3 @@
+pub mod CanMake
+pub mod Delaying
+pub mod Holding
