@@ -2,7 +2,6 @@
 use Rattle.std.specs.Prelude.{◌≡◌, ℕ, ◌+◌, ◌<◌, ◌^◌, List, length, Option, None, Some, Result, Ok, Err}
 use Rattle.kinds.specs.declared.refusal.Refusal.{Refusal}
 use Rattle.entries.specs.declared.entry.Entry.{Entry}
-use Rattle.entries.specs.EntryForm.{entry}
 
 -- The number of the last transaction; why a transaction may not be made, where it may not; the database after one; its
 -- spelling, as the payload of an image; and which values are databases.
@@ -26,11 +25,10 @@ abbrev pub said : Option Refusal → Result (Unit {0}) Refusal
 said None = Ok tt
 said (Some refusal) = Err refusal
 
--- The laws of a database. A legal transaction makes a database with the next number. Bytes are the spelling of one
--- database at most. A payload is shorter than 2^36 bytes, and a number below 2^62.
+-- The laws of a database. A transaction makes a database with the next number. Bytes are the spelling of one database at most. A payload is
+-- shorter than 2^36 bytes, and a number below 2^62.
 pub record IsMeaning {D : Type 0} (m : Meaning D) : Type 0 where
-  pub next : (d : D) (e : Entry) → m.Valid d → entry.Fits e → IsLegal m d e → m.number (m.after d e) ≡ m.number d + 1
-  pub stays : (d : D) (e : Entry) → m.Valid d → entry.Fits e → IsLegal m d e → m.Valid (m.after d e)
+  pub next : (d : D) (e : Entry) → m.number (m.after d e) ≡ m.number d + 1
   pub one : (d other : D) → m.Valid d → m.Valid other → m.spelled d ≡ m.spelled other → d ≡ other
   pub short : (d : D) → m.Valid d → length (m.spelled d) < 2 ^ 36
   pub few : (d : D) → m.Valid d → m.number d < 2 ^ 62

@@ -5,6 +5,7 @@
 mod numbers;
 mod parts;
 mod payload;
+mod segments;
 mod volumes;
 
 pub use payload::{decode, encode};

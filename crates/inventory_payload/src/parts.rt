@@ -1,10 +1,13 @@
 //! The rows as they are read, before the tables are made of them.
-ghost use Rattle.std.specs.Prelude.{◌≡◌, ◌++◌, OnOk, IfOk, IfSome, IfNone};
+ghost use Rattle.std.specs.Prelude.{◌≡◌, ◌++◌, true, Some, OnOk, IfOk, IfSome, IfNone};
 ghost use Rattle.fields.specs.Gives.{GivesBy};
 ghost use Rattle.inventory_rows.specs.State.{inv_of};
+ghost use Rattle.inventory_payload.specs.Segments.{all_lie, are_there, AreFilled, IsFilled};
+ghost use Rattle.pool_rows.specs.PoolRows.{with_rows};
 ghost use Rattle.inventory_payload.specs.Payload.{clients, clients_with, inv_with, stores, stores_with, unheld_stores, payload, payload_form, AreSound};
 
 use crate::numbers::Numbers;
+use crate::segments::put_filespaces;
 use crate::volumes::put_volumes;
 use codecs::{put_table, take_table};
 use fields::{Fault, Formed, Memory, Reader, put_u8};
@@ -207,11 +210,33 @@ impl Formed for Parts {
     ghost is_form = { payload_form };
 }
 
+/// The pools of these rows, with the segments of all copies on their volumes; none where pools or volumes of one name or a volume
+/// of another kind's name stand in them, or a segment's volume isn't there.
+fn into_pools(
+    alloc: Global,
+    classes: BTreeMap<Name, Option<Capacity>>,
+    pools: BTreeMap<u32, Pool>,
+    mut volumes: BTreeMap<u32, Volume>,
+    filespaces: &BTreeMap<u32, Filespace>,
+) -> Result<Option<Pools>, Memory>
+    ensures found { IfOk result (λ o. IfSome o (λ made. AreFilled filespaces.now.entries (stores_with (classes.entries, (pools.entries, volumes.entries))) made)) }
+    ensures none { IfOk result (λ o. IfNone o (with_rows classes.entries pools.entries volumes.entries ≡ Some (stores_with (classes.entries, (pools.entries, volumes.entries))) → are_there filespaces.now.entries volumes.entries ≡ true → ⊥)) }
+{
+    if !put_filespaces(&mut volumes, filespaces)? {
+        return Ok(None);
+    }
+    match Pools::from_parts(alloc, classes, pools, volumes) {
+        Ok(made) => Ok(made),
+        Err(_) => Err(Memory),
+    }
+}
+
 impl Parts {
-    /// The tables of these rows; none where they are not sound.
+    /// The tables of these rows, with the segments of all copies on their volumes; none where the rows are not sound, or a
+    /// segment's volume isn't there.
     pub(crate) fn into_tables(self, alloc: Global) -> Result<Option<Tables>, Memory>
-        ensures found { IfOk result (λ o. IfSome o (λ t. inv_of t ≡ self)) }
-        ensures none { IfOk result (λ o. IfNone o (AreSound self → ⊥)) }
+        ensures found { IfOk result (λ o. IfSome o (λ t. IsFilled self (inv_of t))) }
+        ensures none { IfOk result (λ o. IfNone o (AreSound self → all_lie self ≡ true → ⊥)) }
     {
         let Parts {
             numbers,
@@ -220,16 +245,20 @@ impl Parts {
             stores,
             backups,
         } = self;
+        let made = into_pools(
+            alloc,
+            stores.classes,
+            stores.pools,
+            stores.volumes,
+            &clients.filespaces,
+        )?;
+        let Some(pools) = made else {
+            return Ok(None);
+        };
         let Ok(made) = Objects::from_parts(alloc, clients.nodes, clients.filespaces) else {
             return Err(Memory);
         };
         let Some(objects) = made else {
-            return Ok(None);
-        };
-        let Ok(made) = Pools::from_parts(alloc, stores.classes, stores.pools, stores.volumes) else {
-            return Err(Memory);
-        };
-        let Some(pools) = made else {
             return Ok(None);
         };
         let Ok(domains) = Domains::from_rows(alloc, domains) else {

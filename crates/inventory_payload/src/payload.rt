@@ -1,5 +1,7 @@
-ghost use Rattle.std.specs.Prelude.{◌≡◌, IfOk, IfSome, IfNone};
+ghost use Rattle.std.specs.Prelude.{◌≡◌, true, IfOk, IfSome, IfNone};
 ghost use Rattle.inventory_rows.specs.State.{Inv, inv_of};
+ghost use Rattle.inventory_rules.specs.Held.{IsTied};
+ghost use Rattle.inventory_payload.specs.Segments.{all_lie};
 ghost use Rattle.inventory_payload.specs.Payload.{payload, unheld, AreSound};
 
 use crate::numbers::Numbers;
@@ -46,12 +48,14 @@ pub fn encode(alloc: Global, tables: &Tables) -> Result<Vec<u8>, Memory>
     Ok(out)
 }
 
-/// The database whose bytes these are, with no segments on its volumes; none where they are no database's, or where nodes,
-/// pools or volumes of one name, two versions of one object, a group without a version or a volume of another kind's name
-/// stand in them.
+/// The database whose bytes these are, with the segments of all copies on their volumes; none where they are no database's, or
+/// where nodes, pools or volumes of one name, two versions of one object, a group without a version, a volume of another kind's
+/// name or a segment on a volume that isn't there stand in them.
 pub fn decode(alloc: Global, bytes: &[u8]) -> Result<Option<Tables>, Memory>
-    ensures found { IfOk result (λ o. IfSome o (λ t. payload.Fits (inv_of t) × (bytes.now ≡ payload.spell (inv_of t)))) }
-    ensures none { IfOk result (λ o. IfNone o ((v : Inv) → payload.Fits v → AreSound v → bytes.now ≡ payload.spell v → ⊥)) }
+    ensures found { IfOk result (λ o. IfSome o (λ t. payload.Fits (unheld (inv_of t)) × (bytes.now ≡ payload.spell (inv_of t)))) }
+    ensures tied { IfOk result (λ o. IfSome o (λ t. IsTied (inv_of t))) }
+    ensures alone { IfOk result (λ o. IfSome o (λ t. (v : Inv) → payload.Fits (unheld v) → IsTied v → bytes.now ≡ payload.spell v → v ≡ inv_of t)) }
+    ensures none { IfOk result (λ o. IfNone o ((v : Inv) → payload.Fits (unheld v) → AreSound v → all_lie v ≡ true → bytes.now ≡ payload.spell v → ⊥)) }
 {
     match fields::decode::<Parts>(alloc, bytes)? {
         None => Ok(None),

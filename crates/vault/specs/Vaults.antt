@@ -33,8 +33,7 @@ pub record Holds {D : Type 0} (m : Meaning D) (generation : ℕ) (base : D) (ent
   pub legal : AllLegal m base entries
 
 -- What a vault keeps is in order: its log is that of its generation, and where no fault halted it no record of the log is in doubt.
-pub record IsWhole {D : Type 0} (m : Meaning D) (generation : ℕ) (database : D) (log : log.State) (fault : Option (ℕ × ℕ)) : Type 0 where
-  pub valid : m.Valid database
+pub record IsWhole (generation : ℕ) (log : log.State) (fault : Option (ℕ × ℕ)) : Type 0 where
   pub file : log.file ≡ log_file generation
   pub sure : fault ≡ None → log.doubt ≡ None
 

@@ -89,7 +89,6 @@ fn read_base<D: Database, S: Store>(
 ) -> Result<D, OpenRefused>
     ensures looked { Told (S.told store.old) (S.told store.new) Looked }
     ensures finds { IfSome (S.told store.old) (λ h. (payload : List ℕ) → Newest (reads h) generation payload → FindsBase D.meaning generation payload result) }
-    ensures valid { IfOk result (λ database. D.meaning.Valid database) }
     ensures refused { IfErr result (MayRefuseOpening (S.faults_of store.old) (S.faults_of store.new) (S.moment_of store.new)) }
     ensures onward { Onward (S.moment_of store.old) (S.moment_of store.new) (S.faults_of store.old) (S.faults_of store.new) }
 {
@@ -147,11 +146,9 @@ fn replay<D: Database, S: Store>(
     file: u32,
     database: &mut D,
 ) -> Result<Log, OpenRefused>
-    requires valid { D.meaning.Valid database.old }
     requires ours { file < 4 }
     ensures told { Told (S.told store.old) (S.told store.new) (Replayed D.meaning database.old file result database.new) }
     ensures log { IfOk result (λ log. (log.file ≡ file) × (log.doubt ≡ None)) }
-    ensures valid { OnOk result (D.meaning.Valid database.new) }
     ensures refused { IfErr result (MayRefuseOpening (S.faults_of store.old) (S.faults_of store.new) (S.moment_of store.new)) }
     ensures onward { Onward (S.moment_of store.old) (S.moment_of store.new) (S.faults_of store.old) (S.faults_of store.new) }
 {

@@ -38,13 +38,12 @@ impl<D: Database> Model for Vault<D> {
 
     ghost view = { λ vault. record { generation = vault.generation; database = vault.database; journal = vault.journal.items; end = vault.log.end; fault = vault.fault } };
 
-    ghost invariant = { λ vault. IsWhole D.meaning vault.generation vault.database vault.log vault.fault };
+    ghost invariant = { λ vault. IsWhole vault.generation vault.log vault.fault };
 }
 
 impl<D: Database> Vault<D> {
     /// A vault that was opened: no transaction was made yet.
     pub(crate) fn opened(alloc: Global, generation: u64, database: D, log: Log) -> Vault<D>
-        requires valid { D.meaning.Valid database }
         requires file { log.file ≡ log_file generation }
         requires sure { log.doubt ≡ None }
         ensures { result ≡ record { generation = generation; database = database; journal = []; end = log.end; fault = None } }

@@ -56,7 +56,6 @@ records-preserved g c =
       entries = applies.0 ∷ inv.entries;
       legal = (applies.1.0, subst (λ (d : g.row.D.Denot). IsLegal m d applies.0) inv.gives applies.2, inv.legal);
       gives = applies.3 ∙ ap (λ (d : g.row.D.Denot). m.after d applies.0) inv.gives;
-      valid = subst (λ (d : g.row.D.Denot). m.Valid d) (sym applies.3) (g.met.D.Database.is_meaning.stays c.records.database applies.0 inv.valid applies.1.0 applies.2);
       under = told_map old new _ _ (λ h n b. b.0) both;
       left = told_map old new _ _ (λ h n b. b.1) both;
       file = c.next.ensures.file.0 ∙ inv.file;

@@ -13,7 +13,6 @@ invariant-records g l =
       entries : List Entry;
       legal : AllLegal g.D.Database.meaning l.fn.database entries;
       gives : l.database ≡ after_all g.D.Database.meaning l.fn.database entries;
-      valid : g.D.Database.meaning.Valid l.database;
       under : Told (g.S.Store.told l.fn.store) (g.S.Store.told l.store) (Underway l.fn.file l.records (records_of entries));
       left : Told (g.S.Store.told l.fn.store) (g.S.Store.told l.store) (KeepsLeft l.fn.file);
       file : l.records.held.file ≡ l.fn.file;

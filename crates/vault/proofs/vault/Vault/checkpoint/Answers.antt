@@ -19,7 +19,7 @@ returns-in-Ok-put_generation-clause-told g c =
     let inside = c.self.inside in
     let databases : inside.database ≡ c.args.self.now.database = ap (λ (v : State g.row.D.Denot). v.database) c.self.view_is in
     let generations : inside.generation ≡ c.args.self.now.generation = ap (λ (v : State g.row.D.Denot). v.generation) c.self.view_is in
-    let valid : m.Valid c.args.self.now.database = subst (λ (d : g.row.D.Denot). m.Valid d) databases c.self.invariant.valid in
+    let valid : m.Valid c.args.self.now.database = subst (λ (d : g.row.D.Denot). m.Valid d) databases c.encode.ensures.valid in
     let spelled : c.in-Ok.payload.items ≡ m.spelled c.args.self.now.database = c.in-Ok.ensures.spelled ∙ ap (λ (d : g.row.D.Denot). m.spelled d) databases in
     let is = next_is inside.generation inside.log.end c.in-Ok-put_generation.log.end inside.database inside.journal.items inside.fault c.args.self.now c.self.view_is (ap (λ (l : log.State). l.end) c.in-Ok-put_generation.ensures.log) (search rules) in
     told_map _ _ _ _ (λ h n replaced. is_made m c.args.self.now valid c.in-Ok.payload.items spelled h n _ c.in-Ok-put_generation.log tt is
@@ -31,7 +31,7 @@ returns-in-Err-put_generation-clause-told g c =
     let inside = c.self.inside in
     let databases : inside.database ≡ c.args.self.now.database = ap (λ (v : State g.row.D.Denot). v.database) c.self.view_is in
     let generations : inside.generation ≡ c.args.self.now.generation = ap (λ (v : State g.row.D.Denot). v.generation) c.self.view_is in
-    let valid : m.Valid c.args.self.now.database = subst (λ (d : g.row.D.Denot). m.Valid d) databases c.self.invariant.valid in
+    let valid : m.Valid c.args.self.now.database = subst (λ (d : g.row.D.Denot). m.Valid d) databases c.encode.ensures.valid in
     let spelled : c.in-Ok.payload.items ≡ m.spelled c.args.self.now.database = c.in-Ok.ensures.spelled ∙ ap (λ (d : g.row.D.Denot). m.spelled d) databases in
     told_map _ _ _ _ (λ h n replaced. not_made m c.args.self.now valid c.in-Ok.payload.items spelled h n _ c.in-Err-put_generation.file _
     (subst (λ (k : ℕ). let r : Result Log ℕ = Err c.in-Err-put_generation.file in Replaced (k + 1) c.in-Ok.payload.items r h n) generations replaced)) c.in-Err-put_generation.ensures.told

@@ -1,0 +1,7 @@
+pub mod Apart
+pub mod Distinct
+pub mod Joined
+pub mod Lying
+pub mod Orderly
+pub mod Pairs
+pub mod Walking

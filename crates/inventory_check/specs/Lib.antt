@@ -1,0 +1,4 @@
+pub mod Asked
+pub mod Laid
+pub mod Rows
+pub mod Together

@@ -1,0 +1,4 @@
+pub mod Facts
+pub mod Halfway
+pub mod Parts
+pub mod Reordered

@@ -1,0 +1,15 @@
+//! Whether what a transaction brings fits where it comes: segments on their volumes, copies beside others, versions, scratch volumes and
+//! volumes that are defined; and whether what it takes away is of no use.
+#![tactic(auto)]
+
+mod frames;
+mod holding;
+mod items;
+mod neighbours;
+mod overlaps;
+mod placing;
+mod pools;
+mod targets;
+mod transaction;
+
+pub use transaction::parts_fit;

@@ -1,0 +1,4 @@
+pub mod Copied
+pub mod KeptDelays
+pub mod Paths
+pub mod Rooms

@@ -1,0 +1,3 @@
+pub mod Holding
+pub mod Room
+pub mod Sizes

@@ -1,0 +1,12 @@
+//! Whether the server's database would hold too much after a transaction. It is decided before the transaction is made, and takes no
+//! memory.
+#![tactic(auto)]
+
+mod added;
+mod delays;
+mod gone;
+mod held;
+mod room;
+mod sizes;
+
+pub use sizes::has_item_room;

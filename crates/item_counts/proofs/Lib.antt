@@ -1,0 +1,15 @@
+pub mod Absent
+pub mod BackupCounts
+pub mod ClientCounts
+pub mod CopyCounts
+pub mod Counted
+pub mod Flat
+pub mod GroupTakes
+pub mod MoveCounts
+pub mod Parts
+pub mod PolicyCounts
+pub mod PolicyTakes
+pub mod Stays
+pub mod StoreCounts
+pub mod VersionCounts
+pub mod Weights

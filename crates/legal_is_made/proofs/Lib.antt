@@ -1,0 +1,10 @@
+pub mod Causes
+pub mod Rows
+pub mod Items
+pub mod Volumes
+pub mod Versions
+pub mod Backups
+pub mod Copies
+pub mod Gone
+pub mod Data
+pub mod Legal

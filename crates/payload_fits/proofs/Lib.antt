@@ -1,0 +1,3 @@
+mod Groups
+mod Lists
+mod Volumes

@@ -1,0 +1,5 @@
+pub mod ClientRows
+pub mod PolicyRows
+pub mod Spellings
+pub mod StoreRows
+pub mod Whole

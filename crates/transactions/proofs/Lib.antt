@@ -1,0 +1,3 @@
+pub mod Nothing
+pub mod Orders
+pub mod Stays

@@ -1,0 +1,8 @@
+//! Transactions of the server's database: why one is refused, and how one is made. The database is the tables, which have to be valid and
+//! whose volumes have to hold the segments of the copies; so they are again after each transaction.
+#![tactic(auto)]
+
+pub mod laws;
+mod made;
+
+pub use made::make;

@@ -1,0 +1,4 @@
+pub mod Backups
+pub mod Copies
+pub mod Moves
+pub mod Tests

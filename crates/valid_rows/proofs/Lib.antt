@@ -1,0 +1,9 @@
+pub mod Backups
+pub mod Clients
+pub mod Days
+pub mod Domains
+pub mod Names
+pub mod Parts
+pub mod Policy
+pub mod Refusals
+pub mod Rows

@@ -1,0 +1,15 @@
+pub mod Lists
+pub mod Rows
+pub mod Walks
+pub mod Legal
+pub mod Stored
+pub mod Classes
+pub mod ClassLaws
+pub mod Pools
+pub mod PoolLaws
+pub mod Volumes
+pub mod VolumeLaws
+pub mod Updates
+pub mod UpdateLaws
+pub mod Joined
+pub mod Numbers

@@ -1,0 +1,15 @@
+pub mod Copied
+pub mod CopyLists
+pub mod CopySteps
+pub mod Days
+pub mod Frames
+pub mod GroupSteps
+pub mod Grouped
+pub mod Kept
+pub mod Ordered
+pub mod Others
+pub mod PutSteps
+pub mod Reordered
+pub mod Spliced
+pub mod Volumes
+pub mod Whole

@@ -1,0 +1,132 @@
+//! A run over a script.
+use crate::answer::{Fault, text};
+use crate::steps::Desk;
+use crate::sweeps;
+use crate::words::{large, number, numbers, step, steps, words_of};
+use hex::{decode, encode};
+use std::alloc::{AllocError, Global};
+use store_api::Store;
+
+/// The store and the vault that the commands are about.
+#[derive(Drop)]
+pub struct Run {
+    alloc: Global,
+    desk: Desk,
+}
+
+impl Run {
+    /// An empty store.
+    pub fn new(alloc: Global) -> Run {
+        Run {
+            alloc,
+            desk: Desk::new(alloc),
+        }
+    }
+
+    fn done(&self) -> Result<String, Fault> {
+        Ok(String::from_str(self.alloc, "done")?)
+    }
+
+    fn start_again(&mut self) -> Result<String, Fault> {
+        self.desk = Desk::new(self.alloc);
+        self.done()
+    }
+
+    fn stop(&mut self, choice: &str) -> Result<String, Fault> {
+        self.desk.stop(self.alloc, large(choice)?);
+        self.done()
+    }
+
+    fn fail(&mut self, words: &[&str]) -> Result<String, Fault> {
+        let moments = numbers(self.alloc, words)?;
+        self.desk.fail_at(self.alloc, moments);
+        self.done()
+    }
+
+    fn write(&mut self, file: &str, offset: &str, bytes: &str) -> Result<String, Fault> {
+        let file = number(file)?;
+        let bytes = match decode(self.alloc, bytes) {
+            Ok(bytes) => bytes,
+            Err(_) => return Err(Fault::NoCommand),
+        };
+        self.desk.write(file, large(offset)?, &bytes)?;
+        self.done()
+    }
+
+    fn cut(&mut self, file: &str, len: &str) -> Result<String, Fault> {
+        self.desk.cut(number(file)?, large(len)?)?;
+        self.done()
+    }
+
+    fn show(&self, file: &str) -> Result<String, Fault> {
+        Ok(encode(self.alloc, self.desk.store.bytes(number(file)?))?)
+    }
+
+    fn moment(&self) -> Result<String, Fault> {
+        let moment = self.desk.store.moment();
+        Ok(format!(in self.alloc; "{moment}")?)
+    }
+
+    fn make(&mut self, word: &str) -> Result<String, Fault> {
+        self.desk.make(self.alloc, step(word)?)?;
+        Ok(self.desk.text(self.alloc)?)
+    }
+
+    fn stops(&self, choice: &str, words: &[&str]) -> Result<String, Fault> {
+        let steps = steps(self.alloc, words)?;
+        sweeps::stops(self.alloc, large(choice)?, &steps)
+    }
+
+    fn again(&self, choice: &str, words: &[&str]) -> Result<String, Fault> {
+        let steps = steps(self.alloc, words)?;
+        sweeps::again(self.alloc, large(choice)?, &steps)
+    }
+
+    fn faults(&self, words: &[&str]) -> Result<String, Fault> {
+        let steps = steps(self.alloc, words)?;
+        sweeps::faults(self.alloc, &steps)
+    }
+
+    /// What a command on many stores is answered.
+    fn sweep(&self, words: &[&str]) -> Result<String, Fault> {
+        match words {
+            ["stops", choice, steps @ ..] => self.stops(choice, steps),
+            ["again", choice, steps @ ..] => self.again(choice, steps),
+            ["faults", steps @ ..] => self.faults(steps),
+            _ => Err(Fault::NoCommand),
+        }
+    }
+
+    /// What a command on the store is answered.
+    fn on_store(&mut self, words: &[&str]) -> Result<String, Fault> {
+        match words {
+            ["stop", choice] => self.stop(choice),
+            ["fail", moments @ ..] => self.fail(moments),
+            ["write", file, offset, bytes] => self.write(file, offset, bytes),
+            ["cut", file, len] => self.cut(file, len),
+            ["show", file] => self.show(file),
+            _ => self.sweep(words),
+        }
+    }
+
+    /// What a command is answered.
+    fn answer(&mut self, words: &[&str]) -> Result<String, Fault> {
+        match words {
+            [] => Ok(String::new(self.alloc)),
+            ["new"] => self.start_again(),
+            ["moment"] => self.moment(),
+            [word] => self.make(word),
+            _ => self.on_store(words),
+        }
+    }
+
+    /// What the line is answered. A line that begins with `#` is a comment, and is given back.
+    pub fn line(&mut self, line: &str) -> Result<String, AllocError> {
+        if line.starts_with('#') {
+            return String::from_str(self.alloc, line);
+        }
+        let words = words_of(self.alloc, line)?;
+        let answered = self.answer(words.as_slice());
+        text(self.alloc, answered)
+    }
+}

@@ -1,0 +1,222 @@
+//! Steps on a vault over a store in memory.
+use crate::answer::Fault;
+use calendar::Calendar;
+use database::Database;
+use entries::{Change, Entry};
+use kinds::{Day, OpenRefused, Refusal};
+use mem_store::MemStore;
+use std::alloc::{AllocError, Global};
+use std::mem;
+use store_api::{Stop, Store};
+use vault::Vault;
+
+/// From this moment on no step is made.
+const LATE: u64 = 1 << 61;
+
+/// From this generation on no checkpoint is made.
+const LAST: u64 = 1 << 61;
+
+/// A step.
+#[derive(Clone, Copy, Debug, PartialEq, Eq)]
+pub enum Step {
+    Format,
+    Open,
+    /// A transaction that brings this day.
+    Commit(Day),
+    Checkpoint,
+    Install,
+}
+
+/// A store, and the vault that is open over it.
+#[derive(Drop)]
+pub struct Desk {
+    pub store: MemStore,
+    vault: Option<Vault<Calendar>>,
+}
+
+/// The vault's answer to a transaction.
+fn commit_day(
+    alloc: Global,
+    vault: &mut Vault<Calendar>,
+    store: &mut MemStore,
+    day: Day,
+) -> Result<u64, Refusal> {
+    let entry = Entry {
+        actor: 0,
+        change: Change::Day { day },
+    };
+    match vault.database().legal(&entry) {
+        Ok(()) => {}
+        Err(refusal) => return Err(refusal),
+    }
+    if store.moment() >= LATE {
+        return Err(Refusal::RunFull);
+    }
+    vault.commit(alloc, store, entry)
+}
+
+fn write_image(
+    alloc: Global,
+    vault: &mut Vault<Calendar>,
+    store: &mut MemStore,
+) -> Result<(), Refusal> {
+    if store.moment() >= LATE || vault.generation() >= LAST {
+        return Err(Refusal::RunFull);
+    }
+    vault.checkpoint(alloc, store)
+}
+
+fn install_own(
+    alloc: Global,
+    vault: &Vault<Calendar>,
+    store: &mut MemStore,
+) -> Result<(), OpenRefused> {
+    Vault::<Calendar>::install(alloc, store, vault.database())
+}
+
+/// The call that makes a file durable.
+fn settle(store: &mut MemStore, file: u32) -> Result<(), Fault> {
+    if store.moment() >= LATE {
+        return Err(Fault::NoCommand);
+    }
+    match store.sync(file) {
+        Ok(()) => Ok(()),
+        Err(_) => Err(Fault::NoCommand),
+    }
+}
+
+/// Writes bytes and makes them durable.
+fn write_bytes(store: &mut MemStore, file: u32, offset: u64, bytes: &[u8]) -> Result<(), Fault> {
+    if store.moment() >= LATE {
+        return Err(Fault::NoCommand);
+    }
+    match store.write_at(file, offset, bytes) {
+        Ok(()) => settle(store, file),
+        Err(_) => Err(Fault::NoCommand),
+    }
+}
+
+/// Cuts a file and makes that durable.
+fn cut_file(store: &mut MemStore, file: u32, len: u64) -> Result<(), Fault> {
+    if store.moment() >= LATE {
+        return Err(Fault::NoCommand);
+    }
+    match store.cut(file, len) {
+        Ok(()) => settle(store, file),
+        Err(_) => Err(Fault::NoCommand),
+    }
+}
+
+/// What is known of an open vault.
+fn shown(alloc: Global, vault: &Vault<Calendar>) -> Result<String, AllocError> {
+    let number = vault.database().number();
+    let day = vault.database().today().number();
+    let generation = vault.generation();
+    let made = vault.journal().len();
+    format!(in alloc; "number {number}, day {day}, generation {generation}, {made} of this run")
+}
+
+impl Desk {
+    /// An empty store.
+    pub fn new(alloc: Global) -> Desk {
+        Desk {
+            store: MemStore::new(alloc),
+            vault: None,
+        }
+    }
+
+    /// The number of the last transaction of the open vault.
+    pub fn number(&self) -> Option<u64> {
+        match &self.vault {
+            Some(vault) => Some(vault.database().number()),
+            None => None,
+        }
+    }
+
+    fn format(&mut self, alloc: Global) -> Result<(), Fault> {
+        self.vault = None;
+        Vault::<Calendar>::format(alloc, &mut self.store, &Calendar::new())?;
+        Ok(())
+    }
+
+    fn open(&mut self, alloc: Global) -> Result<(), Fault> {
+        self.vault = None;
+        let vault = Vault::open(alloc, &mut self.store)?;
+        self.vault = Some(vault);
+        Ok(())
+    }
+
+    fn commit(&mut self, alloc: Global, day: Day) -> Result<(), Fault> {
+        let Some(vault) = &mut self.vault else {
+            return Err(Fault::Closed);
+        };
+        commit_day(alloc, vault, &mut self.store, day)?;
+        Ok(())
+    }
+
+    fn checkpoint(&mut self, alloc: Global) -> Result<(), Fault> {
+        let Some(vault) = &mut self.vault else {
+            return Err(Fault::Closed);
+        };
+        write_image(alloc, vault, &mut self.store)?;
+        Ok(())
+    }
+
+    fn install(&mut self, alloc: Global) -> Result<(), Fault> {
+        let Some(vault) = &self.vault else {
+            return Err(Fault::Closed);
+        };
+        install_own(alloc, vault, &mut self.store)?;
+        Ok(())
+    }
+
+    /// Makes a step.
+    pub fn make(&mut self, alloc: Global, step: Step) -> Result<(), Fault> {
+        match step {
+            Step::Format => self.format(alloc),
+            Step::Open => self.open(alloc),
+            Step::Commit(day) => self.commit(alloc, day),
+            Step::Checkpoint => self.checkpoint(alloc),
+            Step::Install => self.install(alloc),
+        }
+    }
+
+    /// Makes the steps up to the first that is refused.
+    pub fn make_all(&mut self, alloc: Global, steps: &[Step]) -> Result<(), Fault> {
+        for step in steps {
+            self.make(alloc, *step)?;
+        }
+        Ok(())
+    }
+
+    /// The machine stops and starts again.
+    pub fn stop(&mut self, alloc: Global, choice: u64) {
+        self.vault = None;
+        let store = mem::replace(&mut self.store, MemStore::new(alloc));
+        self.store = store.stop(choice);
+    }
+
+    /// The device calls that begin at these moments fail, and no others.
+    pub fn fail_at(&mut self, alloc: Global, moments: Vec<u64>) {
+        let store = mem::replace(&mut self.store, MemStore::new(alloc));
+        self.store = store.with_failing(moments);
+    }
+
+    /// Writes bytes and makes them durable.
+    pub fn write(&mut self, file: u32, offset: u64, bytes: &[u8]) -> Result<(), Fault> {
+        write_bytes(&mut self.store, file, offset, bytes)
+    }
+
+    /// Cuts a file and makes that durable.
+    pub fn cut(&mut self, file: u32, len: u64) -> Result<(), Fault> {
+        cut_file(&mut self.store, file, len)
+    }
+
+    /// What the open vault has, or that none is open.
+    pub fn text(&self, alloc: Global) -> Result<String, AllocError> {
+        match &self.vault {
+            Some(vault) => shown(alloc, vault),
+            None => String::from_str(alloc, "closed"),
+        }
+    }
+}

@@ -1,0 +1,134 @@
+//! Steps that are made over and over, with another call that fails each time.
+use crate::answer::Fault;
+use crate::steps::{Desk, Step};
+use kinds::{OpenRefused, Refusal};
+use std::alloc::{AllocError, Global};
+use store_api::Store;
+
+/// More moments than any script comes to.
+const MOST: u64 = 1000;
+
+/// The sign of a number below ten.
+fn digit(number: u64) -> char {
+    match char::from_digit((number % 10) as u32, 10) {
+        Some(sign) => sign,
+        None => '!',
+    }
+}
+
+/// The sign of what the store recovers to.
+fn recovered(alloc: Global, desk: &mut Desk) -> char {
+    match desk.make(alloc, Step::Open) {
+        Ok(()) => match desk.number() {
+            Some(number) => digit(number),
+            None => '!',
+        },
+        Err(Fault::NotOpened(OpenRefused::NotFormatted)) => '-',
+        Err(_) => '!',
+    }
+}
+
+/// A store over which the steps were made, where the call at this moment fails, and what they were answered.
+fn made(
+    alloc: Global,
+    steps: &[Step],
+    moment: u64,
+) -> Result<(Desk, Result<(), Fault>), AllocError> {
+    let mut desk = Desk::new(alloc);
+    desk.fail_at(alloc, [moment].to_vec(alloc)?);
+    let answered = desk.make_all(alloc, steps);
+    Ok((desk, answered))
+}
+
+/// What is recovered after a stop at each moment.
+pub fn stops(alloc: Global, choice: u64, steps: &[Step]) -> Result<String, Fault> {
+    let mut signs = String::new(alloc);
+    for moment in 0..MOST {
+        let (mut desk, answered) = made(alloc, steps, moment)?;
+        desk.stop(alloc, choice);
+        desk.fail_at(alloc, Vec::new(alloc));
+        signs.push(recovered(alloc, &mut desk))?;
+        if answered.is_ok() {
+            return Ok(signs);
+        }
+    }
+    Err(Fault::NoCommand)
+}
+
+/// What is recovered after one more stop, at the call of the opening that begins so many calls after its first; and whether a
+/// call failed there.
+fn once_more(
+    alloc: Global,
+    choice: u64,
+    steps: &[Step],
+    moment: u64,
+    later: u64,
+) -> Result<(char, bool), Fault> {
+    let (mut desk, _) = made(alloc, steps, moment)?;
+    desk.stop(alloc, choice);
+    let second = desk.store.moment().saturating_add(later);
+    desk.fail_at(alloc, [second].to_vec(alloc)?);
+    let failed = desk.make(alloc, Step::Open).is_err() && desk.store.moment() > second;
+    desk.stop(alloc, choice);
+    desk.fail_at(alloc, Vec::new(alloc));
+    Ok((recovered(alloc, &mut desk), failed))
+}
+
+/// What is recovered whichever call of the opening stops once more.
+fn always(alloc: Global, choice: u64, steps: &[Step], moment: u64) -> Result<char, Fault> {
+    let (first, _) = once_more(alloc, choice, steps, moment, 0)?;
+    for later in 1..MOST {
+        let (sign, failed) = once_more(alloc, choice, steps, moment, later)?;
+        if sign != first {
+            return Ok('!');
+        }
+        if !failed {
+            return Ok(sign);
+        }
+    }
+    Ok('!')
+}
+
+/// What is recovered after a stop at each moment and one more in the opening.
+pub fn again(alloc: Global, choice: u64, steps: &[Step]) -> Result<String, Fault> {
+    let mut signs = String::new(alloc);
+    for moment in 0..MOST {
+        signs.push(always(alloc, choice, steps, moment)?)?;
+        let (_, answered) = made(alloc, steps, moment)?;
+        if answered.is_ok() {
+            return Ok(signs);
+        }
+    }
+    Err(Fault::NoCommand)
+}
+
+/// The file that a refusal names; `!` where a vault that was refused a step doesn't refuse a transaction in the same way, or
+/// makes a call for it.
+fn named(alloc: Global, desk: &mut Desk, fault: Fault) -> char {
+    match fault {
+        Fault::NotOpened(OpenRefused::ReadFault(file)) => digit(u64::from(file)),
+        Fault::Refused(Refusal::LogFault { file, count: 1 }) => {
+            let before = desk.store.moment();
+            match desk.make(alloc, Step::Checkpoint) {
+                Err(again) if again == fault && desk.store.moment() == before => {
+                    digit(u64::from(file))
+                }
+                _ => '!',
+            }
+        }
+        _ => '!',
+    }
+}
+
+/// The file that the refusal names where the call at each moment fails.
+pub fn faults(alloc: Global, steps: &[Step]) -> Result<String, Fault> {
+    let mut signs = String::new(alloc);
+    for moment in 0..MOST {
+        let (mut desk, answered) = made(alloc, steps, moment)?;
+        match answered {
+            Ok(()) => return Ok(signs),
+            Err(fault) => signs.push(named(alloc, &mut desk, fault))?,
+        }
+    }
+    Err(Fault::NoCommand)
+}
