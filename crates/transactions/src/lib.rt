@@ -3,6 +3,8 @@
 #![tactic(auto)]
 
 pub mod laws;
+mod legal;
 mod made;
 
+pub use legal::refused;
 pub use made::make;

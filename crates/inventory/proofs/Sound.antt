@@ -1,0 +1,120 @@
+-- A valid database has parts such as tables hold them.
+use Rattle.std.proofs.Common.{◌≡◌, ℕ, Bool, true, false, not, cond, ◌&&◌, List, [], ◌∷◌, map, Option, Some, None, refl, sym, ap, subst, ◌∙◌}
+use Rattle.std.specs.Prelude.{is_none, is_some, if◌then◌else◌}
+use Rattle.std.specs.BTreeMap.{is_at}
+use Rattle.std.specs.Cmp.Lexicographic.{slice_cmp}
+use Rattle.std.specs.List.{list_all, flat_map}
+use Rattle.std.specs.Map.{lookup}
+use Rattle.std.specs.Ordering.{nat_cmp}
+use Rattle.kinds.specs.declared.segment.Segment.{Segment}
+use Rattle.version_groups.specs.declared.copies.CopyRow.{CopyRow}
+use Rattle.version_groups.specs.declared.group.Group.{Group}
+use Rattle.version_groups.specs.declared.groups.Filespace.{Filespace}
+use Rattle.version_groups.specs.Versions.{is_empty}
+use Rattle.object_rows.specs.declared.place.Node.{Node}
+use Rattle.object_rows.specs.Index.{AreDistinct}
+use Rattle.object_rows.specs.Names.{named}
+use Rattle.object_rows.specs.Places.{are_all_full, are_full}
+use Rattle.object_rows.specs.Rows as rows
+use Rattle.pool_tables.specs.Names.{are_apart, pool_name, row_named}
+use Rattle.pool_tables.specs.Rows.{is_same_name, number_where, row_at}
+use Rattle.pool_tables.specs.Scratch.{are_rightly_named, volume_name}
+use Rattle.pool_tables.proofs.Names.{at_name, same_flips}
+use Rattle.pool_rows.specs.PoolRows.{with_rows}
+use Rattle.volume_rows.specs.declared.volume.Volume.{Volume}
+use Rattle.inventory_rows.specs.Search.{copies, pool}
+use Rattle.inventory_rows.specs.State.{Inv}
+use Rattle.inventory_facts.specs.Facts.{Facts}
+use Rattle.inventory_facts.proofs.Facts.{both, first, rest}
+use Rattle.inventory_rules.specs.Valid.{is_of_pool, is_orderly, names_apart}
+use Rattle.inventory_payload.specs.Payload.{AreSound}
+use Rattle.inventory_payload.specs.Segments.{all_lie, is_there}
+
+-- a name that none of the others is isn't found among them
+unnamed_behind : {V : Type 0} (name_of : V → List ℕ) (name : List ℕ) (e : ℕ × V) (es : List (ℕ × V)) → not (is_same_name name (name_of e.1)) ≡ true → is_none (row_named name_of name es) ≡ true → (b : Bool) → is_same_name (name_of e.1) name ≡ b → is_none (cond b (Some e.0) (row_named name_of name es)) ≡ true
+unnamed_behind name_of name e es apart none true same =
+    absurd (let x : true ≡ false = sym apart ∙ ap not (same_flips name (name_of e.1) ∙ same) in cc)
+unnamed_behind name_of name e es apart none false same = none
+
+unnamed : {V : Type 0} (name_of : V → List ℕ) (name : List ℕ) (es : List (ℕ × V)) → list_all (λ b. not (is_same_name name b)) (map (λ e. name_of e.1) es) ≡ true → is_none (row_named name_of name es) ≡ true
+unnamed name_of name [] h = refl
+unnamed name_of name (e ∷ es) h =
+    unnamed_behind name_of name e es (first (not (is_same_name name (name_of e.1))) (list_all (λ b. not (is_same_name name b)) (map (λ e. name_of e.1) es)) h)
+    (unnamed name_of name es (rest (not (is_same_name name (name_of e.1))) (list_all (λ b. not (is_same_name name b)) (map (λ e. name_of e.1) es)) h))
+    (is_same_name (name_of e.1) name) refl
+
+rows_apart : {V : Type 0} (name_of : V → List ℕ) (es : List (ℕ × V)) → names_apart (map (λ e. name_of e.1) es) ≡ true → are_apart name_of es ≡ true
+rows_apart name_of [] h = refl
+rows_apart name_of (e ∷ es) h =
+    let here : list_all (λ b. not (is_same_name (name_of e.1) b)) (map (λ e. name_of e.1) es) ≡ true = first (list_all (λ b. not (is_same_name (name_of e.1) b)) (map (λ e. name_of e.1) es)) (names_apart (map (λ e. name_of e.1) es)) h in
+    both (is_none (row_named name_of (name_of e.1) es)) (are_apart name_of es) (unnamed name_of (name_of e.1) es here)
+    (rows_apart name_of es (rest (list_all (λ b. not (is_same_name (name_of e.1) b)) (map (λ e. name_of e.1) es)) (names_apart (map (λ e. name_of e.1) es)) h))
+
+-- the nodes' names are given once
+absent_behind : (name : List ℕ) (e : ℕ × Node) (es : List (ℕ × Node)) → not (is_same_name name e.1.name) ≡ true → lookup (is_at (slice_cmp nat_cmp name)) (named es) ≡ None → (b : Bool) → is_same_name name e.1.name ≡ b → cond b (Some e.0) (lookup (is_at (slice_cmp nat_cmp name)) (named es)) ≡ None
+absent_behind name e es apart none true same = absurd (let x : true ≡ false = sym apart ∙ ap not same in cc)
+absent_behind name e es apart none false same = none
+
+absent : (name : List ℕ) (es : List (ℕ × Node)) → list_all (λ b. not (is_same_name name b)) (map (λ e. e.1.name) es) ≡ true → lookup (is_at (slice_cmp nat_cmp name)) (named es) ≡ None
+absent name [] h = refl
+absent name (e ∷ es) h =
+    ap (λ b. cond b (Some e.0) (lookup (is_at (slice_cmp nat_cmp name)) (named es))) (at_name name e.1.name)
+    ∙ absent_behind name e es (first (not (is_same_name name e.1.name)) (list_all (λ b. not (is_same_name name b)) (map (λ e. e.1.name) es)) h)
+    (absent name es (rest (not (is_same_name name e.1.name)) (list_all (λ b. not (is_same_name name b)) (map (λ e. e.1.name) es)) h))
+    (is_same_name name e.1.name) refl
+
+nodes_distinct : (es : List (ℕ × Node)) → names_apart (map (λ e. e.1.name) es) ≡ true → AreDistinct (slice_cmp nat_cmp) (named es)
+nodes_distinct [] h = tt
+nodes_distinct (e ∷ es) h = (
+  absent e.1.name es (first (list_all (λ b. not (is_same_name e.1.name b)) (map (λ e. e.1.name) es)) (names_apart (map (λ e. e.1.name) es)) h),
+  nodes_distinct es (rest (list_all (λ b. not (is_same_name e.1.name b)) (map (λ e. e.1.name) es)) (names_apart (map (λ e. e.1.name) es)) h),
+)
+
+full : (groups : List (List ℕ × Group)) → list_all (λ g. is_orderly g.1) groups ≡ true → are_full groups ≡ true
+full [] h = refl
+full (g ∷ groups) h =
+    both (not (is_empty g.1.versions)) (are_full groups)
+    (first (not (is_empty g.1.versions)) _ (first (is_orderly g.1) (list_all (λ g. is_orderly g.1) groups) h))
+    (full groups (rest (is_orderly g.1) (list_all (λ g. is_orderly g.1) groups) h))
+
+all_full : (filespaces : List (ℕ × Filespace)) → list_all (λ f. list_all (λ g. is_orderly g.1) f.1.groups) filespaces ≡ true → are_all_full filespaces ≡ true
+all_full [] h = refl
+all_full (f ∷ filespaces) h =
+    both (are_full f.1.groups) (are_all_full filespaces)
+    (full f.1.groups (first (list_all (λ g. is_orderly g.1) f.1.groups) (list_all (λ f. list_all (λ g. is_orderly g.1) f.1.groups) filespaces) h))
+    (all_full filespaces (rest (list_all (λ g. is_orderly g.1) f.1.groups) (list_all (λ f. list_all (λ g. is_orderly g.1) f.1.groups) filespaces) h))
+
+pub sound : (v : Inv) → Facts v → AreSound v
+sound v f = record {
+  clients = record { names = nodes_distinct v.clients.nodes f.node_names; objects = f.objects_apart; full = all_full v.clients.filespaces f.groups_orderly };
+  stores =
+      ap (λ b. if b then Some v.stores else None)
+      (both (are_apart pool_name v.stores.pools) _ (rows_apart pool_name v.stores.pools f.pool_names)
+      (both (are_apart volume_name v.stores.volumes) (are_rightly_named v.stores.volumes) (rows_apart volume_name v.stores.volumes f.volume_names) f.named_soundly));
+}
+
+-- a volume of a pool is there
+volume_there : (number : ℕ) (o : Option Volume) → is_of_pool number o ≡ true → is_some o ≡ true
+volume_there number None h = absurd cc
+volume_there number (Some w) h = refl
+
+segments_there : (number : ℕ) (volumes : List (ℕ × Volume)) (segments : List Segment) → list_all (λ s. is_of_pool number (row_at s.file volumes)) segments ≡ true → list_all (is_there volumes) segments ≡ true
+segments_there number volumes [] h = refl
+segments_there number volumes (s ∷ segments) h =
+    both (is_there volumes s) (list_all (is_there volumes) segments)
+    (volume_there number (row_at s.file volumes) (first (is_of_pool number (row_at s.file volumes)) (list_all (λ s. is_of_pool number (row_at s.file volumes)) segments) h))
+    (segments_there number volumes segments (rest (is_of_pool number (row_at s.file volumes)) (list_all (λ s. is_of_pool number (row_at s.file volumes)) segments) h))
+
+copies_there : (v : Inv) (es : List (ℕ × CopyRow)) → list_all (λ e. is_some (pool e.1.pool v) && list_all (λ s. is_of_pool e.1.pool (row_at s.file v.stores.volumes)) e.1.segments) es ≡ true
+    → list_all (λ e. list_all (is_there v.stores.volumes) e.1.segments) es ≡ true
+copies_there v [] h = refl
+copies_there v (e ∷ es) h =
+    let here : (is_some (pool e.1.pool v) && list_all (λ s. is_of_pool e.1.pool (row_at s.file v.stores.volumes)) e.1.segments) ≡ true =
+    first (is_some (pool e.1.pool v) && list_all (λ s. is_of_pool e.1.pool (row_at s.file v.stores.volumes)) e.1.segments) (list_all (λ e. is_some (pool e.1.pool v) && list_all (λ s. is_of_pool e.1.pool (row_at s.file v.stores.volumes)) e.1.segments) es) h in
+    both (list_all (is_there v.stores.volumes) e.1.segments) (list_all (λ e. list_all (is_there v.stores.volumes) e.1.segments) es)
+    (segments_there e.1.pool v.stores.volumes e.1.segments (rest (is_some (pool e.1.pool v)) (list_all (λ s. is_of_pool e.1.pool (row_at s.file v.stores.volumes)) e.1.segments) here))
+    (copies_there v es (rest (is_some (pool e.1.pool v) && list_all (λ s. is_of_pool e.1.pool (row_at s.file v.stores.volumes)) e.1.segments) (list_all (λ e. is_some (pool e.1.pool v) && list_all (λ s. is_of_pool e.1.pool (row_at s.file v.stores.volumes)) e.1.segments) es) h))
+
+-- each segment lies on a volume that is there
+pub lie_there : (v : Inv) → Facts v → all_lie v ≡ true
+lie_there v f = copies_there v (copies v) f.copies_cite

@@ -1,0 +1,2 @@
+pub mod Meaningful
+pub mod Meant

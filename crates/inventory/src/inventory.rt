@@ -1,0 +1,123 @@
+//! The inventory.
+ghost use Rattle.std.specs.Prelude.{◌≡◌, true, false, IfOk, IfErr, IfSome, IfNone};
+ghost use Rattle.kinds.specs.Answers.{Answers, AnswersBy};
+ghost use Rattle.kinds.specs.declared.refusal.Refusal.TheVariants.{Memory};
+ghost use Rattle.inventory_answers.specs.Answered.{answered};
+ghost use Rattle.inventory_rows.specs.Fresh.{fresh};
+ghost use Rattle.inventory_rows.specs.State.{inv_of};
+ghost use Rattle.inventory_rules.specs.Held.{IsTied};
+ghost use Rattle.inventory_rules.specs.Valid.{is_valid};
+ghost use Rattle.transactions.specs.Legal.{refused};
+ghost use Rattle.inventory.specs.Meant.{meaning};
+ghost use Rattle.inventory.specs.Meaningful.{is_meaning};
+
+use changes::Change;
+use database::Database;
+use entries::Entry;
+use inventory_answers::{Answer, Query};
+use inventory_check::is_valid;
+use inventory_rows::Tables;
+use item_refusals::{NoPast, Past};
+use kinds::Refusal;
+use payload_fits::tables_fit;
+use std::alloc::Global;
+use std::marker::Model;
+use transactions::make;
+
+/// The server's whole database. Every value is valid.
+#[derive(Drop)]
+pub struct Inventory {
+    tables: Tables,
+}
+
+impl Model for Inventory {
+    ghost use Rattle.std.specs.Prelude.{◌≡◌, true};
+    ghost use Rattle.inventory_rows.specs.State.{Inv, inv_of};
+    ghost use Rattle.inventory_rules.specs.Held.{IsTied};
+    ghost use Rattle.inventory_rules.specs.Valid.{is_valid};
+
+    ghost Value = { Inv };
+
+    ghost view = { λ i. inv_of i.tables };
+
+    ghost invariant = { λ i. (is_valid (inv_of i.tables) ≡ true) × IsTied (inv_of i.tables) };
+}
+
+/// The inventory of these tables, where they are those of one.
+fn checked(alloc: Global, tables: Tables) -> Result<Option<Inventory>, Refusal>
+    requires tied { IsTied (inv_of tables) }
+    ensures found { IfOk result (λ o. IfSome o (λ i. (i ≡ inv_of tables) × (is_valid (inv_of tables) ≡ true))) }
+    ensures none { IfOk result (λ o. IfNone o (is_valid (inv_of tables) ≡ false)) }
+    ensures memory { IfErr result (λ e. e ≡ Memory) }
+{
+    match is_valid(alloc, &tables) {
+        Ok(true) => Ok(Some(Inventory { tables })),
+        Ok(false) => Ok(None),
+        Err(_) => Err(Refusal::Memory),
+    }
+}
+
+impl Inventory {
+    /// What a server has that was just formatted.
+    pub fn fresh(alloc: Global) -> Result<Inventory, Refusal>
+        ensures { AnswersBy (λ i. i) result fresh }
+    {
+        let tables = Tables::fresh(alloc)?;
+        Ok(Inventory { tables })
+    }
+
+    /// Why a transaction with this change is refused, where it is. What a run's journal tells of versions and copies that are not as they
+    /// were named is asked of `past`. It takes no memory.
+    pub fn refused<J: Past>(&self, past: &J, change: &Change) -> Option<Refusal>
+        ensures { result ≡ refused (J.journal past.now) change.now self.now }
+    {
+        transactions::refused(past, &self.tables, change)
+    }
+
+    /// The answer to a query: `NotFound` exactly where what it names isn't there, or want of memory.
+    pub fn answer(&self, alloc: Global, query: &Query) -> Result<Answer, Refusal>
+        ensures { Answers result (answered query.now self.now) }
+    {
+        inventory_answers::answer(alloc, &self.tables, query)
+    }
+}
+
+impl Database for Inventory {
+    ghost meaning = { meaning };
+
+    fn number(&self) -> u64 {
+        self.tables.number
+    }
+
+    fn legal(&self, entry: &Entry) -> Result<(), Refusal> {
+        match self.refused(&NoPast, &entry.change) {
+            Some(refusal) => Err(refusal),
+            None => Ok(()),
+        }
+    }
+
+    fn apply(&mut self, alloc: Global, entry: &Entry) -> Result<(), Refusal> {
+        make(alloc, &mut self.tables, &entry.change)
+    }
+
+    fn encode(&self, alloc: Global) -> Result<Vec<u8>, Refusal> {
+        tables_fit(&self.tables);
+        let bytes = inventory_payload::encode(alloc, &self.tables)?;
+        Ok(bytes)
+    }
+
+    fn decode(alloc: Global, bytes: &[u8]) -> Result<Option<Self>, Refusal> {
+        match inventory_payload::decode(alloc, bytes) {
+            Ok(Some(tables)) => checked(alloc, tables),
+            Ok(None) => Ok(None),
+            Err(_) => Err(Refusal::Memory),
+        }
+    }
+
+    fn copy(&self, _alloc: Global) -> Result<Self, Refusal> {
+        let tables = self.tables.clone()?;
+        Ok(Inventory { tables })
+    }
+
+    ghost is_meaning = { is_meaning };
+}

@@ -1,0 +1,7 @@
+//! The inventory: the server's whole database as one value, which is valid. Whatever changes it is a transaction: `legal` says whether it may
+//! be made, and `apply` makes it. `encode` gives its bytes, `decode` reads them, and `answer` answers queries.
+#![tactic(auto)]
+
+mod inventory;
+
+pub use inventory::Inventory;
