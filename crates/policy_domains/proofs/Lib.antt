@@ -1,2 +1,3 @@
+pub mod Ascends
 pub mod Parts
 pub mod Unbound

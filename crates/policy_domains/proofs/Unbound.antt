@@ -100,7 +100,7 @@ module _ (set : List ℕ) (other : is_same_name set active_set ≡ false) where
   apart_itself = apart_from_equal set (tied_itself nat_list_cmp_total set)
 
 -- what a step keeps
-within_keeps : {A B : Type 0} (place : A → B) (P : A → Type 0) (Q : B → Type 0) → ((a : A) → P a → Q (place a)) → (r : Result A Refusal) → IfOk r P → IfOk (within place r) Q
+pub within_keeps : {A B : Type 0} (place : A → B) (P : A → Type 0) (Q : B → Type 0) → ((a : A) → P a → Q (place a)) → (r : Result A Refusal) → IfOk r P → IfOk (within place r) Q
 within_keeps place P Q f (Ok a) h = f a h
 within_keeps place P Q f (Err e) h = tt
 

@@ -1,3 +1,4 @@
+pub mod Ascending
 pub mod Changes
 pub mod Fresh
 pub mod Laws

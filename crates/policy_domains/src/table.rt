@@ -6,6 +6,7 @@ ghost use Rattle.policy_domains.specs.Changes.{domain_changed, in_group, names_a
 ghost use Rattle.policy_domains.specs.Rules.{rule_of};
 ghost use Rattle.policy_domains.specs.Fresh.{fresh};
 ghost use Rattle.policy_domains.specs.Laws.{IsOfSets};
+ghost use Rattle.policy_domains.specs.Ascending.{SetsAscend};
 
 use crate::initial::{active_name, standard_domain, standard_name};
 use crate::named::{define_row, delete_row};
@@ -25,13 +26,14 @@ pub struct Domains {
 
 impl Model for Domains {
     ghost use Rattle.std.specs.Prelude.{◌≡◌, List, ℕ};
+    ghost use Rattle.policy_domains.specs.Ascending.{SetsAscend};
     ghost use Rattle.policy_domains.specs.Rows.{DomainRow, active_set};
 
     ghost Value = { List (List ℕ × DomainRow) };
 
     ghost view = { λ d. d.rows.entries };
 
-    ghost invariant = { λ d. d.active ≡ active_set };
+    ghost invariant = { λ d. (d.active ≡ active_set) × SetsAscend d.rows.entries };
 }
 
 fn update_domain(
@@ -144,6 +146,50 @@ fn activate(
     }
 }
 
+/// Makes a change of the rows; `active` is the name of the set that binds clients.
+fn make(
+    alloc: Global,
+    active: &Name,
+    rows: &mut BTreeMap<Name, PolicyDomain>,
+    change: &PolicyChange,
+) -> Result<(), Refusal>
+    requires { active.now ≡ active_set }
+    ensures { Becomes result rows.old.entries rows.new.entries (after change.now rows.old.entries) }
+{
+    match change {
+        PolicyChange::Domain {
+            verb,
+            domain,
+            back_retention,
+        } => change_domain(alloc, rows, *verb, domain, *back_retention),
+        PolicyChange::Set { verb, domain, set } => change_set(alloc, rows, *verb, domain, set),
+        PolicyChange::Class {
+            verb,
+            domain,
+            set,
+            class,
+        } => change_class(rows, *verb, domain, set, class),
+        PolicyChange::Group {
+            verb,
+            domain,
+            set,
+            class,
+            group,
+        } => change_group(rows, *verb, domain, set, class, *group),
+        PolicyChange::Assign { domain, set, class } => assign(rows, domain, set, class),
+        PolicyChange::Activate { domain, set } => activate(rows, active, domain, set),
+    }
+}
+
+/// The sets of each domain stand by name: maps keep it. It takes a step for each domain, and no memory.
+fn sets_ascend(domains: &BTreeMap<Name, PolicyDomain>)
+    ensures { SetsAscend domains.now.entries }
+{
+    'domains: for (_, domain) in domains.iter() {
+        let _sets = domain.sets().len();
+    }
+}
+
 fn is_active(set: &Name) -> bool
     ensures { result ≡ is_same_name set.now active_set }
 {
@@ -166,11 +212,12 @@ pub fn names_active(change: &PolicyChange) -> bool
 }
 
 impl Domains {
-    /// The policy domains with these rows. Its one refusal is want of memory.
+    /// The policy domains with these rows. It takes a step for each domain; its one refusal is want of memory.
     pub fn from_rows(alloc: Global, rows: BTreeMap<Name, PolicyDomain>) -> Result<Self, Refusal>
         ensures { AnswersBy (λ domains. domains) result rows.entries }
     {
         let active = active_name(alloc)?;
+        sets_ascend(&rows);
         Ok(Domains {
             alloc,
             active,
@@ -196,6 +243,13 @@ impl Domains {
         &self.rows
     }
 
+    /// The sets of each domain stand in ascending order of their names, each name once. It only says so: it does nothing, and takes no step.
+    pub fn are_ordered(&self)
+        ensures { SetsAscend self.now }
+    {
+        let _ = &self.rows;
+    }
+
     /// Makes a change (TSM Administrator's Guide: DEFINE, UPDATE and DELETE of DOMAIN, POLICYSET, MGMTCLASS and COPYGROUP, ASSIGN DEFMGMTCLASS, ACTIVATE
     /// POLICYSET). Something named that isn't there is NotFound, a name or copy group that is there already is Exists, and a set to be activated
     /// that has no default class is NoDefaultClass; the first of these that holds is answered. Nodes and pools are no matter of the domains: that a
@@ -208,41 +262,7 @@ impl Domains {
         ensures unbound { IsOfSets change.now → (domain class : List ℕ)
             → rule_of self.new domain class ≡ rule_of self.old domain class }
     {
-        self.make(change)
-    }
-
-    fn make(&mut self, change: &PolicyChange) -> Result<(), Refusal>
-        ensures { Becomes result self.old self.new (after change.now self.old) }
-    {
-        match change {
-            PolicyChange::Domain {
-                verb,
-                domain,
-                back_retention,
-            } => change_domain(self.alloc, &mut self.rows, *verb, domain, *back_retention),
-            PolicyChange::Set { verb, domain, set } => {
-                change_set(self.alloc, &mut self.rows, *verb, domain, set)
-            }
-            PolicyChange::Class {
-                verb,
-                domain,
-                set,
-                class,
-            } => change_class(&mut self.rows, *verb, domain, set, class),
-            PolicyChange::Group {
-                verb,
-                domain,
-                set,
-                class,
-                group,
-            } => change_group(&mut self.rows, *verb, domain, set, class, *group),
-            PolicyChange::Assign { domain, set, class } => {
-                assign(&mut self.rows, domain, set, class)
-            }
-            PolicyChange::Activate { domain, set } => {
-                activate(&mut self.rows, &self.active, domain, set)
-            }
-        }
+        make(self.alloc, &self.active, &mut self.rows, change)
     }
 
     /// Whether a set may be activated: it is refused exactly as its activation would be. It takes no memory.

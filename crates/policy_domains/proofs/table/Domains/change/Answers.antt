@@ -1,5 +1,15 @@
+use Rattle.std.proofs.Common.{◌≡◌, List, ℕ, subst}
+use Rattle.policy_domains.specs.Laws.{IsOfSets}
+use Rattle.policy_domains.specs.Rows.{DomainRow}
+use Rattle.policy_domains.specs.Rules.{rule_of}
+use Rattle.policy_domains.proofs.Ascends.{ascends}
 use Rattle.policy_domains.proofs.Unbound.{unbound}
 use Rattle.policy_domains.proofs.table.Domains.change.Goals as goal
 
 pub returns-clause-unbound : goal.returns-clause-unbound
-returns-clause-unbound c = unbound c.args.change.now c.make.result c.args.self.now c.make.new.self c.requires c.make.ensures
+returns-clause-unbound c =
+    subst (λ (old : List (List ℕ × DomainRow)). IsOfSets c.args.change.now → (domain class : List ℕ) → rule_of c.make.new.rows.entries domain class ≡ rule_of old domain class) c.self.view_is
+    (unbound c.args.change.now c.make.result c.self.inside.rows.entries c.make.new.rows.entries c.requires c.make.ensures)
+
+pub invariant_of-self : goal.invariant_of-self
+invariant_of-self c = (c.self.invariant.0, ascends c.args.change.now c.make.result c.self.inside.rows.entries c.make.new.rows.entries c.make.ensures c.self.invariant.1)
