@@ -1,4 +1,4 @@
--- Each group has a version, after each change.
+-- Each group has a version, after each change; what orderly groups are.
 use Rattle.std.proofs.Common.{◌≡◌, ℕ, Bool, true, false, cond, not, List, [], ◌∷◌, Option, Some, None, Ordering, Result, Ok, Err, refl, sym, ap, ◌∙◌, ⊎_elim}
 use Rattle.std.proofs.lemmas.Bool.{and_from, and_parts}
 use Rattle.std.specs.BTreeMap.{insert_entry}
@@ -21,7 +21,7 @@ use Rattle.version_groups.specs.Groups.{at_path, class_after, group_altered, gro
 use Rattle.version_groups.specs.Versions.{is_empty, version_of, with_copies}
 use Rattle.version_groups.proofs.Laws.{AfterIs, after-is}
 use Rattle.version_groups.proofs.Maps.{lookup-set}
-use Rattle.object_rows.specs.Places.{AreAllOrderly, are_all_full, are_full}
+use Rattle.object_rows.specs.Places.{AreAllOrderly, PathsAscend, are_all_full, are_full}
 use Rattle.object_rows.proofs.Answered.{altered, became, made}
 
 module _ {K X : Type 0} (p : X → Bool) where
@@ -121,3 +121,7 @@ full_alter change r path k groups new h a =
 pub full_from : (fs : List (ℕ × Filespace)) → AreAllOrderly fs → are_all_full fs ≡ true
 full_from [] a = refl
 full_from (f ∷ fs) a = and_from (are_full f.1.groups) (are_all_full fs) a.0.1 (full_from fs a.1)
+
+pub paths_from : (fs : List (ℕ × Filespace)) → AreAllOrderly fs → PathsAscend fs
+paths_from [] a = tt
+paths_from (f ∷ fs) a = (a.0.0, paths_from fs a.1)

@@ -32,6 +32,10 @@ are_full groups = list_all (λ g. not (is_empty g.1.versions)) groups
 abbrev pub are_all_full : List (ℕ × Filespace) → Bool
 are_all_full filespaces = list_all (λ f. are_full f.1.groups) filespaces
 
+-- the groups of each filespace stand by path
+abbrev pub PathsAscend : List (ℕ × Filespace) → Type 0
+PathsAscend filespaces = AllByRecursion (λ f. AreByPath f.1.groups) filespaces
+
 -- the groups stand by path, and each has a version
 abbrev pub AreOrderly : List (List ℕ × Group) → Type 0
 AreOrderly groups = AreByPath groups × (are_full groups ≡ true)

@@ -1,6 +1,9 @@
 ghost use Rattle.std.specs.Prelude.{◌≡◌, ◌<◌, MatchResult, ◌∷◌, true, IsTrue, Ok, Err, OnOk, Some, None, [], length};
 ghost use Rattle.std.specs.Bool.{OnTrue};
+ghost use Rattle.std.specs.List.Sorted.{IsStrictlySortedBy};
+ghost use Rattle.std.specs.Map.{keys_of};
 ghost use Rattle.std.specs.Option.{option_copied};
+ghost use Rattle.std.specs.Ordering.{nat_cmp};
 ghost use Rattle.kinds.specs.Answers.{Becomes, Makes};
 ghost use Rattle.kinds.specs.declared.refusal.Refusal.TheVariants.{Memory};
 ghost use Rattle.version_groups.specs.Versions.{copies_of, has_object, is_active, are_distinct, superseded, version_of};
@@ -10,6 +13,7 @@ ghost use Rattle.version_groups.specs.Copies.{has_copy, without_copy, Alters};
 ghost use Rattle.object_rows.specs.Changes.{Changes, HasFreeNumber, rows_changed};
 ghost use Rattle.object_rows.specs.Names.{filespace_named, node_named};
 ghost use Rattle.object_rows.specs.Filespaces.{group_at, versions_at, versions_of};
+ghost use Rattle.object_rows.specs.Places.{PathsAscend};
 ghost use Rattle.object_rows.specs.Rows.{IsNew, FreePool, IsMadeOf, IsSound, rows_with, rows_without, rows_after, rows_altered, UndoGivesBack};
 
 use crate::place::{Node, Place};
@@ -103,6 +107,15 @@ impl Objects {
         ensures sound { IsSound self.now }
     {
         &self.filespaces
+    }
+
+    /// The filespaces stand in ascending order of their numbers, and the groups of each in ascending order of their paths, each number and
+    /// each path once. It only says so: it does nothing, and takes no step.
+    pub fn are_ordered(&self)
+        ensures filespaces { IsStrictlySortedBy nat_cmp (keys_of self.now.filespaces) }
+        ensures paths { PathsAscend self.now.filespaces }
+    {
+        let _ = &self.filespaces;
     }
 
     /// The number of the node with this name. It takes no memory.

@@ -12,13 +12,13 @@ use Rattle.version_groups.specs.declared.group.Group.{Group}
 use Rattle.version_groups.specs.declared.groups.Filespace.{Filespace}
 use Rattle.version_groups.specs.Entries.{all_later}
 use Rattle.version_groups.specs.Versions.{is_empty}
-use Rattle.object_rows.specs.Places.{AreAllOrderly, AreOrderly, are_full}
+use Rattle.object_rows.specs.Places.{AreAllOrderly, AreOrderly, PathsAscend, are_full}
 use Rattle.inventory_rows.specs.State.{Inv}
 use Rattle.inventory_rules.specs.Valid.{are_apart, groups_are_orderly, is_orderly}
 use Rattle.inventory_facts.proofs.Facts.{both, first, rest}
 use Rattle.item_counts.specs.Ordered.{IsOrderedFor}
 use Rattle.item_counts.proofs.Counted.{ordered_for}
-use Rattle.row_order.specs.Ascending.{AreAscending, PathsAscend}
+use Rattle.row_order.specs.Ascending.{AreAscending}
 use Rattle.valid_versions.specs.Ordered.{IsOrdered}
 use Rattle.transactions.specs.Legal.{IsAscending}
 
