@@ -1,0 +1,5 @@
+pub mod Found
+pub mod Growing
+pub mod Kept
+pub mod Looking
+pub mod Segments

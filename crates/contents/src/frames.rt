@@ -1,0 +1,104 @@
+// The frames of segments: their bytes, and the bytes of a copy read back from them.
+ghost use Rattle.std.specs.Prelude.{◌≡◌, ◌+◌, ◌-◌, ◌<◌, ◌≤◌, ◌^◌, ◌∷◌, [], max, length, take, drop, IfOk, IfErr};
+ghost use Rattle.std.specs.List.{AllByRecursion};
+ghost use Rattle.store_api.specs.Cause.{NoneFell};
+ghost use Rattle.store_api.specs.Told.{Told};
+ghost use Rattle.volume_frames.specs.Frames.{bytes_len};
+ghost use Rattle.contents.specs.Contents.{frame};
+ghost use Rattle.contents.specs.Reading.{MayLack, ReadData, ReadCopy};
+
+use kinds::Segment;
+use std::alloc::{AllocError, Global};
+use store_api::{Store, read_within};
+use volume_frames::{HEADER_LEN, data_place, frame_header};
+
+const FULL: u64 = (1 << 62) - (1 << 24);
+
+/// Why a copy wasn't read.
+#[derive(Clone, Copy, Debug, PartialEq, Eq)]
+pub enum Unread {
+    /// A call on this file failed: its count of faults rose.
+    Fault(u32),
+    /// The store's moment is all but the last: 2^62 - 2^24 or more.
+    RunFull,
+}
+
+/// The frame of an object's segment: its header of 32 bytes, which names the segment's number within the copy, and the data.
+#[tactic(auto, unfolding(crate::specs::Contents::frame))]
+pub fn framed(alloc: Global, object: u64, number: u32, bytes: &[u8]) -> Result<Vec<u8>, AllocError>
+    requires { length bytes.now < 2 ^ 32 }
+    ensures { IfOk result (λ made. made.items ≡ frame object number bytes.now) }
+{
+    let header = frame_header(object, number, bytes.len() as u32);
+    let mut made = Vec::with_capacity(alloc, HEADER_LEN + bytes.len())?;
+    made.extend_from_slice(&header)?;
+    made.extend_from_slice(bytes)?;
+    Ok(made)
+}
+
+/// Reads the data of a segment, which stands behind its frame's header, as much as the buffer holds.
+fn read_data<S: Store>(store: &mut S, segment: &Segment, into: &mut [u8]) -> Result<(), Unread>
+    requires { segment.now.offset + 32 < 2 ^ 64 }
+    ensures told { Told (S.told store.old) (S.told store.new) (ReadData segment.now into.new result) }
+    ensures len { length into.new ≡ length into.old }
+    ensures time { S.moment_of store.new ≤ max (S.moment_of store.old) (2 ^ 62 - 2 ^ 24) }
+    ensures later { S.moment_of store.old ≤ S.moment_of store.new }
+    ensures counts { NoneFell (S.faults_of store.old) (S.faults_of store.new) }
+    ensures unread { IfErr result (MayLack (segment.now ∷ []) (S.faults_of store.old) (S.faults_of store.new) (S.moment_of store.new)) }
+{
+    if store.moment() >= FULL {
+        return Err(Unread::RunFull);
+    }
+    match read_within(store, segment.file, data_place(segment), into) {
+        Ok(_) => Ok(()),
+        Err(_) => Err(Unread::Fault(segment.file)),
+    }
+}
+
+/// Reads the data of a segment into a part of the buffer. What is before that part stays.
+fn read_part<S: Store>(
+    store: &mut S,
+    segment: &Segment,
+    into: &mut [u8],
+    at: usize,
+) -> Result<(), Unread>
+    requires place { segment.now.offset + 32 < 2 ^ 64 }
+    requires room { at + segment.now.len ≤ length into.old }
+    ensures told { Told (S.told store.old) (S.told store.new) (ReadData segment.now (take segment.now.len (drop at into.new)) result) }
+    ensures before { take at into.new ≡ take at into.old }
+    ensures len { length into.new ≡ length into.old }
+    ensures time { S.moment_of store.new ≤ max (S.moment_of store.old) (2 ^ 62 - 2 ^ 24) }
+    ensures later { S.moment_of store.old ≤ S.moment_of store.new }
+    ensures counts { NoneFell (S.faults_of store.old) (S.faults_of store.new) }
+    ensures unread { IfErr result (MayLack (segment.now ∷ []) (S.faults_of store.old) (S.faults_of store.new) (S.moment_of store.new)) }
+{
+    let end = at + segment.len as usize;
+    read_data(store, segment, &mut into[at..end])
+}
+
+/// Reads the bytes of a copy from its segments' frames into a buffer that is as long. Where those frames don't stand, the
+/// buffer may hold anything afterwards. It fails with `Fault` only where a call on a segment's file failed, and with `RunFull`
+/// only where the moment is, or came to, 2^62 - 2^24.
+pub fn read_copy<S: Store>(
+    store: &mut S,
+    segments: &[Segment],
+    into: &mut [u8],
+) -> Result<(), Unread>
+    requires room { bytes_len segments.now ≡ length into.old }
+    requires places { AllByRecursion (λ s. s.offset + 32 < 2 ^ 64) segments.now }
+    ensures told { Told (S.told store.old) (S.told store.new) (ReadCopy segments.now into.new result) }
+    ensures len { length into.new ≡ length into.old }
+    ensures time { S.moment_of store.new ≤ max (S.moment_of store.old) (2 ^ 62 - 2 ^ 24) }
+    ensures later { S.moment_of store.old ≤ S.moment_of store.new }
+    ensures counts { NoneFell (S.faults_of store.old) (S.faults_of store.new) }
+    ensures unread { IfErr result (MayLack segments.now (S.faults_of store.old) (S.faults_of store.new) (S.moment_of store.new)) }
+{
+    let mut at = 0;
+    'segments: for segment in segments {
+        match read_part(store, segment, into, at) {
+            Ok(()) => at += segment.len as usize,
+            Err(unread) => return Err(unread),
+        }
+    }
+    Ok(())
+}

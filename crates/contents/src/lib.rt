@@ -1,0 +1,7 @@
+//! Which bytes the objects of the database have, and where those stand on the volumes.
+#![tactic(auto)]
+
+mod frames;
+pub mod laws;
+
+pub use frames::{Unread, framed, read_copy};
