@@ -1,0 +1,301 @@
+//! Reads a script of one inventory, and prints a line for each line, and behind that of a query a line for each row.
+//!
+//! - `fresh`: the inventory of a server that was just formatted; `payload`: its bytes in hexadecimal digits.
+//! - `again`: the inventory that its bytes are decoded as takes its place; `same` where that has the same bytes. `copy`: so does a copy.
+//! - `read` and hexadecimal digits: the inventory that the bytes are decoded as; its number, or `no inventory`.
+//! - Hexadecimal digits, the first of them 0, with blanks between them: a transaction. It is made where it is legal, and its number is printed, else why not.
+//! - `past OBJECT CHANGED REMOVED`: what the journal tells from here on of an object: the numbers of the transactions that changed it and
+//!   that removed it, each a number or `-`; and that the latter emptied each path that has no version. Of all else it tells nothing.
+//! - A query, which is answered with the number and the day, and then its rows, or why it is refused: `today`, `domains`, `sets DOMAIN`,
+//!   `classes DOMAIN SET`, `groups DOMAIN SET`, `nodes`, `filespaces NODE`, `devices`, `pools POOL`, `volumes VOLUME POOL`,
+//!   `content VOLUME`, `history`, `versions NODE FILESPACE`, `lookup KIND NAME` with `node`, `class`, `pool` or `volume`; and by
+//!   numbers `rules NODE`, `onpool POOL`, `onvolume FILE`, `missing PRIMARY COPY`, `eligible POOL THRESHOLD`, `unretained`, `emptied`
+//!   and `log`. A dash stands for a name that isn't given.
+//! - A comment, which begins with `#`, is printed as it stands.
+//!
+//! The stored output was written from the forms of docs/FORMATS.md and the rules of transactions, and not by this program.
+#![tactic(auto)]
+
+mod client_rows;
+mod journal;
+mod policy_rows;
+mod questions;
+mod rows;
+mod store_rows;
+mod words;
+mod work_rows;
+
+use database::Database;
+use entries::Entry;
+use inventory::Inventory;
+use inventory_answers::Query;
+use journal::{Told, told_by};
+use kinds::Refusal;
+use questions::{Fault, query_of};
+use std::alloc::{AllocError, Global};
+use std::io;
+use std::io::{BufWriter, Write};
+
+/// The bytes that the line's digits stand for; none where it isn't such a line.
+fn bytes_of(alloc: Global, line: &str) -> Option<Vec<u8>> {
+    let mut digits = Vec::new(alloc);
+    for byte in line.bytes() {
+        if byte != b' ' {
+            digits.push(byte).ok()?;
+        }
+    }
+    hex::decode(alloc, digits.as_slice()).ok()
+}
+
+/// The refusal of a transaction that isn't legal: with what the journal tells, or else the one of the inventory alone.
+fn refusal_told(inventory: &Inventory, past: &Told, entry: &Entry, alone: Refusal) -> Refusal {
+    match inventory.refused(past, &entry.change) {
+        Some(refusal) => refusal,
+        None => alone,
+    }
+}
+
+/// Makes a transaction where it is legal, and answers its number.
+fn made(
+    alloc: Global,
+    inventory: &mut Inventory,
+    past: &Told,
+    entry: &Entry,
+) -> Result<u64, Refusal> {
+    match inventory.legal(entry) {
+        Ok(()) => {}
+        Err(refusal) => return Err(refusal_told(inventory, past, entry, refusal)),
+    }
+    match inventory.apply(alloc, entry) {
+        Ok(()) => Ok(inventory.number()),
+        Err(refusal) => Err(refusal),
+    }
+}
+
+fn number_text(alloc: Global, made: Result<u64, Refusal>) -> Result<String, AllocError> {
+    match made {
+        Ok(number) => format!(in alloc; "number {number}"),
+        Err(refusal) => format!(in alloc; "{refusal:?}"),
+    }
+}
+
+/// What the bytes of a transaction are answered.
+fn entered(
+    alloc: Global,
+    inventory: &mut Inventory,
+    past: &Told,
+    bytes: &[u8],
+) -> Result<String, AllocError> {
+    match Entry::decode(alloc, bytes) {
+        Ok(Some(entry)) => {
+            let made = made(alloc, inventory, past, &entry);
+            drop(entry);
+            number_text(alloc, made)
+        }
+        Ok(None) => String::from_str(alloc, "no entry"),
+        Err(refusal) => number_text(alloc, Err(refusal)),
+    }
+}
+
+fn payload_text<D: Database>(alloc: Global, inventory: &D) -> Result<String, AllocError> {
+    match inventory.encode(alloc) {
+        Ok(bytes) => hex::encode(alloc, bytes.as_slice()),
+        Err(refusal) => number_text(alloc, Err(refusal)),
+    }
+}
+
+/// The inventory becomes that of the bytes.
+fn read_in<D: Database>(
+    alloc: Global,
+    inventory: &mut D,
+    bytes: &[u8],
+) -> Result<String, AllocError> {
+    match D::decode(alloc, bytes) {
+        Ok(Some(found)) => {
+            let number = found.number();
+            *inventory = found;
+            number_text(alloc, Ok(number))
+        }
+        Ok(None) => String::from_str(alloc, "no inventory"),
+        Err(refusal) => number_text(alloc, Err(refusal)),
+    }
+}
+
+/// Whether the inventory has these bytes, in a word.
+fn compared<D: Database>(alloc: Global, inventory: &D, bytes: &[u8]) -> Result<String, AllocError> {
+    match inventory.encode(alloc) {
+        Ok(same) if same.as_slice() == bytes => String::from_str(alloc, "same"),
+        Ok(_) => String::from_str(alloc, "other"),
+        Err(refusal) => number_text(alloc, Err(refusal)),
+    }
+}
+
+/// The inventory becomes that of its bytes.
+fn read_again<D: Database>(alloc: Global, inventory: &mut D) -> Result<String, AllocError> {
+    match inventory.encode(alloc) {
+        Ok(bytes) => {
+            let _ = read_in(alloc, inventory, bytes.as_slice())?;
+            compared(alloc, inventory, bytes.as_slice())
+        }
+        Err(refusal) => number_text(alloc, Err(refusal)),
+    }
+}
+
+/// The inventory becomes its copy.
+fn become_copy<D: Database>(alloc: Global, inventory: &mut D) -> Result<(), Refusal> {
+    let copy = inventory.copy(alloc)?;
+    *inventory = copy;
+    Ok(())
+}
+
+/// The inventory becomes its copy, and is compared with what it was.
+fn copied<D: Database>(alloc: Global, inventory: &mut D) -> Result<String, AllocError> {
+    match inventory.encode(alloc) {
+        Ok(bytes) => match become_copy(alloc, inventory) {
+            Ok(()) => compared(alloc, inventory, bytes.as_slice()),
+            Err(refusal) => number_text(alloc, Err(refusal)),
+        },
+        Err(refusal) => number_text(alloc, Err(refusal)),
+    }
+}
+
+/// The inventory becomes this one.
+fn take_up<D: Database>(alloc: Global, inventory: &mut D, new: D) -> Result<String, AllocError> {
+    *inventory = new;
+    String::from_str(alloc, "done")
+}
+
+fn begin(alloc: Global, inventory: &mut Inventory) -> Result<String, AllocError> {
+    match Inventory::fresh(alloc) {
+        Ok(fresh) => take_up(alloc, inventory, fresh),
+        Err(refusal) => number_text(alloc, Err(refusal)),
+    }
+}
+
+/// What a line of digits is answered.
+fn bytes_answer(
+    alloc: Global,
+    inventory: &mut Inventory,
+    past: &Told,
+    line: &str,
+) -> Result<String, AllocError> {
+    match line.strip_prefix("read ") {
+        Some(digits) => match bytes_of(alloc, digits) {
+            Some(bytes) => read_in(alloc, inventory, bytes.as_slice()),
+            None => String::from_str(alloc, "no command"),
+        },
+        None => match bytes_of(alloc, line) {
+            Some(bytes) => entered(alloc, inventory, past, bytes.as_slice()),
+            None => String::from_str(alloc, "no command"),
+        },
+    }
+}
+
+/// What a query is answered.
+fn asked(alloc: Global, inventory: &Inventory, query: &Query) -> Result<String, AllocError> {
+    match inventory.answer(alloc, query) {
+        Ok(answer) => {
+            let text = rows::text(alloc, &answer);
+            drop(answer);
+            text
+        }
+        Err(refusal) => number_text(alloc, Err(refusal)),
+    }
+}
+
+/// What the words of a query are answered.
+fn query_answer(
+    alloc: Global,
+    inventory: &Inventory,
+    words: &[&str],
+) -> Result<String, AllocError> {
+    match query_of(alloc, words) {
+        Ok(query) => {
+            let text = asked(alloc, inventory, &query);
+            drop(query);
+            text
+        }
+        Err(Fault::NoCommand) => String::from_str(alloc, "no command"),
+        Err(Fault::Refused(refusal)) => number_text(alloc, Err(refusal)),
+    }
+}
+
+/// The journal tells this from here on.
+fn tell(
+    alloc: Global,
+    past: &mut Told,
+    object: &str,
+    changed: &str,
+    removed: &str,
+) -> Result<String, AllocError> {
+    match told_by(object, changed, removed) {
+        Some(now) => {
+            *past = now;
+            String::from_str(alloc, "done")
+        }
+        None => String::from_str(alloc, "no command"),
+    }
+}
+
+/// What a line of words is answered.
+fn words_answer(
+    alloc: Global,
+    inventory: &mut Inventory,
+    past: &mut Told,
+    words: &[&str],
+) -> Result<String, AllocError> {
+    match words {
+        ["fresh"] => begin(alloc, inventory),
+        ["payload"] => payload_text(alloc, inventory),
+        ["again"] => read_again(alloc, inventory),
+        ["copy"] => copied(alloc, inventory),
+        ["past", object, changed, removed] => tell(alloc, past, object, changed, removed),
+        words => query_answer(alloc, inventory, words),
+    }
+}
+
+/// What the line is answered.
+fn answer(
+    alloc: Global,
+    inventory: &mut Inventory,
+    past: &mut Told,
+    line: &str,
+) -> Result<String, AllocError> {
+    if line.starts_with('#') {
+        return String::from_str(alloc, line);
+    }
+    if line.starts_with('0') || line.starts_with("read") {
+        return bytes_answer(alloc, inventory, past, line);
+    }
+    let words: Vec<&str> = line.split_whitespace().collect(alloc)?;
+    words_answer(alloc, inventory, past, words.as_slice())
+}
+
+/// Answers each line of the input.
+fn answer_all(rt: &HostRuntime, inventory: &mut Inventory) -> io::Result<()> {
+    let alloc = rt.alloc();
+    let mut past = Told {
+        object: 0,
+        changed: None,
+        removed: None,
+    };
+    let mut out = BufWriter::new(alloc, io::writer(rt))?;
+    for line in rt.lines(alloc) {
+        let line = line?;
+        let text = answer(alloc, inventory, &mut past, line.as_str())?;
+        out.write_all(text.as_bytes())?;
+        out.write_all(b"\n")?;
+    }
+    out.flush()
+}
+
+fn main(rt: HostRuntime) -> io::Result<()> {
+    match Inventory::fresh(rt.alloc()) {
+        Ok(mut inventory) => {
+            let answered = answer_all(&rt, &mut inventory);
+            drop(inventory);
+            answered
+        }
+        Err(_) => Err(AllocError.into()),
+    }
+}
