@@ -14,8 +14,9 @@ use Rattle.database.specs.Meaning.{Meaning}
 use Rattle.vault.specs.Files.{image_file, log_file, IsOurs, IsOf}
 use Rattle.vault.specs.Recovery.{Older, Newest, records_of, after_all, RecoversWithin}
 use Rattle.vault.specs.Images.{IsImage, StaysOlder, Replaced}
-use Rattle.vault.specs.Vaults.{State, Holds, IsGood, at_next, IsFresh, Checkpointed}
+use Rattle.vault.specs.Vaults.{State, Holds, IsGood, at_next, IsFresh, IsLeft, Checkpointed}
 use Rattle.vault.proofs.Replacing.{can_shut}
+use Rattle.vault.proofs.Leaving.{one_after, good_is}
 use Rattle.vault.proofs.Goodness.{image_ours, log_ours, image_log, image_next, log_next, image_again, image_left, image_beside, older_left, good_since}
 
 -- a generation's files are the vault's
@@ -93,7 +94,7 @@ holds_fresh m generation d h holds moment files from to here =
 
 -- nothing was done
 same_vault : {D T E : Type 0} (m : Meaning D) (vault next : State D) (why : E) (h : History) → (let result : Result T E = Err why in Checkpointed m vault result next h h)
-same_vault m vault next why h = record { goes = goes_none IsOurs h; good = tt; fresh = tt; since = good_since m (λ file. ⊥) vault h h (λ file ours no. no) (goes_none (λ file. ⊥) h) }
+same_vault m vault next why h = record { goes = goes_none IsOurs h; good = tt; fresh = tt; since = good_since m (λ file. ⊥) vault h h (λ file ours no. no) (goes_none (λ file. ⊥) h); left = good_is m vault h }
 
 module _ {D : Type 0} (m : Meaning D) (vault : State D) (valid : m.Valid vault.database) where
   module _ (payload : List ℕ) (spelled : payload ≡ m.spelled vault.database) (old new : History) where
@@ -105,8 +106,11 @@ module _ {D : Type 0} (m : Meaning D) (vault : State D) (valid : m.Valid vault.d
     ours : {T E : Type 0} (result : Result T E) → Replaced (vault.generation + 1) payload result old new → GoesOn IsOurs old new
     ours result replaced = goes_weaker (IsOf (vault.generation + 1)) IsOurs old new (of_ours (vault.generation + 1)) replaced.goes
 
+    left : {T E : Type 0} (result : Result T E) → Replaced (vault.generation + 1) payload result old new → IsGood m vault old → IsLeft (λ files. RecoversWithin m files vault.database) new
+    left result replaced good = one_after m IsOurs vault.database old new (ours result replaced) (since result replaced good)
+
     pub not_made : {T E U F : Type 0} (next : State D) (failed : E) (why : F) → (let result : Result T E = Err failed in Replaced (vault.generation + 1) payload result old new) → (let result : Result U F = Err why in Checkpointed m vault result next old new)
-    not_made next failed why replaced = record { goes = ours (Err failed) replaced; good = tt; fresh = tt; since = since (Err failed) replaced }
+    not_made next failed why replaced = record { goes = ours (Err failed) replaced; good = tt; fresh = tt; since = since (Err failed) replaced; left = left (Err failed) replaced }
 
     pub is_made : {T E U F : Type 0} (next : State D) (log : T) (done : U) → next ≡ at_next vault → (let result : Result T E = Ok log in Replaced (vault.generation + 1) payload result old new) → (let result : Result U F = Ok done in Checkpointed m vault result next old new)
     is_made next log done is replaced = record {
@@ -114,6 +118,7 @@ module _ {D : Type 0} (m : Meaning D) (vault : State D) (valid : m.Valid vault.d
       good = λ good. subst (λ (v : State D). IsGood m v new) (sym is) (record { base = vault.database; entries = []; holds = holds good; gives = refl });
       fresh = λ good. subst (λ (v : State D). EachImage (now new) new (IsFresh m v)) (sym is) (holds_fresh m (vault.generation + 1) vault.database new (holds good));
       since = since (Ok log) replaced;
+      left = left (Ok log) replaced;
     }
       where
         holds : IsGood m vault old → Holds m (vault.generation + 1) vault.database [] 0 new

@@ -13,7 +13,8 @@ use Rattle.entries.specs.EntryForm.{entry}
 use Rattle.database.specs.Meaning.{Meaning, IsLegal}
 use Rattle.vault.specs.Files.{image_file, log_file, IsOurs}
 use Rattle.vault.specs.Recovery.{Newest, records_of, after_all, AllLegal, RecoversWithin}
-use Rattle.vault.specs.Vaults.{State, IsGood, with_entry, Committed}
+use Rattle.vault.specs.Vaults.{State, IsGood, with_entry, RecoversToEither, IsLeft, Committed}
+use Rattle.vault.proofs.Leaving.{either_after, good_is}
 use Rattle.vault.proofs.Goodness.{image_log, log_ours, image_beside, older_beside, older_left, newest_left, good_since}
 
 -- nothing was done
@@ -22,6 +23,7 @@ same_vault m vault next e why h = record {
   goes = goes_none IsOurs h;
   good = tt;
   since = λ good moment files from to here. inl (good_since m (λ file. ⊥) vault h h (λ file ours no. no) (goes_none (λ file. ⊥) h) good moment files from to here);
+  left = λ good files left. inl (good_is m vault h good files left);
 }
 
 module _ {D : Type 0} (m : Meaning D) (vault : State D) (e : Entry) (fits : entry.Fits e) (legal : IsLegal m vault.database e) where
@@ -46,7 +48,7 @@ module _ {D : Type 0} (m : Meaning D) (vault : State D) (e : Entry) (fits : entr
       recovers_with : (good : IsGood m vault old) (files : ℕ → List ℕ) (entries : List Entry) → Newest files vault.generation (m.spelled good.base) → LogEnds (files (log_file vault.generation)) (records_of entries) → AllLegal m good.base entries → RecoversWithin m files (after_all m good.base entries)
       recovers_with good files entries newest log all = record { generation = vault.generation; base = good.base; entries = entries; valid = good.holds.valid; newest = newest; log = log; legal = all; gives = refl }
 
-      since : IsGood m vault old → EachImage (now old) new (λ files. RecoversWithin m files vault.database ⊎ RecoversWithin m files (m.after vault.database e))
+      since : IsGood m vault old → EachImage (now old) new (RecoversToEither m vault.database (m.after vault.database e))
       since good moment files from to here =
           let newest = newest_since good moment files from to here in
           let either = appended.since (records_of good.entries) (subst (λ (n : ℕ). IsSure old n (records_of good.entries) vault.end) (sym is_log) good.holds.log) moment files from to here in
@@ -54,9 +56,12 @@ module _ {D : Type 0} (m : Meaning D) (vault : State D) (e : Entry) (fits : entr
           (λ has. inl (subst (RecoversWithin m files) (sym good.gives) (recovers_with good files good.entries newest (subst (λ (n : ℕ). LogEnds (files n) (records_of good.entries)) is_log has) good.holds.legal)))
           (λ has. inr (subst (λ (d : D). RecoversWithin m files (m.after d e)) (sym good.gives) (recovers_with good files (e ∷ good.entries) newest (subst (λ (p : List ℕ). LogEnds (files (log_file vault.generation)) (records_of good.entries ++ p ∷ [])) spelled (subst (λ (n : ℕ). LogEnds (files n) (records_of good.entries ++ payload ∷ [])) is_log has)) (more_legal good)))) either
 
+      left : IsGood m vault old → IsLeft (RecoversToEither m vault.database (m.after vault.database e)) new
+      left good = either_after m IsOurs vault.database (m.after vault.database e) old new goes_ours (since good)
+
     pub not_committed : {T E F : Type 0} (failed : E) (why : F) (next : State D) (file : ℕ) (payload : List ℕ) → file ≡ log_file vault.generation → payload ≡ entry.spell e → (let result : Result (Unit {0}) E = Err failed in Appended file vault.end payload result old new)
         → (let result : Result T F = Err why in Committed m vault e result next old new)
-    not_committed failed why next file payload is_log spelled appended = record { goes = goes_ours (Err failed) file payload is_log spelled appended; good = tt; since = since (Err failed) file payload is_log spelled appended }
+    not_committed failed why next file payload is_log spelled appended = record { goes = goes_ours (Err failed) file payload is_log spelled appended; good = tt; since = since (Err failed) file payload is_log spelled appended; left = left (Err failed) file payload is_log spelled appended }
 
     pub is_committed : {T E F : Type 0} (number : T) (next : State D) (file : ℕ) (payload : List ℕ) → next ≡ with_entry m vault e → file ≡ log_file vault.generation → payload ≡ entry.spell e → (let result : Result (Unit {0}) E = Ok tt in Appended file vault.end payload result old new)
         → (let result : Result T F = Ok number in Committed m vault e result next old new)
@@ -64,6 +69,7 @@ module _ {D : Type 0} (m : Meaning D) (vault : State D) (e : Entry) (fits : entr
       goes = goes_ours (Ok tt) file payload is_log spelled appended;
       good = λ good. subst (λ (v : State D). IsGood m v new) (sym is) (good_next good);
       since = since (Ok tt) file payload is_log spelled appended;
+      left = left (Ok tt) file payload is_log spelled appended;
     }
       where
         good_next : IsGood m vault old → IsGood m (with_entry m vault e) new

@@ -5,6 +5,7 @@ mod Finding
 mod Formatting
 mod Goodness
 mod Installing
+mod Leaving
 mod Replacing
 mod Replaying
 mod Sounding

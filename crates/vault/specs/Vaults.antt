@@ -2,7 +2,7 @@
 use Rattle.std.specs.Prelude.{◌≡◌, ◌⊎◌, ℕ, ◌+◌, ◌<◌, ◌^◌, List, [], ◌∷◌, ◌++◌, length, Option, None, Some, Result, OnOk}
 use Rattle.store_api.specs.Cause.{Rose}
 use Rattle.store_api.specs.Disk.{History, now}
-use Rattle.store_api.specs.Runs.{GoesOn, EachImage}
+use Rattle.store_api.specs.Runs.{GoesOn, EachImage, LeftNow}
 use Rattle.log_file.specs.Blocks.{LogEnds}
 use Rattle.log_file.specs.Sure.{IsSure}
 use Rattle.log_file.specs.Sure as log
@@ -81,23 +81,34 @@ abbrev pub Doubts : {D : Type 0} → Meaning D → State D → Entry → (before
 Doubts m vault e before after refusal next = (vault.fault ≡ None) × (refusal ≡ LogFault (log_file vault.generation) (after (log_file vault.generation)))
     × Rose (before (log_file vault.generation)) (after (log_file vault.generation)) × (next ≡ in_doubt m vault e (log_file vault.generation) (after (log_file vault.generation)))
 
--- An entry was committed. On Ok the vault is good with it. Whatever came of it, each image since recovers to the database before it or after it.
+-- the files recover to one of two databases
+abbrev pub RecoversToEither : {D : Type 0} → Meaning D → (before after : D) → (ℕ → List ℕ) → Type 0
+RecoversToEither m before after files = RecoversWithin m files before ⊎ RecoversWithin m files after
+
+-- Whatever a stop right now leaves of the vault's files has P, and what stands in other files doesn't matter.
+abbrev pub IsLeft : ((ℕ → List ℕ) → Type 0) → History → Type 0
+IsLeft P h = (files : ℕ → List ℕ) → LeftNow IsOurs h files → P files
+
+-- An entry was committed. On Ok the vault is good with it. Whatever came of it, each image since recovers to the database before it or
+-- after it, and so does whatever a stop leaves of the vault's files right after.
 pub record Committed {D T E : Type 0} (m : Meaning D) (vault : State D) (e : Entry) (result : Result T E) (next : State D) (old new : History) : Type 0 where
   pub goes : GoesOn IsOurs old new
   pub good : OnOk result (IsGood m vault old → IsGood m next new)
-  pub since : IsGood m vault old → EachImage (now old) new (λ files. RecoversWithin m files vault.database ⊎ RecoversWithin m files (m.after vault.database e))
+  pub since : IsGood m vault old → EachImage (now old) new (RecoversToEither m vault.database (m.after vault.database e))
+  pub left : IsGood m vault old → IsLeft (RecoversToEither m vault.database (m.after vault.database e)) new
 
 -- the newest image is the database, and its log is empty
 abbrev pub IsFresh : {D : Type 0} → Meaning D → State D → (ℕ → List ℕ) → Type 0
 IsFresh m vault files = Newest files vault.generation (m.spelled vault.database) × LogEnds (files (log_file vault.generation)) []
 
 -- A checkpoint was made. On Ok the vault is good, and the newest image of each image of now is the database and its log is empty.
--- Whatever came of it, each image since recovers to the database.
+-- Whatever came of it, each image since recovers to the database, and so does whatever a stop leaves of the vault's files right after.
 pub record Checkpointed {D T E : Type 0} (m : Meaning D) (vault : State D) (result : Result T E) (next : State D) (old new : History) : Type 0 where
   pub goes : GoesOn IsOurs old new
   pub good : OnOk result (IsGood m vault old → IsGood m next new)
   pub fresh : OnOk result (IsGood m vault old → EachImage (now new) new (IsFresh m next))
   pub since : IsGood m vault old → EachImage (now old) new (λ files. RecoversWithin m files vault.database)
+  pub left : IsGood m vault old → IsLeft (λ files. RecoversWithin m files vault.database) new
 
 -- a call on an image or a log of the vault failed, and it takes no more
 abbrev pub Faults : {D : Type 0} → State D → (before after : ℕ → ℕ) → Refusal → State D → Type 0

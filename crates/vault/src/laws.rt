@@ -3,7 +3,7 @@ ghost use Rattle.std.specs.Prelude.{◌≡◌, ℕ, ◌≤◌, Bool, IsTrue, Lis
 ghost use Rattle.store_api.specs.Disk.{History, now, ImageAt};
 ghost use Rattle.store_api.specs.Runs.{GoesOn, EachImage};
 ghost use Rattle.vault.specs.Recovery.{NotFormatted, IsDamaged, Recovers, RecoversWithin};
-ghost use Rattle.vault.specs.Vaults.{State, IsGood};
+ghost use Rattle.vault.specs.Vaults.{State, IsGood, IsLeft, RecoversToEither};
 
 use database::Database;
 
@@ -18,6 +18,27 @@ pub fn other_files<D: Database>()
         IsGood D.meaning vault old → IsGood D.meaning vault new }
     ensures images { (theirs : ℕ → Bool) (vault : State D) (old new : History) → ((file : ℕ) → IsTrue (theirs file) → 4 ≤ file) → GoesOn (λ f. IsTrue (theirs f)) old new →
         IsGood D.meaning vault old → EachImage (now old) new (λ files. RecoversWithin D.meaning files vault.database) }
+{}
+
+/// What a stop right now leaves of the vault's files stays so over a run on files from 4 on: where they recover to a database, and
+/// where they recover to one of two, as after a commit in which a call failed. It is so of a good vault.
+pub fn left_stays<D: Database>()
+    ensures good { (vault : State D) (h : History) → IsGood D.meaning vault h → IsLeft (λ files. RecoversWithin D.meaning files vault.database) h }
+    ensures one { (theirs : ℕ → Bool) (d : D) (old new : History) → ((file : ℕ) → IsTrue (theirs file) → 4 ≤ file) → GoesOn (λ f. IsTrue (theirs f)) old new →
+        IsLeft (λ files. RecoversWithin D.meaning files d) old → IsLeft (λ files. RecoversWithin D.meaning files d) new }
+    ensures either { (theirs : ℕ → Bool) (before after : D) (old new : History) → ((file : ℕ) → IsTrue (theirs file) → 4 ≤ file) → GoesOn (λ f. IsTrue (theirs f)) old new →
+        IsLeft (RecoversToEither D.meaning before after) old → IsLeft (RecoversToEither D.meaning before after) new }
+{}
+
+/// Where it is so, each image of now has it, and each image since has it, over a run on files from 4 on.
+pub fn left_since<D: Database>()
+    ensures one_now { (d : D) (h : History) (files : ℕ → List ℕ) → IsLeft (λ files. RecoversWithin D.meaning files d) h → ImageAt h (now h) files → RecoversWithin D.meaning files d }
+    ensures either_now { (before after : D) (h : History) (files : ℕ → List ℕ) → IsLeft (RecoversToEither D.meaning before after) h → ImageAt h (now h) files →
+        RecoversToEither D.meaning before after files }
+    ensures one { (theirs : ℕ → Bool) (d : D) (old new : History) → ((file : ℕ) → IsTrue (theirs file) → 4 ≤ file) → GoesOn (λ f. IsTrue (theirs f)) old new →
+        IsLeft (λ files. RecoversWithin D.meaning files d) old → EachImage (now old) new (λ files. RecoversWithin D.meaning files d) }
+    ensures either { (theirs : ℕ → Bool) (before after : D) (old new : History) → ((file : ℕ) → IsTrue (theirs file) → 4 ≤ file) → GoesOn (λ f. IsTrue (theirs f)) old new →
+        IsLeft (RecoversToEither D.meaning before after) old → EachImage (now old) new (RecoversToEither D.meaning before after) }
 {}
 
 /// Files recover to one database at most, and to none where they aren't formatted or are damaged.

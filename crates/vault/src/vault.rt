@@ -135,8 +135,9 @@ impl<D: Database> Vault<D> {
         ensures later { S.moment_of store.old ≤ S.moment_of store.new }
         ensures counts { NoneFell (S.faults_of store.old) (S.faults_of store.new) }
     {
-        if let Some((file, count)) = self.fault {
-            return Err(Refusal::LogFault { file, count });
+        match self.fault {
+            None => {}
+            Some((file, count)) => return Err(Refusal::LogFault { file, count }),
         }
         let payload = match self.database.encode(alloc) {
             Ok(payload) => payload,

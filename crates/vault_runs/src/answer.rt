@@ -3,7 +3,7 @@ use kinds::{OpenRefused, Refusal};
 use std::alloc::{AllocError, Global};
 
 /// Why a line or a step has no answer.
-#[derive(Clone, Copy, Debug, PartialEq, Eq)]
+#[derive(Clone, Copy, PartialEq, Eq)]
 pub enum Fault {
     /// The line is no command.
     NoCommand,

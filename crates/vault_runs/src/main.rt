@@ -34,13 +34,20 @@ fn answer_line<W: Write>(run: &mut Run, line: &str, out: &mut W) -> io::Result<(
     out.write_all(b"\n")
 }
 
-fn main(rt: HostRuntime) -> io::Result<()> {
+/// Puts what each line is answered.
+fn answer_all(rt: &HostRuntime, run: &mut Run) -> io::Result<()> {
     let alloc = rt.alloc();
-    let mut run = Run::new(alloc);
-    let mut out = BufWriter::new(alloc, io::writer(&rt))?;
+    let mut out = BufWriter::new(alloc, io::writer(rt))?;
     for line in rt.lines(alloc) {
         let line = line?;
-        answer_line(&mut run, line.as_str(), &mut out)?;
+        answer_line(run, line.as_str(), &mut out)?;
     }
     out.flush()
+}
+
+fn main(rt: HostRuntime) -> io::Result<()> {
+    let mut run = Run::new(rt.alloc());
+    let answered = answer_all(&rt, &mut run);
+    drop(run);
+    answered
 }

@@ -7,11 +7,12 @@ use hex::{decode, encode};
 use std::alloc::{AllocError, Global};
 use store_api::Store;
 
-/// The store and the vault that the commands are about.
+/// The store and the vault that the commands are about, and those over which steps are made again and again.
 #[derive(Drop)]
 pub struct Run {
     alloc: Global,
     desk: Desk,
+    trial: Desk,
 }
 
 impl Run {
@@ -20,6 +21,7 @@ impl Run {
         Run {
             alloc,
             desk: Desk::new(alloc),
+            trial: Desk::new(alloc),
         }
     }
 
@@ -28,7 +30,7 @@ impl Run {
     }
 
     fn start_again(&mut self) -> Result<String, Fault> {
-        self.desk = Desk::new(self.alloc);
+        self.desk.begin(self.alloc, Vec::new(self.alloc));
         self.done()
     }
 
@@ -72,23 +74,23 @@ impl Run {
         Ok(self.desk.text(self.alloc)?)
     }
 
-    fn stops(&self, choice: &str, words: &[&str]) -> Result<String, Fault> {
+    fn stops(&mut self, choice: &str, words: &[&str]) -> Result<String, Fault> {
         let steps = steps(self.alloc, words)?;
-        sweeps::stops(self.alloc, large(choice)?, &steps)
+        sweeps::stops(self.alloc, &mut self.trial, large(choice)?, &steps)
     }
 
-    fn again(&self, choice: &str, words: &[&str]) -> Result<String, Fault> {
+    fn again(&mut self, choice: &str, words: &[&str]) -> Result<String, Fault> {
         let steps = steps(self.alloc, words)?;
-        sweeps::again(self.alloc, large(choice)?, &steps)
+        sweeps::again(self.alloc, &mut self.trial, large(choice)?, &steps)
     }
 
-    fn faults(&self, words: &[&str]) -> Result<String, Fault> {
+    fn faults(&mut self, words: &[&str]) -> Result<String, Fault> {
         let steps = steps(self.alloc, words)?;
-        sweeps::faults(self.alloc, &steps)
+        sweeps::faults(self.alloc, &mut self.trial, &steps)
     }
 
     /// What a command on many stores is answered.
-    fn sweep(&self, words: &[&str]) -> Result<String, Fault> {
+    fn sweep(&mut self, words: &[&str]) -> Result<String, Fault> {
         match words {
             ["stops", choice, steps @ ..] => self.stops(choice, steps),
             ["again", choice, steps @ ..] => self.again(choice, steps),

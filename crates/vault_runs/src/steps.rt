@@ -17,7 +17,7 @@ const LATE: u64 = 1 << 61;
 const LAST: u64 = 1 << 61;
 
 /// A step.
-#[derive(Clone, Copy, Debug, PartialEq, Eq)]
+#[derive(Clone, Copy)]
 pub enum Step {
     Format,
     Open,
@@ -34,25 +34,27 @@ pub struct Desk {
     vault: Option<Vault<Calendar>>,
 }
 
-/// The vault's answer to a transaction.
+/// The vault's answer to a transaction that brings this day.
 fn commit_day(
     alloc: Global,
     vault: &mut Vault<Calendar>,
     store: &mut MemStore,
     day: Day,
 ) -> Result<u64, Refusal> {
+    if store.moment() >= LATE {
+        return Err(Refusal::RunFull);
+    }
     let entry = Entry {
         actor: 0,
         change: Change::Day { day },
     };
     match vault.database().legal(&entry) {
-        Ok(()) => {}
-        Err(refusal) => return Err(refusal),
+        Ok(()) => vault.commit(alloc, store, entry),
+        Err(refusal) => {
+            drop(entry);
+            Err(refusal)
+        }
     }
-    if store.moment() >= LATE {
-        return Err(Refusal::RunFull);
-    }
-    vault.commit(alloc, store, entry)
 }
 
 fn write_image(
@@ -133,16 +135,27 @@ impl Desk {
         }
     }
 
+    /// An empty store, over which the calls that begin at these moments fail.
+    pub fn begin(&mut self, alloc: Global, moments: Vec<u64>) {
+        self.close();
+        self.store = MemStore::new(alloc).with_failing(moments);
+    }
+
+    /// Closes the vault that is open.
+    fn close(&mut self) {
+        drop(self.vault.take());
+    }
+
     fn format(&mut self, alloc: Global) -> Result<(), Fault> {
-        self.vault = None;
+        self.close();
         Vault::<Calendar>::format(alloc, &mut self.store, &Calendar::new())?;
         Ok(())
     }
 
     fn open(&mut self, alloc: Global) -> Result<(), Fault> {
-        self.vault = None;
+        self.close();
         let vault = Vault::open(alloc, &mut self.store)?;
-        self.vault = Some(vault);
+        drop(mem::replace(&mut self.vault, Some(vault)));
         Ok(())
     }
 
@@ -191,7 +204,7 @@ impl Desk {
 
     /// The machine stops and starts again.
     pub fn stop(&mut self, alloc: Global, choice: u64) {
-        self.vault = None;
+        self.close();
         let store = mem::replace(&mut self.store, MemStore::new(alloc));
         self.store = store.stop(choice);
     }

@@ -28,26 +28,30 @@ fn recovered(alloc: Global, desk: &mut Desk) -> char {
     }
 }
 
-/// A store over which the steps were made, where the call at this moment fails, and what they were answered.
+/// What the steps are answered over an empty store, where the call at this moment fails.
 fn made(
     alloc: Global,
+    desk: &mut Desk,
     steps: &[Step],
     moment: u64,
-) -> Result<(Desk, Result<(), Fault>), AllocError> {
-    let mut desk = Desk::new(alloc);
-    desk.fail_at(alloc, [moment].to_vec(alloc)?);
-    let answered = desk.make_all(alloc, steps);
-    Ok((desk, answered))
+) -> Result<Result<(), Fault>, AllocError> {
+    desk.begin(alloc, [moment].to_vec(alloc)?);
+    Ok(desk.make_all(alloc, steps))
+}
+
+/// What is recovered after a stop, and no call fails.
+fn after_stop(alloc: Global, desk: &mut Desk, choice: u64) -> char {
+    desk.stop(alloc, choice);
+    desk.fail_at(alloc, Vec::new(alloc));
+    recovered(alloc, desk)
 }
 
 /// What is recovered after a stop at each moment.
-pub fn stops(alloc: Global, choice: u64, steps: &[Step]) -> Result<String, Fault> {
+pub fn stops(alloc: Global, desk: &mut Desk, choice: u64, steps: &[Step]) -> Result<String, Fault> {
     let mut signs = String::new(alloc);
     for moment in 0..MOST {
-        let (mut desk, answered) = made(alloc, steps, moment)?;
-        desk.stop(alloc, choice);
-        desk.fail_at(alloc, Vec::new(alloc));
-        signs.push(recovered(alloc, &mut desk))?;
+        let answered = made(alloc, desk, steps, moment)?;
+        signs.push(after_stop(alloc, desk, choice))?;
         if answered.is_ok() {
             return Ok(signs);
         }
@@ -59,26 +63,31 @@ pub fn stops(alloc: Global, choice: u64, steps: &[Step]) -> Result<String, Fault
 /// call failed there.
 fn once_more(
     alloc: Global,
+    desk: &mut Desk,
     choice: u64,
     steps: &[Step],
     moment: u64,
     later: u64,
 ) -> Result<(char, bool), Fault> {
-    let (mut desk, _) = made(alloc, steps, moment)?;
+    let _ = made(alloc, desk, steps, moment)?;
     desk.stop(alloc, choice);
     let second = desk.store.moment().saturating_add(later);
     desk.fail_at(alloc, [second].to_vec(alloc)?);
     let failed = desk.make(alloc, Step::Open).is_err() && desk.store.moment() > second;
-    desk.stop(alloc, choice);
-    desk.fail_at(alloc, Vec::new(alloc));
-    Ok((recovered(alloc, &mut desk), failed))
+    Ok((after_stop(alloc, desk, choice), failed))
 }
 
 /// What is recovered whichever call of the opening stops once more.
-fn always(alloc: Global, choice: u64, steps: &[Step], moment: u64) -> Result<char, Fault> {
-    let (first, _) = once_more(alloc, choice, steps, moment, 0)?;
+fn always(
+    alloc: Global,
+    desk: &mut Desk,
+    choice: u64,
+    steps: &[Step],
+    moment: u64,
+) -> Result<char, Fault> {
+    let (first, _) = once_more(alloc, desk, choice, steps, moment, 0)?;
     for later in 1..MOST {
-        let (sign, failed) = once_more(alloc, choice, steps, moment, later)?;
+        let (sign, failed) = once_more(alloc, desk, choice, steps, moment, later)?;
         if sign != first {
             return Ok('!');
         }
@@ -90,12 +99,11 @@ fn always(alloc: Global, choice: u64, steps: &[Step], moment: u64) -> Result<cha
 }
 
 /// What is recovered after a stop at each moment and one more in the opening.
-pub fn again(alloc: Global, choice: u64, steps: &[Step]) -> Result<String, Fault> {
+pub fn again(alloc: Global, desk: &mut Desk, choice: u64, steps: &[Step]) -> Result<String, Fault> {
     let mut signs = String::new(alloc);
     for moment in 0..MOST {
-        signs.push(always(alloc, choice, steps, moment)?)?;
-        let (_, answered) = made(alloc, steps, moment)?;
-        if answered.is_ok() {
+        signs.push(always(alloc, desk, choice, steps, moment)?)?;
+        if made(alloc, desk, steps, moment)?.is_ok() {
             return Ok(signs);
         }
     }
@@ -121,13 +129,12 @@ fn named(alloc: Global, desk: &mut Desk, fault: Fault) -> char {
 }
 
 /// The file that the refusal names where the call at each moment fails.
-pub fn faults(alloc: Global, steps: &[Step]) -> Result<String, Fault> {
+pub fn faults(alloc: Global, desk: &mut Desk, steps: &[Step]) -> Result<String, Fault> {
     let mut signs = String::new(alloc);
     for moment in 0..MOST {
-        let (mut desk, answered) = made(alloc, steps, moment)?;
-        match answered {
+        match made(alloc, desk, steps, moment)? {
             Ok(()) => return Ok(signs),
-            Err(fault) => signs.push(named(alloc, &mut desk, fault))?,
+            Err(fault) => signs.push(named(alloc, desk, fault))?,
         }
     }
     Err(Fault::NoCommand)

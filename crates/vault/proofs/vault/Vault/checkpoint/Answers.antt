@@ -8,7 +8,7 @@ use Rattle.vault.proofs.Checkpointing.{told_not, next_is, is_made, not_made}
 use Rattle.vault.proofs.vault.Vault.checkpoint.Goals as goal
 
 pub returns-in-Some-clause-told : goal.returns-in-Some-clause-told
-returns-in-Some-clause-told g c = told_not (g.S.Store.told c.args.store.now) g.D.Database.meaning c.args.self.now c.args.self.now _
+returns-in-Some-clause-told g c = told_not (g.S.Store.told c.args.store.now) g.D.Database.meaning c.args.self.now _ _
 
 pub returns-in-Err-clause-told : goal.returns-in-Err-clause-told
 returns-in-Err-clause-told g c = told_not (g.S.Store.told c.args.store.now) g.D.Database.meaning c.args.self.now c.args.self.now _

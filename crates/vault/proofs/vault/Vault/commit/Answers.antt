@@ -9,7 +9,7 @@ use Rattle.vault.proofs.Committing.{told_not, entry_is, not_committed, is_commit
 use Rattle.vault.proofs.vault.Vault.commit.Goals as goal
 
 pub returns-in-Some-clause-told : goal.returns-in-Some-clause-told
-returns-in-Some-clause-told g c = told_not (g.S.Store.told c.args.store.now) g.D.Database.meaning c.args.self.now c.args.self.now c.args.entry _
+returns-in-Some-clause-told g c = told_not (g.S.Store.told c.args.store.now) g.D.Database.meaning c.args.self.now _ c.args.entry _
 
 pub returns-in-Err-clause-told : goal.returns-in-Err-clause-told
 returns-in-Err-clause-told g c = told_not (g.S.Store.told c.args.store.now) g.D.Database.meaning c.args.self.now c.args.self.now c.args.entry _
