@@ -1,0 +1,6 @@
+use Rattle.std.proofs.Common.{◌≡◌}
+use Rattle.policy_domains.specs.Rows.{active_set, row_of}
+use Rattle.placing.proofs.rules.active_set.Given as goal
+
+abbrev pub invariant-sets : goal.invariant-sets
+invariant-sets l = row_of active_set l.name-iterator ≡ row_of active_set l.sets.entries
