@@ -17,17 +17,18 @@ use entries::Entry;
 use inventory_answers::{Answer, Query};
 use inventory_check::is_valid;
 use inventory_rows::Tables;
-use item_refusals::{NoPast, Past};
+use item_refusals::{AtMost, NoPast, Past};
 use kinds::Refusal;
 use payload_fits::tables_fit;
 use std::alloc::Global;
 use std::marker::Model;
-use transactions::make;
+use transactions::{count, make};
 
 /// The server's whole database. Every value is valid.
 #[derive(Drop)]
 pub struct Inventory {
     tables: Tables,
+    at_most: AtMost,
 }
 
 impl Model for Inventory {
@@ -35,12 +36,13 @@ impl Model for Inventory {
     ghost use Rattle.inventory_rows.specs.State.{Inv, inv_of};
     ghost use Rattle.inventory_rules.specs.Held.{IsTied};
     ghost use Rattle.inventory_rules.specs.Valid.{is_valid};
+    ghost use Rattle.item_refusals.specs.Bounds.{Bounds};
 
     ghost Value = { Inv };
 
     ghost view = { λ i. inv_of i.tables };
 
-    ghost invariant = { λ i. (is_valid (inv_of i.tables) ≡ true) × IsTied (inv_of i.tables) };
+    ghost invariant = { λ i. (is_valid (inv_of i.tables) ≡ true) × IsTied (inv_of i.tables) × Bounds i.at_most (inv_of i.tables) };
 }
 
 /// The inventory of these tables, where they are those of one.
@@ -51,7 +53,10 @@ fn checked(alloc: Global, tables: Tables) -> Result<Option<Inventory>, Refusal>
     ensures memory { IfErr result (λ e. e ≡ Memory) }
 {
     match is_valid(alloc, &tables) {
-        Ok(true) => Ok(Some(Inventory { tables })),
+        Ok(true) => {
+            let at_most = count(&tables);
+            Ok(Some(Inventory { tables, at_most }))
+        }
         Ok(false) => Ok(None),
         Err(_) => Err(Refusal::Memory),
     }
@@ -63,7 +68,17 @@ impl Inventory {
         ensures { AnswersBy (λ i. i) result fresh }
     {
         let tables = Tables::fresh(alloc)?;
-        Ok(Inventory { tables })
+        let at_most = count(&tables);
+        Ok(Inventory { tables, at_most })
+    }
+
+    /// The rows of the database, which are those of a valid one.
+    pub fn tables(&self) -> &Tables
+        ensures value { inv_of result.now ≡ self.now }
+        ensures valid { is_valid self.now ≡ true }
+        ensures tied { IsTied self.now }
+    {
+        &self.tables
     }
 
     /// Why a transaction with this change is refused, where it is. What a run's journal tells of versions and copies that are not as they
@@ -71,7 +86,7 @@ impl Inventory {
     pub fn refused<J: Past>(&self, past: &J, change: &Change) -> Option<Refusal>
         ensures { result ≡ refused (J.journal past.now) change.now self.now }
     {
-        transactions::refused(past, &self.tables, change)
+        transactions::refused(past, &self.tables, change, &self.at_most)
     }
 
     /// The answer to a query: `NotFound` exactly where what it names isn't there, or want of memory.
@@ -97,7 +112,7 @@ impl Database for Inventory {
     }
 
     fn apply(&mut self, alloc: Global, entry: &Entry) -> Result<(), Refusal> {
-        make(alloc, &mut self.tables, &entry.change)
+        make(alloc, &mut self.tables, &mut self.at_most, &entry.change)
     }
 
     fn encode(&self, alloc: Global) -> Result<Vec<u8>, Refusal> {
@@ -116,7 +131,10 @@ impl Database for Inventory {
 
     fn copy(&self, _alloc: Global) -> Result<Self, Refusal> {
         let tables = self.tables.clone()?;
-        Ok(Inventory { tables })
+        Ok(Inventory {
+            tables,
+            at_most: self.at_most,
+        })
     }
 
     ghost is_meaning = { is_meaning };

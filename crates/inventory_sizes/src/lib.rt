@@ -9,4 +9,4 @@ mod held;
 mod room;
 mod sizes;
 
-pub use sizes::has_item_room;
+pub use sizes::{count_items, has_item_room, items_after};

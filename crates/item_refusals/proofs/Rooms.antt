@@ -1,5 +1,5 @@
 -- Room for things that are counted in parts.
-use Rattle.std.proofs.Common.{◌≡◌, ℕ, ◌+◌, ◌-◌, ◌<◌, ◌≤◌, Bool, true, false, cond, nat_le, Some, None, is_some, List, ◌∷◌, length, length-append, refl, sym, ap, ◌∙◌, arith}
+use Rattle.std.proofs.Common.{◌≡◌, ℕ, ◌+◌, ◌-◌, ◌<◌, ◌≤◌, Bool, true, false, cond, min, nat_le, Some, None, is_some, List, ◌∷◌, length, length-append, refl, sym, ap, ◌∙◌, arith}
 use Rattle.std.specs.List.{flat_map}
 use Rattle.std.proofs.lemmas.Bool.{leb-true, leb-false, le-leb, lt-leb}
 use Rattle.item_refusals.specs.Room.{left}
@@ -55,5 +55,19 @@ room_for n k m h =
       | false ↦ λ e. let w : m - k < n = omega (arith, leb-false (n + k) m e) in ap is_some (left_when n (m - k) false (lt-leb n (m - k) w))
     ] refl
 
+-- there are no more than a number that leaves room for them
+pub room_known : (n known k m : ℕ) → n ≤ known → known ≤ m - k → k ≤ m → nat_le (n + k) m ≡ true
+room_known n known k m h g few = let w : n + k ≤ m = omega arith in le-leb (n + k) m w
+
 pub no_room_for : (n k m : ℕ) → m < k → nat_le (n + k) m ≡ false
 no_room_for n k m h = let w : m < n + k = omega arith in lt-leb (n + k) m w
+
+-- what a count leaves of the room says how many there are, up to the room
+pub rest_fits : (n m rest : ℕ) → left n m ≡ Some rest → rest ≤ m
+rest_fits n m rest h = let s = left_some n m rest h in omega (arith, s.0, s.1)
+
+pub all_counted : (n m rest : ℕ) → left n m ≡ Some rest → m - rest ≡ min n m
+all_counted n m rest h = let s = left_some n m rest h in omega (arith, s.0, s.1)
+
+pub most_counted : (n m : ℕ) → left n m ≡ None → m ≡ min n m
+most_counted n m h = omega (arith, left_none n m h)

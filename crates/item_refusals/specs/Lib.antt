@@ -1,3 +1,4 @@
+pub mod Bounds
 pub mod Drawn
 pub mod Placing
 pub mod Retaining

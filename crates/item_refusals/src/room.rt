@@ -1,6 +1,6 @@
 //! Room for more versions.
 
-ghost use Rattle.std.specs.Prelude.{◌≡◌, ◌+◌, length, nat_le};
+ghost use Rattle.std.specs.Prelude.{◌≡◌, ◌+◌, ◌≤◌, length, min, nat_le};
 ghost use Rattle.object_rows.specs.Filespaces.{versions_in, versions_of};
 ghost use Rattle.inventory_rows.specs.Items.{most_versions};
 ghost use Rattle.inventory_rows.specs.Search.{versions};
@@ -44,12 +44,27 @@ fn left_by_filespaces(filespaces: &BTreeMap<u32, Filespace>, room: usize) -> Opt
     Some(left)
 }
 
-/// Whether so many versions more would be no more than may be kept.
-pub(crate) fn has_room(tables: &Tables, more: usize) -> bool
+/// Whether so many versions more would be no more than may be kept. There are no more versions than `known`. Where these leave room, nothing is
+/// counted; otherwise it walks all paths.
+pub(crate) fn has_room(tables: &Tables, more: usize, known: usize) -> bool
+    requires { length (versions (inv_of tables.now)) ≤ known }
     ensures { result ≡ nat_le (length (versions (inv_of tables.now)) + more) most_versions }
 {
     if more > MOST_VERSIONS {
         return false;
     }
+    if known <= MOST_VERSIONS - more {
+        return true;
+    }
     left_by_filespaces(tables.objects.filespaces(), MOST_VERSIONS - more).is_some()
+}
+
+/// How many versions the database keeps, counted up to how many may be kept. It walks all paths, and takes no memory.
+pub fn count_versions(tables: &Tables) -> usize
+    ensures { result ≡ min (length (versions (inv_of tables.now))) most_versions }
+{
+    match left_by_filespaces(tables.objects.filespaces(), MOST_VERSIONS) {
+        Some(rest) => MOST_VERSIONS - rest,
+        None => MOST_VERSIONS,
+    }
 }

@@ -1,3 +1,5 @@
 pub mod Nothing
 pub mod Orders
 pub mod Stays
+pub mod Versions
+pub mod Within

@@ -1,10 +1,12 @@
 //! Why a transaction is refused.
-ghost use Rattle.std.specs.Prelude.{◌≡◌, ◌^◌, true};
+ghost use Rattle.std.specs.Prelude.{◌≡◌, ◌≤◌, ◌^◌, true};
 ghost use Rattle.kinds.specs.Refusals.{foremost};
+ghost use Rattle.inventory_rows.specs.Items.{count_items};
 ghost use Rattle.inventory_rows.specs.State.{inv_of};
 ghost use Rattle.inventory_rules.specs.Held.{IsTied};
 ghost use Rattle.inventory_rules.specs.Refused.{full_at};
 ghost use Rattle.inventory_rules.specs.Valid.{is_valid};
+ghost use Rattle.item_refusals.specs.Bounds.{Bounds};
 ghost use Rattle.transactions.specs.Legal.{refused, sizes};
 
 use changes::Change;
@@ -12,7 +14,7 @@ use inventory_fits::parts_fit;
 use inventory_refusals::refusal_of;
 use inventory_rows::Tables;
 use inventory_sizes::has_item_room;
-use item_refusals::{Past, bad_value, unless};
+use item_refusals::{AtMost, Past, bad_value, unless};
 use kinds::{Refusal, sooner_of};
 
 /// How many numbers there are for transactions.
@@ -27,23 +29,31 @@ fn number_refused(tables: &Tables) -> Option<Refusal>
 
 /// The database would be too large, or the transaction's number would reach its bound.
 #[tactic(auto, using(item_refusals::proofs::Foremost::foremost_append))]
-fn sizes_refused(tables: &Tables, change: &Change) -> Option<Refusal>
+fn sizes_refused(tables: &Tables, change: &Change, known: u128) -> Option<Refusal>
+    requires { count_items (inv_of tables.now) ≤ known }
     ensures { result ≡ foremost (sizes change.now (inv_of tables.now)) }
 {
-    let items = unless(has_item_room(tables, change), Refusal::InventoryFull);
+    let items = unless(has_item_room(tables, change, known), Refusal::InventoryFull);
     sooner_of(items, number_refused(tables))
 }
 
 /// Why a transaction with this change is refused, where it is: by the foremost of the causes, a database that would be too large among them,
-/// and behind them by `BadValue` where what it brings doesn't fit where it comes. It takes no memory.
+/// and behind them by `BadValue` where what it brings doesn't fit where it comes. It takes no memory. Only where the bounds leave no room for
+/// what comes is what the database holds counted.
 #[tactic(auto, using(item_refusals::proofs::Foremost::foremost_append), unfolding(crate::specs::Legal::refused))]
-pub fn refused<J: Past>(past: &J, tables: &Tables, change: &Change) -> Option<Refusal>
+pub fn refused<J: Past>(
+    past: &J,
+    tables: &Tables,
+    change: &Change,
+    at_most: &AtMost,
+) -> Option<Refusal>
     requires valid { is_valid (inv_of tables.now) ≡ true }
     requires tied { IsTied (inv_of tables.now) }
+    requires bounds { Bounds at_most.now (inv_of tables.now) }
     ensures { result ≡ refused (J.journal past.now) change.now (inv_of tables.now) }
 {
-    let causes = refusal_of(past, tables, change);
-    match sooner_of(causes, sizes_refused(tables, change)) {
+    let causes = refusal_of(past, tables, change, at_most.versions);
+    match sooner_of(causes, sizes_refused(tables, change, at_most.items)) {
         Some(refusal) => Some(refusal),
         None => unless(parts_fit(tables, change), bad_value()),
     }

@@ -2,9 +2,11 @@
 //! whose volumes have to hold the segments of the copies; so they are again after each transaction.
 #![tactic(auto)]
 
+mod bounds;
 pub mod laws;
 mod legal;
 mod made;
 
+pub use bounds::count;
 pub use legal::refused;
 pub use made::make;

@@ -1,18 +1,9 @@
-use Rattle.std.proofs.Common.{◌≡◌}
 use Rattle.inventory_rows.specs.State.{inv_of}
 use Rattle.inventory_rules.specs.Journal.{no_journal}
-use Rattle.transactions.proofs.Stays.{IsWhole, kept, legal_can, legal_stays}
+use Rattle.transactions.proofs.Within.{all_within}
 use Rattle.transactions.proofs.made.make.Goals as goal
 
-pub apply-requires : goal.apply-requires
-apply-requires c = legal_can no_journal c.args.change.now (inv_of c.args.tables.now) c.requires.valid c.are_ascending.ensures c.requires.legal
-
-pub returns-clause-valid : goal.returns-clause-valid
-returns-clause-valid c =
-    (kept c.apply.result c.args.change.now (inv_of c.args.tables.now) (inv_of c.apply.new.tables) c.apply.ensures (c.requires.valid, c.requires.tied)
-    (legal_stays no_journal c.args.change.now (inv_of c.args.tables.now) c.requires.valid c.requires.tied c.are_ascending.ensures c.is_day.ensures c.requires.legal)).0
-
-pub returns-clause-tied : goal.returns-clause-tied
-returns-clause-tied c =
-    (kept c.apply.result c.args.change.now (inv_of c.args.tables.now) (inv_of c.apply.new.tables) c.apply.ensures (c.requires.valid, c.requires.tied)
-    (legal_stays no_journal c.args.change.now (inv_of c.args.tables.now) c.requires.valid c.requires.tied c.are_ascending.ensures c.is_day.ensures c.requires.legal)).1
+pub or_counted-requires-clause-bounds : goal.or_counted-requires-clause-bounds
+or_counted-requires-clause-bounds c =
+    all_within no_journal c.args.change.now c.make_rows.result c.in-Ok.field-0 (inv_of c.args.tables.now) (inv_of c.make_rows.new.tables) c.requires.valid c.are_ascending.ensures c.requires.legal
+    c.args.at_most.now c.requires.bounds c.in-Ok.is c.make_rows.ensures.becomes c.raised-higher.result c.raised-higher.ensures
