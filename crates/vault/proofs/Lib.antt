@@ -3,12 +3,13 @@ mod Checkpointing
 mod Committing
 mod Finding
 mod Formatting
-mod Goodness
+pub mod Goodness
 mod Installing
 mod Leaving
+mod Looking
 mod Replacing
 mod Replaying
-mod Sounding
+pub mod Sounding
 mod Telling
-mod Unique
+pub mod Unique
 mod Writing

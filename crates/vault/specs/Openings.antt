@@ -1,5 +1,5 @@
 -- What opening finds and does, and what formatting does.
-use Rattle.std.specs.Prelude.{◌≡◌, ◌⊎◌, ℕ, ◌+◌, ◌-◌, ◌<◌, ◌≤◌, ◌^◌, nat_lt, if◌then◌else◌, Bool, true, false, List, length, Option, None, Some, Result, Ok, Err, OnOk, IfOk, IfErr}
+use Rattle.std.specs.Prelude.{◌≡◌, ◌⊎◌, ℕ, ◌+◌, ◌-◌, ◌<◌, ◌≤◌, ◌^◌, ◌==◌, nat_lt, if◌then◌else◌, Bool, true, false, ◌||◌, List, [], ◌∷◌, length, Option, None, Some, Result, Ok, Err, OnOk, IfOk, IfErr}
 use Rattle.store_api.specs.Cause.{Rose}
 use Rattle.store_api.specs.Disk.{History, standing, reads, now, settled, ImageAt}
 use Rattle.store_api.specs.Runs.{GoesOn, EachImage}
@@ -46,6 +46,15 @@ SaysNothing refused.NotFormatted = ⊥
 SaysNothing (refused.ReadFault file) = Unit {0}
 SaysNothing refused.RunFull = Unit {0}
 SaysNothing refused.Memory = Unit {0}
+
+-- the file begins with the byte 1
+abbrev pub has_open_gate : List ℕ → Bool
+has_open_gate [] = false
+has_open_gate (byte ∷ bytes) = byte == 1
+
+-- one of the two images has an open gate
+abbrev pub is_formatted : (ℕ → List ℕ) → Bool
+is_formatted files = has_open_gate (files 0) || has_open_gate (files 1)
 
 -- of two generations of which each may be there, the greater
 abbrev pub greater : Option ℕ → Option ℕ → Option ℕ
@@ -149,6 +158,14 @@ MayRefuseOpening before after moment refused.NotFormatted = Unit {0}
 MayRefuseOpening before after moment (refused.Damaged file at) = IsOurs file
 MayRefuseOpening before after moment refused.RunFull = 2 ^ 62 - 2 ^ 24 ≤ moment
 MayRefuseOpening before after moment refused.Memory = Unit {0}
+
+-- Why it couldn't be told whether an image has an open gate: a call on an image's file failed, the moment is all but the last, or want of memory.
+abbrev pub MayRefuseLooking : (before after : ℕ → ℕ) (moment : ℕ) → OpenRefused → Type 0
+MayRefuseLooking before after moment (refused.ReadFault file) = (file < 2) × Rose (before file) (after file)
+MayRefuseLooking before after moment refused.NotFormatted = ⊥
+MayRefuseLooking before after moment (refused.Damaged file at) = ⊥
+MayRefuseLooking before after moment refused.RunFull = 2 ^ 62 - 2 ^ 24 ≤ moment
+MayRefuseLooking before after moment refused.Memory = Unit {0}
 
 -- Both images' gates were shut and both logs were begun, the files being on the disk. On Ok no stop opens a gate.
 pub record Cleared {T E : Type 0} (result : Result T E) (old new : History) : Type 0 where

@@ -13,4 +13,5 @@ mod record;
 mod vault;
 mod write;
 
+pub use open::is_formatted;
 pub use vault::Vault;

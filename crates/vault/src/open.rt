@@ -6,11 +6,11 @@ ghost use Rattle.store_api.specs.Disk.{reads};
 ghost use Rattle.store_api.specs.Told.{Told};
 ghost use Rattle.kinds.specs.declared.refusal.OpenRefused.TheVariants.{Memory};
 ghost use Rattle.log_file.specs.Cursor.{MayRefuse, Looked};
-ghost use Rattle.log_file.specs.Windows.{Onward};
+ghost use Rattle.log_file.specs.Windows.{Onward, IfReads, NoDamage};
 ghost use Rattle.database.specs.Meaning.{IsLegal};
 ghost use Rattle.vault.specs.Files.{image_file, log_file};
 ghost use Rattle.vault.specs.Recovery.{Newest};
-ghost use Rattle.vault.specs.Openings.{SettledAll, SaysNothing, greater, FindsNewest, FindsBase, AppliesEntry, Applies, Replayed, Opened, MayRefuseOpening};
+ghost use Rattle.vault.specs.Openings.{SettledAll, SaysNothing, has_open_gate, is_formatted, MayRefuseLooking, greater, FindsNewest, FindsBase, AppliesEntry, Applies, Replayed, Opened, MayRefuseOpening};
 
 use crate::files::{image_file, log_file};
 use crate::vault::Vault;
@@ -18,7 +18,7 @@ use database::Database;
 use db_image::{Head, Image, Mark};
 use entries::Entry;
 use kinds::OpenRefused;
-use log_file::{Log, Records, settle};
+use log_file::{Log, Records, read_piece, settle};
 use std::alloc::Global;
 use store_api::Store;
 
@@ -40,6 +40,37 @@ pub(crate) fn settle_all<S: Store>(store: &mut S) -> Result<(), OpenRefused>
         }
     }
     Ok(())
+}
+
+/// Whether the gate of a file is open.
+fn is_open<S: Store>(store: &mut S, file: u32) -> Result<bool, OpenRefused>
+    ensures looked { Told (S.told store.old) (S.told store.new) Looked }
+    ensures gate { IfOk result (λ is. IfReads (S.told store.old) file (λ bytes. is ≡ has_open_gate bytes)) }
+    ensures undamaged { IfErr result NoDamage }
+    ensures refused { IfErr result (MayRefuse file (S.faults_of store.old) (S.faults_of store.new) (S.moment_of store.new)) }
+    ensures onward { Onward (S.moment_of store.old) (S.moment_of store.new) (S.faults_of store.old) (S.faults_of store.new) }
+{
+    let mut gate = [0u8; 1];
+    match read_piece(store, file, 0, &mut gate) {
+        Ok(count) => Ok(count == 1 && gate[0] == 1),
+        Err(refused) => Err(refused),
+    }
+}
+
+/// Whether an image has an open gate, and so something is there that formatting would take away. Refused with `ReadFault` only where a
+/// call on a file failed, and with `RunFull` only where the moment is, or came to, 2^62 - 2^24.
+pub fn is_formatted<S: Store>(store: &mut S) -> Result<bool, OpenRefused>
+    ensures looked { Told (S.told store.old) (S.told store.new) Looked }
+    ensures gates { IfOk result (λ is. IfSome (S.told store.old) (λ h. is ≡ is_formatted (reads h))) }
+    ensures refused { IfErr result (MayRefuseLooking (S.faults_of store.old) (S.faults_of store.new) (S.moment_of store.new)) }
+    ensures onward { Onward (S.moment_of store.old) (S.moment_of store.new) (S.faults_of store.old) (S.faults_of store.new) }
+{
+    match is_open(store, 0) {
+        Ok(false) => {}
+        Ok(true) => return Ok(true),
+        Err(refused) => return Err(refused),
+    }
+    is_open(store, 1)
 }
 
 /// The greater generation of two images of which each may have an open gate.

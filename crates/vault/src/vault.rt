@@ -78,6 +78,27 @@ impl<D: Database> Vault<D> {
         self.generation
     }
 
+    /// Where the log's next record begins, in bytes.
+    pub fn log_end(&self) -> u64
+        ensures { result ≡ self.now.end }
+    {
+        self.log.end()
+    }
+
+    /// The transactions of this run, oldest first, without the database.
+    pub fn into_journal(self) -> Vec<Entry>
+        ensures { result.items ≡ self.journal }
+    {
+        let Vault {
+            generation: _,
+            database: _,
+            journal,
+            log: _,
+            fault: _,
+        } = self;
+        journal
+    }
+
     /// Makes a transaction and makes it durable, and answers its number then. Refused with 30 where it has too many bytes
     /// for a record; with 40 where a call on the log failed in it, after which the transaction is in doubt, or where an
     /// earlier call had failed; and for want of memory. It makes at most 4 device calls.
