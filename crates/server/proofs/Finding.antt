@@ -1,0 +1,115 @@
+-- The active version that is found of a path is one of the versions that are kept.
+use Rattle.std.proofs.Common.{◌≡◌, ℕ, ◌+◌, eqb, Bool, true, false, cond, not, nat_le, is_none, List, [], ◌∷◌, ◌++◌, length, Option, Some, None, Result, refl, sym, ap, subst, ◌∙◌}
+use Rattle.std.specs.Prelude.{IfSome, option_and_then}
+use Rattle.std.specs.Borrow.{Bor}
+use Rattle.std.specs.Option.{option_copied}
+use Rattle.std.specs.List.{AllByRecursion, flat_map, list_all, sum_by}
+use Rattle.std.specs.Map.{lookup}
+use Rattle.std.proofs.lemmas.Bool.{eqb-true}
+use Rattle.std.proofs.lemmas.List.Sums.{sum_by-cons}
+use Rattle.kinds.specs.declared.segment.Segment.{Segment}
+use Rattle.version_groups.specs.Copies.{are_by_pool}
+use Rattle.version_groups.specs.Entries.{is_nil}
+use Rattle.std.proofs.lemmas.Option.{same_Some}
+use Rattle.version_groups.specs.declared.copies.CopyRow.{CopyRow}
+use Rattle.version_groups.specs.declared.group.Group.{Group}
+use Rattle.version_groups.specs.declared.groups.Filespace.{Filespace}
+use Rattle.version_groups.specs.declared.versions.Version.{Version}
+use Rattle.version_groups.specs.Groups.{at_path}
+use Rattle.version_groups.specs.Groups as group
+use Rattle.volume_frames.specs.Frames.{bytes_len}
+use Rattle.object_rows.specs.Filespaces.{at_number, filespace_at, groups_in, versions_in}
+use Rattle.object_rows.specs.Names.{filespace_named, node_named}
+use Rattle.inventory_rows.specs.Search.{versions}
+use Rattle.inventory_rows.specs.State.{Inv}
+use Rattle.inventory_rules.specs.Valid.{is_copied, is_valid, primary_copies}
+use Rattle.inventory_facts.proofs.Facts.{facts_of, rest}
+use Rattle.contents.proofs.Segments.{all_weaker, each_passes}
+use Rattle.placing.specs.Placing.{active_of, active_version}
+use Rattle.server.specs.declared.get.Shown.{Shown}
+use Rattle.server.specs.declared.stop.Stop.{Stop}
+use Rattle.server.specs.Reads.{CanBeRead, version_found}
+use Rattle.server.specs.Requests.{ShowsFound, GetsUnder, GetsOf, Gets}
+
+module _ (P : Version → Type 0) where
+  front_all : (xs ys : List Version) → AllByRecursion P (xs ++ ys) → AllByRecursion P xs
+  front_all [] ys h = tt
+  front_all (x ∷ xs) ys h = (h.0, front_all xs ys h.1)
+
+  back_all : (xs ys : List Version) → AllByRecursion P (xs ++ ys) → AllByRecursion P ys
+  back_all [] ys h = h
+  back_all (x ∷ xs) ys h = back_all xs ys h.1
+
+  -- what holds of the versions of all rows holds of those of the row that is found
+  row_all : {K X : Type 0} (of : X → List Version) (test : K → Bool) (rows : List (K × X)) (x : X) → AllByRecursion P (flat_map (λ (e : K × X). of e.1) rows) → lookup test rows ≡ Some x → AllByRecursion P (of x)
+  row_all of test [] x all h = absurd cc
+  row_all {K} {X} of test (e ∷ rows) x all h =
+      elim (test e.0) as (λ b. cond b (Some e.1) (lookup test rows) ≡ Some x → AllByRecursion P (of x)) [
+        | true ↦ λ s. subst (λ (y : X). AllByRecursion P (of y)) (same_Some e.1 x s) (front_all (of e.1) (flat_map (λ (d : K × X). of d.1) rows) all)
+        | false ↦ λ s. row_all of test rows x (back_all (of e.1) (flat_map (λ (d : K × X). of d.1) rows) all) s
+      ] h
+
+  newest_has : (list : List Version) (w : Version) → AllByRecursion P list → active_of list ≡ Some w → P w
+  newest_has [] w all h = absurd cc
+  newest_has (newest ∷ older) w all h =
+      elim (is_none newest.since) as (λ b. cond b (Some newest) None ≡ Some w → P w) [
+        | true ↦ λ s. subst P (same_Some newest w s) all.0
+        | false ↦ λ s. absurd cc
+      ] h
+
+  in_group : (o : Option Group) (w : Version) → ((g : Group) → o ≡ Some g → AllByRecursion P g.versions) → option_and_then (λ (g : Group). active_of g.versions) o ≡ Some w → P w
+  in_group None w each h = absurd cc
+  in_group (Some g) w each h = newest_has g.versions w (each g refl) h
+
+  in_filespace : (path : List ℕ) (o : Option Filespace) (w : Version) → ((f : Filespace) → o ≡ Some f → AllByRecursion P (versions_in f.groups)) → option_and_then (λ (g : Group). active_of g.versions) (group.group_at path (groups_in o)) ≡ Some w → P w
+  in_filespace path None w each h = absurd cc
+  in_filespace path (Some f) w each h = in_group (group.group_at path f.groups) w (λ g there. row_all (λ (g : Group). g.versions) (at_path path) f.groups g (each f refl) there) h
+
+  pub active_has : (filespace : ℕ) (path : List ℕ) (v : Inv) (w : Version) → AllByRecursion P (versions v) → active_version filespace path v ≡ Some w → P w
+  active_has filespace path v w all h =
+      in_filespace path (filespace_at filespace v.clients.filespaces) w (λ f there. row_all (λ (f : Filespace). versions_in f.groups) (at_number filespace) v.clients.filespaces f all there) h
+
+  named_in : (path : List ℕ) (v : Inv) (o : Option ℕ) (w : Version) → AllByRecursion P (versions v) → option_and_then (λ (f : ℕ). active_version f path v) o ≡ Some w → P w
+  named_in path v None w all h = absurd cc
+  named_in path v (Some filespace) w all h = active_has filespace path v w all h
+
+  of_node : (filespace path : List ℕ) (v : Inv) (o : Option ℕ) (w : Version) → AllByRecursion P (versions v) → option_and_then (λ (n : ℕ). option_and_then (λ (f : ℕ). active_version f path v) (filespace_named n filespace v.clients.filespaces)) o ≡ Some w → P w
+  of_node filespace path v None w all h = absurd cc
+  of_node filespace path v (Some node) w all h = named_in path v (filespace_named node filespace v.clients.filespaces) w all h
+
+  -- what holds of each version that is kept holds of the one that is found
+  pub found_has : (node filespace path : List ℕ) (v : Inv) (w : Version) → AllByRecursion P (versions v) → version_found node filespace path v ≡ Some w → P w
+  found_has node filespace path v w all h = of_node filespace path v (node_named node v.clients.nodes) w all h
+
+sums : (segments : List Segment) → bytes_len segments ≡ sum_by (λ (s : Segment). s.len) segments
+sums [] = refl
+sums (s ∷ segments) = ap (λ n. s.len + n) (sums segments) ∙ sym (sum_by-cons (λ (x : Segment). x.len) s segments)
+
+copied_sized : (v : Inv) (w : Version) → is_copied v w ≡ true → CanBeRead w.size w.copies
+copied_sized v w h =
+    let full : CopyRow → Bool = λ (c : CopyRow). eqb (sum_by (λ s. s.len) c.segments) w.size in
+    let all : list_all full w.copies ≡ true = rest (are_by_pool w.copies) (list_all full w.copies) (rest (nat_le (length (primary_copies v w)) 1) _ (rest (not (is_nil w.copies)) _ h)) in
+    all_weaker (λ (c : CopyRow). full c ≡ true) (λ (c : CopyRow). bytes_len c.segments ≡ w.size) (λ c e. sums c.segments ∙ eqb-true (sum_by (λ s. s.len) c.segments) w.size e) w.copies (each_passes full w.copies all)
+
+all_sized : (v : Inv) → is_valid v ≡ true → AllByRecursion (λ (x : Version). CanBeRead x.size x.copies) (versions v)
+all_sized v valid = all_weaker (λ (x : Version). is_copied v x ≡ true) (λ (x : Version). CanBeRead x.size x.copies) (copied_sized v) (versions v) (each_passes (is_copied v) (versions v) (facts_of v valid).versions_copied)
+
+-- each copy of it has as many bytes as its size says
+pub active_sized : (filespace : ℕ) (path : List ℕ) (v : Inv) (found : Option (Bor Version)) → is_valid v ≡ true → option_copied found ≡ active_version filespace path v → IfSome found (λ version. CanBeRead version.now.size version.now.copies)
+active_sized filespace path v None valid e = tt
+active_sized filespace path v (Some version) valid e = active_has (λ (x : Version). CanBeRead x.size x.copies) filespace path v version.now (all_sized v valid) (sym e)
+
+-- ---- what is answered
+
+module _ (rose : ℕ → Type 0) (full sure : Type 0) (contents : ℕ → List ℕ) (v : Inv) (path : List ℕ) (o : Option Version) (result : Result Shown Stop) where
+  gets_under : (filespace : Option ℕ) → option_and_then (λ (f : ℕ). active_version f path v) filespace ≡ o → ShowsFound rose full sure contents v o result → GetsUnder rose full sure contents v filespace path result
+  gets_under None e shows = subst (λ (p : Option Version). ShowsFound rose full sure contents v p result) (sym e) shows
+  gets_under (Some f) e shows = subst (λ (p : Option Version). ShowsFound rose full sure contents v p result) (sym e) shows
+
+  gets_of : (filespace : List ℕ) (node : Option ℕ) → option_and_then (λ (n : ℕ). option_and_then (λ (f : ℕ). active_version f path v) (filespace_named n filespace v.clients.filespaces)) node ≡ o → ShowsFound rose full sure contents v o result → GetsOf rose full sure contents v node filespace path result
+  gets_of filespace None e shows = subst (λ (p : Option Version). ShowsFound rose full sure contents v p result) (sym e) shows
+  gets_of filespace (Some n) e shows = gets_under (filespace_named n filespace v.clients.filespaces) e shows
+
+  -- what is answered of the version that is found, where one is
+  pub gets_found : (node filespace : List ℕ) → version_found node filespace path v ≡ o → ShowsFound rose full sure contents v o result → Gets rose full sure contents v node filespace path result
+  gets_found node filespace e shows = gets_of filespace (node_named node v.clients.nodes) e shows

@@ -1,0 +1,14 @@
+pub mod Checkpointing
+pub mod Committing
+pub mod Finding
+pub mod Following
+pub mod Framing
+pub mod Getting
+pub mod Joining
+pub mod Left
+pub mod Reading
+pub mod Safety
+pub mod Soundness
+pub mod Staying
+pub mod Stepping
+pub mod Storing

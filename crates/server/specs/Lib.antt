@@ -1,0 +1,10 @@
+pub mod Left
+pub mod Outcomes
+pub mod Putting
+pub mod Reads
+pub mod Requests
+pub mod Running
+pub mod Sound
+pub mod Steps
+pub mod Stops
+pub mod World

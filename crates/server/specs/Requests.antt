@@ -1,0 +1,199 @@
+-- What is asked of a server: which transactions it makes and what it is answered, without any file or log.
+use Rattle.std.specs.Prelude.{◌≡◌, ◌⊎◌, ℕ, ◌+◌, ◌*◌, ◌^◌, ◌<◌, ◌≤◌, nat_lt, false, true, if◌then◌else◌, Option, Some, None, List, [], ◌∷◌, ◌++◌, length, Result, Ok, Err, codes}
+use Rattle.std.specs.List.{AllByRecursion, list_any}
+use Rattle.std.specs.Option.{option_or}
+use Rattle.sha2.specs.Sha256.{sha256}
+use Rattle.kinds.specs.declared.change.DefineOrDelete.TheVariants as two
+use Rattle.kinds.specs.declared.change.ObjectChange.TheVariants as client
+use Rattle.kinds.specs.declared.change.PoolChange.TheVariants as store
+use Rattle.kinds.specs.declared.change.Verb.TheVariants as verb
+use Rattle.kinds.specs.declared.pool.Access.TheVariants.{ReadWrite}
+use Rattle.kinds.specs.declared.refusal.Refusal.{Refusal}
+use Rattle.kinds.specs.declared.refusal.Refusal.TheVariants.{NotFound, NoBackupGroup, NoSpace, Unavailable, WriteFault, RecordFull, InventoryFull}
+use Rattle.kinds.specs.declared.rule.BackupRule.{BackupRule}
+use Rattle.kinds.specs.declared.segment.Segment.{Segment}
+use Rattle.kinds.specs.ValueForms.{digest_with}
+use Rattle.change_items.specs.declared.items.NewVersion.{NewVersion}
+use Rattle.changes.specs.declared.change.Change.{Change}
+use Rattle.changes.specs.declared.change.Change.TheVariants as change
+use Rattle.entries.specs.declared.entry.Entry.{Entry}
+use Rattle.entries.specs.EntryForm.{entry as entry_form}
+use Rattle.version_groups.specs.declared.copies.CopyRow.{CopyRow}
+use Rattle.version_groups.specs.declared.versions.Version.{Version}
+use Rattle.object_rows.specs.Names.{node_named, filespace_named}
+use Rattle.pool_rows.specs.PoolRows.{pool_named}
+use Rattle.inventory_rows.specs.State.{Inv}
+use Rattle.inventory_rules.specs.Effects.{effect}
+use Rattle.inventory_rules.specs.Journal.{no_journal}
+use Rattle.placing.specs.Placing.{segments_for, default_rule, active_version, is_readable, can_read}
+use Rattle.transactions.specs.Legal.{refused}
+use Rattle.server.specs.declared.get.Shown.{Shown}
+use Rattle.server.specs.declared.stop.Stop.{Stop}
+use Rattle.server.specs.declared.stop.Stop.TheVariants.{Refused, LogFault, RunFull, Memory}
+use Rattle.server.specs.World.{Kept}
+
+-- ---- transactions
+
+-- the server's own transactions have the actor 0
+abbrev pub entry : Change → Entry
+entry c = record { actor = 0; change = c }
+
+abbrev pub kept : Change → List ℕ → Kept
+kept c text = record { entry = entry c; text = text }
+
+-- a transaction whose record would have more than 2^24 bytes
+abbrev pub too_long : Entry → Option Refusal
+too_long e = if nat_lt (2 ^ 24) (length (entry_form.spell e)) then Some RecordFull else None
+
+-- why a transaction isn't made: it isn't legal, or it is too long
+unfoldable pub why_not : Change → Inv → Option Refusal
+why_not c v = option_or (refused no_journal c v) (too_long (entry c))
+
+-- the file is one of the database's images and logs, and its count of faults rose
+abbrev pub RoseOfVault : (rose : ℕ → Type 0) → ℕ → Type 0
+RoseOfVault rose file = (file < 4) × rose file
+
+-- A transaction was made, or not. `rose` says of a file that its count of faults rose, `full` that the store's moment is all but the last.
+abbrev pub Commits : {T : Type 0} → (rose : ℕ → Type 0) → (full : Type 0) → Change → (text : List ℕ) → Inv → Result T Stop → (added : List Kept) → Type 0
+Commits rose full c text v (Ok done) added = (why_not c v ≡ None) × (added ≡ kept c text ∷ [])
+Commits rose full c text v (Err (Refused why)) added = (why_not c v ≡ Some why) × (added ≡ [])
+Commits rose full c text v (Err (LogFault file)) added = RoseOfVault rose file × (refused no_journal c v ≡ None) × (added ≡ kept c text ∷ [])
+Commits rose full c text v (Err RunFull) added = full × (added ≡ [])
+Commits rose full c text v (Err Memory) added = added ≡ []
+
+-- ---- nodes and volumes
+
+-- a node is registered in the domain STANDARD
+abbrev pub node_defined : List ℕ → Change
+node_defined name = change.Object (client.Node two.Define name (codes "STANDARD"))
+
+-- a volume of so many MiB is defined, with the next file number
+abbrev pub volume_defined : List ℕ → ℕ → ℕ → Inv → Change
+volume_defined name pool mebibytes v = change.Pool (store.Volume verb.Define name pool v.next_file (mebibytes * 2 ^ 20) ReadWrite)
+
+abbrev pub DefinesVolumeIn : {T : Type 0} → (rose : ℕ → Type 0) → (full : Type 0) → Option ℕ → List ℕ → ℕ → Inv → Result T Stop → List Kept → Type 0
+DefinesVolumeIn rose full None name mebibytes v result added = (result ≡ Err (Refused NotFound)) × (added ≡ [])
+DefinesVolumeIn rose full (Some pool) name mebibytes v result added = Commits rose full (volume_defined name pool mebibytes v) [] v result added
+
+-- A volume is defined in the pool with this name, which has to be there.
+abbrev pub DefinesVolume : {T : Type 0} → (rose : ℕ → Type 0) → (full : Type 0) → (pool name : List ℕ) → ℕ → Inv → Result T Stop → List Kept → Type 0
+DefinesVolume rose full pool name mebibytes v result added = DefinesVolumeIn rose full (pool_named pool v.stores) name mebibytes v result added
+
+-- ---- a file that is stored
+
+-- a client's file: its node, its filespace and its path, when it was changed last, and its bytes
+pub record File : Type 0 where
+  pub node : List ℕ
+  pub filespace : List ℕ
+  pub path : List ℕ
+  pub mtime : ℕ
+  pub text : List ℕ
+
+-- the version that a file becomes: of this object, bound to this class, with one copy in this pool
+abbrev pub item_of : File → (object : ℕ) → (class : List ℕ) → (pool : ℕ) → List Segment → NewVersion
+item_of f object class pool segments = record {
+  path = f.path;
+  class = class;
+  size = length f.text;
+  mtime = f.mtime;
+  digest = digest_with (sha256 f.text);
+  object = object;
+  pool = pool;
+  segments = segments;
+}
+
+abbrev pub backed_up : ℕ → NewVersion → Change
+backed_up filespace item = change.Backup (record { filespace = filespace; scratch = []; items = item ∷ [] })
+
+-- a filespace is defined, with the next number
+abbrev pub filespace_defined : ℕ → List ℕ → Inv → Change
+filespace_defined node name v = change.Object (client.Filespace two.Define node name v.next_filespace)
+
+-- one of the segments lies in the file
+abbrev pub IsIn : ℕ → List Segment → Type 0
+IsIn file [] = ⊥
+IsIn file (s ∷ segments) = (s.file ≡ file) ⊎ IsIn file segments
+
+-- The file is stored in these segments, under the next object number; or its frame couldn't be written, and nothing is committed.
+abbrev pub StoresIn : (rose : ℕ → Type 0) → (full : Type 0) → Option (List Segment) → File → (filespace : ℕ) → (class : List ℕ) → (pool : ℕ) → Inv → Result ℕ Stop → List Kept → Type 0
+StoresIn rose full None f filespace class pool v result added = (result ≡ Err (Refused (NoSpace pool))) × (added ≡ [])
+StoresIn rose full (Some segments) f filespace class pool v result added =
+    (((file : ℕ) × (result ≡ Err (Refused (WriteFault file))) × IsIn file segments × rose file × (added ≡ [])) ⊎ Commits rose full (backed_up filespace (item_of f v.next_object class pool segments)) f.text v result added)
+    × ((object : ℕ) → result ≡ Ok object → object ≡ v.next_object)
+
+-- The file is stored in a filespace that is there, bound to this class, in this pool.
+abbrev pub Stores : (rose : ℕ → Type 0) → (full : Type 0) → File → (filespace : ℕ) → (class : List ℕ) → (pool : ℕ) → Inv → Result ℕ Stop → List Kept → Type 0
+Stores rose full f filespace class pool v result added = StoresIn rose full (segments_for pool (length f.text) v) f filespace class pool v result added
+
+-- The filespace couldn't be defined.
+abbrev pub DefinesNone : (rose : ℕ → Type 0) → (full : Type 0) → Change → Inv → Result ℕ Stop → List Kept → Type 0
+DefinesNone rose full c v result added = (why : Stop) × (result ≡ Err why) × Commits {T = Unit {0}} rose full c [] v (Err why) added
+
+-- The filespace was defined, in a transaction of its own, and then the file was stored in it.
+abbrev pub DefinesThenStores : (rose : ℕ → Type 0) → (full : Type 0) → Change → File → (class : List ℕ) → (pool : ℕ) → Inv → Result ℕ Stop → List Kept → Type 0
+DefinesThenStores rose full c f class pool v result added =
+    (more : List Kept) × (why_not c v ≡ None) × (added ≡ more ++ kept c [] ∷ []) × Stores rose full f v.next_filespace class pool (effect c v) result more
+
+abbrev pub DefinesAndStores : (rose : ℕ → Type 0) → (full : Type 0) → Change → File → (class : List ℕ) → (pool : ℕ) → Inv → Result ℕ Stop → List Kept → Type 0
+DefinesAndStores rose full c f class pool v result added = DefinesNone rose full c v result added ⊎ DefinesThenStores rose full c f class pool v result added
+
+abbrev pub PutsUnder : (rose : ℕ → Type 0) → (full : Type 0) → Option ℕ → File → (node : ℕ) → (class : List ℕ) → (pool : ℕ) → Inv → Result ℕ Stop → List Kept → Type 0
+PutsUnder rose full None f node class pool v result added = DefinesAndStores rose full (filespace_defined node f.filespace v) f class pool v result added
+PutsUnder rose full (Some filespace) f node class pool v result added = Stores rose full f filespace class pool v result added
+
+abbrev pub PutsBy : (rose : ℕ → Type 0) → (full : Type 0) → Option (List ℕ × BackupRule) → File → (node : ℕ) → Inv → Result ℕ Stop → List Kept → Type 0
+PutsBy rose full None f node v result added = (result ≡ Err (Refused NoBackupGroup)) × (added ≡ [])
+PutsBy rose full (Some rule) f node v result added = PutsUnder rose full (filespace_named node f.filespace v.clients.filespaces) f node rule.0 rule.1.destination v result added
+
+abbrev pub PutsOf : (rose : ℕ → Type 0) → (full : Type 0) → Option ℕ → File → Inv → Result ℕ Stop → List Kept → Type 0
+PutsOf rose full None f v result added = (result ≡ Err (Refused NotFound)) × (added ≡ [])
+PutsOf rose full (Some node) f v result added = PutsBy rose full (default_rule node v) f node v result added
+
+-- A file is put: its node has to be there, and the default class of the node's domain has to have a copy group. Memory may be wanted before
+-- anything is made.
+abbrev pub Puts : (rose : ℕ → Type 0) → (full : Type 0) → File → Inv → Result ℕ Stop → List Kept → Type 0
+Puts rose full f v result added = ((result ≡ Err Memory) × (added ≡ [])) ⊎ PutsOf rose full (node_named f.node v.clients.nodes) f v result added
+
+-- ---- a file that is read
+
+-- a copy couldn't be read: one of its segments lies on a volume that can't be read, or whose count rose; or it lies behind 2^64 bytes, where
+-- no volume has room
+abbrev pub IsUnread : (rose : ℕ → Type 0) → Inv → List Segment → Type 0
+IsUnread rose v [] = ⊥
+IsUnread rose v (s ∷ segments) = ((is_readable s.file v ≡ false) ⊎ (rose s.file ⊎ (2 ^ 64 ≤ s.offset + 32))) ⊎ IsUnread rose v segments
+
+-- A version is shown: as many bytes as it has, and where `sure` those of its object, from a copy that can be read; or none of its copies can.
+abbrev pub Shows : (rose : ℕ → Type 0) → (full sure : Type 0) → (contents : ℕ → List ℕ) → Inv → Version → Result Shown Stop → Type 0
+Shows rose full sure contents v version (Ok shown) =
+    (shown.object ≡ version.object) × (shown.size ≡ version.size) × (length shown.bytes.items ≡ version.size) × (sure → shown.bytes.items ≡ contents version.object)
+    × (list_any (λ c. can_read c v) version.copies ≡ true)
+Shows rose full sure contents v version (Err (Refused why)) = (why ≡ Unavailable) × AllByRecursion (λ (copy : CopyRow). IsUnread rose v copy.segments) version.copies
+Shows rose full sure contents v version (Err (LogFault file)) = ⊥
+Shows rose full sure contents v version (Err RunFull) = full
+Shows rose full sure contents v version (Err Memory) = Unit {0}
+
+abbrev pub ShowsFound : (rose : ℕ → Type 0) → (full sure : Type 0) → (contents : ℕ → List ℕ) → Inv → Option Version → Result Shown Stop → Type 0
+ShowsFound rose full sure contents v None result = result ≡ Err (Refused NotFound)
+ShowsFound rose full sure contents v (Some version) result = Shows rose full sure contents v version result
+
+abbrev pub GetsUnder : (rose : ℕ → Type 0) → (full sure : Type 0) → (contents : ℕ → List ℕ) → Inv → Option ℕ → (path : List ℕ) → Result Shown Stop → Type 0
+GetsUnder rose full sure contents v None path result = result ≡ Err (Refused NotFound)
+GetsUnder rose full sure contents v (Some filespace) path result = ShowsFound rose full sure contents v (active_version filespace path v) result
+
+abbrev pub GetsOf : (rose : ℕ → Type 0) → (full sure : Type 0) → (contents : ℕ → List ℕ) → Inv → Option ℕ → (filespace path : List ℕ) → Result Shown Stop → Type 0
+GetsOf rose full sure contents v None filespace path result = result ≡ Err (Refused NotFound)
+GetsOf rose full sure contents v (Some node) filespace path result = GetsUnder rose full sure contents v (filespace_named node filespace v.clients.filespaces) path result
+
+-- A file is read: its node, its filespace and an active version of its path have to be there.
+abbrev pub Gets : (rose : ℕ → Type 0) → (full sure : Type 0) → (contents : ℕ → List ℕ) → Inv → (node filespace path : List ℕ) → Result Shown Stop → Type 0
+Gets rose full sure contents v node filespace path result = GetsOf rose full sure contents v (node_named node v.clients.nodes) filespace path result
+
+-- ---- a checkpoint
+
+-- A checkpoint is made, by which the newest image has the next generation; there is none behind the last.
+abbrev pub Checkpoints : {T : Type 0} → (rose : ℕ → Type 0) → (full : Type 0) → (generation next : ℕ) → Result T Stop → Type 0
+Checkpoints rose full generation next (Ok done) = next ≡ generation + 1
+Checkpoints rose full generation next (Err (Refused why)) = (why ≡ InventoryFull) × (2 ^ 62 ≤ generation + 1) × (next ≡ generation)
+Checkpoints rose full generation next (Err (LogFault file)) = RoseOfVault rose file × (next ≡ generation)
+Checkpoints rose full generation next (Err RunFull) = full × (next ≡ generation)
+Checkpoints rose full generation next (Err Memory) = next ≡ generation
