@@ -1,8 +1,9 @@
--- A run of the server is a run of the machine over what is kept.
-use Rattle.std.proofs.Common.{◌≡◌, inl, inr, ℕ, ◌+◌, ◌≤◌, Bool, Option, None, Some, is_some, IfSome, List, [], ◌∷◌, length, refl, sym, ◌∙◌, ap, subst, arith}
+-- A run of the server is a run of the machine over what it keeps.
+use Rattle.std.proofs.Common.{◌≡◌, inl, inr, ℕ, ◌+◌, ◌-◌, ◌≤◌, ◌^◌, Option, None, Some, IfSome, List, [], ◌∷◌, ◌++◌, length, refl, sym, subst, arith}
 use Rattle.store_api.specs.Cause.{Rose}
 use Rattle.store_api.specs.Disk.{History, now}
 use Rattle.store_api.specs.Told.{Told}
+use Rattle.inventory_rows.specs.State.{Inv}
 use Rattle.script_loop.specs.Reply.{Answer}
 use Rattle.script_loop.specs.Runs.{Runs, Halts, Answers, Allows, Prints, Says}
 use Rattle.script_loop.specs.declared.tally.Tally.{Tally}
@@ -10,225 +11,259 @@ use Rattle.script_loop.specs.declared.ends.Halt.{Halt}
 use Rattle.script_loop.specs.declared.ends.Halt.TheVariants.{LogFault, RunFull, Memory}
 use Rattle.script_loop.specs.declared.ends.End.{End}
 use Rattle.script_loop.specs.declared.ends.End.TheVariants.{Done, SourceFault, SinkFault, Halted, TooLong}
-use Rattle.log_file.specs.Safety.{Timely}
-use Rattle.tsm_top.specs.declared.entry.Early.{Early}
-use Rattle.tsm_top.specs.declared.server.Server.{Server}
-use Rattle.tsm_top.specs.Answers.{answer_to, added_entry}
-use Rattle.tsm_top.specs.Books.{Pages}
-use Rattle.tsm_top.specs.Line.{Request, asked}
-use Rattle.tsm_top.specs.Machine.{Kept, journal_of, text_of, with_kept, after_request, FramesHave, Replies, Stops, AllSafe, HaltStamped, Stamped, own_end}
-use Rattle.tsm_top.specs.Server.{ServesLine, HaltsLine}
-use Rattle.tsm_top.specs.Steps.{with_entry, ServesRequest, FilesAfter, FilesKept, ShowsAll, MayDoubt, FirmIn, Later}
-use Rattle.tsm_top.proofs.Simulation.{Placed, told_both, told_goes, told_some, some_map, same_journal, placed_after, shows_request}
-use Rattle.tsm_top.proofs.Safety.{Sound, stamps_with, lengths_with, timely_with, timely_later, answered, halted_more, halted_same}
-use Rattle.tsm_top.proofs.Served.{later_then, rose_since}
+use Rattle.vault.specs.Vaults.{State}
+use Rattle.log_file.specs.Safety.{acknowledged}
+use Rattle.server.specs.Left.{HasFirst}
+use Rattle.server.specs.Running.{Running, IsSure}
+use Rattle.server.specs.Steps.{Later, Adds, Went, Stepped, Does, Breaks}
+use Rattle.server.specs.World.{Kept, contents_after}
+use Rattle.server.proofs.Left.{ended_first}
+use Rattle.tsm_top.specs.declared.session.Session.{Session}
+use Rattle.tsm_top.specs.Asking.{Replies, Stops}
+use Rattle.tsm_top.specs.Machine.{Site, RepliesAt, StopsAt, Stamped, HaltStamped, own_end, AllSafe}
+use Rattle.tsm_top.specs.Session.{ServesLine, HaltsLine}
+use Rattle.server.proofs.Joining.{does_then, breaks_then, later_then}
+use Rattle.server.proofs.Stepping.{later_same}
+use Rattle.tsm_top.proofs.Answering.{rise_more, rise_since}
+use Rattle.tsm_top.proofs.Weaker.{replies, stops}
 
--- the stamps of the pages with an entry more
-same_stamps : (entry : Option Early) (moment : ℕ) (pages : Pages) → (with_entry entry moment pages).stamps ≡ stamps_with entry moment pages.stamps
-same_stamps None moment pages = refl
-same_stamps (Some entry) moment pages = refl
-
--- where each entry has its stamp, a halt leaves it so
-all_stamped : (halt : Halt) (kept : List Kept) (stamps : List ℕ) → length stamps ≡ length kept → HaltStamped halt kept stamps
+-- where each transaction has its stamp, a halt leaves it so
+all_stamped : (how : Halt) (kept : List Kept) (stamps : List ℕ) → length stamps ≡ length kept → HaltStamped how kept stamps
 all_stamped (LogFault file) kept stamps is = inl is
 all_stamped RunFull kept stamps is = is
 all_stamped Memory kept stamps is = is
 
-module _ {S : Type 0} (told : S → Option History) (moment : S → ℕ) (faults : S → ℕ → ℕ) (clock : (s : S) → IfSome (told s) (λ h. now h ≡ moment s)) (start : S) (opened : ℕ) (tells : Bool) where
-  -- the server keeps this
-  pub record Sim (server : Server S) (kept : List Kept) : Type 0 where
-    pub journal : server.book.journal ≡ journal_of kept
-    pub placed : Placed kept
-    pub tell : is_some (told server.store) ≡ tells
-    pub sound : IfSome (told server.store) (λ h. Sound opened h kept server.book.stamps server.log.end)
-    pub stamped : length server.book.stamps ≡ length kept
-    pub timely : Timely opened (moment server.store) server.book.stamps
-    pub since : opened ≤ moment server.store
-    pub later : Later moment faults start server.store
+-- a good server is good after what was done since
+sure_after : (first : ℕ → List ℕ) (state new : State Inv) (kept : List Kept) (stamps : List ℕ) (x y : Option History) → Told x y (Stepped state new kept stamps) → IsSure first state x → IsSure (contents_after first kept) new y
+sure_after first state new kept stamps (Some a) (Some b) step sure = step.good first sure
+sure_after first state new kept stamps None y step sure = absurd sure
+sure_after first state new kept stamps (Some a) None step sure = absurd step
 
-  abbrev pub Serves : Server S → List ℕ → Answer → Server S → Type 0
-  Serves = ServesLine told moment faults
+pub safe_after : (first : ℕ → List ℕ) (state : State Inv) (opened : ℕ) (kept : List Kept) (stamps : List ℕ) (x y : Option History) → IfSome x (λ h. now h ≡ opened) → Told x y (Went state kept stamps) → IsSure first state x → IfSome y (AllSafe state.database first opened kept stamps)
+safe_after first state opened kept stamps (Some a) (Some b) at went sure = subst (λ (n : ℕ). AllSafe state.database first n kept stamps b) at (went.since first sure)
+safe_after first state opened kept stamps None y at went sure = absurd sure
+safe_after first state opened kept stamps (Some a) None at went sure = absurd went
 
-  abbrev pub Stopped : Server S → List ℕ → Halt → Server S → Type 0
-  Stopped = HaltsLine told moment faults
+pub left_after : (first : ℕ → List ℕ) (state : State Inv) (kept : List Kept) (stamps : List ℕ) (last : ℕ) (x y : Option History) → IfSome y (λ h. now h ≡ last) → Told x y (Went state kept stamps) → IsSure first state x → IfSome y (HasFirst state.database first kept (acknowledged last stamps))
+left_after first state kept stamps last (Some a) (Some b) at went sure = subst (λ (n : ℕ). HasFirst state.database first kept (acknowledged n stamps) b) at (ended_first first state kept stamps a b sure went)
+left_after first state kept stamps last None y at went sure = absurd sure
+left_after first state kept stamps last (Some a) None at went sure = absurd went
 
-  step_sound : (old new : Server S) (request : Option Request) (bytes : List ℕ) (kept : List Kept) → Sim old kept → new.book.journal ≡ journal_of (after_request kept request) → new.book.stamps ≡ stamps_with (added_entry (journal_of kept) request) (moment new.store) old.book.stamps → Told (told old.store) (told new.store) (FilesAfter request bytes (journal_of kept) (journal_of (after_request kept request)) old.log.end new.log.end) → IfSome (told new.store) (λ h. Sound opened h (after_request kept request) new.book.stamps new.log.end)
-  step_sound old new request bytes kept sim journal stamps files =
-      let entry : Option Early = added_entry (journal_of kept) request in
-      let goal : (told_new : Option History) → IfSome told_new (λ h. now h ≡ moment new.store) → IfSome told_new (λ h. Sound opened h (after_request kept request) (stamps_with entry (now h) old.book.stamps) new.log.end) → IfSome told_new (λ h. Sound opened h (after_request kept request) new.book.stamps new.log.end) =
-      λ told_new is has. some_map told_new (λ h. now h ≡ moment new.store) (λ h. Sound opened h (after_request kept request) (stamps_with entry (now h) old.book.stamps) new.log.end) (λ h. Sound opened h (after_request kept request) new.book.stamps new.log.end)
-      (λ h at sound. subst (λ (l : List ℕ). Sound opened h (after_request kept request) l new.log.end) (ap (λ (n : ℕ). stamps_with entry n old.book.stamps) at ∙ sym stamps) sound) is has in
-      goal (told new.store) (clock new.store) (told_goes (told old.store) (told new.store) (λ h. Sound opened h kept old.book.stamps old.log.end) (λ h. Sound opened h (after_request kept request) (stamps_with entry (now h) old.book.stamps) new.log.end) (FilesAfter request bytes (journal_of kept) (journal_of (after_request kept request)) old.log.end new.log.end) files sim.sound (λ a b f p. answered opened a b request kept old.book.stamps old.log.end sim.placed p sim.stamped bytes new.log.end f))
+went_of : (state new : State Inv) (kept : List Kept) (stamps : List ℕ) (x y : Option History) → Told x y (Stepped state new kept stamps) → Told x y (Went state kept stamps)
+went_of state new kept stamps None None step = tt
+went_of state new kept stamps (Some a) (Some b) step = step.went
+went_of state new kept stamps None (Some b) step = absurd step
+went_of state new kept stamps (Some a) None step = absurd step
 
-  pub step : (old new : Server S) (line : List ℕ) (answer : Answer) (kept : List Kept) → Sim old kept → Serves old line answer new → Replies tells kept line answer (after_request kept (asked line)) × Sim new (after_request kept (asked line))
-  step old new line answer kept sim serves =
-      let request : Option Request = asked line in
-      let bytes : List ℕ = serves.0 in
-      let done : ServesRequest told moment faults old request bytes answer new = serves.1 in
-      let entry : added_entry old.book.journal request ≡ added_entry (journal_of kept) request = ap (λ (j : List Early). added_entry j request) sim.journal in
-      let pages : new.book ≡ with_entry (added_entry (journal_of kept) request) (moment new.store) old.book = done.pages ∙ ap (λ (e : Option Early). with_entry e (moment new.store) old.book) entry in
-      let journal : new.book.journal ≡ journal_of (after_request kept request) = ap (λ (p : Pages). p.journal) pages ∙ same_journal (added_entry (journal_of kept) request) (moment new.store) old.book (text_of request) kept sim.journal in
-      let stamps : new.book.stamps ≡ stamps_with (added_entry (journal_of kept) request) (moment new.store) old.book.stamps = ap (λ (p : Pages). p.stamps) pages ∙ same_stamps (added_entry (journal_of kept) request) (moment new.store) old.book in
-      let first : Told (told old.store) (told new.store) (FilesAfter request bytes (journal_of kept) new.book.journal old.log.end new.log.end) = subst (λ (j : List Early). Told (told old.store) (told new.store) (FilesAfter request bytes j new.book.journal old.log.end new.log.end)) sim.journal done.files in
-      let files : Told (told old.store) (told new.store) (FilesAfter request bytes (journal_of kept) (journal_of (after_request kept request)) old.log.end new.log.end) = subst (λ (j : List Early). Told (told old.store) (told new.store) (FilesAfter request bytes (journal_of kept) j old.log.end new.log.end)) journal first in
-      let sized = subst (λ (j : List Early). ShowsAll request j bytes) sim.journal done.size in
-      let frames : IfSome (told old.store) (λ h. FramesHave (FirmIn h) kept) = told_some (told old.store) (λ h. Sound opened h kept old.book.stamps old.log.end) (λ h. FramesHave (FirmIn h) kept) (λ h s. s.frames) sim.sound in
-      let after : moment old.store ≤ moment new.store = done.later.time in
-      let since : opened ≤ moment old.store = sim.since in (
-        (bytes, shows_request tells kept request bytes (journal_of (after_request kept request)) old.log.end new.log.end (told old.store) (told new.store) sim.placed sim.tell frames sized files, done.reply ∙ ap (λ (j : List Early). answer_to j request bytes) sim.journal, refl),
-        record {
-          journal = journal;
-          placed = placed_after kept request sim.placed;
-          tell = sym (told_both (told old.store) (told new.store) (FilesAfter request bytes (journal_of kept) (journal_of (after_request kept request)) old.log.end new.log.end) files) ∙ sim.tell;
-          sound = step_sound old new request bytes kept sim journal stamps files;
-          stamped = ap length stamps ∙ lengths_with (added_entry (journal_of kept) request) (moment new.store) old.book.stamps (text_of request) kept sim.stamped;
-          timely = subst (λ (l : List ℕ). Timely opened (moment new.store) l) (sym stamps) (timely_with opened (moment old.store) (moment new.store) (added_entry (journal_of kept) request) old.book.stamps since after sim.timely);
-          since = omega arith;
-          later = later_then told moment faults start old.store new.store sim.later done.later;
-        },
-      )
+module _ {S : Type 0} (told : S → Option History) (moment : S → ℕ) (faults : S → ℕ → ℕ) (clock : (s : S) → IfSome (told s) (λ h. now h ≡ moment s)) (start : Running S) where
+  -- what the server has done since the start
+  pub record Sim (server : Running S) (site : Site) (fresh : List ℕ) : Type 0 where
+    pub does : Does told moment faults site.kept fresh start server
+    pub generation : server.vault.generation ≡ site.generation
 
-  -- a run of lines
-  pub runs : (lines : List (List ℕ)) (n : ℕ) (old new : Server S) (text : List ℕ) (tally : Tally) (kept : List Kept) → Sim old kept → Runs Serves n old lines text tally new → (after : List Kept) × Runs (Replies tells) n kept lines text tally after × Sim new after
-  runs [] n old new text tally kept sim run = (kept, (run.0, run.1, refl), subst (λ (s : Server S). Sim s kept) (sym run.2) sim)
-  runs (line ∷ more) n old new text tally kept sim (answer, mid, rest, others, serves, is, counts, run) =
-      let one = step old mid line answer kept sim serves in
-      let all = runs more (n + 1) mid new rest others (after_request kept (asked line)) one.1 run in
-      (all.0, (answer, after_request kept (asked line), rest, others, one.0, is, counts, all.1), all.2)
+  abbrev pub Serves : Session S → List ℕ → Answer → Session S → Type 0
+  Serves old line answer new = ServesLine told moment faults old.server line answer new.server
 
-  abbrev pub Rise : Server S → ℕ → Type 0
-  Rise new file = Rose (faults start file) (faults new.store file)
+  abbrev pub Stopped : Session S → List ℕ → Halt → Session S → Type 0
+  Stopped old line how new = HaltsLine told moment faults old.server line how new.server
 
-  -- what a halt leaves
-  pub record Halts1 (halt : Halt) (old new : Server S) (line : List ℕ) (kept after : List Kept) : Type 0 where
-    pub stops : Stops (Rise new) kept line halt after
-    pub journal : new.book.journal ≡ journal_of after
-    pub safe : IfSome (told new.store) (AllSafe opened after new.book.stamps)
-    pub stamped : HaltStamped halt after new.book.stamps
-    pub stamps : new.book.stamps ≡ old.book.stamps
+  -- the site after so many transactions more
+  abbrev pub site_after : Site → List Kept → Running S → Site
+  site_after site added new = record { kept = added ++ site.kept; generation = new.vault.generation }
 
-  halted_kept : (old new : Server S) (line : List ℕ) (kept : List Kept) → Sim old kept → new.book ≡ old.book → Told (told old.store) (told new.store) (FilesKept (asked line) old.book.journal new.book.journal old.log.end) → IfSome (told new.store) (AllSafe opened kept new.book.stamps)
-  halted_kept old new line kept sim same files =
-      let request : Option Request = asked line in
-      let first : Told (told old.store) (told new.store) (FilesKept request old.book.journal old.book.journal old.log.end) = subst (λ (p : Pages). Told (told old.store) (told new.store) (FilesKept request old.book.journal p.journal old.log.end)) same files in
-      let second : Told (told old.store) (told new.store) (FilesKept request (journal_of kept) (journal_of kept) old.log.end) = subst (λ (j : List Early). Told (told old.store) (told new.store) (FilesKept request j j old.log.end)) sim.journal first in
-      let safe : IfSome (told new.store) (AllSafe opened kept old.book.stamps) = told_goes (told old.store) (told new.store) (λ h. Sound opened h kept old.book.stamps old.log.end) (AllSafe opened kept old.book.stamps) (FilesKept request (journal_of kept) (journal_of kept) old.log.end) second sim.sound (λ a b f p. halted_same opened a b request kept old.book.stamps old.log.end sim.placed p sim.stamped f) in
-      subst (λ (p : Pages). IfSome (told new.store) (AllSafe opened kept p.stamps)) (sym same) safe
+  module _ (last : S) where
+    abbrev pub Rise : ℕ → Type 0
+    Rise file = Rose (faults start.store file) (faults last file)
 
-  kept_halts : (halt : Halt) (old new : Server S) (line : List ℕ) (kept : List Kept) → Sim old kept → new.book ≡ old.book → Told (told old.store) (told new.store) (FilesKept (asked line) old.book.journal new.book.journal old.log.end) → Stops (Rise new) kept line halt kept → Halts1 halt old new line kept kept
-  kept_halts halt old new line kept sim same files stops = record {
-    stops = stops;
-    journal = ap (λ (p : Pages). p.journal) same ∙ sim.journal;
-    safe = halted_kept old new line kept sim same files;
-    stamped = all_stamped halt kept new.book.stamps (ap (λ (p : Pages). length p.stamps) same ∙ sim.stamped);
-    stamps = ap (λ (p : Pages). p.stamps) same;
+    abbrev pub Full : Type 0
+    Full = 2 ^ 62 - 2 ^ 24 ≤ moment last
+
+    abbrev pub Known : (ℕ → List ℕ) → Type 0
+    Known first = IsSure first start.vault (told start.store)
+
+    abbrev pub Machine : (ℕ → List ℕ) → Site → List ℕ → Answer → Site → Type 0
+    Machine first = RepliesAt Rise Full (Known first) start.vault.database first
+
+    abbrev pub Ending : (ℕ → List ℕ) → Site → List ℕ → Halt → Site → Type 0
+    Ending first = StopsAt Rise Full (Known first) start.vault.database first
+
+    rises : (old new : Running S) → Later moment faults start.store old.store → Later moment faults new.store last → (file : ℕ) → Rose (faults old.store file) (faults new.store file) → Rise file
+    rises old new before after file rose =
+        rise_since (faults start.store file) (faults old.store file) (faults last file) (before.counts file) (rise_more (faults old.store file) (faults new.store file) (faults last file) (after.counts file) rose)
+
+    fills : (new : Running S) → Later moment faults new.store last → 2 ^ 62 - 2 ^ 24 ≤ moment new.store → Full
+    fills new after full = let late : moment new.store ≤ moment last = after.time in omega (arith, full, late)
+
+    step : (first : ℕ → List ℕ) (old new : Running S) (line : List ℕ) (answer : Answer) (site : Site) (fresh : List ℕ) → Sim old site fresh → Later moment faults new.store last → (serves : ServesLine told moment faults old line answer new) → Machine first site line answer (site_after site serves.0 new)
+    step first old new line answer site fresh sim after (added, stamps, does, says) =
+        let is = replies (λ file. Rose (faults old.store file) (faults new.store file)) Rise (2 ^ 62 - 2 ^ 24 ≤ moment new.store) Full (IsSure (contents_after first site.kept) old.vault (told old.store)) (Known first) (rises old new sim.does.later after) (fills new after) (sure_after first start.vault old.vault site.kept fresh (told start.store) (told old.store) sim.does.files) (contents_after first site.kept) old.vault.database old.vault.generation line answer added new.vault.generation (says (contents_after first site.kept)) in
+        let there = subst (λ (n : ℕ). Replies Rise Full (Known first) (contents_after first site.kept) old.vault.database n line answer added new.vault.generation) sim.generation is in
+        (added, subst (λ (v : Inv). Replies Rise Full (Known first) (contents_after first site.kept) v site.generation line answer added new.vault.generation) sim.does.adds.database there, refl)
+
+    halt : (first : ℕ → List ℕ) (old new : Running S) (line : List ℕ) (how : Halt) (site : Site) (fresh : List ℕ) → Sim old site fresh → Later moment faults new.store last → (halts : HaltsLine told moment faults old line how new) → Ending first site line how (site_after site halts.0 new)
+    halt first old new line how site fresh sim after (added, stamps, does, says) =
+        let is = stops (λ file. Rose (faults old.store file) (faults new.store file)) Rise (2 ^ 62 - 2 ^ 24 ≤ moment new.store) Full (IsSure (contents_after first site.kept) old.vault (told old.store)) (Known first) (rises old new sim.does.later after) (fills new after) (sure_after first start.vault old.vault site.kept fresh (told start.store) (told old.store) sim.does.files) (contents_after first site.kept) old.vault.database old.vault.generation line how added new.vault.generation (says (contents_after first site.kept)) in
+        let there = subst (λ (n : ℕ). Stops Rise Full (Known first) (contents_after first site.kept) old.vault.database n line how added new.vault.generation) sim.generation is in
+        (added, subst (λ (v : Inv). Stops Rise Full (Known first) (contents_after first site.kept) v site.generation line how added new.vault.generation) sim.does.adds.database there, refl)
+
+  sim_after : (old new : Running S) (line : List ℕ) (answer : Answer) (site : Site) (fresh : List ℕ) → Sim old site fresh → (serves : ServesLine told moment faults old line answer new) → Sim new (site_after site serves.0 new) (serves.1 ++ fresh)
+  sim_after old new line answer site fresh sim (added, stamps, does, says) = record {
+    does = does_then told moment faults clock start old new site.kept added fresh stamps sim.does does;
+    generation = refl;
   }
 
-  -- with an entry in doubt
-  more_halts : (file : ℕ) (old new : Server S) (line : List ℕ) (kept : List Kept) (entry : Option Early) (sure : Early) → added_entry (journal_of kept) (asked line) ≡ entry → entry ≡ Some sure → Sim old kept → Rise new file → new.book ≡ record { journal = sure ∷ old.book.journal; stamps = old.book.stamps } → Told (told old.store) (told new.store) (FilesKept (asked line) old.book.journal new.book.journal old.log.end) → Halts1 (LogFault file) old new line kept (after_request kept (asked line))
-  more_halts file old new line kept entry sure is some sim rose same files =
-      let request : Option Request = asked line in
-      let adds : added_entry (journal_of kept) request ≡ Some sure = is ∙ some in
-      let after : after_request kept request ≡ record { entry = sure; text = text_of request } ∷ kept = ap (λ (e : Option Early). with_kept e (text_of request) kept) adds in
-      let journal : new.book.journal ≡ journal_of (after_request kept request) = ap (λ (p : Pages). p.journal) same ∙ ap (λ (j : List Early). sure ∷ j) sim.journal ∙ sym (ap journal_of after) in
-      let first : Told (told old.store) (told new.store) (FilesKept request old.book.journal (journal_of (after_request kept request)) old.log.end) = subst (λ (j : List Early). Told (told old.store) (told new.store) (FilesKept request old.book.journal j old.log.end)) journal files in
-      let second : Told (told old.store) (told new.store) (FilesKept request (journal_of kept) (journal_of (after_request kept request)) old.log.end) = subst (λ (j : List Early). Told (told old.store) (told new.store) (FilesKept request j (journal_of (after_request kept request)) old.log.end)) sim.journal first in
-      let safe : IfSome (told new.store) (AllSafe opened (after_request kept request) old.book.stamps) = told_goes (told old.store) (told new.store) (λ h. Sound opened h kept old.book.stamps old.log.end) (AllSafe opened (after_request kept request) old.book.stamps) (FilesKept request (journal_of kept) (journal_of (after_request kept request)) old.log.end) second sim.sound (λ a b f p. halted_more opened a b request kept old.book.stamps old.log.end sim.placed p sim.stamped f) in
-      let count : length old.book.stamps ≡ length kept = sim.stamped in
+  -- some lines were run
+  pub record Ran (n : ℕ) (old new : Session S) (lines : List (List ℕ)) (text : List ℕ) (tally : Tally) (site : Site) : Type 0 where
+    pub after : Site
+    pub fresh : List ℕ
+    pub sim : Sim new.server after fresh
+    pub later : Later moment faults old.server.store new.server.store
+    pub run : (last : S) → Later moment faults new.server.store last → (first : ℕ → List ℕ) → Runs (Machine last first) n site lines text tally after
+
+  runs : (lines : List (List ℕ)) (n : ℕ) (old new : Session S) (text : List ℕ) (tally : Tally) (site : Site) (fresh : List ℕ) → Sim old.server site fresh → Runs Serves n old lines text tally new → Ran n old new lines text tally site
+  runs [] n old new text tally site fresh sim run = record {
+    after = site;
+    fresh = fresh;
+    sim = subst (λ (s : Session S). Sim s.server site fresh) (sym run.2) sim;
+    later = subst (λ (s : Session S). Later moment faults old.server.store s.server.store) (sym run.2) (later_same moment faults old.server.store);
+    run = λ last later first. (run.0, run.1, refl);
+  }
+  runs (line ∷ more) n old new text tally site fresh sim (answer, mid, rest, others, serves, is, counts, run) =
+      let next = runs more (n + 1) mid new rest others (site_after site serves.0 mid.server) (serves.1 ++ fresh) (sim_after old.server mid.server line answer site fresh sim serves) run in
       record {
-        stops = (rose, inr refl);
-        journal = journal;
-        safe = subst (λ (p : Pages). IfSome (told new.store) (AllSafe opened (after_request kept request) p.stamps)) (sym same) safe;
-        stamped = inr (rw same (rw after (omega (arith, count))));
-        stamps = ap (λ (p : Pages). p.stamps) same;
+        after = next.after;
+        fresh = next.fresh;
+        sim = next.sim;
+        later = later_then told moment faults old.server.store mid.server.store new.server.store serves.2.later next.later;
+        run = λ last later first. (answer, site_after site serves.0 mid.server, rest, others, step last first old.server mid.server line answer site fresh sim (later_then told moment faults mid.server.store new.server.store last next.later later) serves, is, counts, next.run last later first);
       }
 
-  doubt_halts : (file : ℕ) (old new : Server S) (line : List ℕ) (kept : List Kept) (entry : Option Early) → added_entry (journal_of kept) (asked line) ≡ entry → Sim old kept → Rise new file → MayDoubt entry old.book new.book → Told (told old.store) (told new.store) (FilesKept (asked line) old.book.journal new.book.journal old.log.end) → (after : List Kept) × Halts1 (LogFault file) old new line kept after
-  doubt_halts file old new line kept None is sim rose same files = (kept, kept_halts (LogFault file) old new line kept sim same files (rose, inl refl))
-  doubt_halts file old new line kept (Some entry) is sim rose (inl same) files = (kept, kept_halts (LogFault file) old new line kept sim same files (rose, inl refl))
-  doubt_halts file old new line kept (Some entry) is sim rose (inr same) files = (after_request kept (asked line), more_halts file old new line kept (Some entry) entry is refl sim rose same files)
+  -- what is left of the server
+  pub record Left (new : Running S) (site : Site) (fresh : List ℕ) : Type 0 where
+    pub adds : Adds moment site.kept fresh start new
+    pub generation : new.vault.generation ≡ site.generation
+    pub files : Told (told start.store) (told new.store) (Went start.vault site.kept fresh)
+    pub later : Later moment faults start.store new.store
 
-  halted_pages : (halt : Halt) (old new : Server S) (line : List ℕ) (kept : List Kept) → Sim old kept → Stopped old line halt new → (after : List Kept) × Halts1 halt old new line kept after
-  halted_pages (LogFault file) old new line kept sim halts =
-      let may : MayDoubt (added_entry (journal_of kept) (asked line)) old.book new.book = subst (λ (j : List Early). MayDoubt (added_entry j (asked line)) old.book new.book) sim.journal halts.pages.1 in
-      doubt_halts file old new line kept (added_entry (journal_of kept) (asked line)) refl sim (rose_since told moment faults file start old.store new.store sim.later halts.pages.0) may halts.files
-  halted_pages RunFull old new line kept sim halts = absurd halts.pages
-  halted_pages Memory old new line kept sim halts = (kept, kept_halts Memory old new line kept sim halts.pages halts.files refl)
-
-  -- how the run ended
-  pub record Left (end : End) (new : Server S) (after : List Kept) : Type 0 where
-    pub journal : new.book.journal ≡ journal_of after
-    pub safe : IfSome (told new.store) (AllSafe opened after new.book.stamps)
-    pub stamped : Stamped end after new.book.stamps
-    pub timely : Timely opened (moment new.store) new.book.stamps
-    pub since : opened ≤ moment new.store
-    pub later : Later moment faults start new.store
-
-  sim_left : (end : End) (new : Server S) (after : List Kept) → (length new.book.stamps ≡ length after → Stamped end after new.book.stamps) → Sim new after → Left end new after
-  sim_left end new after stamped sim = record {
-    journal = sim.journal;
-    safe = told_some (told new.store) (λ h. Sound opened h after new.book.stamps new.log.end) (AllSafe opened after new.book.stamps) (λ h s. s.safe) sim.sound;
-    stamped = stamped sim.stamped;
-    timely = sim.timely;
-    since = sim.since;
-    later = sim.later;
+  left_does : (new : Running S) (site : Site) (fresh : List ℕ) → Sim new site fresh → Left new site fresh
+  left_does new site fresh sim = record {
+    adds = sim.does.adds;
+    generation = sim.generation;
+    files = went_of start.vault new.vault site.kept fresh (told start.store) (told new.store) sim.does.files;
+    later = sim.does.later;
   }
 
-  halts : (script : Option (List ℕ)) (taken : List (List ℕ)) (mid new : Server S) (halt : Halt) (kept : List Kept) → Sim mid kept → Halts Serves Stopped script taken mid halt new → (after : List Kept) × Halts (Replies tells) (Stops (Rise new)) script taken kept halt after × Left (Halted halt) new after
-  halts script taken mid new halt kept sim (inl (line, first, stopped)) =
-      let all = halted_pages halt mid new line kept sim stopped in
-      let after : moment mid.store ≤ moment new.store = stopped.later.time in
-      let since : opened ≤ moment mid.store = sim.since in (
-        all.0,
-        inl (line, first, all.1.stops),
-        record {
-          journal = all.1.journal;
-          safe = all.1.safe;
-          stamped = all.1.stamped;
-          timely = subst (λ (l : List ℕ). Timely opened (moment new.store) l) (sym all.1.stamps) (timely_later opened (moment mid.store) (moment new.store) mid.book.stamps after sim.timely);
-          since = omega arith;
-          later = later_then told moment faults start mid.store new.store sim.later stopped.later;
-        },
-      )
-  halts script taken mid new halt kept sim (inr (inl (is, first, same))) =
-      let here : Sim new kept = subst (λ (s : Server S). Sim s kept) (sym same) sim in
-      (kept, inr (inl (is, first, refl)), sim_left (Halted halt) new kept (all_stamped halt kept new.book.stamps) here)
-  halts script taken mid new halt kept sim (inr (inr (is, line, answer, first, serves))) =
-      let one = step mid new line answer kept sim serves in
-      (after_request kept (asked line), inr (inr (is, line, answer, first, one.0)), sim_left (Halted halt) new (after_request kept (asked line)) (all_stamped halt (after_request kept (asked line)) new.book.stamps) one.1)
+  left_breaks : (new : Running S) (site : Site) (fresh : List ℕ) → Breaks told moment faults site.kept fresh start new → new.vault.generation ≡ site.generation → Left new site fresh
+  left_breaks new site fresh breaks same = record { adds = breaks.adds; generation = same; files = breaks.files; later = breaks.later }
 
-  answers : (end : End) (script : Option (List ℕ)) (text : List ℕ) (old new : Server S) (kept : List Kept) → Sim old kept → Answers Serves Stopped old script end text new → (after : List Kept) × Answers (Replies tells) (Stops (Rise new)) kept script end text after × Left end new after
-  answers (Done tally) script text old new kept sim (taken, run, whole) =
-      let all = runs taken 1 old new text tally kept sim run in
-      (all.0, (taken, all.1, whole), sim_left (Done tally) new all.0 (λ is. is) all.2)
-  answers SourceFault script text old new kept sim (taken, tally, run, first) =
-      let all = runs taken 1 old new text tally kept sim run in
-      (all.0, (taken, tally, all.1, first), sim_left SourceFault new all.0 (λ is. is) all.2)
-  answers SinkFault script text old new kept sim none = absurd none
-  answers (Halted halt) script text old new kept sim (taken, tally, mid, run, ends) =
-      let all = runs taken 1 old mid text tally kept sim run in
-      let last = halts script taken mid new halt all.0 all.2 ends in
-      (last.0, (taken, tally, all.0, all.1, last.1), last.2)
-  answers (TooLong n) script text old new kept sim (taken, tally, run, exceeds) =
-      let all = runs taken 1 old new text tally kept sim run in
-      (all.0, (taken, tally, all.1, exceeds), sim_left (TooLong n) new all.0 (λ is. is) all.2)
+  stopped_later : (how : Halt) (old new : Running S) (line : List ℕ) → HaltsLine told moment faults old line how new → Later moment faults old.store new.store
+  stopped_later (LogFault file) old new line stopped = stopped.2.later
+  stopped_later RunFull old new line stopped = stopped.2.later
+  stopped_later Memory old new line stopped = stopped.2.later
 
-  allows : (end : End) (script : Option (List ℕ)) (whole : List ℕ) (old new : Server S) (kept : List Kept) → Sim old kept → Allows Serves Stopped old script end whole new → (after : List Kept) × Allows (Replies tells) (Stops (Rise new)) kept script end whole after × Left end new after
-  allows end script whole old new kept sim (text, is, run) =
-      let all = answers end script text old new kept sim run in
-      (all.0, (text, is, all.1), all.2)
+  -- the last line that halted the run
+  halted : (how : Halt) (old new : Running S) (line : List ℕ) (site : Site) (fresh : List ℕ) → Sim old site fresh → (halts : HaltsLine told moment faults old line how new) → Left new (site_after site halts.0 new) (halts.1 ++ fresh) × HaltStamped how (halts.0 ++ site.kept) (halts.1 ++ fresh)
+  halted (LogFault file) old new line site fresh sim (added, stamps, breaks, says) =
+      let whole = breaks_then told moment faults clock start old new site.kept added fresh stamps sim.does breaks in
+      (left_breaks new (site_after site added new) (stamps ++ fresh) whole refl, whole.stamped)
+  halted RunFull old new line site fresh sim (added, stamps, does, says) =
+      let whole = does_then told moment faults clock start old new site.kept added fresh stamps sim.does does in
+      (left_does new (site_after site added new) (stamps ++ fresh) (record { does = whole; generation = refl }), whole.stamped)
+  halted Memory old new line site fresh sim (added, stamps, does, says) =
+      let whole = does_then told moment faults clock start old new site.kept added fresh stamps sim.does does in
+      (left_does new (site_after site added new) (stamps ++ fresh) (record { does = whole; generation = refl }), whole.stamped)
 
-  prints : (end : End) (script : Option (List ℕ)) (put : List ℕ) (old new : Server S) (kept : List Kept) → Sim old kept → Prints Serves Stopped old script end put new → (after : List Kept) × (run : Prints (Replies tells) (Stops (Rise new)) kept script end put after) × Left (own_end tells (Rise new) kept after script end put run) new after
-  prints (Done tally) script put old new kept sim run = allows (Done tally) script put old new kept sim run
-  prints SourceFault script put old new kept sim run = allows SourceFault script put old new kept sim run
-  prints SinkFault script put old new kept sim (other, whole, run, front) =
-      let all = allows other script whole old new kept sim run in
-      (all.0, (other, whole, all.1, front), all.2)
-  prints (Halted halt) script put old new kept sim run = allows (Halted halt) script put old new kept sim run
-  prints (TooLong n) script put old new kept sim run = allows (TooLong n) script put old new kept sim run
+  -- how a run ended
+  pub record Ended (new : Session S) (P : (ℕ → List ℕ) → Site → Type 0) (Q : List Kept → List ℕ → Type 0) : Type 0 where
+    pub after : Site
+    pub fresh : List ℕ
+    pub left : Left new.server after fresh
+    pub stamped : Q after.kept fresh
+    pub run : (first : ℕ → List ℕ) → P first after
+
+  abbrev pub M : Session S → (ℕ → List ℕ) → Site → List ℕ → Answer → Site → Type 0
+  M new first = Machine new.server.store first
+
+  abbrev pub E : Session S → (ℕ → List ℕ) → Site → List ℕ → Halt → Site → Type 0
+  E new first = Ending new.server.store first
+
+  later_here : (new : Session S) → Later moment faults new.server.store new.server.store
+  later_here new = later_same moment faults new.server.store
+
+  halts : (script : Option (List ℕ)) (taken : List (List ℕ)) (tally : Tally) (text : List ℕ) (old mid new : Session S) (how : Halt) (site : Site) → Ran 1 old mid taken text tally site → Halts Serves Stopped script taken mid how new → Ended new (λ first after. Answers (M new first) (E new first) site script (Halted how) text after) (HaltStamped how)
+  halts script taken tally text old mid new how site ran (inl (line, front, stopped)) =
+      let last = halted how mid.server new.server line ran.after ran.fresh ran.sim stopped in
+      let later : Later moment faults mid.server.store new.server.store = stopped_later how mid.server new.server line stopped in
+      record {
+        after = site_after ran.after stopped.0 new.server;
+        fresh = stopped.1 ++ ran.fresh;
+        left = last.0;
+        stamped = last.1;
+        run = λ first. (taken, tally, ran.after, ran.run new.server.store later first, inl (line, front, halt new.server.store first mid.server new.server line how ran.after ran.fresh ran.sim (later_here new) stopped));
+      }
+  halts script taken tally text old mid new how site ran (inr (inl (is, front, same))) = record {
+    after = ran.after;
+    fresh = ran.fresh;
+    left = subst (λ (s : Session S). Left s.server ran.after ran.fresh) (sym same) (left_does mid.server ran.after ran.fresh ran.sim);
+    stamped = all_stamped how ran.after.kept ran.fresh ran.sim.does.stamped;
+    run = λ first. (taken, tally, ran.after, ran.run new.server.store (subst (λ (s : Session S). Later moment faults mid.server.store s.server.store) (sym same) (later_here mid)) first, inr (inl (is, front, refl)));
+  }
+  halts script taken tally text old mid new how site ran (inr (inr (is, line, answer, front, serves))) =
+      let sim = sim_after mid.server new.server line answer ran.after ran.fresh ran.sim serves in
+      record {
+        after = site_after ran.after serves.0 new.server;
+        fresh = serves.1 ++ ran.fresh;
+        left = left_does new.server (site_after ran.after serves.0 new.server) (serves.1 ++ ran.fresh) sim;
+        stamped = all_stamped how (serves.0 ++ ran.after.kept) (serves.1 ++ ran.fresh) sim.does.stamped;
+        run = λ first. (taken, tally, ran.after, ran.run new.server.store serves.2.later first, inr (inr (is, line, answer, front, step new.server.store first mid.server new.server line answer ran.after ran.fresh ran.sim (later_here new) serves)));
+      }
+
+  answers : (end : End) (script : Option (List ℕ)) (text : List ℕ) (old new : Session S) (site : Site) (fresh : List ℕ) → Sim old.server site fresh → Answers Serves Stopped old script end text new → Ended new (λ first after. Answers (M new first) (E new first) site script end text after) (Stamped end)
+  answers (Done tally) script text old new site fresh sim (taken, run, whole) =
+      let ran = runs taken 1 old new text tally site fresh sim run in
+      record { after = ran.after; fresh = ran.fresh; left = left_does new.server ran.after ran.fresh ran.sim; stamped = ran.sim.does.stamped; run = λ first. (taken, ran.run new.server.store (later_here new) first, whole) }
+  answers SourceFault script text old new site fresh sim (taken, tally, run, front) =
+      let ran = runs taken 1 old new text tally site fresh sim run in
+      record { after = ran.after; fresh = ran.fresh; left = left_does new.server ran.after ran.fresh ran.sim; stamped = ran.sim.does.stamped; run = λ first. (taken, tally, ran.run new.server.store (later_here new) first, front) }
+  answers SinkFault script text old new site fresh sim none = absurd none
+  answers (Halted how) script text old new site fresh sim (taken, tally, mid, run, is) = halts script taken tally text old mid new how site (runs taken 1 old mid text tally site fresh sim run) is
+  answers (TooLong n) script text old new site fresh sim (taken, tally, run, exceeds) =
+      let ran = runs taken 1 old new text tally site fresh sim run in
+      record { after = ran.after; fresh = ran.fresh; left = left_does new.server ran.after ran.fresh ran.sim; stamped = ran.sim.does.stamped; run = λ first. (taken, tally, ran.run new.server.store (later_here new) first, exceeds) }
+
+  allows : (end : End) (script : Option (List ℕ)) (whole : List ℕ) (old new : Session S) (site : Site) (fresh : List ℕ) → Sim old.server site fresh → Allows Serves Stopped old script end whole new → Ended new (λ first after. Allows (M new first) (E new first) site script end whole after) (Stamped end)
+  allows end script whole old new site fresh sim (text, is, run) =
+      let ran = answers end script text old new site fresh sim run in
+      record { after = ran.after; fresh = ran.fresh; left = ran.left; stamped = ran.stamped; run = λ first. (text, is, ran.run first) }
+
+  -- what the sink has of a run, and by which end of its own each transaction has its stamp
+  abbrev pub Put : Session S → (site : Site) → (script : Option (List ℕ)) → End → (put : List ℕ) → (fresh : List ℕ) → (ℕ → List ℕ) → Site → Type 0
+  Put new site script end put fresh first after =
+      (run : Prints (M new first) (E new first) site script end put after) × Stamped (own_end (Rise new.server.store) (Full new.server.store) (Known new.server.store first) start.vault.database first site after script end put run) after.kept fresh
+
+  pub record Printed (new : Session S) (site : Site) (script : Option (List ℕ)) (end : End) (put : List ℕ) : Type 0 where
+    pub after : Site
+    pub fresh : List ℕ
+    pub left : Left new.server after fresh
+    pub run : (first : ℕ → List ℕ) → Put new site script end put fresh first after
+
+  prints : (end : End) (script : Option (List ℕ)) (put : List ℕ) (old new : Session S) (site : Site) (fresh : List ℕ) → Sim old.server site fresh → Prints Serves Stopped old script end put new → Printed new site script end put
+  prints (Done tally) script put old new site fresh sim run =
+      let ran = allows (Done tally) script put old new site fresh sim run in
+      record { after = ran.after; fresh = ran.fresh; left = ran.left; run = λ first. (ran.run first, ran.stamped) }
+  prints SourceFault script put old new site fresh sim run =
+      let ran = allows SourceFault script put old new site fresh sim run in
+      record { after = ran.after; fresh = ran.fresh; left = ran.left; run = λ first. (ran.run first, ran.stamped) }
+  prints SinkFault script put old new site fresh sim (other, whole, run, front) =
+      let ran = allows other script whole old new site fresh sim run in
+      record { after = ran.after; fresh = ran.fresh; left = ran.left; run = λ first. ((other, whole, ran.run first, front), ran.stamped) }
+  prints (Halted how) script put old new site fresh sim run =
+      let ran = allows (Halted how) script put old new site fresh sim run in
+      record { after = ran.after; fresh = ran.fresh; left = ran.left; run = λ first. (ran.run first, ran.stamped) }
+  prints (TooLong n) script put old new site fresh sim run =
+      let ran = allows (TooLong n) script put old new site fresh sim run in
+      record { after = ran.after; fresh = ran.fresh; left = ran.left; run = λ first. (ran.run first, ran.stamped) }
 
   -- what the server's run says, the machine's says
-  pub says : (end : End) (script before after : Option (List ℕ)) (old new : Server S) (kept : List Kept) → Sim old kept → Says Serves Stopped old new script before after end → (left : List Kept) × (said : Says (Replies tells) (Stops (Rise new)) kept left script before after end) × Left (own_end tells (Rise new) kept left script end said.0 said.2) new left
-  says end script before after old new kept sim (put, appends, run) =
-      let all = prints end script put old new kept sim run in
-      (all.0, (put, appends, all.1), all.2)
+  pub says : (end : End) (script before after : Option (List ℕ)) (old new : Session S) (site : Site) (fresh : List ℕ) → Sim old.server site fresh → (said : Says Serves Stopped old new script before after end) → Printed new site script end said.0
+  says end script before after old new site fresh sim (put, appends, run) = prints end script put old new site fresh sim run

@@ -1,137 +1,130 @@
--- A log is begun and read back, and then a script is run over it.
-use Rattle.std.proofs.Common.{◌≡◌, ⊎_elim, ℕ, ◌≤◌, false, Option, None, Some, is_some, IfSome, List, [], ◌∷◌, ◌++◌, Result, Ok, Err, Vec, Global, reverse, refl, sym, ◌∙◌, ap, subst, arith}
-use Rattle.store_api.specs.Cause.{NoneFell}
-use Rattle.store_api.specs.Disk.{History, now, reads, ImageAt}
+-- A script is run over a vault that was opened, over what the store holds or over a database that was just put there.
+use Rattle.std.proofs.Common.{◌≡◌, ℕ, Option, None, Some, IfSome, List, [], ◌++◌, Result, Ok, Err, reverse, refl, sym, ◌∙◌, ap, subst, append-nil}
+use Rattle.store_api.specs.Disk.{History, now}
 use Rattle.store_api.specs.Told.{Told}
+use Rattle.store_api.specs.Runs.{GoesOn}
+use Rattle.store_api.proofs.Runs.{told_map}
 use Rattle.kinds.specs.declared.refusal.OpenRefused.{OpenRefused}
-use Rattle.log_file.specs.Blocks.{block, blocks, LogEnds}
+use Rattle.kinds.specs.declared.refusal.OpenRefused.TheVariants as refused
+use Rattle.entries.specs.declared.entry.Entry.{Entry}
+use Rattle.inventory.specs.Meant.{meaning}
+use Rattle.inventory_rows.specs.State.{Inv}
 use Rattle.log_file.specs.Safety.{Timely}
-use Rattle.log_file.specs.Steps.{Created}
-use Rattle.log_file.specs.Sure.{State}
-use Rattle.log_file.proofs.Logs.{sure_image, sure_reads}
 use Rattle.script_loop.specs.Runs.{Says}
 use Rattle.script_loop.specs.Ends.{DoneAtEnd, status_of}
 use Rattle.script_loop.specs.declared.ends.End.{End}
-use Rattle.tsm_top.specs.declared.entry.Early.{Early}
-use Rattle.tsm_top.specs.declared.recovery.EarlyRefused.{EarlyRefused}
-use Rattle.tsm_top.specs.declared.recovery.EarlyRefused.TheVariants.{Fault, Damaged, RunFull, Memory}
-use Rattle.tsm_top.specs.declared.server.Server.{Server}
-use Rattle.tsm_top.specs.Books.{Pages}
-use Rattle.tsm_top.specs.Logs.{LogHas}
-use Rattle.tsm_top.specs.Machine.{AllSafe, Stamped, own_end}
-use Rattle.tsm_top.specs.Recovery.{Recovered, BrokenAt, MayRefuseEarly, records_of}
-use Rattle.tsm_top.specs.Serve.{RanScript, RoseBetween, OpensNot, refused_opening}
-use Rattle.tsm_top.specs.Server.{ServesLine, HaltsLine}
-use Rattle.tsm_top.specs.Steps.{Later}
-use Rattle.tsm_top.proofs.Safety.{Sound}
-use Rattle.tsm_top.proofs.Machines.{Sim, says}
-use Rattle.tsm_top.proofs.Simulation.{told_both, told_goes, some_map}
+use Rattle.vault.specs.Openings.{Opened, Calm, MayRefuseOpening}
+use Rattle.vault.specs.Vaults.{State}
+use Rattle.server.specs.Running.{Running, IsSure}
+use Rattle.server.specs.Steps.{Later, Went}
+use Rattle.server.specs.World.{entries_of}
+use Rattle.server.proofs.Soundness.{opened_good}
+use Rattle.tsm_top.specs.declared.session.Session.{Session}
+use Rattle.tsm_top.specs.Machine.{Site}
+use Rattle.tsm_top.specs.Serve.{run, OpensNot, IsOurFile, IsNone, RunsOver, StartsAt, Sure, RanOver, RanScript, RanFrom, RoseBetween}
+use Rattle.tsm_top.specs.Session.{ServesLine, HaltsLine}
+use Rattle.tsm_top.proofs.Machines.{Sim, says, safe_after, left_after}
+use Rattle.tsm_top.proofs.Saying.{ran_over}
+use Rattle.server.proofs.Stepping.{does_none}
 
--- an empty log that no stop takes away
-sound_empty : (opened : ℕ) (h : History) → now h ≡ opened → LogHas [] 0 h → Sound opened h [] [] 0
-sound_empty opened h at sure = record {
-  frames = tt;
-  log = sure;
-  since = omega (arith, at);
-  safe = λ moment image from to is.
-      let last : moment ≡ now h = omega (arith, from, to, at) in
-      record { later = []; earlier = []; parts = refl; durable = omega arith; gives = (sure_image h 2 [] 0 image sure (subst (λ (m : ℕ). ImageAt h m image) last is), tt) };
-}
+module _ {S : Type 0} (told : S → Option History) (moment : S → ℕ) (faults : S → ℕ → ℕ) (clock : (s : S) → IfSome (told s) (λ h. now h ≡ moment s)) (start : Running S) (none : start.stamps ≡ []) (begun : start.vault.journal ≡ []) (sure : start.vault.fault ≡ None) where
+  abbrev site : Site
+  site = record { kept = []; generation = start.vault.generation }
 
-any : (x : Option History) → IfSome x (λ h. Unit {0})
-any None = tt
-any (Some h) = tt
+  begins : (old : Session S) → old.server ≡ start → Sim told moment faults clock start old.server site []
+  begins old is = subst (λ (server : Running S). Sim told moment faults clock start server site []) (sym is) (record { does = does_none told moment faults start sure; generation = refl })
 
-none_is : (x : Option History) → IfSome x (λ h. ⊥) → is_some x ≡ false
-none_is None is = refl
-none_is (Some h) is = absurd is
+  -- what a run of the server leaves
+  pub record Whole (last : S) (end : End) (status : ℕ) (journal : List Entry) (stamps : List ℕ) (generation : ℕ) (script left before after : Option (List ℕ)) : Type 0 where
+    pub from : RanFrom start.vault (told start.store) (told last) (RoseBetween (faults start.store) (faults last)) (moment start.store) (moment last) end status journal stamps generation script left before after
+    pub later : Later moment faults start.store last
+    pub goes : Told (told start.store) (told last) (GoesOn (λ file. Unit {0}))
 
-head_of : List ℕ → ℕ
-head_of [] = 0
-head_of (byte ∷ bytes) = byte
-
-damage_opens : (payloads : List (List ℕ)) (rest : List ℕ) → head_of (blocks payloads ++ (1 ∷ rest)) ≡ 1
-unfolding block head_of
-damage_opens [] rest = refl
-damage_opens (payload ∷ payloads) rest = refl
-
-record_opens : (entries : List Early) (payload rest : List ℕ) → head_of (blocks (records_of entries ++ payload ∷ []) ++ rest) ≡ 1
-unfolding block head_of
-record_opens [] payload rest = refl
-record_opens (entry ∷ entries) payload rest = refl
-
-head_gate : (gate : ℕ) (rest : List ℕ) → head_of (gate ∷ rest) ≡ gate
-unfolding head_of
-head_gate gate rest = refl
-
--- an empty log isn't damaged
-not_broken : (bytes : List ℕ) (at : ℕ) → LogEnds bytes [] → BrokenAt bytes at → ⊥
-not_broken bytes at ends broken =
-    let closed : head_of bytes ≡ ends.gate = ap head_of ends.whole ∙ head_gate ends.gate ends.rest in
-    let open_first : head_of bytes ≡ 1 =
-    ⊎_elim (λ is. ap head_of is.whole ∙ damage_opens (records_of broken.entries) is.rest) (λ is. ap head_of is.whole ∙ record_opens broken.entries is.payload is.rest) broken.damage in
-    ends.closed (sym closed ∙ open_first)
-
-module _ (x y : Option History) (log : State) (created : (let result : Result State OpenRefused = Ok log in Told x y (Created 2 result))) where
-  begun : IfSome y (LogHas [] 0)
-  begun = let result : Result State OpenRefused = Ok log in told_goes x y (λ h. Unit {0}) (LogHas [] 0) (Created 2 result) created (any x) (λ a b has p. has.sure)
-
-  -- a log that was begun and read back is empty, and no stop takes that away
-  pub empty_again : (z : Option History) (entries : Vec Early Global) → Told y z (Recovered (Ok entries)) → IfSome z (LogHas [] 0)
-  empty_again z entries read = told_goes y z (LogHas [] 0) (LogHas [] 0) (Recovered (Ok entries)) read begun (λ a b has sure. has.sure [] (sure_reads a 2 [] 0 sure))
-
-  tell_same : (z : Option History) (R : History → History → Type 0) → Told y z R → is_some z ≡ is_some x
-  tell_same z R told = let result : Result State OpenRefused = Ok log in sym (told_both y z R told) ∙ sym (told_both x y (Created 2 result) created)
-
-  pub tell_open : (z : Option History) (entries : Vec Early Global) → Told y z (Recovered (Ok entries)) → is_some z ≡ is_some x
-  tell_open z entries read = tell_same z (Recovered (Ok entries)) read
-
-  never_damaged : (z : Option History) (at : ℕ) → Told y z (Recovered (Err (Damaged at))) → is_some x ≡ false
-  never_damaged z at read =
-      sym (tell_same z (Recovered (Err (Damaged at))) read)
-      ∙ none_is z (told_goes y z (LogHas [] 0) (λ h. ⊥) (Recovered (Err (Damaged at))) read begun (λ a b has sure. not_broken (reads a 2) at (sure_reads a 2 [] 0 sure) has.damaged))
-
-  -- why a store isn't opened whose log was begun and then not read back
-  pub opens_not : (z : Option History) (refusal : EarlyRefused) (last : ℕ) (before mid after : ℕ → ℕ) → Told y z (Recovered (Err refusal)) → NoneFell before mid → MayRefuseEarly mid after last refusal → OpensNot (refused_opening refusal) (is_some x) last (RoseBetween before after)
-  opens_not z (Fault file) last before mid after read none cause = omega (arith, none 2, cause.1, none file, cause.0, ap before cause.0, ap mid cause.0, ap after cause.0)
-  opens_not z (Damaged at) last before mid after read none cause = never_damaged z at read
-  opens_not z RunFull last before mid after read none cause = cause
-  opens_not z Memory last before mid after read none cause = tt
-
-module _ {S : Type 0} (told : S → Option History) (moment : S → ℕ) (faults : S → ℕ → ℕ) (clock : (s : S) → IfSome (told s) (λ h. now h ≡ moment s)) where
-  pub later_same : (opened : S) → Later moment faults opened opened
-  later_same opened = record { counts = λ file. omega arith; time = omega arith }
-
-  -- a run over an empty log begins as the machine does, with nothing kept
-  pub begins : (old : Server S) → old.book ≡ record { journal = []; stamps = [] } → old.log.end ≡ 0 → IfSome (told old.store) (LogHas [] 0) → Sim told moment faults clock old.store (moment old.store) (is_some (told old.store)) old []
-  begins old book end sure =
-      let first : IfSome (told old.store) (λ h. Sound (moment old.store) h [] [] 0) = some_map (told old.store) (λ h. now h ≡ moment old.store) (LogHas [] 0) (λ h. Sound (moment old.store) h [] [] 0) (λ h at has. sound_empty (moment old.store) h at has) (clock old.store) sure in
+  ran_there : (end : End) (status : ℕ) (journal : List Entry) (stamps : List ℕ) (generation : ℕ) (script left before after : Option (List ℕ)) (old new : Session S) → old.server ≡ start → Says (λ a line answer b. ServesLine told moment faults a.server line answer b.server) (λ a line how b. HaltsLine told moment faults a.server line how b.server) old new script before after end →
+      status ≡ status_of end → journal ≡ new.server.vault.journal → reverse stamps ≡ new.server.stamps → generation ≡ new.server.vault.generation → DoneAtEnd end left → Whole new.server.store end status journal stamps generation script left before after
+  ran_there end status journal stamps generation script left before after old new is said code journal_is stamps_are generation_is rest =
+      let all = says told moment faults clock start end script before after old new site [] (begins old is) said in
+      let last = all.left in
+      let fresh_is : reverse stamps ≡ all.fresh = stamps_are ∙ last.adds.stamps ∙ ap (λ (l : List ℕ). all.fresh ++ l) none ∙ append-nil all.fresh in
+      let number : all.after.generation ≡ generation = sym last.generation ∙ sym generation_is in
+      let rose : ℕ → Type 0 = RoseBetween (faults start.store) (faults new.server.store) in
+      let over : (first : ℕ → List ℕ) → RanOver (IsSure first start.vault (told start.store)) rose first start.vault.database site all.after (moment start.store) (moment new.server.store) (told new.server.store) end all.fresh script before after = λ first. record {
+        says = (said.0, said.1, (all.run first).0);
+        stamped = (all.run first).1;
+        left = λ known. left_after first start.vault all.after.kept all.fresh (moment new.server.store) (told start.store) (told new.server.store) (clock new.server.store) last.files known;
+        images = λ known. safe_after first start.vault (moment start.store) all.after.kept all.fresh (told start.store) (told new.server.store) (clock start.store) last.files known;
+      } in
       record {
-        journal = ap (λ (p : Pages). p.journal) book;
-        placed = tt;
-        tell = refl;
-        sound = subst (λ (p : Pages). IfSome (told old.store) (λ h. Sound (moment old.store) h [] p.stamps old.log.end)) (sym book) (subst (λ (n : ℕ). IfSome (told old.store) (λ h. Sound (moment old.store) h [] [] n)) (sym end) first);
-        stamped = rw book refl;
-        timely = rw book (omega arith);
-        since = omega arith;
-        later = later_same old.store;
+        from = record {
+          code = code;
+          kept = all.after.kept;
+          journal_is = ap reverse journal_is ∙ last.adds.journal ∙ ap (λ (l : List Entry). entries_of all.after.kept ++ reverse l) begun ∙ append-nil (entries_of all.after.kept);
+          rest = rest;
+          timely = subst (λ (l : List ℕ). Timely (moment start.store) (moment new.server.store) l) (sym fresh_is) last.adds.timely;
+          runs = λ first. subst (λ (l : List ℕ). RanOver (IsSure first start.vault (told start.store)) rose first start.vault.database site (record { kept = all.after.kept; generation = generation }) (moment start.store) (moment new.server.store) (told new.server.store) end l script before after) (sym fresh_is)
+              (subst (λ (n : ℕ). RanOver (IsSure first start.vault (told start.store)) rose first start.vault.database site (record { kept = all.after.kept; generation = n }) (moment start.store) (moment new.server.store) (told new.server.store) end all.fresh script before after) number (over first));
+        };
+        later = last.later;
+        goes = told_map (told start.store) (told new.server.store) (Went start.vault all.after.kept all.fresh) (GoesOn (λ file. Unit {0})) (λ a b went. went.goes) last.files;
       }
 
-module _ {S : Type 0} (told : S → Option History) (moment : S → ℕ) (faults : S → ℕ → ℕ) (clock : (s : S) → IfSome (told s) (λ h. now h ≡ moment s)) (start : S) where
-  pub ran : (end : End) (status : ℕ) (journal : List Early) (stamps : List ℕ) (script left before after : Option (List ℕ)) (opened : ℕ) (old new : Server S) → Sim told moment faults clock start opened (is_some (told start)) old [] → Says (ServesLine told moment faults) (HaltsLine told moment faults) old new script before after end → status ≡ status_of end → reverse journal ≡ new.book.journal → reverse stamps ≡ new.book.stamps → DoneAtEnd end left → RanScript (is_some (told start)) (RoseBetween (faults start) (faults new.store)) opened (moment new.store) (told new.store) end status journal stamps script left before after × Later moment faults start new.store × (opened ≤ moment new.store)
-  ran end status journal stamps script left before after opened old new sim run code is are rest =
-      let all = says told moment faults clock start opened (is_some (told start)) end script before after old new [] sim run in
-      let last = all.2 in (
-        record {
-          code = code;
-          kept = all.0;
-          journal_is = is ∙ last.journal;
-          says = all.1;
-          rest = rest;
-          stamped = subst (λ (l : List ℕ). Stamped (own_end (is_some (told start)) (RoseBetween (faults start) (faults new.store)) [] all.0 script end all.1.0 all.1.2) all.0 l) (sym are) last.stamped;
-          timely = subst (λ (l : List ℕ). Timely opened (moment new.store) l) (sym are) last.timely;
-          images = subst (λ (l : List ℕ). IfSome (told new.store) (AllSafe opened all.0 l)) (sym are) last.safe;
-        },
-        last.later,
-        last.since,
-      )
+  pub ran : (end : End) (status : ℕ) (journal : List Entry) (stamps : List ℕ) (generation : ℕ) (script left before after : Option (List ℕ)) (old new : Session S) (last : S) → last ≡ new.server.store → old.server ≡ start → Says (λ a line answer b. ServesLine told moment faults a.server line answer b.server) (λ a line how b. HaltsLine told moment faults a.server line how b.server) old new script before after end →
+      status ≡ status_of end → journal ≡ new.server.vault.journal → reverse stamps ≡ new.server.stamps → generation ≡ new.server.vault.generation → DoneAtEnd end left → Whole last end status journal stamps generation script left before after
+  ran end status journal stamps generation script left before after old new last same is said code journal_is stamps_are generation_is rest =
+      subst (λ (s : S). Whole s end status journal stamps generation script left before after) (sym same) (ran_there end status journal stamps generation script left before after old new is said code journal_is stamps_are generation_is rest)
+
+says_none : (x y : Option History) (refusal : OpenRefused) → (let result : Result (State Inv) OpenRefused = Err refusal in Told x y (Opened meaning result)) → IsNone x refusal
+says_none None y refusal opened = tt
+says_none (Some a) (Some b) refusal opened = opened.says
+says_none (Some a) None refusal opened = absurd opened
+
+-- opening takes nothing away
+pub opened_calm : (x y : Option History) (result : Result (State Inv) OpenRefused) → Told x y (Opened meaning result) → Told x y Calm
+opened_calm x y result opened = told_map x y (Opened meaning result) Calm (λ a b done. done.calm) opened
+
+-- why a database isn't opened
+pub opens_not : (x y : Option History) (refusal : OpenRefused) (last : ℕ) (before after : ℕ → ℕ) → (let result : Result (State Inv) OpenRefused = Err refusal in Told x y (Opened meaning result)) → MayRefuseOpening before after last refusal → OpensNot run x last (RoseBetween before after) refusal
+opens_not x y (refused.ReadFault file) last before after opened may = may
+opens_not x y (refused.Damaged file at) last before after opened may = (may, says_none x y (refused.Damaged file at) opened)
+opens_not x y refused.NotFormatted last before after opened may = says_none x y refused.NotFormatted opened
+opens_not x y refused.RunFull last before after opened may = may
+opens_not x y refused.Memory last before after opened may = tt
+
+pub our_file : (refusal : OpenRefused) (before after : ℕ → ℕ) (moment : ℕ) → MayRefuseOpening before after moment refusal → IsOurFile refusal
+our_file (refused.ReadFault file) before after moment may = tt
+our_file (refused.Damaged file at) before after moment may = may
+our_file refused.NotFormatted before after moment may = tt
+our_file refused.RunFull before after moment may = tt
+our_file refused.Memory before after moment may = tt
+
+-- a vault that was opened
+module _ (x y : Option History) (state : State Inv) (opened : (let result : Result (State Inv) OpenRefused = Ok state in Told x y (Opened meaning result))) where
+  sure_opened : (first : ℕ → List ℕ) (a b : Option History) → (let result : Result (State Inv) OpenRefused = Ok state in Told a b (Opened meaning result)) → Sure run first a → IsSure first state b
+  sure_opened first (Some a) (Some b) is known = opened_good first state a b known is
+  sure_opened first None b is known = absurd known
+  sure_opened first (Some a) None is known = absurd is
+
+  runs_over : (a b : Option History) → (let result : Result (State Inv) OpenRefused = Ok state in Told a b (Opened meaning result)) → RunsOver run a state.database
+  runs_over None b is = tt
+  runs_over (Some a) (Some b) is = is.recovers
+  runs_over (Some a) None is = absurd is
+
+  starts_at : (a b : Option History) → (let result : Result (State Inv) OpenRefused = Ok state in Told a b (Opened meaning result)) → StartsAt run a state.generation
+  starts_at None b is = tt
+  starts_at (Some a) (Some b) is = (is.images.payload, is.images.newest)
+  starts_at (Some a) None is = absurd is
+
+  pub script : (left_told : Option History) (rose : ℕ → Type 0) (first_moment last : ℕ) (end : End) (status : ℕ) (journal : List Entry) (stamps : List ℕ) (base : Option Inv) (generation : ℕ) (text left before after : Option (List ℕ)) → base ≡ Some state.database → RanFrom state y left_told rose first_moment last end status journal stamps generation text left before after → RanScript run x left_told rose first_moment last end status journal stamps base generation text left before after
+  script left_told rose first_moment last end status journal stamps base generation text left before after is from = record {
+    code = from.code;
+    database = state.database;
+    base_is = is;
+    over = runs_over x y opened;
+    kept = from.kept;
+    journal_is = from.journal_is;
+    rest = from.rest;
+    timely = from.timely;
+    start = state.generation;
+    begins = starts_at x y opened;
+    runs = λ first. ran_over (IsSure first state y) (Sure run first x) rose first state.database _ _ first_moment last left_told end (reverse stamps) text before after (λ known. sure_opened first x y opened known) (from.runs first);
+  }

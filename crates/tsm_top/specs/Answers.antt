@@ -1,14 +1,14 @@
--- What the lines of a script are answered by, and what they add to the journal.
-use Rattle.std.specs.Prelude.{ℕ, ◌+◌, ◌-◌, ◌*◌, ◌/◌, nat_lt, if◌then◌else◌, Option, None, Some, List, [], ◌∷◌, ◌++◌, length, take, drop, map, codes, decimal}
+-- How results of the server are answered.
+use Rattle.std.specs.Prelude.{◌≡◌, ℕ, ◌+◌, ◌-◌, ◌*◌, ◌/◌, List, [], ◌∷◌, ◌++◌, length, take, drop, map, codes, decimal, Result, Ok, Err}
 use Rattle.std.specs.List.{range_with_len}
 use Rattle.hex.specs.Hex.{encode_lower}
 use Rattle.kinds.specs.declared.refusal.Refusal.{Refusal}
-use Rattle.kinds.specs.declared.refusal.Refusal.TheVariants.{NotFound, UnknownWord, DayBack}
 use Rattle.script_loop.specs.Reply.{Answer}
-use Rattle.tsm_top.specs.declared.entry.Early.{Early}
-use Rattle.tsm_top.specs.declared.entry.Early.TheVariants.{Day, Put}
-use Rattle.tsm_top.specs.Journal.{today, objects, frames_end, newest, Place}
-use Rattle.tsm_top.specs.Line.{Request, day, put, get}
+use Rattle.script_loop.specs.declared.ends.Halt.{Halt}
+use Rattle.script_loop.specs.declared.ends.Halt.TheVariants as halt
+use Rattle.server.specs.declared.get.Shown.{Shown}
+use Rattle.server.specs.declared.stop.Stop.{Stop}
+use Rattle.server.specs.declared.stop.Stop.TheVariants.{Refused, LogFault, RunFull, Memory}
 use Rattle.tsm_top.specs.Refusals.{refusal_text}
 
 -- the piece of some bytes that the DATA line with this number shows, counted from 0, where a line shows `most` bytes or the rest
@@ -43,26 +43,42 @@ refused_with text = record { lines = text ∷ []; tally = record { commands = 1;
 abbrev pub refusal : Refusal → Answer
 refusal why = refused_with (refusal_text why)
 
--- the answer of a GET that found this file and shows these bytes of it
-abbrev pub reading : Option Place → List ℕ → Answer
-reading None bytes = refusal NotFound
-reading (Some place) bytes = done (data_lines shown bytes ++ (codes "OK object=" ++ (decimal place.object ++ (codes " size=" ++ decimal place.size))) ∷ [])
+-- the line of a new day; of a stored file; and of any other change
+abbrev pub day_line : List (List ℕ)
+day_line = codes "OK reused=0" ∷ []
 
--- The answer to what a line asks, where these entries are in the journal and a GET shows these bytes.
-abbrev pub answer_to : List Early → Option Request → List ℕ → Answer
-answer_to journal None bytes = refusal (UnknownWord 1)
-answer_to journal (Some (day number)) bytes =
-    if nat_lt number (today journal) then refusal (DayBack (today journal) number) else done (codes "OK reused=0" ∷ [])
-answer_to journal (Some (put path mtime text)) bytes = done ((codes "OK object=" ++ decimal (objects journal + 1)) ∷ [])
-answer_to journal (Some (get path)) bytes = reading (newest path journal) bytes
+abbrev pub stored_line : ℕ → List (List ℕ)
+stored_line object = (codes "OK object=" ++ decimal object) ∷ []
 
--- the entry of a stored file: the next object, its frame behind the last one
-abbrev pub file_entry : List Early → List ℕ → ℕ → List ℕ → Early
-file_entry journal path mtime text = Put (objects journal + 1) path mtime (frames_end journal) (length text)
+abbrev pub ok_line : List (List ℕ)
+ok_line = codes "OK" ∷ []
 
--- the entry that a request adds, where it adds one
-abbrev pub added_entry : List Early → Option Request → Option Early
-added_entry journal None = None
-added_entry journal (Some (day number)) = if nat_lt number (today journal) then None else Some (Day number)
-added_entry journal (Some (put path mtime text)) = Some (file_entry journal path mtime text)
-added_entry journal (Some (get path)) = None
+-- the lines of a file that is shown
+abbrev pub shown_lines : Shown → List (List ℕ)
+shown_lines file = data_lines shown file.bytes.items ++ (codes "OK object=" ++ (decimal file.object ++ (codes " size=" ++ decimal file.size))) ∷ []
+
+-- the lines of a result, where there is one
+abbrev pub lines_of : {T : Type 0} → (T → List (List ℕ)) → Result T Stop → Result (List (List ℕ)) Stop
+lines_of lines (Ok made) = Ok (lines made)
+lines_of lines (Err why) = Err why
+
+-- The answer to a result, given by its lines: these lines, or the refusal. All else isn't answered.
+abbrev pub Answered : Result (List (List ℕ)) Stop → Answer → Type 0
+Answered (Ok texts) answer = answer ≡ done texts
+Answered (Err (Refused why)) answer = answer ≡ refusal why
+Answered (Err (LogFault file)) answer = ⊥
+Answered (Err RunFull) answer = ⊥
+Answered (Err Memory) answer = ⊥
+
+-- How a result ends the run: a fault of a file, a full run, or want of memory, which the text of an answer may take, too.
+abbrev pub Halted : Result (List (List ℕ)) Stop → Halt → Type 0
+Halted (Ok texts) how = how ≡ halt.Memory
+Halted (Err (Refused why)) how = how ≡ halt.Memory
+Halted (Err (LogFault file)) how = how ≡ halt.LogFault file
+Halted (Err RunFull) how = how ≡ halt.RunFull
+Halted (Err Memory) how = how ≡ halt.Memory
+
+-- a result is answered, or ends the run
+abbrev pub Ends : Result (List (List ℕ)) Stop → Result Answer Halt → Type 0
+Ends said (Ok answer) = Answered said answer
+Ends said (Err how) = Halted said how

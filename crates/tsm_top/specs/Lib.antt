@@ -1,15 +1,6 @@
 pub mod Answers
-pub mod Books
-pub mod EntryForm
-pub mod Files
-pub mod Found
-pub mod Journal
-pub mod Line
-pub mod Logs
+pub mod Asking
 pub mod Machine
-pub mod Paths
-pub mod Recovery
 pub mod Refusals
 pub mod Serve
-pub mod Server
-pub mod Steps
+pub mod Session

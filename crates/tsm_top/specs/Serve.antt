@@ -1,42 +1,81 @@
 -- What the top call answers, puts and leaves.
-use Rattle.std.specs.Prelude.{◌≡◌, ◌⊎◌, ℕ, ◌-◌, ◌^◌, ◌<◌, ◌≤◌, Bool, false, Option, IfSome, List, [], ◌∷◌, map, reverse, codes, String, string_bytes}
+use Rattle.std.specs.Prelude.{◌≡◌, ◌⊎◌, ℕ, ◌-◌, ◌^◌, ◌<◌, ◌≤◌, Bool, true, false, is_some, Option, None, Some, IfSome, List, [], ◌∷◌, ◌++◌, map, reverse, codes, decimal, String, string_bytes}
 use Rattle.std.specs.Io.KnownBytes.{Appends}
 use Rattle.std.specs.declared.alloc.Global.{Global}
-use Rattle.store_api.specs.Disk.{History}
+use Rattle.store_api.specs.Disk.{History, now, reads}
+use Rattle.store_api.specs.Runs.{EachImage}
+use Rattle.store_api.specs.Told.{Told}
 use Rattle.store_api.specs.Cause as store
+use Rattle.kinds.specs.declared.refusal.OpenRefused.{OpenRefused}
+use Rattle.kinds.specs.declared.refusal.OpenRefused.TheVariants as refused
+use Rattle.entries.specs.declared.entry.Entry.{Entry}
+use Rattle.inventory.specs.Meant.{meaning}
+use Rattle.inventory_rows.specs.Fresh.{fresh}
+use Rattle.inventory_rows.specs.State.{Inv}
+use Rattle.log_file.specs.Cursor.{Looked}
+use Rattle.log_file.specs.Safety.{Timely, acknowledged}
 use Rattle.script_loop.specs.Ends.{told_number, status_of, DoneAtEnd}
 use Rattle.script_loop.specs.Runs.{Says, IsFront}
 use Rattle.script_loop.specs.declared.ends.End.{End}
-use Rattle.tsm_top.specs.declared.entry.Early.{Early}
-use Rattle.tsm_top.specs.declared.recovery.EarlyRefused.{EarlyRefused}
-use Rattle.tsm_top.specs.declared.recovery.EarlyRefused.TheVariants.{Fault, Damaged, RunFull, Memory}
-use Rattle.log_file.specs.Safety.{Timely}
-use Rattle.tsm_top.specs.Machine.{Kept, journal_of, Replies, Stops, Stamped, own_end, AllSafe}
+use Rattle.vault.specs.Openings.{Calm, is_formatted, SaysWhy}
+use Rattle.vault.specs.Recovery.{Newest, Recovers, RecoversWithin}
+use Rattle.server.specs.Left.{HasFirst}
+use Rattle.server.specs.Running.{IsSure}
+use Rattle.server.specs.Sound.{IsSound}
+use Rattle.server.specs.World.{Kept, entries_of}
+use Rattle.vault.specs.Vaults.{State}
+use Rattle.tsm_top.specs.declared.top.NotMade.{NotMade}
+use Rattle.tsm_top.specs.declared.top.NotMade.TheVariants.{Exists, Refused}
+use Rattle.tsm_top.specs.Machine.{Site, RepliesAt, StopsAt, Stamped, own_end, AllSafe}
 
--- the words are the one command
-abbrev pub IsFresh : List (String Global) → Type 0
-IsFresh words = map string_bytes words ≡ codes "fresh" ∷ []
+-- what the words ask
+pub data Command : Type 0 where
+  format : Command
+  run : Command
+  fresh_run : Command
 
--- How a call ended where it opened no store: the words are no command; or opening was refused.
-pub data NotOpened : Type 0 where
-  no_command : NotOpened
-  refused_opening : (why : EarlyRefused) → NotOpened
+-- the one word that asks it
+abbrev pub word_of : Command → List ℕ
+word_of format = codes "format"
+word_of run = codes "run"
+word_of fresh_run = codes "fresh"
+
+-- the words are this one
+abbrev pub IsOnly : List ℕ → List (String Global) → Type 0
+IsOnly name words = map string_bytes words ≡ name ∷ []
+
+-- the words ask this
+abbrev pub Asks : List (String Global) → Command → Type 0
+Asks words command = IsOnly (word_of command) words
+
+-- How a call ended that ran no script: the words are no command; a database was made; there is one already; or opening was refused.
+pub data Closing : Type 0 where
+  no_command : Closing
+  formatted : Closing
+  exists : Closing
+  refused_opening : (why : OpenRefused) → Closing
 
 -- the exit status
-abbrev pub closing_status : NotOpened → ℕ
+abbrev pub closing_status : Closing → ℕ
 closing_status no_command = 2
-closing_status (refused_opening (Fault file)) = 5
-closing_status (refused_opening (Damaged at)) = 7
-closing_status (refused_opening RunFull) = 9
-closing_status (refused_opening Memory) = 8
+closing_status formatted = 0
+closing_status exists = 1
+closing_status (refused_opening (refused.ReadFault file)) = 5
+closing_status (refused_opening (refused.Damaged file at)) = 7
+closing_status (refused_opening refused.NotFormatted) = 7
+closing_status (refused_opening refused.RunFull) = 9
+closing_status (refused_opening refused.Memory) = 8
 
--- the one line that is put; only the log's file, which has number 2, is ever read as damaged
-abbrev pub closing_line : NotOpened → List ℕ
+-- the one line that is put
+abbrev pub closing_line : Closing → List ℕ
 closing_line no_command = codes "USAGE format | run | fresh | restoredb FILE DAY [FILES] | load N\n"
-closing_line (refused_opening (Fault file)) = told_number (codes "STORE FAULT ") file
-closing_line (refused_opening (Damaged at)) = told_number (codes "DAMAGED 2 ") at
-closing_line (refused_opening RunFull) = codes "RUN FULL\n"
-closing_line (refused_opening Memory) = codes "MEMORY\n"
+closing_line formatted = codes "FORMATTED\n"
+closing_line exists = codes "REFUSED 11 Exists\n"
+closing_line (refused_opening (refused.ReadFault file)) = told_number (codes "STORE FAULT ") file
+closing_line (refused_opening (refused.Damaged file at)) = told_number (codes "DAMAGED " ++ (decimal file ++ codes " ")) at
+closing_line (refused_opening refused.NotFormatted) = codes "NOT FORMATTED\n"
+closing_line (refused_opening refused.RunFull) = codes "RUN FULL\n"
+closing_line (refused_opening refused.Memory) = codes "MEMORY\n"
 
 -- The one line was put; or, where the sink's count rose, a front of it, and the status is 4.
 abbrev pub PutsLine : List ℕ → ℕ → ℕ → Option (List ℕ) → Option (List ℕ) → Type 0 → Type 0
@@ -48,37 +87,125 @@ PutsLine line own status before after rose =
 abbrev pub RoseBetween : (ℕ → ℕ) → (ℕ → ℕ) → ℕ → Type 0
 RoseBetween before after file = store.Rose (before file) (after file)
 
--- Why a store isn't opened: that file's count of faults rose; the log is damaged, which it never is over a store that tells its
--- bytes, since it was just begun; the moment came near the last one; or want of memory.
-abbrev pub OpensNot : NotOpened → Bool → ℕ → (ℕ → Type 0) → Type 0
-OpensNot no_command tells last rose = ⊥
-OpensNot (refused_opening (Fault file)) tells last rose = rose file
-OpensNot (refused_opening (Damaged at)) tells last rose = tells ≡ false
-OpensNot (refused_opening RunFull) tells last rose = 2 ^ 62 - 2 ^ 24 ≤ last
-OpensNot (refused_opening Memory) tells last rose = Unit {0}
+-- what the store's files recover to is no database, and this says why; told of what they are at the start, where the store tells it
+abbrev pub IsNone : Option History → OpenRefused → Type 0
+IsNone told why = IfSome told (λ h. SaysWhy meaning (reads h) why)
 
--- The cause of it: the words are no command; the moment at the start is near the last one; or the store isn't opened, and the
--- moment at the start is none of these.
-abbrev pub HasCauseOf : NotOpened → List (String Global) → Bool → ℕ → ℕ → (ℕ → Type 0) → Type 0
-HasCauseOf why words tells moment last rose =
-    ((why ≡ no_command) × ¬ IsFresh words)
-    ⊎ ((why ≡ refused_opening RunFull) × IsFresh words × (2 ^ 62 - 2 ^ 24 ≤ moment))
-    ⊎ (IsFresh words × (moment < 2 ^ 62 - 2 ^ 24) × OpensNot why tells last rose)
+-- Why a database isn't made or opened: that file's count of faults rose; the files, as they are at the start, or, where a database was just put into
+-- them, never over a store that tells its bytes; the moment came near the last one; or want of memory.
+abbrev pub OpensNot : Command → (told : Option History) → (last : ℕ) → (rose : ℕ → Type 0) → OpenRefused → Type 0
+OpensNot command told last rose (refused.ReadFault file) = (file < 4) × rose file
+OpensNot format told last rose (refused.Damaged file at) = ⊥
+OpensNot run told last rose (refused.Damaged file at) = (file < 4) × IsNone told (refused.Damaged file at)
+OpensNot fresh_run told last rose (refused.Damaged file at) = (file < 4) × (is_some told ≡ false)
+OpensNot format told last rose refused.NotFormatted = ⊥
+OpensNot run told last rose refused.NotFormatted = IsNone told refused.NotFormatted
+OpensNot fresh_run told last rose refused.NotFormatted = is_some told ≡ false
+OpensNot command told last rose refused.RunFull = 2 ^ 62 - 2 ^ 24 ≤ last
+OpensNot command told last rose refused.Memory = Unit {0}
 
--- Nothing was opened: it has its cause, its one line was put, and the journal is empty.
-pub record Refuses (why : NotOpened) (words : List (String Global)) (tells : Bool) (moment last : ℕ) (rose : ℕ → Type 0) (before after : Option (List ℕ)) (sink_rose : Type 0) (status : ℕ) (journal : List Early) : Type 0 where
-  pub cause : HasCauseOf why words tells moment last rose
+-- of a store that tells its bytes: whether one of its images has an open gate
+abbrev pub HasImage : Bool → Option History → Type 0
+HasImage is told = IfSome told (λ h. is_formatted (reads h) ≡ is)
+
+-- each image of now recovers to a new server's database
+abbrev pub IsNew : Option History → Type 0
+IsNew told = IfSome told (λ h. EachImage (now h) h (λ files. RecoversWithin meaning files fresh))
+
+-- What opening took from the files: nothing. Where they were opened, nothing that is read changed, and an image since is one that a stop might have left
+-- at the start; where a database was to be made, the files were only looked at, or no image had an open gate.
+abbrev pub Spares : Command → (told left : Option History) → Type 0
+Spares format told left = Told told left Looked ⊎ HasImage false told
+Spares run told left = Told told left Calm
+Spares fresh_run told left = Told told left Looked ⊎ HasImage false told
+
+-- The cause of it, where what is asked is one of these commands, and what it left of the files.
+abbrev pub HasCause : (asked : Command → Type 0) → Closing → (told left : Option History) → (last : ℕ) → (rose : ℕ → Type 0) → Type 0
+HasCause asked no_command told left last rose = ((command : Command) → asked command → ⊥) × (left ≡ told)
+HasCause asked formatted told left last rose = asked format × HasImage false told × IsNew left
+HasCause asked exists told left last rose = (asked format ⊎ asked fresh_run) × HasImage true told × Told told left Looked
+HasCause asked (refused_opening why) told left last rose = (command : Command) × asked command × OpensNot command told last rose why × Spares command told left
+
+-- The cause of it, as the words say.
+abbrev pub HasCauseOf : Closing → List (String Global) → (told left : Option History) → (last : ℕ) → (rose : ℕ → Type 0) → Type 0
+HasCauseOf why words told left last rose = HasCause (Asks words) why told left last rose
+
+-- No script was run: the one line was put, nothing is in the journal, and no database and no image is told of.
+pub record Shuts (why : Closing) (before after : Option (List ℕ)) (sink_rose : Type 0) (status : ℕ) (journal : List Entry) (stamps : List ℕ) (base : Option Inv) (generation : ℕ) : Type 0 where
   pub line : PutsLine (closing_line why) (closing_status why) status before after sink_rose
   pub journal_is : journal ≡ []
+  pub stamps_are : stamps ≡ []
+  pub base_is : base ≡ None
+  pub generation_is : generation ≡ 0
 
--- A script was run. `tells` says whether the store tells its bytes, `rose` of a file that its count of faults rose since the store was
--- open; `opened` and `last` are the moments at the end of opening and at the return.
-pub record RanScript (tells : Bool) (rose : ℕ → Type 0) (opened last : ℕ) (told : Option History) (end : End) (status : ℕ) (journal : List Early) (stamps : List ℕ) (script left before after : Option (List ℕ)) : Type 0 where
+-- the refusal names a file of the vault
+abbrev pub IsOurFile : OpenRefused → Type 0
+IsOurFile (refused.Damaged file at) = file < 4
+IsOurFile (refused.ReadFault file) = Unit {0}
+IsOurFile refused.NotFormatted = Unit {0}
+IsOurFile refused.RunFull = Unit {0}
+IsOurFile refused.Memory = Unit {0}
+
+-- how a call ends that couldn't make a database
+abbrev pub closing_of : NotMade → Closing
+closing_of Exists = exists
+closing_of (Refused why) = refused_opening why
+
+abbrev pub IsOurClosing : NotMade → Type 0
+IsOurClosing Exists = Unit {0}
+IsOurClosing (Refused why) = IsOurFile why
+
+-- why no database was made
+abbrev pub MakesNot : (told left : Option History) → (last : ℕ) → (rose : ℕ → Type 0) → NotMade → Type 0
+MakesNot told left last rose Exists = HasImage true told × Told told left Looked
+MakesNot told left last rose (Refused why) = OpensNot format told last rose why × (Told told left Looked ⊎ HasImage false told)
+
+-- What a script runs over: `run`, over what the files recover to at the start; `fresh`, over a new server's database, where no image had an open gate.
+abbrev pub RunsOver : Command → (told : Option History) → (base : Inv) → Type 0
+RunsOver format told base = ⊥
+RunsOver run told base = IfSome told (λ h. Recovers meaning (reads h) base)
+RunsOver fresh_run told base = HasImage false told × IfSome told (λ h. base ≡ fresh)
+
+-- the generation of the newest image when a script begins; of a new database it is the one that making it gave
+abbrev pub StartsAt : Command → (told : Option History) → ℕ → Type 0
+StartsAt format told start = ⊥
+StartsAt run told start = IfSome told (λ h. (payload : List ℕ) × Newest (reads h) start payload)
+StartsAt fresh_run told start = Unit {0}
+
+-- what is known at the start: of a store that is run, that it is sound, its objects having these bytes; of a new database that the store tells its bytes
+abbrev pub Sure : Command → (first : ℕ → List ℕ) → (told : Option History) → Type 0
+Sure format first told = ⊥
+Sure run first None = ⊥
+Sure run first (Some h) = IsSound first h
+Sure fresh_run first told = is_some told ≡ true
+
+-- What a run kept, over the bytes that the objects had at the opening: what was put, which transactions have their stamps, what each image since gives back, and what the store has at the return. `rose` says of a file that its count of faults rose since then; `opened` and `last` are the moments at the end of opening
+-- and at the return.
+pub record RanOver (sure : Type 0) (rose : ℕ → Type 0) (first : ℕ → List ℕ) (base : Inv) (old new : Site) (opened last : ℕ) (told : Option History) (end : End) (stamps : List ℕ) (script before after : Option (List ℕ)) : Type 0 where
+  pub says : Says (RepliesAt rose (2 ^ 62 - 2 ^ 24 ≤ last) sure base first) (StopsAt rose (2 ^ 62 - 2 ^ 24 ≤ last) sure base first) old new script before after end
+  pub stamped : Stamped (own_end rose (2 ^ 62 - 2 ^ 24 ≤ last) sure base first old new script end says.0 says.2) new.kept stamps
+  pub images : sure → IfSome told (AllSafe base first opened new.kept stamps)
+  pub left : sure → IfSome told (HasFirst base first new.kept (acknowledged last stamps))
+
+-- A script was run over a database. `told` is what the store told at the start, and `left_told` what it tells at the return.
+pub record RanScript (command : Command) (told left_told : Option History) (rose : ℕ → Type 0) (opened last : ℕ) (end : End) (status : ℕ) (journal : List Entry) (stamps : List ℕ) (base : Option Inv) (generation : ℕ) (script left before after : Option (List ℕ)) : Type 0 where
+  pub code : status ≡ status_of end
+  pub database : Inv
+  pub base_is : base ≡ Some database
+  pub over : RunsOver command told database
+  pub kept : List Kept
+  pub journal_is : reverse journal ≡ entries_of kept
+  pub rest : DoneAtEnd end left
+  pub timely : Timely opened last (reverse stamps)
+  pub start : ℕ
+  pub begins : StartsAt command told start
+  pub runs : (first : ℕ → List ℕ) → RanOver (Sure command first told) rose first database (record { kept = []; generation = start }) (record { kept = kept; generation = generation }) opened last left_told end (reverse stamps) script before after
+
+-- The same over a vault that was opened.
+pub record RanFrom (vault : State Inv) (told left_told : Option History) (rose : ℕ → Type 0) (opened last : ℕ) (end : End) (status : ℕ) (journal : List Entry) (stamps : List ℕ) (generation : ℕ) (script left before after : Option (List ℕ)) : Type 0 where
   pub code : status ≡ status_of end
   pub kept : List Kept
-  pub journal_is : reverse journal ≡ journal_of kept
-  pub says : Says (Replies tells) (Stops rose) [] kept script before after end
+  pub journal_is : reverse journal ≡ entries_of kept
   pub rest : DoneAtEnd end left
-  pub stamped : Stamped (own_end tells rose [] kept script end says.0 says.2) kept (reverse stamps)
   pub timely : Timely opened last (reverse stamps)
-  pub images : IfSome told (AllSafe opened kept (reverse stamps))
+  pub runs : (first : ℕ → List ℕ) → RanOver (IsSure first vault told) rose first vault.database (record { kept = []; generation = vault.generation }) (record { kept = kept; generation = generation }) opened last left_told end (reverse stamps) script before after

@@ -1,24 +1,29 @@
 // The top call.
-ghost use Rattle.std.specs.Prelude.{◌≡◌, ◌⊎◌, ◌↔◌, ◌^◌, ◌+◌, ◌-◌, ◌<◌, ◌≤◌, ◌∷◌, [], ℕ, is_some, IfSome, IsTrue};
+ghost use Rattle.std.specs.Prelude.{◌≡◌, ◌⊎◌, ◌↔◌, ◌^◌, ◌-◌, ◌<◌, ◌≤◌, ◌++◌, [], ℕ, codes, decimal, None, Some, IfErr, IfOk, OnOk, IsTrue, IfSome, false, is_some, length};
 ghost use Rattle.tree_api.specs.Cause.{Rose as RoseIn};
-ghost use Rattle.store_api.specs.Cause.{Rose, NoneFell};
+ghost use Rattle.store_api.specs.Cause.{NoneFell, Rose};
+ghost use Rattle.store_api.specs.Disk.{History};
+ghost use Rattle.store_api.specs.Runs.{GoesOn};
+ghost use Rattle.store_api.specs.Told.{Told};
+ghost use Rattle.kinds.specs.declared.refusal.OpenRefused.{OpenRefused};
 ghost use Rattle.script_loop.specs.declared.ends.End.{End};
 ghost use Rattle.script_loop.specs.Ends.{SourceCause, SinkCause};
-ghost use Rattle.tsm_top.specs.Logs.{LogHas};
-ghost use Rattle.tsm_top.specs.Server.{IsReady};
-ghost use Rattle.tsm_top.specs.Steps.{Later};
-ghost use Rattle.tsm_top.specs.Serve.{NotOpened, refused_opening, closing_line, closing_status, OpensNot, Refuses, RoseBetween, PutsLine, RanScript, IsFresh};
+ghost use Rattle.log_file.specs.Cursor.{Looked};
+ghost use Rattle.vault.specs.Openings.{Calm};
+ghost use Rattle.server.specs.Steps.{Later};
+ghost use Rattle.tsm_top.specs.Serve.{IsOnly, Asks, Command, format, run, fresh_run, Closing, no_command, formatted, exists, refused_opening, closing_line, closing_status, HasCauseOf, HasCause, Shuts, OpensNot, PutsLine, RoseBetween, IsOurFile, IsOurClosing, closing_of, HasImage, Spares, IsNew, MakesNot, RanScript, RanFrom};
 
-use crate::book::Book;
-use crate::device::LOG;
-use crate::entry::Early;
-use crate::recovery::{EarlyRefused, recover};
-use crate::server::Server;
-use log_file::Log;
+use crate::session::Session;
+use database::Database;
+use entries::Entry;
+use inventory::Inventory;
+use kinds::OpenRefused;
 use script_loop::{number_line, run};
+use server::Server;
 use std::alloc::Global;
 use store_api::Store;
 use tree_api::{Sink, Source, put_all};
+use vault::{Vault, is_formatted};
 
 /// What a call of `serve` leaves.
 #[derive(Drop)]
@@ -27,34 +32,45 @@ pub struct Ended<S: Store> {
     pub status: u8,
     /// The store as it was left.
     pub store: S,
-    /// What this run added to the store, oldest first. Only after a fault of the log may the last entry be in doubt.
-    pub journal: Vec<Early>,
-    /// The store's moment at which each of the journal's entries was known to be durable; an entry in doubt has none.
+    /// The transactions that this run made, oldest first. Only after a fault of a log or image may the last one be in doubt.
+    pub journal: Vec<Entry>,
+    /// The store's moment at which each of the journal's transactions was known to be durable; one in doubt has none.
     pub stamps: Vec<u64>,
+    /// The database that opening gave; none where nothing was opened.
+    pub base: Option<Inventory>,
+    /// The generation of the newest image at the return; 0 where nothing was opened.
+    pub generation: u64,
     /// The store's moment when opening ended, or at the return where nothing was opened.
     pub opened: u64,
 }
 
-// A store whose moment has come this far takes no run.
-const FULL: u64 = (1 << 62) - (1 << 24);
+// Why there is no new database in a store.
+enum NotMade {
+    // An image is there already.
+    Exists,
+    // Its files can't be read or written.
+    Refused(OpenRefused),
+}
 
 /// The line that is put where the words are no command.
 pub const USAGE: &[u8] = b"USAGE format | run | fresh | restoredb FILE DAY [FILES] | load N\n";
 
-// Whether the words are the one command.
-fn is_fresh(words: &[String]) -> bool
-    ensures { IsTrue result ↔ IsFresh words.now }
+// Whether the words are this one.
+fn is_only(words: &[String], name: &[u8]) -> bool
+    ensures { IsTrue result ↔ IsOnly name.now words.now }
 {
     match words {
-        [word] => word.as_bytes() == b"fresh".as_slice(),
+        [word] => word.as_bytes() == name,
         _ => false,
     }
 }
 
-/// Reads a script of commands, answers each line and puts the answers, over a store that `fresh`, the one command for now,
-/// makes empty. `alloc` gives the memory, `words` are the words behind the program's name.
+/// Does what the words behind the program's name ask, and answers how it ended. `format` makes a new database in a store that has none,
+/// `run` opens the store's database, answers each line of a script and puts the answers, and `fresh` does the one and then the other.
+/// `alloc` gives the memory.
 ///
-/// A line is `DAY d`, `PUT ANNA /home path mtime TEXT=t` or `GET ANNA /home path`; any other is refused.
+/// A line is `DAY d`, `REGISTER NODE name password`, `DEFINE VOLUME BACKUPPOOL name FORMATSIZE=n`, `PUT node filespace path mtime TEXT=t`,
+/// `GET node filespace path` or `CHECKPOINT`; any other is refused.
 pub fn serve<S: Store, I: Source, O: Sink>(
     alloc: Global,
     words: &[String],
@@ -63,32 +79,40 @@ pub fn serve<S: Store, I: Source, O: Sink>(
     out: &mut O,
 ) -> Ended<S>
     // What was put, what is in the journal, and what images of the store give back, by how the call ended.
-    ensures outcome { ((why : NotOpened) × Refuses why words.now (is_some (S.told store)) (S.moment_of store) (S.moment_of result.store) (RoseBetween (S.faults_of store) (S.faults_of result.store)) (O.contents out.old) (O.contents out.new) (RoseIn (O.fault_count out.old) (O.fault_count out.new)) result.status result.journal.items × (script.new ≡ script.old))
-        ⊎ ((end : End) × (opening : S) × IsFresh words.now × (S.moment_of store < 2 ^ 62 - 2 ^ 24)
-        × (S.moment_of opening ≡ result.opened) × Later S.moment_of S.faults_of store opening × Later S.moment_of S.faults_of opening result.store
-        × RanScript (is_some (S.told store)) (RoseBetween (S.faults_of opening) (S.faults_of result.store)) result.opened (S.moment_of result.store) (S.told result.store) end result.status result.journal.items result.stamps.items (I.left script.old) (I.left script.new) (O.contents out.old) (O.contents out.new)
+    ensures outcome { ((why : Closing) × HasCauseOf why words.now (S.told store) (S.told result.store) (S.moment_of result.store) (RoseBetween (S.faults_of store) (S.faults_of result.store))
+        × Shuts why (O.contents out.old) (O.contents out.new) (RoseIn (O.fault_count out.old) (O.fault_count out.new)) result.status result.journal.items result.stamps.items result.base result.generation × (script.new ≡ script.old))
+        ⊎ ((command : Command) × Asks words.now command × (end : End) × (opening : S) × (S.moment_of opening ≡ result.opened) × Later S.moment_of S.faults_of store opening × Later S.moment_of S.faults_of opening result.store × Spares command (S.told store) (S.told opening) × Told (S.told opening) (S.told result.store) (GoesOn (λ file. Unit {0}))
+        × RanScript command (S.told store) (S.told result.store) (RoseBetween (S.faults_of opening) (S.faults_of result.store)) result.opened (S.moment_of result.store) end result.status result.journal.items result.stamps.items result.base result.generation (I.left script.old) (I.left script.new) (O.contents out.old) (O.contents out.new)
         × SourceCause end (I.fault_count script.old) (I.fault_count script.new) × SinkCause end (O.fault_count out.old) (O.fault_count out.new)) }
 
     // Each status by its cause.
     ensures source_fault { result.status ≡ 3 → RoseIn (I.fault_count script.old) (I.fault_count script.new) }
     ensures sink_fault { result.status ≡ 4 → RoseIn (O.fault_count out.old) (O.fault_count out.new) }
-    ensures no_command { result.status ≡ 2 → ¬ IsFresh words.now }
+    ensures store_fault { result.status ≡ 5 → (file : ℕ) × (file < 4) × Rose (S.faults_of store file) (S.faults_of result.store file) }
+    ensures log_fault { result.status ≡ 6 → (file : ℕ) × (file < 4) × Rose (S.faults_of store file) (S.faults_of result.store file) }
+    ensures no_command { result.status ≡ 2 → (command : Command) → Asks words.now command → ⊥ }
     ensures counts { NoneFell (S.faults_of store) (S.faults_of result.store) }
     ensures opened { (S.moment_of store ≤ result.opened) × (result.opened ≤ S.moment_of result.store) }
 {
-    if !is_fresh(words) {
-        return refused(alloc, store, out, 2, USAGE);
+    if is_only(words, b"format") {
+        return format(alloc, store, out);
     }
-    if store.moment() >= FULL {
-        return refused(alloc, store, out, 9, b"RUN FULL\n");
+    if is_only(words, b"run") {
+        return open(alloc, store, script, out);
     }
-    open(alloc, store, script, out)
+    if is_only(words, b"fresh") {
+        return format_and_run(alloc, store, script, out);
+    }
+    closed(alloc, store, out, 2, USAGE)
 }
 
-// What is left where nothing was opened.
+// What is left where no script was run.
 fn unopened<S: Store>(alloc: Global, store: S, status: u8) -> Ended<S>
     ensures status { result.status ≡ status }
     ensures journal { result.journal.items ≡ [] }
+    ensures stamps { result.stamps.items ≡ [] }
+    ensures base { result.base ≡ None }
+    ensures generation { result.generation ≡ 0 }
     ensures store { result.store ≡ store }
     ensures opened { result.opened ≡ S.moment_of store }
 {
@@ -98,12 +122,14 @@ fn unopened<S: Store>(alloc: Global, store: S, status: u8) -> Ended<S>
         store,
         journal: Vec::new(alloc),
         stamps: Vec::new(alloc),
+        base: None,
+        generation: 0,
         opened,
     }
 }
 
-// Puts the one line of a call that opens nothing; the sink may fail at it.
-fn refused<S: Store, O: Sink>(
+// Puts the one line of a call that runs no script; the sink may fail at it.
+fn closed<S: Store, O: Sink>(
     alloc: Global,
     store: S,
     out: &mut O,
@@ -112,6 +138,9 @@ fn refused<S: Store, O: Sink>(
 ) -> Ended<S>
     ensures line { PutsLine line.now status result.status (O.contents out.old) (O.contents out.new) (RoseIn (O.fault_count out.old) (O.fault_count out.new)) }
     ensures journal { result.journal.items ≡ [] }
+    ensures stamps { result.stamps.items ≡ [] }
+    ensures base { result.base ≡ None }
+    ensures generation { result.generation ≡ 0 }
     ensures store { result.store ≡ store }
     ensures opened { result.opened ≡ S.moment_of store }
 {
@@ -121,98 +150,196 @@ fn refused<S: Store, O: Sink>(
     }
 }
 
-// Puts the line of a call that couldn't read the log.
+// What stands in front of the place of a damage in this file.
+fn damaged_words(file: u32) -> &'static [u8]
+    requires { file < 4 }
+    ensures words { result.now ≡ codes "DAMAGED " ++ (decimal file ++ codes " ") }
+    ensures short { length result.now ≤ 40 }
+{
+    match file {
+        0 => b"DAMAGED 0 ",
+        1 => b"DAMAGED 1 ",
+        2 => b"DAMAGED 2 ",
+        _ => b"DAMAGED 3 ",
+    }
+}
+
+// Puts the line of a call that couldn't open the store.
 fn refused_by<S: Store, O: Sink>(
     alloc: Global,
     store: S,
     out: &mut O,
-    refusal: EarlyRefused,
+    refusal: OpenRefused,
 ) -> Ended<S>
+    requires ours { IsOurFile refusal }
     ensures line { PutsLine (closing_line (refused_opening refusal)) (closing_status (refused_opening refusal)) result.status (O.contents out.old) (O.contents out.new) (RoseIn (O.fault_count out.old) (O.fault_count out.new)) }
     ensures journal { result.journal.items ≡ [] }
+    ensures stamps { result.stamps.items ≡ [] }
+    ensures base { result.base ≡ None }
+    ensures generation { result.generation ≡ 0 }
     ensures store { result.store ≡ store }
     ensures opened { result.opened ≡ S.moment_of store }
 {
     match refusal {
-        EarlyRefused::Fault(file) => {
-            let line = number_line(b"STORE FAULT ", file as u64);
-            refused(alloc, store, out, 5, line.as_slice())
+        OpenRefused::ReadFault(file) => {
+            let line = number_line(b"STORE FAULT ", u64::from(file));
+            closed(alloc, store, out, 5, line.as_slice())
         }
-        EarlyRefused::Damaged(at) => {
-            let line = number_line(b"DAMAGED 2 ", at);
-            refused(alloc, store, out, 7, line.as_slice())
+        OpenRefused::Damaged(file, at) => {
+            let line = number_line(damaged_words(file), at);
+            closed(alloc, store, out, 7, line.as_slice())
         }
-        EarlyRefused::RunFull => refused(alloc, store, out, 9, b"RUN FULL\n"),
-        EarlyRefused::Memory => refused(alloc, store, out, 8, b"MEMORY\n"),
+        OpenRefused::NotFormatted => closed(alloc, store, out, 7, b"NOT FORMATTED\n"),
+        OpenRefused::RunFull => closed(alloc, store, out, 9, b"RUN FULL\n"),
+        OpenRefused::Memory => closed(alloc, store, out, 8, b"MEMORY\n"),
     }
 }
 
-// Makes the log empty, reads it back, and runs the script.
+// Puts the line of a call that couldn't make a new database.
+fn not_made<S: Store, O: Sink>(alloc: Global, store: S, out: &mut O, why: NotMade) -> Ended<S>
+    requires ours { IsOurClosing why }
+    ensures line { PutsLine (closing_line (closing_of why)) (closing_status (closing_of why)) result.status (O.contents out.old) (O.contents out.new) (RoseIn (O.fault_count out.old) (O.fault_count out.new)) }
+    ensures journal { result.journal.items ≡ [] }
+    ensures stamps { result.stamps.items ≡ [] }
+    ensures base { result.base ≡ None }
+    ensures generation { result.generation ≡ 0 }
+    ensures store { result.store ≡ store }
+    ensures opened { result.opened ≡ S.moment_of store }
+{
+    match why {
+        NotMade::Exists => closed(alloc, store, out, 1, b"REFUSED 11 Exists\n"),
+        NotMade::Refused(refusal) => refused_by(alloc, store, out, refusal),
+    }
+}
+
+// Looks whether a store has no image yet.
+fn has_none<S: Store>(store: &mut S) -> Result<(), NotMade>
+    ensures none { OnOk result (HasImage false (S.told store.old)) }
+    ensures looked { Told (S.told store.old) (S.told store.new) Looked }
+    ensures not_made { IfErr result (λ why. MakesNot (S.told store.old) (S.told store.new) (S.moment_of store.new) (RoseBetween (S.faults_of store.old) (S.faults_of store.new)) why) }
+    ensures later { Later S.moment_of S.faults_of store.old store.new }
+{
+    match is_formatted(store) {
+        Ok(false) => Ok(()),
+        Ok(true) => Err(NotMade::Exists),
+        Err(refusal) => Err(NotMade::Refused(refusal)),
+    }
+}
+
+// Makes a new database in a store that has none.
+fn make<S: Store>(alloc: Global, store: &mut S) -> Result<(), NotMade>
+    ensures made { OnOk result (HasImage false (S.told store.old)) }
+    ensures new { OnOk result (IsNew (S.told store.new)) }
+    ensures tells { is_some (S.told store.new) ≡ is_some (S.told store.old) }
+    ensures not_made { IfErr result (λ why. MakesNot (S.told store.old) (S.told store.new) (S.moment_of store.new) (RoseBetween (S.faults_of store.old) (S.faults_of store.new)) why) }
+    ensures later { Later S.moment_of S.faults_of store.old store.new }
+{
+    match has_none(store) {
+        Ok(()) => {}
+        Err(why) => return Err(why),
+    }
+    let fresh = match Inventory::fresh(alloc) {
+        Ok(fresh) => fresh,
+        Err(_) => return Err(NotMade::Refused(OpenRefused::Memory)),
+    };
+    match Vault::format(alloc, store, &fresh) {
+        Ok(()) => Ok(()),
+        Err(refusal) => Err(NotMade::Refused(refusal)),
+    }
+}
+
+// Makes a new database, and no more.
+fn format<S: Store, O: Sink>(alloc: Global, store: S, out: &mut O) -> Ended<S>
+    ensures outcome { (why : Closing) × HasCause (λ command. command ≡ format) why (S.told store) (S.told result.store) (S.moment_of result.store) (RoseBetween (S.faults_of store) (S.faults_of result.store)) × Shuts why (O.contents out.old) (O.contents out.new) (RoseIn (O.fault_count out.old) (O.fault_count out.new)) result.status result.journal.items result.stamps.items result.base result.generation }
+    ensures later { Later S.moment_of S.faults_of store result.store }
+    ensures opened { (S.moment_of store ≤ result.opened) × (result.opened ≤ S.moment_of result.store) }
+{
+    let mut store = store;
+    match make(alloc, &mut store) {
+        Ok(()) => closed(alloc, store, out, 0, b"FORMATTED\n"),
+        Err(why) => not_made(alloc, store, out, why),
+    }
+}
+
+// Makes a new database, and runs the script over it.
+fn format_and_run<S: Store, I: Source, O: Sink>(
+    alloc: Global,
+    store: S,
+    script: &mut I,
+    out: &mut O,
+) -> Ended<S>
+    ensures outcome { ((why : Closing) × HasCause (λ command. command ≡ fresh_run) why (S.told store) (S.told result.store) (S.moment_of result.store) (RoseBetween (S.faults_of store) (S.faults_of result.store)) × Shuts why (O.contents out.old) (O.contents out.new) (RoseIn (O.fault_count out.old) (O.fault_count out.new)) result.status result.journal.items result.stamps.items result.base result.generation × (script.new ≡ script.old))
+        ⊎ ((end : End) × (opening : S) × (S.moment_of opening ≡ result.opened) × Later S.moment_of S.faults_of store opening × Later S.moment_of S.faults_of opening result.store × Spares fresh_run (S.told store) (S.told opening) × Told (S.told opening) (S.told result.store) (GoesOn (λ file. Unit {0}))
+        × RanScript fresh_run (S.told store) (S.told result.store) (RoseBetween (S.faults_of opening) (S.faults_of result.store)) result.opened (S.moment_of result.store) end result.status result.journal.items result.stamps.items result.base result.generation (I.left script.old) (I.left script.new) (O.contents out.old) (O.contents out.new)
+        × SourceCause end (I.fault_count script.old) (I.fault_count script.new) × SinkCause end (O.fault_count out.old) (O.fault_count out.new)) }
+    ensures later { Later S.moment_of S.faults_of store result.store }
+    ensures opened { (S.moment_of store ≤ result.opened) × (result.opened ≤ S.moment_of result.store) }
+{
+    let mut store = store;
+    match make(alloc, &mut store) {
+        Ok(()) => open(alloc, store, script, out),
+        Err(why) => not_made(alloc, store, out, why),
+    }
+}
+
+// Opens the store's database, and runs the script over it.
 fn open<S: Store, I: Source, O: Sink>(
     alloc: Global,
     store: S,
     script: &mut I,
     out: &mut O,
 ) -> Ended<S>
-    requires { S.moment_of store < 2 ^ 62 - 2 ^ 24 }
-    ensures outcome { ((why : NotOpened) × OpensNot why (is_some (S.told store)) (S.moment_of result.store) (RoseBetween (S.faults_of store) (S.faults_of result.store))
-        × PutsLine (closing_line why) (closing_status why) result.status (O.contents out.old) (O.contents out.new) (RoseIn (O.fault_count out.old) (O.fault_count out.new))
-        × (result.journal.items ≡ []) × (script.new ≡ script.old))
-        ⊎ ((end : End) × (opening : S)
-        × (S.moment_of opening ≡ result.opened) × Later S.moment_of S.faults_of store opening × Later S.moment_of S.faults_of opening result.store
-        × RanScript (is_some (S.told store)) (RoseBetween (S.faults_of opening) (S.faults_of result.store)) result.opened (S.moment_of result.store) (S.told result.store) end result.status result.journal.items result.stamps.items (I.left script.old) (I.left script.new) (O.contents out.old) (O.contents out.new)
+    ensures outcome { ((why : OpenRefused) × OpensNot run (S.told store) (S.moment_of result.store) (RoseBetween (S.faults_of store) (S.faults_of result.store)) why × Told (S.told store) (S.told result.store) Calm × Shuts (refused_opening why) (O.contents out.old) (O.contents out.new) (RoseIn (O.fault_count out.old) (O.fault_count out.new)) result.status result.journal.items result.stamps.items result.base result.generation × (script.new ≡ script.old))
+        ⊎ ((end : End) × (opening : S) × (S.moment_of opening ≡ result.opened) × Later S.moment_of S.faults_of store opening × Later S.moment_of S.faults_of opening result.store × Told (S.told store) (S.told opening) Calm × Told (S.told opening) (S.told result.store) (GoesOn (λ file. Unit {0}))
+        × RanScript run (S.told store) (S.told result.store) (RoseBetween (S.faults_of opening) (S.faults_of result.store)) result.opened (S.moment_of result.store) end result.status result.journal.items result.stamps.items result.base result.generation (I.left script.old) (I.left script.new) (O.contents out.old) (O.contents out.new)
         × SourceCause end (I.fault_count script.old) (I.fault_count script.new) × SinkCause end (O.fault_count out.old) (O.fault_count out.new)) }
     ensures later { Later S.moment_of S.faults_of store result.store }
     ensures opened { (S.moment_of store ≤ result.opened) × (result.opened ≤ S.moment_of result.store) }
 {
     let mut store = store;
-    let log = match Log::create(&mut store, LOG) {
-        Ok(log) => log,
-        Err(_) => return refused_by(alloc, store, out, EarlyRefused::Fault(LOG)),
-    };
-    match recover(alloc, &mut store) {
-        Ok(_) => {}
+    let vault: Vault<Inventory> = match Vault::open(alloc, &mut store) {
+        Ok(vault) => vault,
         Err(refusal) => return refused_by(alloc, store, out, refusal),
-    }
-    run_script(alloc, store, log, script, out)
+    };
+    let base = match vault.database().copy(alloc) {
+        Ok(base) => base,
+        Err(_) => return refused_by(alloc, store, out, OpenRefused::Memory),
+    };
+    run_script(alloc, store, vault, base, script, out)
 }
 
-// Runs the script over an open store, whose log is empty.
+// Runs the script over an open database, of which `base` is a copy.
 fn run_script<S: Store, I: Source, O: Sink>(
     alloc: Global,
     store: S,
-    log: Log,
+    vault: Vault<Inventory>,
+    base: Inventory,
     script: &mut I,
     out: &mut O,
 ) -> Ended<S>
-    requires time { S.moment_of store + 2 ^ 23 ≤ 2 ^ 62 }
-    requires ready { IsReady log }
-    requires start { log.end ≡ 0 }
-    requires empty { IfSome (S.told store) (LogHas [] 0) }
-    ensures ran { (end : End)
-        × RanScript (is_some (S.told store)) (RoseBetween (S.faults_of store) (S.faults_of result.store)) result.opened (S.moment_of result.store) (S.told result.store) end result.status result.journal.items result.stamps.items (I.left script.old) (I.left script.new) (O.contents out.old) (O.contents out.new)
+    requires begun { vault.journal ≡ [] }
+    requires sure { vault.fault ≡ None }
+    ensures ran { (end : End) × RanFrom vault (S.told store) (S.told result.store) (RoseBetween (S.faults_of store) (S.faults_of result.store)) result.opened (S.moment_of result.store) end result.status result.journal.items result.stamps.items result.generation (I.left script.old) (I.left script.new) (O.contents out.old) (O.contents out.new)
         × SourceCause end (I.fault_count script.old) (I.fault_count script.new) × SinkCause end (O.fault_count out.old) (O.fault_count out.new) }
+    ensures base { result.base ≡ Some base }
+    ensures goes { Told (S.told store) (S.told result.store) (GoesOn (λ file. Unit {0})) }
     ensures later { Later S.moment_of S.faults_of store result.store }
     ensures opened { result.opened ≡ S.moment_of store }
 {
     let opened = store.moment();
-    let mut server = Server {
-        store,
-        log,
-        book: Book::new(alloc),
+    let mut session = Session {
+        server: Server::new(alloc, store, vault),
     };
-    let end = run(alloc, &mut server, script, out);
-    let Server {
-        store,
-        log: _,
-        book,
-    } = server;
-    let (journal, stamps) = book.close();
+    let end = run(alloc, &mut session, script, out);
+    let Session { server } = session;
+    let (store, journal, stamps, generation) = server.close();
     Ended {
         status: end.status(),
         store,
         journal,
         stamps,
+        base: Some(base),
+        generation,
         opened,
     }
 }

@@ -1,14 +1,18 @@
-use Rattle.tsm_top.proofs.Opening.{begins, ran}
+use Rattle.std.proofs.Common.{[], refl}
+use Rattle.tsm_top.proofs.Opening.{ran}
 use Rattle.tsm_top.proofs.top.run_script.Goals as goal
 
 pub returns-clause-ran : goal.returns-clause-ran
 returns-clause-ran g c =
-    let sim = begins g.S.Store.told g.S.Store.moment_of g.S.Store.faults_of g.met.S.Store.clock (record { store = c.args.store; log = c.args.log; book = c.new.result }) c.new.ensures c.requires.start c.requires.empty in
-    let done = ran g.S.Store.told g.S.Store.moment_of g.S.Store.faults_of g.met.S.Store.clock c.args.store c.run-end.result c.status.result c.close-journal.result.0.items c.close-journal.result.1.items _ _ _ _ (g.S.Store.moment_of c.args.store) _ _ sim c.run-end.ensures.says c.status.ensures c.close-journal.ensures.journal c.close-journal.ensures.stamps c.run-end.ensures.end in
-    (c.run-end.result, rw c.moment-opened.ensures done.0, c.run-end.ensures.source, c.run-end.ensures.sink)
+    let done = ran g.S.Store.told g.S.Store.moment_of g.S.Store.faults_of g.met.S.Store.clock (record { store = c.args.store; vault = c.args.vault; stamps = [] }) refl c.requires.begun c.requires.sure c.run-end.result c.status.result c.close-store.result.1.items c.close-store.result.2.items c.close-store.result.3 _ _ _ _ (record { server = c.new.result }) c.run-end.new.server c.close-store.result.0 c.close-store.ensures.store c.new.ensures c.run-end.ensures.says c.status.ensures c.close-store.ensures.journal c.close-store.ensures.stamps c.close-store.ensures.generation c.run-end.ensures.end in
+    (c.run-end.result, rw c.moment-opened.ensures done.from, c.run-end.ensures.source, c.run-end.ensures.sink)
 
 pub returns-clause-later : goal.returns-clause-later
 returns-clause-later g c =
-    let sim = begins g.S.Store.told g.S.Store.moment_of g.S.Store.faults_of g.met.S.Store.clock (record { store = c.args.store; log = c.args.log; book = c.new.result }) c.new.ensures c.requires.start c.requires.empty in
-    let done = ran g.S.Store.told g.S.Store.moment_of g.S.Store.faults_of g.met.S.Store.clock c.args.store c.run-end.result c.status.result c.close-journal.result.0.items c.close-journal.result.1.items _ _ _ _ (g.S.Store.moment_of c.args.store) _ _ sim c.run-end.ensures.says c.status.ensures c.close-journal.ensures.journal c.close-journal.ensures.stamps c.run-end.ensures.end in
-    done.1
+    let done = ran g.S.Store.told g.S.Store.moment_of g.S.Store.faults_of g.met.S.Store.clock (record { store = c.args.store; vault = c.args.vault; stamps = [] }) refl c.requires.begun c.requires.sure c.run-end.result c.status.result c.close-store.result.1.items c.close-store.result.2.items c.close-store.result.3 _ _ _ _ (record { server = c.new.result }) c.run-end.new.server c.close-store.result.0 c.close-store.ensures.store c.new.ensures c.run-end.ensures.says c.status.ensures c.close-store.ensures.journal c.close-store.ensures.stamps c.close-store.ensures.generation c.run-end.ensures.end in
+    done.later
+
+pub returns-clause-goes : goal.returns-clause-goes
+returns-clause-goes g c =
+    let done = ran g.S.Store.told g.S.Store.moment_of g.S.Store.faults_of g.met.S.Store.clock (record { store = c.args.store; vault = c.args.vault; stamps = [] }) refl c.requires.begun c.requires.sure c.run-end.result c.status.result c.close-store.result.1.items c.close-store.result.2.items c.close-store.result.3 _ _ _ _ (record { server = c.new.result }) c.run-end.new.server c.close-store.result.0 c.close-store.ensures.store c.new.ensures c.run-end.ensures.says c.status.ensures c.close-store.ensures.journal c.close-store.ensures.stamps c.close-store.ensures.generation c.run-end.ensures.end in
+    done.goes

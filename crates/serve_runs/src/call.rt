@@ -1,0 +1,124 @@
+//! A call of the server, and what it leaves.
+use std::alloc::{AllocError, Global};
+use store_api::Store;
+use tree_api::{MemSink, MemSource, Source};
+use tsm_top::{Ended, serve};
+
+/// What a call put, and what it left beside the store.
+#[derive(Drop)]
+pub struct Said {
+    pub put: Vec<u8>,
+    pub status: u8,
+    /// How many transactions it made.
+    pub made: usize,
+    /// Of how many it says when they were durable.
+    pub stamped: usize,
+    /// The newest image's generation.
+    pub generation: u64,
+    /// Whether a database was opened.
+    pub is_open: bool,
+    /// How many bytes of the script it didn't read.
+    pub unread: usize,
+}
+
+/// How many bytes are still to come.
+fn unread(source: &mut MemSource) -> usize {
+    let mut bytes = [0; 1024];
+    let mut total: usize = 0;
+    for _ in 0..1024 {
+        match source.take(&mut bytes) {
+            Ok(0) => return total,
+            Ok(count) => total = total.saturating_add(count),
+            Err(_) => {}
+        }
+    }
+    total
+}
+
+/// What a call left, by its parts.
+fn parts<S: Store + Drop>(ended: Ended<S>, put: Vec<u8>, unread: usize) -> (S, Said) {
+    let Ended {
+        status,
+        store,
+        journal,
+        stamps,
+        base,
+        generation,
+        opened: _,
+    } = ended;
+    let said = Said {
+        put,
+        status,
+        made: journal.len(),
+        stamped: stamps.len(),
+        generation,
+        is_open: base.is_some(),
+        unread,
+    };
+    drop(journal);
+    drop(base);
+    (store, said)
+}
+
+/// The words, each its own.
+fn owned(alloc: Global, words: &[&str]) -> Result<Vec<String>, AllocError> {
+    let mut all = Vec::new(alloc);
+    for word in words {
+        all.push(String::from_str(alloc, word)?)?;
+    }
+    Ok(all)
+}
+
+/// Calls the server. The bytes that it puts are taken up to 65,536.
+pub fn call<S: Store + Drop>(
+    alloc: Global,
+    words: &[&str],
+    store: S,
+    script: MemSource,
+    sink: MemSink,
+) -> Result<(S, Said), AllocError> {
+    let words = owned(alloc, words)?;
+    let mut put = Vec::with_capacity(alloc, 65536)?;
+    let mut script = script;
+    let mut sink = sink;
+    let ended = serve(alloc, &words, store, &mut script, &mut sink);
+    let unread = unread(&mut script);
+    let bytes = sink.bytes();
+    let count = bytes.len().min(65536);
+    let _ = put.extend_from_slice(&bytes[..count]);
+    Ok(parts(ended, put, unread))
+}
+
+/// What was put, as text.
+pub fn text_of(said: &Said) -> &str {
+    match str::from_utf8(&said.put) {
+        Ok(text) => text,
+        Err(_) => "no text",
+    }
+}
+
+/// What a call put and left, in words.
+pub fn words_of(alloc: Global, said: &Said) -> Result<String, AllocError> {
+    let put = text_of(said);
+    let gap = if put.is_empty() || put.ends_with('\n') {
+        ""
+    } else {
+        "\n"
+    };
+    let Said {
+        put: _,
+        status,
+        made,
+        stamped,
+        generation,
+        is_open,
+        unread,
+    } = said;
+    if *is_open {
+        format!(in alloc;
+            "{put}{gap}status {status}, {made} transactions, {stamped} stamped, image {generation}"
+        )
+    } else {
+        format!(in alloc; "{put}{gap}status {status}, no database, {unread} bytes unread")
+    }
+}

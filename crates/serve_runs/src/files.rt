@@ -1,0 +1,32 @@
+//! Single steps on a store in memory.
+use crate::answer::Fault;
+use mem_store::MemStore;
+use std::alloc::Global;
+use std::mem;
+use store_api::{Stop, Store, write_synced};
+
+/// From this moment on no call is made.
+const LATE: u64 = 1 << 61;
+
+/// The machine stops and starts again.
+pub fn stop(alloc: Global, store: &mut MemStore, choice: u64) {
+    let before = mem::replace(store, MemStore::new(alloc));
+    *store = before.stop(choice);
+}
+
+/// The calls that begin at these moments fail, and no others.
+pub fn fail_at(alloc: Global, store: &mut MemStore, moments: Vec<u64>) {
+    let before = mem::replace(store, MemStore::new(alloc));
+    *store = before.with_failing(moments);
+}
+
+/// Writes bytes and makes them durable.
+pub fn write(store: &mut MemStore, file: u32, offset: u64, bytes: &[u8]) -> Result<(), Fault> {
+    if store.moment() >= LATE {
+        return Err(Fault::Store);
+    }
+    match write_synced(store, file, offset, bytes) {
+        Ok(()) => Ok(()),
+        Err(_) => Err(Fault::Store),
+    }
+}

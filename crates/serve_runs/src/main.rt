@@ -1,0 +1,57 @@
+//! Reads a script of small commands on one store in memory, and prints what the calls of the server over it put. A comment, which begins
+//! with `#`, is printed as it stands.
+//!
+//! - `| TEXT`: a line of the server's script, with its LF; `% TEXT`: the same without one; `long N`: a line of N letters.
+//! - `do WORD..`: the server is called with these words and that script, which is empty again then. Printed are what it put, its status, how
+//!   many transactions it made, of how many it says when they were durable, and the newest image's generation; or, where it opened no
+//!   database, how many bytes of the script it didn't read.
+//! - `source N CALL..`, `sink N CALL..`: in the next call the source gives, or the sink takes, at most N bytes at a time, and those calls fail.
+//! - `new`: an empty store. `stop CHOICE`: the machine stops and starts again. `fail MOMENT..`: the calls that begin then fail.
+//! - `write FILE OFFSET HEX`: these bytes are written and made durable; `show FILE`; `moment`; `faults FILE`: how often calls on it failed.
+//! - `blank MOMENT HEX WORD..`: the server is called over another store, which keeps nothing and whose files always read as these bytes.
+//! - `stops CHOICE`: the script is run by `fresh` over an empty store, once for each moment: all calls fail from then on, and there the machine
+//!   stops. Then `run` follows with no script, and another with a GET of each file. Two rows, with a sign for each moment: how many files the first call said
+//!   that it stored, and how many the last one shows with their bytes, `-` where the store isn't formatted. Each file of the script has a path of its own.
+//! - `again CHOICE`: the second row, where the machine stops once more, at each call of the opening that follows; `!` where that changes it.
+//! - `faults`: the script is run by `fresh`, once for each moment at which the one call fails. Two rows: the status, and the file whose call failed.
+//!
+//! The stored output was written by hand, from the order of the device calls.
+#![tactic(auto)]
+
+mod answer;
+mod blank;
+mod call;
+mod files;
+mod run;
+mod sweeps;
+
+use run::Run;
+use std::io;
+use std::io::{BufWriter, Write};
+
+/// Puts what the line is answered; nothing for a line of the server's script.
+fn answer_line<W: Write>(run: &mut Run, line: &str, out: &mut W) -> io::Result<()> {
+    match run.line(line)? {
+        Some(text) => {
+            out.write_all(text.as_bytes())?;
+            out.write_all(b"\n")
+        }
+        None => Ok(()),
+    }
+}
+
+/// Puts what each line is answered.
+fn answer_all(rt: &HostRuntime, run: &mut Run) -> io::Result<()> {
+    let alloc = rt.alloc();
+    let mut out = BufWriter::new(alloc, io::writer(rt))?;
+    for line in rt.lines(alloc) {
+        let line = line?;
+        answer_line(run, line.as_str(), &mut out)?;
+    }
+    out.flush()
+}
+
+fn main(rt: HostRuntime) -> io::Result<()> {
+    let mut run = Run::new(rt.alloc());
+    answer_all(&rt, &mut run)
+}

@@ -1,0 +1,243 @@
+//! A run over the commands.
+use crate::answer::{Fault, large, number, numbers, text};
+use crate::blank::BlankStore;
+use crate::call::{call, words_of};
+use crate::{files, sweeps};
+use hex::{decode, encode};
+use mem_store::MemStore;
+use std::alloc::{AllocError, Global};
+use std::mem;
+use store_api::Store;
+use tree_api::{MemSink, MemSource};
+
+/// How many bytes a stream moves at a time at the most, and which of its calls fail.
+#[derive(Drop)]
+struct Way {
+    most: usize,
+    failing: Vec<u64>,
+}
+
+/// The store that the commands are about, and what the next call of the server is given.
+#[derive(Drop)]
+pub struct Run {
+    alloc: Global,
+    store: MemStore,
+    script: String,
+    source: Way,
+    sink: Way,
+}
+
+/// A stream that moves all at once, and doesn't fail.
+fn plain(alloc: Global) -> Way {
+    Way {
+        most: usize::MAX,
+        failing: Vec::new(alloc),
+    }
+}
+
+/// The way that the words name.
+fn read_way(alloc: Global, most: &str, calls: &[&str]) -> Result<Way, Fault> {
+    Ok(Way {
+        most: number(most)? as usize,
+        failing: numbers(alloc, calls)?,
+    })
+}
+
+/// A source of the text.
+fn source(alloc: Global, text: &str, way: Way) -> Result<MemSource, AllocError> {
+    let Way { most, failing } = way;
+    let source = MemSource::new(alloc, text.as_bytes().to_vec(alloc)?).with_failing(failing);
+    Ok(if most > 0 {
+        source.giving_at_most(most)
+    } else {
+        source
+    })
+}
+
+fn sink(alloc: Global, way: Way) -> MemSink {
+    let Way { most, failing } = way;
+    let sink = MemSink::new(alloc).with_failing(failing);
+    if most > 0 {
+        sink.taking_at_most(most)
+    } else {
+        sink
+    }
+}
+
+impl Run {
+    /// An empty store, and no script.
+    pub fn new(alloc: Global) -> Run {
+        Run {
+            alloc,
+            store: MemStore::new(alloc),
+            script: String::new(alloc),
+            source: plain(alloc),
+            sink: plain(alloc),
+        }
+    }
+
+    fn done(&self) -> Result<String, Fault> {
+        Ok(String::from_str(self.alloc, "done")?)
+    }
+
+    /// The script, which is empty then.
+    fn take_script(&mut self) -> String {
+        mem::replace(&mut self.script, String::new(self.alloc))
+    }
+
+    fn call(&mut self, words: &[&str]) -> Result<String, Fault> {
+        let alloc = self.alloc;
+        let script = self.take_script();
+        let from = mem::replace(&mut self.source, plain(alloc));
+        let to = mem::replace(&mut self.sink, plain(alloc));
+        let from = source(alloc, &script, from)?;
+        let store = mem::replace(&mut self.store, MemStore::new(alloc));
+        let (store, answered) = call(alloc, words, store, from, sink(alloc, to))?;
+        self.store = store;
+        Ok(words_of(alloc, &answered)?)
+    }
+
+    fn call_blank(&mut self, moment: &str, bytes: &str, words: &[&str]) -> Result<String, Fault> {
+        let alloc = self.alloc;
+        let script = self.take_script();
+        let store = BlankStore::new(large(moment)?, self.bytes(bytes)?);
+        let from = source(alloc, &script, plain(alloc))?;
+        let (_store, answered) = call(alloc, words, store, from, MemSink::new(alloc))?;
+        Ok(words_of(alloc, &answered)?)
+    }
+
+    /// The bytes that a word spells; `-` spells none.
+    fn bytes(&self, word: &str) -> Result<Vec<u8>, Fault> {
+        if word == "-" {
+            return Ok(Vec::new(self.alloc));
+        }
+        match decode(self.alloc, word) {
+            Ok(bytes) => Ok(bytes),
+            Err(_) => Err(Fault::NoCommand),
+        }
+    }
+
+    fn start_again(&mut self) -> Result<String, Fault> {
+        self.store = MemStore::new(self.alloc);
+        self.done()
+    }
+
+    fn stop(&mut self, choice: &str) -> Result<String, Fault> {
+        files::stop(self.alloc, &mut self.store, large(choice)?);
+        self.done()
+    }
+
+    fn fail(&mut self, words: &[&str]) -> Result<String, Fault> {
+        let moments = numbers(self.alloc, words)?;
+        files::fail_at(self.alloc, &mut self.store, moments);
+        self.done()
+    }
+
+    fn write(&mut self, file: &str, offset: &str, bytes: &str) -> Result<String, Fault> {
+        let bytes = self.bytes(bytes)?;
+        files::write(&mut self.store, number(file)?, large(offset)?, &bytes)?;
+        self.done()
+    }
+
+    fn show(&self, file: &str) -> Result<String, Fault> {
+        Ok(encode(self.alloc, self.store.bytes(number(file)?))?)
+    }
+
+    fn faults(&self, file: &str) -> Result<String, Fault> {
+        let count = self.store.faults(number(file)?);
+        Ok(format!(in self.alloc; "{count}")?)
+    }
+
+    fn moment(&self) -> Result<String, Fault> {
+        let moment = self.store.moment();
+        Ok(format!(in self.alloc; "{moment}")?)
+    }
+
+    fn set_source(&mut self, most: &str, calls: &[&str]) -> Result<String, Fault> {
+        self.source = read_way(self.alloc, most, calls)?;
+        self.done()
+    }
+
+    fn set_sink(&mut self, most: &str, calls: &[&str]) -> Result<String, Fault> {
+        self.sink = read_way(self.alloc, most, calls)?;
+        self.done()
+    }
+
+    fn long(&mut self, count: &str) -> Result<String, Fault> {
+        let count = number(count)?.min(65536) as usize;
+        let letters = "x".repeat(self.alloc, count)?;
+        self.script.push_str(&letters)?;
+        self.script.push('\n')?;
+        self.done()
+    }
+
+    fn stops(&mut self, choice: &str) -> Result<String, Fault> {
+        let script = self.take_script();
+        sweeps::stops(self.alloc, large(choice)?, &script)
+    }
+
+    fn again(&mut self, choice: &str) -> Result<String, Fault> {
+        let script = self.take_script();
+        sweeps::again(self.alloc, large(choice)?, &script)
+    }
+
+    fn all_faults(&mut self) -> Result<String, Fault> {
+        let script = self.take_script();
+        sweeps::faults(self.alloc, &script)
+    }
+
+    /// What a command on many stores is answered.
+    fn sweep(&mut self, words: &[&str]) -> Result<String, Fault> {
+        match words {
+            ["stops", choice] => self.stops(choice),
+            ["again", choice] => self.again(choice),
+            ["faults"] => self.all_faults(),
+            _ => Err(Fault::NoCommand),
+        }
+    }
+
+    /// What a command on the store is answered.
+    fn on_store(&mut self, words: &[&str]) -> Result<String, Fault> {
+        match words {
+            ["new"] => self.start_again(),
+            ["stop", choice] => self.stop(choice),
+            ["fail", moments @ ..] => self.fail(moments),
+            ["write", file, offset, bytes] => self.write(file, offset, bytes),
+            ["show", file] => self.show(file),
+            ["faults", file] => self.faults(file),
+            ["moment"] => self.moment(),
+            _ => self.sweep(words),
+        }
+    }
+
+    /// What a command is answered.
+    fn answer(&mut self, words: &[&str]) -> Result<String, Fault> {
+        match words {
+            ["do", words @ ..] => self.call(words),
+            ["blank", moment, bytes, words @ ..] => self.call_blank(moment, bytes, words),
+            ["source", most, calls @ ..] => self.set_source(most, calls),
+            ["sink", most, calls @ ..] => self.set_sink(most, calls),
+            ["long", count] => self.long(count),
+            _ => self.on_store(words),
+        }
+    }
+
+    /// What the line is answered: a comment is given back, and a line of the script has no answer.
+    pub fn line(&mut self, line: &str) -> Result<Option<String>, AllocError> {
+        if line.is_empty() || line.starts_with('#') {
+            return Ok(Some(String::from_str(self.alloc, line)?));
+        }
+        if let Some(line) = line.strip_prefix("| ") {
+            self.script.push_str(line)?;
+            self.script.push('\n')?;
+            return Ok(None);
+        }
+        if let Some(line) = line.strip_prefix("% ") {
+            self.script.push_str(line)?;
+            return Ok(None);
+        }
+        let words: Vec<&str> = line.split_whitespace().collect(self.alloc)?;
+        let answered = self.answer(words.as_slice());
+        Ok(Some(text(self.alloc, answered)?))
+    }
+}

@@ -1,0 +1,230 @@
+//! A script that is run over and over, with another call that fails each time.
+use crate::answer::Fault;
+use crate::call::{Said, call, text_of};
+use crate::files::{fail_at, stop};
+use hex::encode;
+use mem_store::MemStore;
+use std::alloc::{AllocError, Global};
+use store_api::Store;
+use tree_api::{MemSink, MemSource};
+
+/// More moments than any script comes to.
+const MOST: u64 = 1000;
+
+/// So many calls fail from a moment on: all that a run still makes.
+const REST: u64 = 64;
+
+/// How many of a store's files may have failed.
+const FILES: u32 = 10;
+
+/// The sign of a number below ten.
+fn digit(number: usize) -> char {
+    match char::from_digit((number % 10) as u32, 10) {
+        Some(sign) => sign,
+        None => '!',
+    }
+}
+
+/// The GET of the file that a line stores, and what answers it as the line with this number: its object has the same number.
+fn asked(alloc: Global, line: &str, number: usize) -> Result<Option<(String, String)>, AllocError> {
+    let Some(("PUT", rest)) = line.split_once(' ') else {
+        return Ok(None);
+    };
+    let Some((front, text)) = rest.split_once(" TEXT=") else {
+        return Ok(None);
+    };
+    let words: Vec<&str> = front.split_whitespace().collect(alloc)?;
+    let [node, filespace, path, _] = words.as_slice() else {
+        return Ok(None);
+    };
+    let digits = encode(alloc, text.as_bytes())?;
+    let size = text.len();
+    Ok(Some((
+        format!(in alloc; "GET {node} {filespace} {path}\n")?,
+        format!(in alloc; "{number} DATA {digits}\n{number} OK object={number} size={size}\n")?,
+    )))
+}
+
+/// The GETs of all files that a script stores, and what answers each.
+fn asked_all(alloc: Global, script: &str) -> Result<(String, Vec<String>), AllocError> {
+    let mut gets = String::new(alloc);
+    let mut answers = Vec::new(alloc);
+    for line in script.lines() {
+        if let Some((get, answer)) = asked(alloc, line, answers.len().saturating_add(1))? {
+            gets.push_str(&get)?;
+            answers.push(answer)?;
+        }
+    }
+    Ok((gets, answers))
+}
+
+/// How many files a call said that it stored.
+fn stored(said: &Said) -> usize {
+    let mut count: usize = 0;
+    for line in text_of(said).lines() {
+        if line.contains(" OK object=") && !line.contains(" size=") {
+            count = count.saturating_add(1);
+        }
+    }
+    count
+}
+
+/// How many of these answers a call put.
+fn shown(said: &Said, answers: &[String]) -> usize {
+    let text = text_of(said);
+    let mut count: usize = 0;
+    for answer in answers {
+        if text.contains(answer.as_str()) {
+            count = count.saturating_add(1);
+        }
+    }
+    count
+}
+
+/// A call over a store, with a script.
+fn run(
+    alloc: Global,
+    word: &str,
+    store: MemStore,
+    script: &str,
+) -> Result<(MemStore, Said), AllocError> {
+    let source = MemSource::new(alloc, script.as_bytes().to_vec(alloc)?);
+    call(alloc, &[word], store, source, MemSink::new(alloc))
+}
+
+/// The moments from this one on, as many as a run still has.
+fn from(alloc: Global, moment: u64) -> Result<Vec<u64>, AllocError> {
+    let mut moments = Vec::new(alloc);
+    for more in 0..REST {
+        moments.push(moment.saturating_add(more))?;
+    }
+    Ok(moments)
+}
+
+/// The script over an empty store all of whose calls fail from this moment on.
+fn run_until(alloc: Global, script: &str, moment: u64) -> Result<(MemStore, Said), AllocError> {
+    let store = MemStore::new(alloc).with_failing(from(alloc, moment)?);
+    run(alloc, "fresh", store, script)
+}
+
+/// What is shown after a stop, where no call fails.
+fn shown_after(
+    alloc: Global,
+    store: MemStore,
+    choice: u64,
+    gets: &str,
+    answers: &[String],
+) -> Result<char, AllocError> {
+    let mut store = store;
+    stop(alloc, &mut store, choice);
+    fail_at(alloc, &mut store, Vec::new(alloc));
+    let (store, opened) = run(alloc, "run", store, "")?;
+    match text_of(&opened) {
+        "NOT FORMATTED\n" => Ok('-'),
+        "END 0 0 0\n" => {
+            let (_store, said) = run(alloc, "run", store, gets)?;
+            Ok(digit(shown(&said, answers)))
+        }
+        _ => Ok('!'),
+    }
+}
+
+/// What the script says that it stored, and what is shown after a stop, for each moment.
+pub fn stops(alloc: Global, choice: u64, script: &str) -> Result<String, Fault> {
+    let (gets, answers) = asked_all(alloc, script)?;
+    let mut first = String::new(alloc);
+    let mut last = String::new(alloc);
+    for moment in 0..MOST {
+        let (store, said) = run_until(alloc, script, moment)?;
+        first.push(digit(stored(&said)))?;
+        last.push(shown_after(alloc, store, choice, &gets, &answers)?)?;
+        if said.status == 0 {
+            return Ok(format!(in alloc; "{first}\n{last}")?);
+        }
+    }
+    Err(Fault::NoCommand)
+}
+
+/// What is shown after one more stop, at the call of the opening that begins so many calls after its first; and whether a call failed there.
+fn once_more(
+    alloc: Global,
+    choice: u64,
+    script: &str,
+    moment: u64,
+    later: u64,
+    gets: &str,
+    answers: &[String],
+) -> Result<(char, bool), AllocError> {
+    let (mut store, _said) = run_until(alloc, script, moment)?;
+    stop(alloc, &mut store, choice);
+    let second = store.moment().saturating_add(later);
+    fail_at(alloc, &mut store, from(alloc, second)?);
+    let (store, opened) = run(alloc, "run", store, "")?;
+    let sign = shown_after(alloc, store, choice, gets, answers)?;
+    Ok((sign, opened.status == 5))
+}
+
+/// What is shown whichever call of the opening stops once more.
+fn always(
+    alloc: Global,
+    choice: u64,
+    script: &str,
+    moment: u64,
+    gets: &str,
+    answers: &[String],
+) -> Result<char, Fault> {
+    let (first, _) = once_more(alloc, choice, script, moment, 0, gets, answers)?;
+    for later in 1..MOST {
+        let (sign, has_failed) = once_more(alloc, choice, script, moment, later, gets, answers)?;
+        if sign != first {
+            return Ok('!');
+        }
+        if !has_failed {
+            return Ok(sign);
+        }
+    }
+    Ok('!')
+}
+
+/// What is shown after a stop at each moment and one more in the opening.
+pub fn again(alloc: Global, choice: u64, script: &str) -> Result<String, Fault> {
+    let (gets, answers) = asked_all(alloc, script)?;
+    let mut signs = String::new(alloc);
+    for moment in 0..MOST {
+        signs.push(always(alloc, choice, script, moment, &gets, &answers)?)?;
+        let (_store, said) = run_until(alloc, script, moment)?;
+        if said.status == 0 {
+            return Ok(signs);
+        }
+    }
+    Err(Fault::NoCommand)
+}
+
+/// The file whose count of faults is 1, where those of all others are 0.
+fn failed_file(store: &MemStore) -> char {
+    let mut sign = '-';
+    for file in 0..FILES {
+        match store.faults(file) {
+            0 => {}
+            1 if sign == '-' => sign = digit(file as usize),
+            _ => sign = '!',
+        }
+    }
+    sign
+}
+
+/// The status, and the file whose call failed, where the one call at each moment fails.
+pub fn faults(alloc: Global, script: &str) -> Result<String, Fault> {
+    let mut statuses = String::new(alloc);
+    let mut failed = String::new(alloc);
+    for moment in 0..MOST {
+        let store = MemStore::new(alloc).with_failing([moment].to_vec(alloc)?);
+        let (store, said) = run(alloc, "fresh", store, script)?;
+        statuses.push(digit(said.status as usize))?;
+        failed.push(failed_file(&store))?;
+        if store.moment() <= moment {
+            return Ok(format!(in alloc; "{statuses}\n{failed}")?);
+        }
+    }
+    Err(Fault::NoCommand)
+}

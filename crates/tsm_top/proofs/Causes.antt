@@ -1,0 +1,156 @@
+-- A run that a fault of an image or a log halted: the count of that file's faults rose.
+use Rattle.std.proofs.Common.{◌≡◌, ⊎_elim, inl, inr, ℕ, ◌-◌, ◌<◌, ◌≤◌, ◌^◌, Bool, true, false, if◌then◌else◌, Option, None, Some, List, [], length, Result, Ok, Err, sym, ◌∙◌, arith}
+use Rattle.store_api.specs.Cause.{Rose, NoneFell}
+use Rattle.store_api.specs.Disk.{History}
+use Rattle.kinds.specs.declared.refusal.OpenRefused.TheVariants as refused
+use Rattle.kinds.specs.declared.rule.BackupRule.{BackupRule}
+use Rattle.kinds.specs.declared.segment.Segment.{Segment}
+use Rattle.changes.specs.declared.change.Change.{Change}
+use Rattle.version_groups.specs.declared.versions.Version.{Version}
+use Rattle.object_rows.specs.Names.{node_named, filespace_named}
+use Rattle.inventory_rows.specs.State.{Inv}
+use Rattle.inventory_rules.specs.Effects.{effect}
+use Rattle.entries.specs.declared.entry.Entry.{Entry}
+use Rattle.placing.specs.Placing.{segments_for, default_rule, active_version}
+use Rattle.line_forms.specs.Line.{Request, day, put, get, register, define_volume, checkpoint, asked}
+use Rattle.script_loop.specs.Ends.{status_of}
+use Rattle.script_loop.specs.Runs.{Prints, Halts}
+use Rattle.script_loop.specs.declared.ends.Halt.TheVariants as halt
+use Rattle.script_loop.specs.declared.ends.End.{End}
+use Rattle.script_loop.specs.declared.ends.End.TheVariants.{Done, SourceFault, SinkFault, Halted, TooLong}
+use Rattle.server.specs.declared.get.Shown.{Shown}
+use Rattle.server.specs.declared.stop.Stop.{Stop}
+use Rattle.server.specs.declared.stop.Stop.TheVariants.{Refused, LogFault, RunFull, Memory}
+use Rattle.server.specs.Requests.{File, RoseOfVault, Commits, volume_defined, DefinesVolumeIn, filespace_defined, StoresIn, DefinesAndStores, PutsUnder, PutsBy, PutsOf, ShowsFound, GetsUnder, GetsOf, backed_up, item_of}
+use Rattle.server.specs.World.{Kept, database_after, contents_after}
+use Rattle.tsm_top.specs.Answers.{lines_of, Halted as HaltedSo}
+use Rattle.tsm_top.specs.Asking.{Asks, EndsAt, file_put}
+use Rattle.tsm_top.specs.Machine.{Site, RepliesAt, StopsAt}
+use Rattle.tsm_top.specs.Serve.{Command, Closing, no_command, formatted, exists, refused_opening, closing_status, Shuts, Sure, RanScript, RoseBetween}
+
+-- the count of some image's or log's file rose
+abbrev pub Some_rose : (rose : ℕ → Type 0) → Type 0
+Some_rose rose = (file : ℕ) × RoseOfVault rose file
+
+lines_fault : {T : Type 0} (lines : T → List (List ℕ)) (made : Result T Stop) (said : Result (List (List ℕ)) Stop) (file : ℕ) → said ≡ Err (LogFault file) → said ≡ lines_of lines made → made ≡ Err (LogFault file)
+lines_fault lines (Ok done) said file is by = absurd cc
+lines_fault lines (Err why) said file is by = cc
+
+said_fault : (said : Result (List (List ℕ)) Stop) (file : ℕ) → HaltedSo said (halt.LogFault file) → said ≡ Err (LogFault file)
+said_fault (Ok texts) file is = absurd cc
+said_fault (Err (Refused why)) file is = absurd cc
+said_fault (Err (LogFault other)) file is = cc
+said_fault (Err RunFull) file is = absurd cc
+said_fault (Err Memory) file is = absurd cc
+
+module _ (rose : ℕ → Type 0) (full sure : Type 0) (file : ℕ) where
+  commits_rose : {T : Type 0} (c : Change) (text : List ℕ) (v : Inv) (made : Result T Stop) (added : List Kept) → made ≡ Err (LogFault file) → Commits rose full c text v made added → RoseOfVault rose file
+  commits_rose c text v made added is commits = (rw is at commits).0
+
+  volume_rose : {T : Type 0} (pool : Option ℕ) (name : List ℕ) (mebibytes : ℕ) (v : Inv) (made : Result T Stop) (added : List Kept) → made ≡ Err (LogFault file) → DefinesVolumeIn rose full pool name mebibytes v made added → RoseOfVault rose file
+  volume_rose None name mebibytes v made added is defines = absurd (cc (is, defines.0))
+  volume_rose (Some pool) name mebibytes v made added is defines = commits_rose (volume_defined name pool mebibytes v) [] v made added is defines
+
+  stores_rose : (segments : Option (List Segment)) (f : File) (filespace : ℕ) (class : List ℕ) (pool : ℕ) (v : Inv) (made : Result ℕ Stop) (added : List Kept) → made ≡ Err (LogFault file) → StoresIn rose full segments f filespace class pool v made added → RoseOfVault rose file
+  stores_rose None f filespace class pool v made added is stores = absurd (cc (is, stores.0))
+  stores_rose (Some segments) f filespace class pool v made added is stores = ⊎_elim (λ failed. absurd (cc (is, failed.1))) (λ done. commits_rose (backed_up filespace (item_of f v.next_object class pool segments)) f.text v made added is done) stores.0
+
+  both_rose : (c : Change) (f : File) (class : List ℕ) (pool : ℕ) (v : Inv) (made : Result ℕ Stop) (added : List Kept) → made ≡ Err (LogFault file) → DefinesAndStores rose full c f class pool v made added → RoseOfVault rose file
+  both_rose c f class pool v made added is (inl (why, by, none)) =
+      let fault : why ≡ LogFault file = cc in
+      commits_rose {T = Unit {0}} c [] v (Err why) added (cc (fault)) none
+  both_rose c f class pool v made added is (inr (rest, legal, parts, stored)) = stores_rose (segments_for pool (length f.text) (effect c v)) f v.next_filespace class pool (effect c v) made rest is stored
+
+  under_rose : (filespace : Option ℕ) (f : File) (node : ℕ) (class : List ℕ) (pool : ℕ) (v : Inv) (made : Result ℕ Stop) (added : List Kept) → made ≡ Err (LogFault file) → PutsUnder rose full filespace f node class pool v made added → RoseOfVault rose file
+  under_rose None f node class pool v made added is puts = both_rose (filespace_defined node f.filespace v) f class pool v made added is puts
+  under_rose (Some filespace) f node class pool v made added is puts = stores_rose (segments_for pool (length f.text) v) f filespace class pool v made added is puts
+
+  by_rose : (rule : Option (List ℕ × BackupRule)) (f : File) (node : ℕ) (v : Inv) (made : Result ℕ Stop) (added : List Kept) → made ≡ Err (LogFault file) → PutsBy rose full rule f node v made added → RoseOfVault rose file
+  by_rose None f node v made added is puts = absurd (cc (is, puts.0))
+  by_rose (Some rule) f node v made added is puts = under_rose (filespace_named node f.filespace v.clients.filespaces) f node rule.0 rule.1.destination v made added is puts
+
+  puts_rose : (node : Option ℕ) (f : File) (v : Inv) (made : Result ℕ Stop) (added : List Kept) → made ≡ Err (LogFault file) → PutsOf rose full node f v made added → RoseOfVault rose file
+  puts_rose None f v made added is puts = absurd (cc (is, puts.0))
+  puts_rose (Some node) f v made added is puts = by_rose (default_rule node v) f node v made added is puts
+
+  module _ (contents : ℕ → List ℕ) (v : Inv) where
+    found_rose : (version : Option Version) (made : Result Shown Stop) → made ≡ Err (LogFault file) → ShowsFound rose full sure contents v version made → RoseOfVault rose file
+    found_rose None made is shows = absurd (cc (is, shows))
+    found_rose (Some version) made is shows = absurd (rw is at shows)
+
+    shows_rose : (filespace : Option ℕ) (path : List ℕ) (made : Result Shown Stop) → made ≡ Err (LogFault file) → GetsUnder rose full sure contents v filespace path made → RoseOfVault rose file
+    shows_rose None path made is gets = absurd (cc (is, gets))
+    shows_rose (Some filespace) path made is gets = found_rose (active_version filespace path v) made is gets
+
+    gets_rose : (node : Option ℕ) (filespace path : List ℕ) (made : Result Shown Stop) → made ≡ Err (LogFault file) → GetsOf rose full sure contents v node filespace path made → RoseOfVault rose file
+    gets_rose None filespace path made is gets = absurd (cc (is, gets))
+    gets_rose (Some node) filespace path made is gets = shows_rose (filespace_named node filespace v.clients.filespaces) path made is gets
+
+    asks_rose : (generation : ℕ) (request : Request) (said : Result (List (List ℕ)) Stop) (added : List Kept) (next : ℕ) → said ≡ Err (LogFault file) → Asks rose full sure contents v generation request said added next → RoseOfVault rose file
+    asks_rose generation (day number) said added next is (made, commits, lines, same) = commits_rose _ [] v made added (lines_fault _ made said file is lines) commits
+    asks_rose generation (put node filespace path mtime text) said added next is (made, puts, lines, same) =
+        let fault = lines_fault _ made said file is lines in
+        ⊎_elim (λ none. absurd (cc (fault, none.0))) (λ done. puts_rose (node_named node v.clients.nodes) (file_put node filespace path mtime text) v made added fault done) puts
+    asks_rose generation (get node filespace path) said added next is (made, gets, lines, none, same) = gets_rose (node_named node v.clients.nodes) filespace path made (lines_fault _ made said file is lines) gets
+    asks_rose generation (register node) said added next is (made, commits, lines, same) = commits_rose _ [] v made added (lines_fault _ made said file is lines) commits
+    asks_rose generation (define_volume name mebibytes) said added next is (made, defines, lines, same) =
+        let fault = lines_fault _ made said file is lines in
+        ⊎_elim (λ none. absurd (cc (fault, none.0))) (λ done. volume_rose _ name mebibytes v made added fault done) defines
+    asks_rose generation checkpoint said added next is (made, checkpoints, lines, none) =
+        let fault = lines_fault _ made said file is lines in
+        (rw fault at checkpoints).0
+
+    ends_rose : (generation : ℕ) (request : Option Request) (added : List Kept) (next : ℕ) → EndsAt rose full sure contents v generation request (halt.LogFault file) added next → Some_rose rose
+    ends_rose generation None added next ends = absurd (cc (ends.0))
+    ends_rose generation (Some request) added next (inl ends) = absurd (cc (ends.0))
+    ends_rose generation (Some request) added next (inr (said, mid, asks, inl halted, follows)) = (file, asks_rose generation request said added mid (said_fault said file halted) asks)
+    ends_rose generation (Some request) added next (inr (said, mid, asks, inr (answer, answered, other, is, there), follows)) = (other, there)
+
+  module _ (base : Inv) (first : ℕ → List ℕ) where
+    stops_rose : (old : Site) (line : List ℕ) (new : Site) → StopsAt rose full sure base first old line (halt.LogFault file) new → Some_rose rose
+    stops_rose old line new (added, stops, kept) = ends_rose (contents_after first old.kept) (database_after base old.kept) old.generation (asked line) added new.generation stops
+
+    halts_rose : (script : Option (List ℕ)) (taken : List (List ℕ)) (mid new : Site) → Halts (RepliesAt rose full sure base first) (StopsAt rose full sure base first) script taken mid (halt.LogFault file) new → Some_rose rose
+    halts_rose script taken mid new (inl (line, front, stops)) = stops_rose mid line new stops
+    halts_rose script taken mid new (inr (inl memory)) = absurd (cc (memory.0))
+    halts_rose script taken mid new (inr (inr memory)) = absurd (cc (memory.0))
+
+    pub prints_rose : (old new : Site) (script : Option (List ℕ)) (put : List ℕ) → Prints (RepliesAt rose full sure base first) (StopsAt rose full sure base first) old script (Halted (halt.LogFault file)) put new → Some_rose rose
+    prints_rose old new script printed (text, whole, (taken, tally, mid, run, halts)) = halts_rose script taken mid new halts
+
+done_not : (b : Bool) → ◌≡◌ {A = ℕ} (if b then 0 else 1) 6 → ⊥
+done_not true is = absurd (omega (arith, is))
+done_not false is = absurd (omega (arith, is))
+
+-- a status of 6 is that of a halt by the fault of a file
+pub status_fault : (rose : ℕ → Type 0) (full sure : Type 0) (base : Inv) (first : ℕ → List ℕ) (old new : Site) (script : Option (List ℕ)) (end : End) (put : List ℕ) → status_of end ≡ 6 → Prints (RepliesAt rose full sure base first) (StopsAt rose full sure base first) old script end put new → Some_rose rose
+status_fault rose full sure base first old new script (Done tally) printed is run = absurd (done_not _ is)
+status_fault rose full sure base first old new script SourceFault printed is run = absurd (omega (arith, is))
+status_fault rose full sure base first old new script SinkFault printed is run = absurd (omega (arith, is))
+status_fault rose full sure base first old new script (Halted (halt.LogFault file)) printed is run = prints_rose rose full sure file base first old new script printed run
+status_fault rose full sure base first old new script (Halted halt.RunFull) printed is run = absurd (omega (arith, is))
+status_fault rose full sure base first old new script (Halted halt.Memory) printed is run = absurd (omega (arith, is))
+status_fault rose full sure base first old new script (TooLong n) printed is run = absurd (omega (arith, is))
+
+-- a script's run that ended with that status had a fault since the call began
+pub ran_fault : (command : Command) (told left_told : Option History) (before mid after : ℕ → ℕ) (opened last : ℕ) (end : End) (status : ℕ) (journal : List Entry) (stamps : List ℕ) (base : Option Inv) (generation : ℕ) (script left was is : Option (List ℕ)) → NoneFell before mid →
+    RanScript command told left_told (RoseBetween mid after) opened last end status journal stamps base generation script left was is → status ≡ 6 → (file : ℕ) × (file < 4) × Rose (before file) (after file)
+ran_fault command told left_told before mid after opened last end status journal stamps base generation script left was is none ran six =
+    let said = (ran.runs (λ number. [])).says in
+    let rose = status_fault (RoseBetween mid after) (2 ^ 62 - 2 ^ 24 ≤ last) (Sure command (λ number. []) told) ran.database (λ number. []) (record { kept = []; generation = ran.start }) (record { kept = ran.kept; generation = generation }) script end said.0 (sym ran.code ∙ six) said.2 in
+    (rose.0, rose.1.0, omega (arith, none rose.0, rose.1.1))
+
+not_six : (why : Closing) → closing_status why ≡ 6 → ⊥
+not_six no_command is = absurd (omega (arith, is))
+not_six formatted is = absurd (omega (arith, is))
+not_six exists is = absurd (omega (arith, is))
+not_six (refused_opening (refused.ReadFault file)) is = absurd (omega (arith, is))
+not_six (refused_opening (refused.Damaged file at)) is = absurd (omega (arith, is))
+not_six (refused_opening refused.NotFormatted) is = absurd (omega (arith, is))
+not_six (refused_opening refused.RunFull) is = absurd (omega (arith, is))
+not_six (refused_opening refused.Memory) is = absurd (omega (arith, is))
+
+-- a call that ran no script has another status
+pub shut_other : (why : Closing) (before after : Option (List ℕ)) (sink_rose : Type 0) (status : ℕ) (journal : List Entry) (stamps : List ℕ) (base : Option Inv) (generation : ℕ) → Shuts why before after sink_rose status journal stamps base generation → status ≡ 6 → ⊥
+shut_other why before after sink_rose status journal stamps base generation shut six =
+    ⊎_elim (λ own. not_six why (sym own.0 ∙ six)) (λ sink. absurd (omega (arith, sink.0, six))) shut.line

@@ -1,0 +1,109 @@
+-- A new database is made, and perhaps a script is run over it; and how all of a call ended.
+use Rattle.std.proofs.Common.{◌≡◌, ◌⊎◌, ⊎_elim, inl, inr, ℕ, ◌<◌, Bool, false, Option, None, Some, is_some, IfSome, List, Result, Ok, refl, sym, subst, arith, reverse}
+use Rattle.store_api.specs.Cause.{NoneFell}
+use Rattle.store_api.specs.Disk.{History, now, reads}
+use Rattle.store_api.specs.Told.{Told}
+use Rattle.store_api.proofs.Pieces.{image_reads}
+use Rattle.kinds.specs.declared.refusal.OpenRefused.{OpenRefused}
+use Rattle.kinds.specs.declared.refusal.OpenRefused.TheVariants as refused
+use Rattle.entries.specs.declared.entry.Entry.{Entry}
+use Rattle.inventory.specs.Meant.{meaning}
+use Rattle.inventory.specs.Meaningful.{is_meaning}
+use Rattle.inventory_rows.specs.Fresh.{fresh}
+use Rattle.inventory_rows.specs.State.{Inv}
+use Rattle.script_loop.specs.declared.ends.End.{End}
+use Rattle.vault.specs.Openings.{is_formatted as has_gate, Formatted, SaysWhy, MayRefuseLooking, MayRefuseFormatting}
+use Rattle.vault.specs.Recovery.{RecoversWithin}
+use Rattle.vault.proofs.Unique.{one_database, is_formatted, not_damaged_there}
+use Rattle.server.proofs.Soundness.{within_recovers, new_sound}
+use Rattle.tsm_top.specs.Serve.{Command, format, run, fresh_run, Closing, no_command, formatted, exists, refused_opening, HasCause, OpensNot, IsNone, IsNew, HasImage, RunsOver, Sure, RanScript, RoseBetween}
+use Rattle.tsm_top.proofs.Saying.{ran_over}
+
+-- files that hold a new database recover to it alone
+new_recovers : (h : History) → IsNew (Some h) → RecoversWithin meaning (reads h) fresh
+new_recovers h new = new (now h) (reads h) (omega arith) (omega arith) (image_reads h)
+
+never_refused : (h : History) (refusal : OpenRefused) → IsNew (Some h) → (refusal ≡ refused.NotFormatted) ⊎ ((file : ℕ) × (at : ℕ) × (refusal ≡ refused.Damaged file at)) → SaysWhy meaning (reads h) refusal → ⊥
+never_refused h refusal new (inl is) says = is_formatted meaning is_meaning (reads h) fresh (within_recovers (reads h) fresh (new_recovers h new)) (subst (λ (r : OpenRefused). SaysWhy meaning (reads h) r) is says)
+never_refused h refusal new (inr (file, at, is)) says = not_damaged_there meaning is_meaning (reads h) fresh (within_recovers (reads h) fresh (new_recovers h new)) file at (subst (λ (r : OpenRefused). SaysWhy meaning (reads h) r) is says)
+
+tells_nothing : (x y : Option History) (refusal : OpenRefused) → is_some y ≡ is_some x → IsNew y → (refusal ≡ refused.NotFormatted) ⊎ ((file : ℕ) × (at : ℕ) × (refusal ≡ refused.Damaged file at)) → IsNone y refusal → is_some x ≡ false
+tells_nothing x None refusal same new is says = sym same
+tells_nothing x (Some h) refusal same new is says = absurd (never_refused h refusal new is says)
+
+rises : (before mid after : ℕ → ℕ) (file : ℕ) → NoneFell before mid → RoseBetween mid after file → RoseBetween before after file
+rises before mid after file none rose = omega (arith, none file, rose)
+
+-- why a database that was just made isn't opened
+pub new_not : (x y : Option History) (refusal : OpenRefused) (last : ℕ) (before mid after : ℕ → ℕ) → is_some y ≡ is_some x → IsNew y → NoneFell before mid → OpensNot run y last (RoseBetween mid after) refusal → OpensNot fresh_run x last (RoseBetween before after) refusal
+new_not x y (refused.ReadFault file) last before mid after same new none not = (not.0, rises before mid after file none not.1)
+new_not x y (refused.Damaged file at) last before mid after same new none not = (not.0, tells_nothing x y (refused.Damaged file at) same new (inr (file, at, refl)) not.1)
+new_not x y refused.NotFormatted last before mid after same new none not = tells_nothing x y refused.NotFormatted same new (inl refl) not
+new_not x y refused.RunFull last before mid after same new none not = not
+new_not x y refused.Memory last before mid after same new none not = not
+
+new_over : (x y : Option History) (base : Inv) → is_some y ≡ is_some x → HasImage false x → IsNew y → RunsOver run y base → RunsOver fresh_run x base
+new_over None y base same had new over = (had, tt)
+new_over (Some a) None base same had new over = absurd (cc)
+new_over (Some a) (Some h) base same had new over = (had, one_database meaning is_meaning (reads h) base fresh over (within_recovers (reads h) fresh (new_recovers h new)))
+
+new_sure : (first : ℕ → List ℕ) (x y : Option History) → is_some y ≡ is_some x → IsNew y → Sure fresh_run first x → Sure run first y
+new_sure first x None same new known = absurd (cc)
+new_sure first x (Some h) same new known = new_sound first h new
+
+-- a script that was run over it
+pub new_script : (x y left_told : Option History) (rose : ℕ → Type 0) (opened last : ℕ) (end : End) (status : ℕ) (journal : List Entry) (stamps : List ℕ) (base : Option Inv) (generation : ℕ) (script left before after : Option (List ℕ)) → is_some y ≡ is_some x → HasImage false x → IsNew y →
+    RanScript run y left_told rose opened last end status journal stamps base generation script left before after → RanScript fresh_run x left_told rose opened last end status journal stamps base generation script left before after
+new_script x y left_told rose opened last end status journal stamps base generation script left before after same had new ran = record {
+  code = ran.code;
+  database = ran.database;
+  base_is = ran.base_is;
+  over = new_over x y ran.database same had new ran.over;
+  kept = ran.kept;
+  journal_is = ran.journal_is;
+  rest = ran.rest;
+  timely = ran.timely;
+  start = ran.start;
+  begins = tt;
+  runs = λ first. ran_over (Sure run first y) (Sure fresh_run first x) rose first ran.database _ _ opened last left_told end (reverse stamps) script before after (λ known. new_sure first x y same new known) (ran.runs first);
+}
+
+-- ---- how a database is made
+
+pub tells_on : (R : History → History → Type 0) (x y : Option History) → Told x y R → is_some y ≡ is_some x
+tells_on R None None t = refl
+tells_on R (Some a) (Some b) t = refl
+tells_on R None (Some b) t = absurd t
+tells_on R (Some a) None t = absurd t
+
+pub is_new : (T E : Type 0) (done : T) (made : Inv) (x y : Option History) → made ≡ fresh → (let result : Result T E = Ok done in Told x y (Formatted meaning made result)) → IsNew y
+is_new T E done made x None is t = tt
+is_new T E done made None (Some b) is t = absurd t
+is_new T E done made (Some a) (Some b) is t = rw (sym is) t.installed
+
+pub looked_not : (x : Option History) (refusal : OpenRefused) (last : ℕ) (before after : ℕ → ℕ) → MayRefuseLooking before after last refusal → OpensNot format x last (RoseBetween before after) refusal
+looked_not x (refused.ReadFault file) last before after may = (let two : file < 2 = may.0 in omega (arith, two), may.1)
+looked_not x (refused.Damaged file at) last before after may = may
+looked_not x refused.NotFormatted last before after may = may
+looked_not x refused.RunFull last before after may = may
+looked_not x refused.Memory last before after may = tt
+
+pub formats_not : (x : Option History) (refusal : OpenRefused) (last : ℕ) (before mid after : ℕ → ℕ) → NoneFell before mid → MayRefuseFormatting mid after last refusal → OpensNot format x last (RoseBetween before after) refusal
+formats_not x (refused.ReadFault file) last before mid after none may = (may.0, rises before mid after file none may.1)
+formats_not x (refused.Damaged file at) last before mid after none may = may
+formats_not x refused.NotFormatted last before mid after none may = may
+formats_not x refused.RunFull last before mid after none may = may
+formats_not x refused.Memory last before mid after none may = tt
+
+pub has_image : (b : Bool) (x : Option History) → IfSome x (λ h. ◌≡◌ {A = Bool} b (has_gate (reads h))) → HasImage b x
+has_image b None is = tt
+has_image b (Some h) is = sym is
+
+-- ---- what is asked
+
+-- what caused a call's end, where one command is asked, is what did where the words ask it
+pub asked_one : (one : Command) (asked : Command → Type 0) → asked one → (why : Closing) (told left : Option History) (last : ℕ) (rose : ℕ → Type 0) → HasCause (λ command. command ≡ one) why told left last rose → HasCause asked why told left last rose
+asked_one one asked is no_command told left last rose cause = absurd (cause.0 one refl)
+asked_one one asked is formatted told left last rose (same, had, new) = (subst (λ (c : Command). asked c) (sym same) is, had, new)
+asked_one one asked is exists told left last rose (same, had, looked) = (⊎_elim (λ first. inl (subst (λ (c : Command). asked c) (sym first) is)) (λ second. inr (subst (λ (c : Command). asked c) (sym second) is)) same, had, looked)
+asked_one one asked is (refused_opening why) told left last rose (command, same, not, spares) = (command, subst (λ (c : Command). asked c) (sym same) is, not, spares)

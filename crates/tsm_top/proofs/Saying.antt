@@ -1,0 +1,69 @@
+-- A run that one machine may make is one that another may, where each of its lines is.
+use Rattle.std.proofs.Common.{◌≡◌, inl, inr, ℕ, ◌+◌, ◌≤◌, ◌^◌, ◌-◌, Option, List, [], ◌∷◌, refl, sym, subst}
+use Rattle.store_api.specs.Disk.{History}
+use Rattle.inventory_rows.specs.State.{Inv}
+use Rattle.script_loop.specs.Reply.{Answer}
+use Rattle.script_loop.specs.Runs.{Runs, Halts, Answers, Allows, Prints}
+use Rattle.script_loop.specs.declared.tally.Tally.{Tally}
+use Rattle.script_loop.specs.declared.ends.Halt.{Halt}
+use Rattle.script_loop.specs.declared.ends.End.{End}
+use Rattle.script_loop.specs.declared.ends.End.TheVariants.{Done, SourceFault, SinkFault, Halted, TooLong}
+use Rattle.tsm_top.specs.Machine.{Site, RepliesAt, StopsAt, Stamped, own_end}
+use Rattle.tsm_top.specs.Serve.{RanOver}
+use Rattle.tsm_top.proofs.Weaker.{replies, stops}
+
+module _ {S : Type 0} (serves others : S → List ℕ → Answer → S → Type 0) (halts ends : S → List ℕ → Halt → S → Type 0) (served : (old : S) (line : List ℕ) (answer : Answer) (new : S) → serves old line answer new → others old line answer new) (halted : (old : S) (line : List ℕ) (how : Halt) (new : S) → halts old line how new → ends old line how new) where
+  runs_map : (lines : List (List ℕ)) (n : ℕ) (old new : S) (text : List ℕ) (tally : Tally) → Runs serves n old lines text tally new → Runs others n old lines text tally new
+  runs_map [] n old new text tally run = run
+  runs_map (line ∷ more) n old new text tally (answer, mid, rest, counts, is, text_is, tally_is, run) = (answer, mid, rest, counts, served old line answer mid is, text_is, tally_is, runs_map more (n + 1) mid new rest counts run)
+
+  halts_map : (script : Option (List ℕ)) (taken : List (List ℕ)) (mid new : S) (how : Halt) → Halts serves halts script taken mid how new → Halts others ends script taken mid how new
+  halts_map script taken mid new how (inl (line, first, is)) = inl (line, first, halted mid line how new is)
+  halts_map script taken mid new how (inr (inl is)) = inr (inl is)
+  halts_map script taken mid new how (inr (inr (is, line, answer, first, done))) = inr (inr (is, line, answer, first, served mid line answer new done))
+
+  answers_map : (end : End) (script : Option (List ℕ)) (text : List ℕ) (old new : S) → Answers serves halts old script end text new → Answers others ends old script end text new
+  answers_map (Done tally) script text old new (taken, run, whole) = (taken, runs_map taken 1 old new text tally run, whole)
+  answers_map SourceFault script text old new (taken, tally, run, first) = (taken, tally, runs_map taken 1 old new text tally run, first)
+  answers_map SinkFault script text old new none = absurd none
+  answers_map (Halted how) script text old new (taken, tally, mid, run, is) = (taken, tally, mid, runs_map taken 1 old mid text tally run, halts_map script taken mid new how is)
+  answers_map (TooLong n) script text old new (taken, tally, run, exceeds) = (taken, tally, runs_map taken 1 old new text tally run, exceeds)
+
+  allows_map : (end : End) (script : Option (List ℕ)) (whole : List ℕ) (old new : S) → Allows serves halts old script end whole new → Allows others ends old script end whole new
+  allows_map end script whole old new (text, is, run) = (text, is, answers_map end script text old new run)
+
+  pub prints_map : (end : End) (script : Option (List ℕ)) (put : List ℕ) (old new : S) → Prints serves halts old script end put new → Prints others ends old script end put new
+  prints_map (Done tally) script put old new run = allows_map (Done tally) script put old new run
+  prints_map SourceFault script put old new run = allows_map SourceFault script put old new run
+  prints_map SinkFault script put old new (other, whole, run, front) = (other, whole, allows_map other script whole old new run, front)
+  prints_map (Halted how) script put old new run = allows_map (Halted how) script put old new run
+  prints_map (TooLong n) script put old new run = allows_map (TooLong n) script put old new run
+
+-- What a run kept, as it is said under one premise, is so under a stronger one.
+module _ (sure known : Type 0) (rose : ℕ → Type 0) (full : Type 0) (base : Inv) (first : ℕ → List ℕ) (knows : known → sure) where
+  replies_at : (old : Site) (line : List ℕ) (answer : Answer) (new : Site) → RepliesAt rose full sure base first old line answer new → RepliesAt rose full known base first old line answer new
+  replies_at old line answer new (added, is, kept) = (added, replies rose rose full full sure known (λ file is. is) (λ is. is) knows _ _ old.generation line answer added new.generation is, kept)
+
+  stops_at : (old : Site) (line : List ℕ) (how : Halt) (new : Site) → StopsAt rose full sure base first old line how new → StopsAt rose full known base first old line how new
+  stops_at old line how new (added, is, kept) = (added, stops rose rose full full sure known (λ file is. is) (λ is. is) knows _ _ old.generation line how added new.generation is, kept)
+
+  same_end : (old new : Site) (script : Option (List ℕ)) (end : End) (put : List ℕ) (run : Prints (RepliesAt rose full sure base first) (StopsAt rose full sure base first) old script end put new) →
+      own_end rose full known base first old new script end put (prints_map (RepliesAt rose full sure base first) (RepliesAt rose full known base first) (StopsAt rose full sure base first) (StopsAt rose full known base first) replies_at stops_at end script put old new run) ≡ own_end rose full sure base first old new script end put run
+  unfolding prints_map
+  same_end old new script (Done tally) put run = refl
+  same_end old new script SourceFault put run = refl
+  same_end old new script SinkFault put run = refl
+  same_end old new script (Halted how) put run = refl
+  same_end old new script (TooLong n) put run = refl
+
+pub ran_over : (sure known : Type 0) (rose : ℕ → Type 0) (first : ℕ → List ℕ) (base : Inv) (old new : Site) (opened last : ℕ) (told : Option History) (end : End) (stamps : List ℕ) (script before after : Option (List ℕ)) → (known → sure) →
+    RanOver sure rose first base old new opened last told end stamps script before after → RanOver known rose first base old new opened last told end stamps script before after
+ran_over sure known rose first base old new opened last told end stamps script before after knows ran =
+    let full : Type 0 = 2 ^ 62 - 2 ^ 24 ≤ last in
+    let run = prints_map (RepliesAt rose full sure base first) (RepliesAt rose full known base first) (StopsAt rose full sure base first) (StopsAt rose full known base first) (replies_at sure known rose full base first knows) (stops_at sure known rose full base first knows) end script ran.says.0 old new ran.says.2 in
+    record {
+      says = (ran.says.0, ran.says.1, run);
+      stamped = subst (λ (e : End). Stamped e new.kept stamps) (sym (same_end sure known rose full base first knows old new script end ran.says.0 ran.says.2)) ran.stamped;
+      images = λ k. ran.images (knows k);
+      left = λ k. ran.left (knows k);
+    }

@@ -1,0 +1,124 @@
+-- What is said of a request under some premises is said under weaker ones: where more counts rose, the moment is later, or less is known of the bytes.
+use Rattle.std.proofs.Common.{⊎_elim, inl, inr, ℕ, Option, None, Some, List, [], ◌∷◌, length, Result, Ok, Err}
+use Rattle.std.specs.List.{AllByRecursion}
+use Rattle.kinds.specs.declared.rule.BackupRule.{BackupRule}
+use Rattle.kinds.specs.declared.segment.Segment.{Segment}
+use Rattle.changes.specs.declared.change.Change.{Change}
+use Rattle.version_groups.specs.declared.copies.CopyRow.{CopyRow}
+use Rattle.version_groups.specs.declared.versions.Version.{Version}
+use Rattle.object_rows.specs.Names.{node_named, filespace_named}
+use Rattle.inventory_rows.specs.State.{Inv}
+use Rattle.inventory_rules.specs.Effects.{effect}
+use Rattle.placing.specs.Placing.{segments_for, default_rule, active_version}
+use Rattle.line_forms.specs.Line.{Request, day, put, get, register, define_volume, checkpoint, asked}
+use Rattle.script_loop.specs.Reply.{Answer}
+use Rattle.script_loop.specs.declared.ends.Halt.{Halt}
+use Rattle.server.specs.declared.get.Shown.{Shown}
+use Rattle.server.specs.declared.stop.Stop.{Stop}
+use Rattle.server.specs.declared.stop.Stop.TheVariants.{Refused, LogFault, RunFull, Memory}
+use Rattle.server.specs.Requests.{File, Commits, volume_defined, DefinesVolumeIn, filespace_defined, StoresIn, DefinesAndStores, PutsUnder, PutsBy, PutsOf, Puts, IsUnread, Shows, ShowsFound, GetsUnder, GetsOf, Checkpoints, backed_up, item_of}
+use Rattle.server.specs.World.{Kept}
+use Rattle.tsm_top.specs.Asking.{Asks, RepliesTo, Replies, EndsAt, Stops, HaltedBy, file_put}
+
+module _ (rose more : ℕ → Type 0) (full late sure known : Type 0) (rises : (file : ℕ) → rose file → more file) (fills : full → late) (knows : known → sure) where
+  pub commits : {T : Type 0} (c : Change) (text : List ℕ) (v : Inv) (result : Result T Stop) (added : List Kept) → Commits rose full c text v result added → Commits more late c text v result added
+  commits c text v (Ok done) added is = is
+  commits c text v (Err (Refused why)) added is = is
+  commits c text v (Err (LogFault file)) added is = ((is.0.0, rises file is.0.1), is.1, is.2)
+  commits c text v (Err RunFull) added is = (fills is.0, is.1)
+  commits c text v (Err Memory) added is = is
+
+  defines_in : {T : Type 0} (pool : Option ℕ) (name : List ℕ) (mebibytes : ℕ) (v : Inv) (result : Result T Stop) (added : List Kept) → DefinesVolumeIn rose full pool name mebibytes v result added → DefinesVolumeIn more late pool name mebibytes v result added
+  defines_in None name mebibytes v result added is = is
+  defines_in (Some pool) name mebibytes v result added is = commits (volume_defined name pool mebibytes v) [] v result added is
+
+  stores_in : (segments : Option (List Segment)) (f : File) (filespace : ℕ) (class : List ℕ) (pool : ℕ) (v : Inv) (result : Result ℕ Stop) (added : List Kept) → StoresIn rose full segments f filespace class pool v result added → StoresIn more late segments f filespace class pool v result added
+  stores_in None f filespace class pool v result added is = is
+  stores_in (Some segments) f filespace class pool v result added is = (
+    ⊎_elim (λ failed. inl (failed.0, failed.1, failed.2, rises failed.0 failed.3, failed.4)) (λ done. inr (commits (backed_up filespace (item_of f v.next_object class pool segments)) f.text v result added done)) is.0,
+    is.1,
+  )
+
+  defines_and_stores : (c : Change) (f : File) (class : List ℕ) (pool : ℕ) (v : Inv) (result : Result ℕ Stop) (added : List Kept) → DefinesAndStores rose full c f class pool v result added → DefinesAndStores more late c f class pool v result added
+  defines_and_stores c f class pool v result added (inl (why, is, none)) = inl (why, is, commits {T = Unit {0}} c [] v (Err why) added none)
+  defines_and_stores c f class pool v result added (inr (rest, legal, is, stored)) = inr (rest, legal, is, stores_in (segments_for pool (length f.text) (effect c v)) f v.next_filespace class pool (effect c v) result rest stored)
+
+  puts_under : (filespace : Option ℕ) (f : File) (node : ℕ) (class : List ℕ) (pool : ℕ) (v : Inv) (result : Result ℕ Stop) (added : List Kept) → PutsUnder rose full filespace f node class pool v result added → PutsUnder more late filespace f node class pool v result added
+  puts_under None f node class pool v result added is = defines_and_stores (filespace_defined node f.filespace v) f class pool v result added is
+  puts_under (Some filespace) f node class pool v result added is = stores_in (segments_for pool (length f.text) v) f filespace class pool v result added is
+
+  puts_by : (rule : Option (List ℕ × BackupRule)) (f : File) (node : ℕ) (v : Inv) (result : Result ℕ Stop) (added : List Kept) → PutsBy rose full rule f node v result added → PutsBy more late rule f node v result added
+  puts_by None f node v result added is = is
+  puts_by (Some rule) f node v result added is = puts_under (filespace_named node f.filespace v.clients.filespaces) f node rule.0 rule.1.destination v result added is
+
+  puts_of : (node : Option ℕ) (f : File) (v : Inv) (result : Result ℕ Stop) (added : List Kept) → PutsOf rose full node f v result added → PutsOf more late node f v result added
+  puts_of None f v result added is = is
+  puts_of (Some node) f v result added is = puts_by (default_rule node v) f node v result added is
+
+  puts : (f : File) (v : Inv) (result : Result ℕ Stop) (added : List Kept) → Puts rose full f v result added → Puts more late f v result added
+  puts f v result added is = ⊎_elim (λ none. inl none) (λ done. inr (puts_of (node_named f.node v.clients.nodes) f v result added done)) is
+
+  unread : (v : Inv) (segments : List Segment) → IsUnread rose v segments → IsUnread more v segments
+  unread v [] is = is
+  unread v (s ∷ segments) (inl (inl far)) = inl (inl far)
+  unread v (s ∷ segments) (inl (inr (inl rose_there))) = inl (inr (inl (rises s.file rose_there)))
+  unread v (s ∷ segments) (inl (inr (inr behind))) = inl (inr (inr behind))
+  unread v (s ∷ segments) (inr is) = inr (unread v segments is)
+
+  all_unread : (v : Inv) (copies : List CopyRow) → AllByRecursion (λ (c : CopyRow). IsUnread rose v c.segments) copies → AllByRecursion (λ (c : CopyRow). IsUnread more v c.segments) copies
+  all_unread v [] is = tt
+  all_unread v (c ∷ copies) is = (unread v c.segments is.0, all_unread v copies is.1)
+
+  module _ (contents : ℕ → List ℕ) (v : Inv) where
+    shows : (version : Version) (result : Result Shown Stop) → Shows rose full sure contents v version result → Shows more late known contents v version result
+    shows version (Ok file) is = (is.0, is.1, is.2, λ k. is.3 (knows k), is.4)
+    shows version (Err (Refused why)) is = (is.0, all_unread v version.copies is.1)
+    shows version (Err (LogFault file)) is = absurd is
+    shows version (Err RunFull) is = fills is
+    shows version (Err Memory) is = is
+
+    shows_found : (version : Option Version) (result : Result Shown Stop) → ShowsFound rose full sure contents v version result → ShowsFound more late known contents v version result
+    shows_found None result is = is
+    shows_found (Some version) result is = shows version result is
+
+    gets_under : (filespace : Option ℕ) (path : List ℕ) (result : Result Shown Stop) → GetsUnder rose full sure contents v filespace path result → GetsUnder more late known contents v filespace path result
+    gets_under None path result is = is
+    gets_under (Some filespace) path result is = shows_found (active_version filespace path v) result is
+
+    gets_of : (node : Option ℕ) (filespace path : List ℕ) (result : Result Shown Stop) → GetsOf rose full sure contents v node filespace path result → GetsOf more late known contents v node filespace path result
+    gets_of None filespace path result is = is
+    gets_of (Some node) filespace path result is = gets_under (filespace_named node filespace v.clients.filespaces) path result is
+
+    checkpoints : {T : Type 0} (generation next : ℕ) (result : Result T Stop) → Checkpoints rose full generation next result → Checkpoints more late generation next result
+    checkpoints generation next (Ok done) is = is
+    checkpoints generation next (Err (Refused why)) is = is
+    checkpoints generation next (Err (LogFault file)) is = ((is.0.0, rises file is.0.1), is.1)
+    checkpoints generation next (Err RunFull) is = (fills is.0, is.1)
+    checkpoints generation next (Err Memory) is = is
+
+    pub asks : (generation : ℕ) (request : Request) (said : Result (List (List ℕ)) Stop) (added : List Kept) (next : ℕ) → Asks rose full sure contents v generation request said added next → Asks more late known contents v generation request said added next
+    asks generation (day number) said added next (made, is, lines, same) = (made, commits _ [] v made added is, lines, same)
+    asks generation (put node filespace path mtime text) said added next (made, is, lines, same) = (made, puts (file_put node filespace path mtime text) v made added is, lines, same)
+    asks generation (get node filespace path) said added next (made, is, lines, none, same) = (made, gets_of (node_named node v.clients.nodes) filespace path made is, lines, none, same)
+    asks generation (register node) said added next (made, is, lines, same) = (made, commits _ [] v made added is, lines, same)
+    asks generation (define_volume name mebibytes) said added next (made, is, lines, same) = (made, ⊎_elim (λ none. inl none) (λ done. inr (defines_in _ name mebibytes v made added done)) is, lines, same)
+    asks generation checkpoint said added next (made, is, lines, none) = (made, checkpoints generation next made is, lines, none)
+
+    replies_to : (generation : ℕ) (request : Option Request) (answer : Answer) (added : List Kept) (next : ℕ) → RepliesTo rose full sure contents v generation request answer added next → RepliesTo more late known contents v generation request answer added next
+    replies_to generation None answer added next is = is
+    replies_to generation (Some request) answer added next (said, mid, is, answered, follows) = (said, mid, asks generation request said added mid is, answered, follows)
+
+    pub replies : (generation : ℕ) (line : List ℕ) (answer : Answer) (added : List Kept) (next : ℕ) → Replies rose full sure contents v generation line answer added next → Replies more late known contents v generation line answer added next
+    replies generation line answer added next is = replies_to generation (asked line) answer added next is
+
+    halted_by : (said : Result (List (List ℕ)) Stop) (how : Halt) → HaltedBy rose said how → HaltedBy more said how
+    halted_by said how (inl is) = inl is
+    halted_by said how (inr (answer, is, file, by, rose_there)) = inr (answer, is, file, by, (rose_there.0, rises file rose_there.1))
+
+    ends_at : (generation : ℕ) (request : Option Request) (how : Halt) (added : List Kept) (next : ℕ) → EndsAt rose full sure contents v generation request how added next → EndsAt more late known contents v generation request how added next
+    ends_at generation None how added next is = is
+    ends_at generation (Some request) how added next (inl is) = inl is
+    ends_at generation (Some request) how added next (inr (said, mid, is, by, follows)) = inr (said, mid, asks generation request said added mid is, halted_by said how by, follows)
+
+    pub stops : (generation : ℕ) (line : List ℕ) (how : Halt) (added : List Kept) (next : ℕ) → Stops rose full sure contents v generation line how added next → Stops more late known contents v generation line how added next
+    stops generation line how added next is = ends_at generation (asked line) how added next is

@@ -1,0 +1,8 @@
+use Rattle.tsm_top.proofs.Answering.{made_day, made_checkpoint}
+use Rattle.tsm_top.proofs.session.Session.ask.Goals as goal
+
+pub returns-in-Day : goal.returns-in-Day
+returns-in-Day g c = record { made = rw c.in-Day.is (_, made_day g.S.Store.told g.S.Store.moment_of g.S.Store.faults_of c.args.self.now.server c.change-made.new.self c.in-Day.day c.change-made.result c.change-made.ensures.commits c.change-made.ensures.generation, c.fixed.ensures) }
+
+pub returns-in-Checkpoint : goal.returns-in-Checkpoint
+returns-in-Checkpoint g c = record { made = rw c.in-Checkpoint.is (_, made_checkpoint g.S.Store.told g.S.Store.moment_of g.S.Store.faults_of c.args.self.now.server c.checkpoint-made.new.self c.checkpoint-made.result c.checkpoint-made.ensures.leaves c.checkpoint-made.ensures.answer, c.fixed-in-Checkpoint.ensures) }
