@@ -35,8 +35,8 @@ fn unread(source: &mut MemSource) -> usize {
     total
 }
 
-/// What a call left, by its parts.
-fn parts<S: Store + Drop>(ended: Ended<S>, put: Vec<u8>, unread: usize) -> (S, Said) {
+/// What a call left, by its parts; what it put is still to be filled in.
+fn parts<S: Store + Drop>(alloc: Global, ended: Ended<S>, unread: usize) -> (S, Said) {
     let Ended {
         status,
         store,
@@ -47,7 +47,7 @@ fn parts<S: Store + Drop>(ended: Ended<S>, put: Vec<u8>, unread: usize) -> (S, S
         opened: _,
     } = ended;
     let said = Said {
-        put,
+        put: Vec::new(alloc),
         status,
         made: journal.len(),
         stamped: stamps.len(),
@@ -69,7 +69,7 @@ fn owned(alloc: Global, words: &[&str]) -> Result<Vec<String>, AllocError> {
     Ok(all)
 }
 
-/// Calls the server. The bytes that it puts are taken up to 65,536.
+/// Calls the server.
 pub fn call<S: Store + Drop>(
     alloc: Global,
     words: &[&str],
@@ -78,15 +78,12 @@ pub fn call<S: Store + Drop>(
     sink: MemSink,
 ) -> Result<(S, Said), AllocError> {
     let words = owned(alloc, words)?;
-    let mut put = Vec::with_capacity(alloc, 65536)?;
     let mut script = script;
     let mut sink = sink;
     let ended = serve(alloc, &words, store, &mut script, &mut sink);
-    let unread = unread(&mut script);
-    let bytes = sink.bytes();
-    let count = bytes.len().min(65536);
-    let _ = put.extend_from_slice(&bytes[..count]);
-    Ok(parts(ended, put, unread))
+    let (store, mut said) = parts(alloc, ended, unread(&mut script));
+    said.put = sink.bytes().to_vec(alloc)?;
+    Ok((store, said))
 }
 
 /// What was put, as text.
@@ -97,9 +94,16 @@ pub fn text_of(said: &Said) -> &str {
     }
 }
 
-/// What a call put and left, in words.
-pub fn words_of(alloc: Global, said: &Said) -> Result<String, AllocError> {
-    let put = text_of(said);
+/// The last line of what was put.
+pub fn last_line(said: &Said) -> &str {
+    match text_of(said).lines().last() {
+        Some(line) => line,
+        None => "",
+    }
+}
+
+/// What a call left, in words behind what it put.
+pub fn words_of(alloc: Global, said: &Said, put: &str) -> Result<String, AllocError> {
     let gap = if put.is_empty() || put.ends_with('\n') {
         ""
     } else {

@@ -1,10 +1,10 @@
 //! Reads a script of small commands on one store in memory, and prints what the calls of the server over it put. A comment, which begins
 //! with `#`, is printed as it stands.
 //!
-//! - `| TEXT`: a line of the server's script, with its LF; `% TEXT`: the same without one; `long N`: a line of N letters.
+//! - `| TEXT`: a line of the server's script, with its LF; `% TEXT`: the same without one; `long N`: a line of N letters; `days N`: N lines `DAY 1`.
 //! - `do WORD..`: the server is called with these words and that script, which is empty again then. Printed are what it put, its status, how
 //!   many transactions it made, of how many it says when they were durable, and the newest image's generation; or, where it opened no
-//!   database, how many bytes of the script it didn't read.
+//!   database, how many bytes of the script it didn't read. `last WORD..`: the same with the last line alone of what it put.
 //! - `source N CALL..`, `sink N CALL..`: in the next call the source gives, or the sink takes, at most N bytes at a time, and those calls fail.
 //! - `new`: an empty store. `stop CHOICE`: the machine stops and starts again. `fail MOMENT..`: the calls that begin then fail.
 //! - `write FILE OFFSET HEX`: these bytes are written and made durable; `show FILE`; `moment`; `faults FILE`: how often calls on it failed.

@@ -1,7 +1,7 @@
 //! A run over the commands.
 use crate::answer::{Fault, large, number, numbers, text};
 use crate::blank::BlankStore;
-use crate::call::{call, words_of};
+use crate::call::{Said, call, last_line, text_of, words_of};
 use crate::{files, sweeps};
 use hex::{decode, encode};
 use mem_store::MemStore;
@@ -85,7 +85,8 @@ impl Run {
         mem::replace(&mut self.script, String::new(self.alloc))
     }
 
-    fn call(&mut self, words: &[&str]) -> Result<String, Fault> {
+    /// Calls the server over the store.
+    fn ask(&mut self, words: &[&str]) -> Result<Said, Fault> {
         let alloc = self.alloc;
         let script = self.take_script();
         let from = mem::replace(&mut self.source, plain(alloc));
@@ -94,7 +95,17 @@ impl Run {
         let store = mem::replace(&mut self.store, MemStore::new(alloc));
         let (store, answered) = call(alloc, words, store, from, sink(alloc, to))?;
         self.store = store;
-        Ok(words_of(alloc, &answered)?)
+        Ok(answered)
+    }
+
+    fn call(&mut self, words: &[&str]) -> Result<String, Fault> {
+        let answered = self.ask(words)?;
+        Ok(words_of(self.alloc, &answered, text_of(&answered))?)
+    }
+
+    fn call_long(&mut self, words: &[&str]) -> Result<String, Fault> {
+        let answered = self.ask(words)?;
+        Ok(words_of(self.alloc, &answered, last_line(&answered))?)
     }
 
     fn call_blank(&mut self, moment: &str, bytes: &str, words: &[&str]) -> Result<String, Fault> {
@@ -103,7 +114,7 @@ impl Run {
         let store = BlankStore::new(large(moment)?, self.bytes(bytes)?);
         let from = source(alloc, &script, plain(alloc))?;
         let (_store, answered) = call(alloc, words, store, from, MemSink::new(alloc))?;
-        Ok(words_of(alloc, &answered)?)
+        Ok(words_of(alloc, &answered, text_of(&answered))?)
     }
 
     /// The bytes that a word spells; `-` spells none.
@@ -171,6 +182,13 @@ impl Run {
         self.done()
     }
 
+    fn days(&mut self, count: &str) -> Result<String, Fault> {
+        for _ in 0..number(count)?.min(1 << 20) {
+            self.script.push_str("DAY 1\n")?;
+        }
+        self.done()
+    }
+
     fn stops(&mut self, choice: &str) -> Result<String, Fault> {
         let script = self.take_script();
         sweeps::stops(self.alloc, large(choice)?, &script)
@@ -214,6 +232,8 @@ impl Run {
     fn answer(&mut self, words: &[&str]) -> Result<String, Fault> {
         match words {
             ["do", words @ ..] => self.call(words),
+            ["last", words @ ..] => self.call_long(words),
+            ["days", count] => self.days(count),
             ["blank", moment, bytes, words @ ..] => self.call_blank(moment, bytes, words),
             ["source", most, calls @ ..] => self.set_source(most, calls),
             ["sink", most, calls @ ..] => self.set_sink(most, calls),

@@ -151,6 +151,6 @@ not_six (refused_opening refused.RunFull) is = absurd (omega (arith, is))
 not_six (refused_opening refused.Memory) is = absurd (omega (arith, is))
 
 -- a call that ran no script has another status
-pub shut_other : (why : Closing) (before after : Option (List ℕ)) (sink_rose : Type 0) (status : ℕ) (journal : List Entry) (stamps : List ℕ) (base : Option Inv) (generation : ℕ) → Shuts why before after sink_rose status journal stamps base generation → status ≡ 6 → ⊥
-shut_other why before after sink_rose status journal stamps base generation shut six =
+pub shut_other : (why : Closing) (before after : Option (List ℕ)) (sink_rose : Type 0) (status : ℕ) (journal : List Entry) (stamps : List ℕ) (base : Option Inv) (generation opened last : ℕ) → Shuts why before after sink_rose status journal stamps base generation opened last → status ≡ 6 → ⊥
+shut_other why before after sink_rose status journal stamps base generation opened last shut six =
     ⊎_elim (λ own. not_six why (sym own.0 ∙ six)) (λ sink. absurd (omega (arith, sink.0, six))) shut.line

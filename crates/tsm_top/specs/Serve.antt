@@ -130,13 +130,14 @@ HasCause asked (refused_opening why) told left last rose = (command : Command) �
 abbrev pub HasCauseOf : Closing → List (String Global) → (told left : Option History) → (last : ℕ) → (rose : ℕ → Type 0) → Type 0
 HasCauseOf why words told left last rose = HasCause (Asks words) why told left last rose
 
--- No script was run: the one line was put, nothing is in the journal, and no database and no image is told of.
-pub record Shuts (why : Closing) (before after : Option (List ℕ)) (sink_rose : Type 0) (status : ℕ) (journal : List Entry) (stamps : List ℕ) (base : Option Inv) (generation : ℕ) : Type 0 where
+-- No script was run: the one line was put, nothing is in the journal, and no database and no image is told of. `opened` and `last` are both the moment at the return.
+pub record Shuts (why : Closing) (before after : Option (List ℕ)) (sink_rose : Type 0) (status : ℕ) (journal : List Entry) (stamps : List ℕ) (base : Option Inv) (generation opened last : ℕ) : Type 0 where
   pub line : PutsLine (closing_line why) (closing_status why) status before after sink_rose
   pub journal_is : journal ≡ []
   pub stamps_are : stamps ≡ []
   pub base_is : base ≡ None
   pub generation_is : generation ≡ 0
+  pub opened_is : opened ≡ last
 
 -- the refusal names a file of the vault
 abbrev pub IsOurFile : OpenRefused → Type 0

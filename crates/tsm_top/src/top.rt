@@ -80,7 +80,7 @@ pub fn serve<S: Store, I: Source, O: Sink>(
 ) -> Ended<S>
     // What was put, what is in the journal, and what images of the store give back, by how the call ended.
     ensures outcome { ((why : Closing) × HasCauseOf why words.now (S.told store) (S.told result.store) (S.moment_of result.store) (RoseBetween (S.faults_of store) (S.faults_of result.store))
-        × Shuts why (O.contents out.old) (O.contents out.new) (RoseIn (O.fault_count out.old) (O.fault_count out.new)) result.status result.journal.items result.stamps.items result.base result.generation × (script.new ≡ script.old))
+        × Shuts why (O.contents out.old) (O.contents out.new) (RoseIn (O.fault_count out.old) (O.fault_count out.new)) result.status result.journal.items result.stamps.items result.base result.generation result.opened (S.moment_of result.store) × (script.new ≡ script.old))
         ⊎ ((command : Command) × Asks words.now command × (end : End) × (opening : S) × (S.moment_of opening ≡ result.opened) × Later S.moment_of S.faults_of store opening × Later S.moment_of S.faults_of opening result.store × Spares command (S.told store) (S.told opening) × Told (S.told opening) (S.told result.store) (GoesOn (λ file. Unit {0}))
         × RanScript command (S.told store) (S.told result.store) (RoseBetween (S.faults_of opening) (S.faults_of result.store)) result.opened (S.moment_of result.store) end result.status result.journal.items result.stamps.items result.base result.generation (I.left script.old) (I.left script.new) (O.contents out.old) (O.contents out.new)
         × SourceCause end (I.fault_count script.old) (I.fault_count script.new) × SinkCause end (O.fault_count out.old) (O.fault_count out.new)) }
@@ -250,7 +250,7 @@ fn make<S: Store>(alloc: Global, store: &mut S) -> Result<(), NotMade>
 
 // Makes a new database, and no more.
 fn format<S: Store, O: Sink>(alloc: Global, store: S, out: &mut O) -> Ended<S>
-    ensures outcome { (why : Closing) × HasCause (λ command. command ≡ format) why (S.told store) (S.told result.store) (S.moment_of result.store) (RoseBetween (S.faults_of store) (S.faults_of result.store)) × Shuts why (O.contents out.old) (O.contents out.new) (RoseIn (O.fault_count out.old) (O.fault_count out.new)) result.status result.journal.items result.stamps.items result.base result.generation }
+    ensures outcome { (why : Closing) × HasCause (λ command. command ≡ format) why (S.told store) (S.told result.store) (S.moment_of result.store) (RoseBetween (S.faults_of store) (S.faults_of result.store)) × Shuts why (O.contents out.old) (O.contents out.new) (RoseIn (O.fault_count out.old) (O.fault_count out.new)) result.status result.journal.items result.stamps.items result.base result.generation result.opened (S.moment_of result.store) }
     ensures later { Later S.moment_of S.faults_of store result.store }
     ensures opened { (S.moment_of store ≤ result.opened) × (result.opened ≤ S.moment_of result.store) }
 {
@@ -268,7 +268,7 @@ fn format_and_run<S: Store, I: Source, O: Sink>(
     script: &mut I,
     out: &mut O,
 ) -> Ended<S>
-    ensures outcome { ((why : Closing) × HasCause (λ command. command ≡ fresh_run) why (S.told store) (S.told result.store) (S.moment_of result.store) (RoseBetween (S.faults_of store) (S.faults_of result.store)) × Shuts why (O.contents out.old) (O.contents out.new) (RoseIn (O.fault_count out.old) (O.fault_count out.new)) result.status result.journal.items result.stamps.items result.base result.generation × (script.new ≡ script.old))
+    ensures outcome { ((why : Closing) × HasCause (λ command. command ≡ fresh_run) why (S.told store) (S.told result.store) (S.moment_of result.store) (RoseBetween (S.faults_of store) (S.faults_of result.store)) × Shuts why (O.contents out.old) (O.contents out.new) (RoseIn (O.fault_count out.old) (O.fault_count out.new)) result.status result.journal.items result.stamps.items result.base result.generation result.opened (S.moment_of result.store) × (script.new ≡ script.old))
         ⊎ ((end : End) × (opening : S) × (S.moment_of opening ≡ result.opened) × Later S.moment_of S.faults_of store opening × Later S.moment_of S.faults_of opening result.store × Spares fresh_run (S.told store) (S.told opening) × Told (S.told opening) (S.told result.store) (GoesOn (λ file. Unit {0}))
         × RanScript fresh_run (S.told store) (S.told result.store) (RoseBetween (S.faults_of opening) (S.faults_of result.store)) result.opened (S.moment_of result.store) end result.status result.journal.items result.stamps.items result.base result.generation (I.left script.old) (I.left script.new) (O.contents out.old) (O.contents out.new)
         × SourceCause end (I.fault_count script.old) (I.fault_count script.new) × SinkCause end (O.fault_count out.old) (O.fault_count out.new)) }
@@ -289,7 +289,7 @@ fn open<S: Store, I: Source, O: Sink>(
     script: &mut I,
     out: &mut O,
 ) -> Ended<S>
-    ensures outcome { ((why : OpenRefused) × OpensNot run (S.told store) (S.moment_of result.store) (RoseBetween (S.faults_of store) (S.faults_of result.store)) why × Told (S.told store) (S.told result.store) Calm × Shuts (refused_opening why) (O.contents out.old) (O.contents out.new) (RoseIn (O.fault_count out.old) (O.fault_count out.new)) result.status result.journal.items result.stamps.items result.base result.generation × (script.new ≡ script.old))
+    ensures outcome { ((why : OpenRefused) × OpensNot run (S.told store) (S.moment_of result.store) (RoseBetween (S.faults_of store) (S.faults_of result.store)) why × Told (S.told store) (S.told result.store) Calm × Shuts (refused_opening why) (O.contents out.old) (O.contents out.new) (RoseIn (O.fault_count out.old) (O.fault_count out.new)) result.status result.journal.items result.stamps.items result.base result.generation result.opened (S.moment_of result.store) × (script.new ≡ script.old))
         ⊎ ((end : End) × (opening : S) × (S.moment_of opening ≡ result.opened) × Later S.moment_of S.faults_of store opening × Later S.moment_of S.faults_of opening result.store × Told (S.told store) (S.told opening) Calm × Told (S.told opening) (S.told result.store) (GoesOn (λ file. Unit {0}))
         × RanScript run (S.told store) (S.told result.store) (RoseBetween (S.faults_of opening) (S.faults_of result.store)) result.opened (S.moment_of result.store) end result.status result.journal.items result.stamps.items result.base result.generation (I.left script.old) (I.left script.new) (O.contents out.old) (O.contents out.new)
         × SourceCause end (I.fault_count script.old) (I.fault_count script.new) × SinkCause end (O.fault_count out.old) (O.fault_count out.new)) }

@@ -18,7 +18,7 @@ returns-in-Err-clause-outcome g c =
       c.in-Err.refusal,
       subst (λ s. OpensNot run (g.S.Store.told c.args.store) (g.S.Store.moment_of s) (RoseBetween (g.S.Store.faults_of c.args.store) (g.S.Store.faults_of s)) c.in-Err.refusal) (sym shut.store) not,
       subst (λ s. Told (g.S.Store.told c.args.store) (g.S.Store.told s) Calm) (sym shut.store) calm,
-      record { line = shut.line; journal_is = shut.journal; stamps_are = shut.stamps; base_is = shut.base; generation_is = shut.generation },
+      record { line = shut.line; journal_is = shut.journal; stamps_are = shut.stamps; base_is = shut.base; generation_is = shut.generation; opened_is = shut.opened ∙ sym (ap (λ s. g.S.Store.moment_of s) shut.store) },
       refl {a = c.args.script.now},
     )
 
@@ -30,7 +30,7 @@ returns-in-Err-copy-clause-outcome g c =
       refused.Memory,
       tt,
       subst (λ s. Told (g.S.Store.told c.args.store) (g.S.Store.told s) Calm) (sym shut.store) calm,
-      record { line = shut.line; journal_is = shut.journal; stamps_are = shut.stamps; base_is = shut.base; generation_is = shut.generation },
+      record { line = shut.line; journal_is = shut.journal; stamps_are = shut.stamps; base_is = shut.base; generation_is = shut.generation; opened_is = shut.opened ∙ sym (ap (λ s. g.S.Store.moment_of s) shut.store) },
       refl {a = c.args.script.now},
     )
 
