@@ -1,16 +1,16 @@
-//! The program: a script of commands on standard input, answers on standard output, and an exit status.
+//! The program: a script of commands on standard input, answers on standard output, an exit status, and a folder as the store.
 #![tactic(auto)]
 
-mod streams;
-
-use mem_store::MemStore;
+use real_edge::{FolderStore, StdSink, StdSource};
 use std::alloc::Global;
 use std::env::Env;
 use std::process::ExitCode;
 use std::{env, io};
-use streams::{StdSink, StdSource};
 use tree_api::{Sink, put_all};
 use tsm_top::serve;
+
+// The store's folder, in the folder that the program is run in.
+const FOLDER: &str = "store";
 
 const NO_COMMAND: u8 = 2;
 
@@ -20,13 +20,14 @@ const NO_MEMORY: u8 = 8;
 
 fn main(rt: HostRuntime) -> ExitCode {
     let alloc = rt.alloc();
+    let store = FolderStore::new(rt, alloc, FOLDER);
     let mut out = StdSink::new(io::writer(&rt));
     let words = match words(&rt) {
         Ok(words) => words,
         Err(error) => return ExitCode::from(refused(&error, &mut out)),
     };
     let mut script = StdSource::new(rt.reader());
-    let ended = serve(alloc, &words, MemStore::new(alloc), &mut script, &mut out);
+    let ended = serve(alloc, &words, store, &mut script, &mut out);
     ExitCode::from(ended.status)
 }
 
