@@ -85,7 +85,7 @@ indexed_back places more fewer k place fs i fresh put was had long took taken th
     }
 
 -- ---- an object goes
-distinct_at : (n : ℕ) (path : List ℕ) (fs : List (ℕ × Filespace)) → are_distinct (versions_of fs) ≡ true → are_distinct (versions_at n path fs) ≡ true
+pub distinct_at : (n : ℕ) (path : List ℕ) (fs : List (ℕ × Filespace)) → are_distinct (versions_of fs) ≡ true → are_distinct (versions_at n path fs) ≡ true
 distinct_at n path fs d =
     let s : Splices (versions_at n path fs) (versions_at n path fs) (versions_of fs) (versions_of fs) = versions-within n path fs in
     (parted (versions_at n path fs) s.after (parted s.before (versions_at n path fs ++ s.after) (ap are_distinct (sym s.was) ∙ d)).behind).front

@@ -1,13 +1,17 @@
 pub mod Answered
 pub mod Builds
 pub mod ByNumber
+pub mod Counts
 pub mod Full
 pub mod InFilespaces
+pub mod HeldCopies
 pub mod IndexLaws
 pub mod Kept
 pub mod Least
+pub mod NamedSpaces
 pub mod NodeLaws
 pub mod OtherCopies
+pub mod PoolLaws
 pub mod PutLaws
 pub mod RowLaws
 pub mod SpaceLaws
@@ -15,3 +19,4 @@ pub mod Splices
 pub mod Stands
 pub mod Steps
 pub mod VersionLists
+pub mod Weights

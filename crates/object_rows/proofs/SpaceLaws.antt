@@ -1,8 +1,8 @@
 -- The index of places once a filespace is defined or deleted.
-use Rattle.std.proofs.Common.{◌≡◌, ℕ, Bool, true, false, cond, eqb, ◌&&◌, List, [], ◌∷◌, ◌++◌, Some, None, refl, sym, ap, subst, ◌∙◌}
+use Rattle.std.proofs.Common.{◌≡◌, ℕ, Bool, true, false, cond, List, [], ◌∷◌, Some, None, refl, sym, ap, subst, ◌∙◌}
 use Rattle.std.specs.BTreeMap.{insert_entry}
 use Rattle.std.specs.List.Sorted.{IsStrictlySortedBy}
-use Rattle.std.specs.Map.{keys_of, lookup, remove_entry}
+use Rattle.std.specs.Map.{keys_of, remove_entry}
 use Rattle.std.specs.Ordering.{match_ordering, nat_cmp}
 use Rattle.std.specs.declared.cmp.Ordering.TheVariants.{Less, Equal, Greater}
 use Rattle.version_groups.specs.declared.group.Group.{Group}
@@ -12,7 +12,6 @@ use Rattle.object_rows.specs.declared.place.Place.{Place}
 use Rattle.object_rows.specs.Changes.{least_object}
 use Rattle.object_rows.specs.Filespaces.{at_number, filespace_at, versions_in}
 use Rattle.object_rows.specs.Index.{IsIndex}
-use Rattle.object_rows.specs.Names.{at_name, filespace_named, named_of}
 use Rattle.object_rows.specs.Places.{AreAllOrderly, AreOrderly, Indexed, listed, listed_in}
 use Rattle.object_rows.proofs.Least.{least_of_none}
 use Rattle.object_rows.proofs.Splices.{Splices, flatten-remove_entry, splice_new, splice_same}
@@ -58,7 +57,3 @@ space_deleted places fs new n f i there unused entries sorted =
       by_number = sorted;
       orderly = subst AreAllOrderly (sym entries) (orderly-remove (at_number n) fs i.orderly);
     }
-
--- a search by name goes past a filespace that is another node's or has another name
-pub named_more : (node : ℕ) (name : List ℕ) (e : ℕ × Filespace) (es : List (ℕ × Filespace)) → filespace_named node name (e ∷ es) ≡ cond (eqb e.1.node node && at_name name e.1.name) (Some e.0) (filespace_named node name es)
-named_more node name e es = elim (eqb e.1.node node) as (λ b. lookup (at_name name) (cond b ((e.1.name, e.0) ∷ []) [] ++ named_of node es) ≡ cond (b && at_name name e.1.name) (Some e.0) (filespace_named node name es)) [ true ↦ refl | false ↦ refl ]

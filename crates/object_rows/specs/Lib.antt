@@ -1,7 +1,11 @@
 pub mod Build
 pub mod Changes
 pub mod Filespaces
+pub mod Held
 pub mod Index
+pub mod Items
 pub mod Names
 pub mod Places
 pub mod Rows
+pub mod SpaceNames
+pub mod Tally

@@ -5,9 +5,11 @@ use Rattle.std.specs.Cmp.Lexicographic.{slice_cmp}
 use Rattle.std.specs.List.{flat_map}
 use Rattle.std.specs.List.Sorted.{IsStrictlySortedBy}
 use Rattle.std.specs.Map.{keys_of, lookup}
+use Rattle.std.specs.Option.{unwrap_or}
 use Rattle.std.specs.Ordering.{nat_cmp}
 use Rattle.version_groups.specs.declared.groups.Filespace.{Filespace}
 use Rattle.object_rows.specs.declared.place.Node.{Node}
+use Rattle.object_rows.specs.Filespaces.{at_number}
 use Rattle.object_rows.specs.Index.{IsIndex}
 
 -- a key that is this name
@@ -46,3 +48,11 @@ filespace_of node filespaces = first_number (named_of node filespaces)
 pub record NodesIndexed (names : List (List ℕ × ℕ)) (nodes : List (ℕ × Node)) : Type 0 where
   pub index : IsIndex (slice_cmp nat_cmp) names (named nodes)
   pub by_number : IsStrictlySortedBy nat_cmp (keys_of nodes)
+
+-- the names that the index has for a node, each with its filespace's number; none where it doesn't have the node
+abbrev pub names_at : ℕ → List (ℕ × List (List ℕ × ℕ)) → List (List ℕ × ℕ)
+names_at node spaces = unwrap_or (lookup (at_number node) spaces) []
+
+-- for each node the index leads to each of its filespaces by its name, which no other filespace of the node has
+pub record SpacesIndexed (spaces : List (ℕ × List (List ℕ × ℕ))) (filespaces : List (ℕ × Filespace)) : Type 0 where
+  pub index : (node : ℕ) → IsIndex (slice_cmp nat_cmp) (names_at node spaces) (named_of node filespaces)

@@ -1,8 +1,9 @@
 -- Where the version of each object stands, as the index of objects says it.
-use Rattle.std.specs.Prelude.{◌≡◌, ℕ, Bool, true, not, List, map}
+use Rattle.std.specs.Prelude.{◌≡◌, ℕ, Bool, true, not, List, map, Option}
 use Rattle.std.specs.List.{flat_map, list_all, AllByRecursion}
 use Rattle.std.specs.List.Sorted.{IsStrictlySortedBy}
-use Rattle.std.specs.Map.{keys_of}
+use Rattle.std.specs.Map.{keys_of, lookup}
+use Rattle.std.specs.Option.{option_map}
 use Rattle.std.specs.Ordering.{nat_cmp}
 use Rattle.version_groups.specs.declared.group.Group.{Group}
 use Rattle.version_groups.specs.declared.groups.Filespace.{Filespace}
@@ -10,6 +11,7 @@ use Rattle.version_groups.specs.declared.versions.Version.{Version}
 use Rattle.version_groups.specs.Groups.{AreByPath}
 use Rattle.version_groups.specs.Versions.{is_empty}
 use Rattle.object_rows.specs.declared.place.Place.{Place}
+use Rattle.object_rows.specs.Filespaces.{at_number}
 use Rattle.object_rows.specs.Index.{IsIndex}
 
 -- the places of the versions of a path, by object
@@ -23,6 +25,14 @@ listed_in n groups = flat_map (λ g. listed_at n g.0 g.1.versions) groups
 -- the places of all versions
 abbrev pub listed : List (ℕ × Filespace) → List (ℕ × Place)
 listed filespaces = flat_map (λ f. listed_in f.0 f.1.groups) filespaces
+
+-- where the version of an object stands
+abbrev pub place_of : ℕ → List (ℕ × Filespace) → Option Place
+place_of object filespaces = lookup (at_number object) (listed filespaces)
+
+-- the filespace in which the version of an object stands
+abbrev pub filespace_with : ℕ → List (ℕ × Filespace) → Option ℕ
+filespace_with object filespaces = option_map (λ place. place.filespace) (place_of object filespaces)
 
 -- each of the groups has a version
 abbrev pub are_full : List (List ℕ × Group) → Bool

@@ -18,7 +18,7 @@ use Rattle.object_rows.specs.declared.place.Node.{Node}
 use Rattle.object_rows.specs.declared.place.Place.{Place}
 use Rattle.object_rows.specs.Filespaces.{at_number, filespace_at, filespaces_after, filespaces_altered, filespaces_with, group_at, versions_of}
 use Rattle.object_rows.specs.Index.{AreDistinct}
-use Rattle.object_rows.specs.Names.{named}
+use Rattle.object_rows.specs.Names.{named, named_of}
 use Rattle.object_rows.specs.Places.{are_all_full, listed}
 
 -- what the database keeps of nodes and of filespaces with their versions, each in ascending order of the numbers
@@ -74,9 +74,11 @@ abbrev pub NewestIs : Option ℕ → List Version → Type 0
 NewestIs None versions = versions ≡ []
 NewestIs (Some object) versions = (newest : Version) × (older : List Version) × (versions ≡ newest ∷ older) × (newest.object ≡ object)
 
--- what holds of all rows that are kept: no two nodes have one name, no two versions are of one object, and each group has a version
+-- what holds of all rows that are kept: no two nodes have one name, nor do two filespaces of one node, no two versions are of one object,
+-- and each group has a version
 pub record IsSound (rows : Rows) : Type 0 where
   pub names : AreDistinct (slice_cmp nat_cmp) (named rows.nodes)
+  pub spaces : (node : ℕ) → AreDistinct (slice_cmp nat_cmp) (named_of node rows.filespaces)
   pub objects : are_distinct (versions_of rows.filespaces) ≡ true
   pub full : are_all_full rows.filespaces ≡ true
 

@@ -4,9 +4,13 @@ ghost use Rattle.std.specs.Ordering.{nat_cmp};
 ghost use Rattle.object_rows.specs.Build.{Builds};
 ghost use Rattle.object_rows.specs.Names.{named};
 ghost use Rattle.object_rows.specs.Places.{are_full, are_all_full, AreAllOrderly, listed, listed_at, listed_in};
+ghost use Rattle.object_rows.specs.SpaceNames.{BuildsNames};
 
 use crate::place::{Node, Place};
+use crate::space_names;
+use crate::space_names::SpaceNames;
 use kinds::{NodeName, Path, Refusal};
+use std::alloc::Global;
 use std::collections::BTreeMap;
 use version_groups::{Filespace, Group, Version};
 
@@ -22,6 +26,24 @@ pub(crate) fn add_nodes(
             return Ok(false);
         }
         names.insert(node.name.clone()?, *number)?;
+    }
+    Ok(true)
+}
+
+/// Puts each filespace's name into the index of its node; false where two filespaces of one node have one.
+pub(crate) fn add_spaces(
+    alloc: Global,
+    spaces: &mut BTreeMap<u32, SpaceNames>,
+    filespaces: &BTreeMap<u32, Filespace>,
+) -> Result<bool, Refusal>
+    ensures { BuildsNames result spaces.old.entries spaces.new.entries filespaces.now.entries }
+{
+    'filespaces: for (number, filespace) in filespaces.iter() {
+        if space_names::get(spaces, filespace.node, &filespace.name).is_some() {
+            return Ok(false);
+        }
+        let name = filespace.name.clone()?;
+        space_names::put(alloc, spaces, filespace.node, name, *number)?;
     }
     Ok(true)
 }

@@ -1,17 +1,20 @@
-ghost use Rattle.std.specs.Prelude.{◌≡◌, ◌<◌, ◌∷◌, false, IsTrue, Ok, Err, [], length};
+ghost use Rattle.std.specs.Prelude.{◌≡◌, ◌<◌, ◌∷◌, false, true, IsTrue, Ok, Err, [], length};
 ghost use Rattle.std.specs.Option.{option_copied};
 ghost use Rattle.kinds.specs.Answers.{Becomes, Makes};
 ghost use Rattle.kinds.specs.declared.refusal.Refusal.TheVariants.{NotFound};
 ghost use Rattle.version_groups.specs.Copies.{takes_free_pool, Alters};
-ghost use Rattle.version_groups.specs.Versions.{has_object, copies_of, version_of};
+ghost use Rattle.version_groups.specs.Versions.{are_distinct, has_object, copies_of, version_of};
 ghost use Rattle.version_groups.specs.declared.group.GroupChange.TheVariants.{Gone, Remove, Rebind, Undo};
 ghost use Rattle.object_rows.specs.Filespaces.{at_number, filespaces_after, filespaces_altered, filespaces_with, versions_at, versions_of};
 ghost use Rattle.std.specs.Map.{lookup};
 ghost use Rattle.object_rows.specs.Places.{AreAllOrderly, Indexed, listed};
 ghost use Rattle.object_rows.specs.Rows.{NewestIs, filespaces_cleared};
+ghost use Rattle.object_rows.specs.declared.tally.Tally.{Tally};
+ghost use Rattle.object_rows.specs.Tally.{IsCounted};
 
-use crate::filespaces;
 use crate::place::Place;
+use crate::tally::Tally;
+use crate::{counted, filespaces};
 use kinds::{Day, Name, Path, Refusal};
 use std::collections::BTreeMap;
 use version_groups::{CopyChange, Filespace, GroupChange, Version};
@@ -38,15 +41,18 @@ pub(crate) fn find<'a>(
 pub(crate) fn put(
     places: &mut BTreeMap<u64, Place>,
     filespaces: &mut BTreeMap<u32, Filespace>,
+    tally: &mut Tally,
     number: u32,
     path: &Path,
     class: Name,
     version: Version,
 ) -> Result<(), Refusal>
     requires indexed { Indexed places.old.entries filespaces.old.entries }
+    requires counted { IsCounted tally.old filespaces.old.entries }
     requires new { has_object version.object (versions_of filespaces.old.entries) ≡ false }
     ensures value { Becomes result filespaces.old.entries filespaces.new.entries (filespaces_with number path.now class version filespaces.old.entries) }
     ensures indexed { Indexed places.new.entries filespaces.new.entries }
+    ensures counted { IsCounted tally.new filespaces.new.entries }
 {
     let place = Place {
         filespace: number,
@@ -54,7 +60,7 @@ pub(crate) fn put(
     };
     let object = version.object;
     places.insert(object, place)?;
-    match filespaces::put(filespaces, number, path, class, version) {
+    match counted::put(filespaces, tally, number, path, class, version) {
         Ok(()) => Ok(()),
         Err(refusal) => {
             places.remove(&object);
@@ -67,15 +73,19 @@ pub(crate) fn put(
 pub(crate) fn remove(
     places: &mut BTreeMap<u64, Place>,
     filespaces: &mut BTreeMap<u32, Filespace>,
+    tally: &mut Tally,
     number: u32,
     path: &Path,
     object: u64,
 ) -> Result<(), Refusal>
-    requires { Indexed places.old.entries filespaces.old.entries }
+    requires indexed { Indexed places.old.entries filespaces.old.entries }
+    requires counted { IsCounted tally.old filespaces.old.entries }
     ensures value { Makes result filespaces.old.entries filespaces.new.entries (filespaces_after number path.now (Remove object) filespaces.old.entries) }
     ensures indexed { Indexed places.new.entries filespaces.new.entries }
+    ensures counted { IsCounted tally.new filespaces.new.entries }
 {
-    match filespaces::change(filespaces, number, path, GroupChange::Remove { object }) {
+    let gone = GroupChange::Remove { object };
+    match counted::change(filespaces, tally, number, path, gone, object) {
         Ok(()) => {
             places.remove(&object);
             Ok(())
@@ -88,16 +98,25 @@ pub(crate) fn remove(
 fn clear(
     places: &BTreeMap<u64, Place>,
     filespaces: &mut BTreeMap<u32, Filespace>,
+    tally: &mut Tally,
     object: u64,
 ) -> Result<(), Refusal>
     ensures value { Makes result filespaces.old.entries filespaces.new.entries (filespaces_cleared object (lookup (at_number object) places.now.entries) filespaces.old.entries) }
+    ensures counted { AreAllOrderly filespaces.old.entries → are_distinct (versions_of filespaces.old.entries) ≡ true → IsCounted tally.old filespaces.old.entries → IsCounted tally.new filespaces.new.entries }
     ensures orderly { AreAllOrderly filespaces.old.entries → AreAllOrderly filespaces.new.entries }
 {
     match places.get(&object) {
         None => Err(Refusal::NotFound),
         Some(place) => {
             let gone = GroupChange::Remove { object };
-            filespaces::change(filespaces, place.filespace, &place.path, gone)
+            counted::change(
+                filespaces,
+                tally,
+                place.filespace,
+                &place.path,
+                gone,
+                object,
+            )
         }
     }
 }
@@ -106,13 +125,16 @@ fn clear(
 pub(crate) fn discard(
     places: &mut BTreeMap<u64, Place>,
     filespaces: &mut BTreeMap<u32, Filespace>,
+    tally: &mut Tally,
     object: u64,
 ) -> Result<(), Refusal>
-    requires { Indexed places.old.entries filespaces.old.entries }
+    requires indexed { Indexed places.old.entries filespaces.old.entries }
+    requires counted { IsCounted tally.old filespaces.old.entries }
     ensures value { Makes result filespaces.old.entries filespaces.new.entries (filespaces_cleared object (lookup (at_number object) (listed filespaces.old.entries)) filespaces.old.entries) }
     ensures indexed { Indexed places.new.entries filespaces.new.entries }
+    ensures counted { IsCounted tally.new filespaces.new.entries }
 {
-    match clear(places, filespaces, object) {
+    match clear(places, filespaces, tally, object) {
         Ok(()) => {
             places.remove(&object);
             Ok(())
@@ -133,6 +155,7 @@ pub(crate) fn retire(
     requires { Indexed places.now.entries filespaces.old.entries }
     ensures value { Makes result filespaces.old.entries filespaces.new.entries (filespaces_after number path.now (Gone object today) filespaces.old.entries) }
     ensures indexed { Indexed places.now.entries filespaces.new.entries }
+    ensures counted { (tally : Tally) → IsCounted tally filespaces.old.entries → IsCounted tally filespaces.new.entries }
 {
     let gone = GroupChange::Gone { object, today };
     filespaces::change(filespaces, number, path, gone)
@@ -149,6 +172,7 @@ pub(crate) fn rebind(
     requires { Indexed places.now.entries filespaces.old.entries }
     ensures value { Makes result filespaces.old.entries filespaces.new.entries (filespaces_after number path.now (Rebind class) filespaces.old.entries) }
     ensures indexed { Indexed places.now.entries filespaces.new.entries }
+    ensures counted { (tally : Tally) → IsCounted tally filespaces.old.entries → IsCounted tally filespaces.new.entries }
 {
     filespaces::change(filespaces, number, path, GroupChange::Rebind { class })
 }
@@ -157,19 +181,22 @@ pub(crate) fn rebind(
 pub(crate) fn undo(
     places: &mut BTreeMap<u64, Place>,
     filespaces: &mut BTreeMap<u32, Filespace>,
+    tally: &mut Tally,
     number: u32,
     path: &Path,
     class: Name,
     active: bool,
 )
     requires indexed { Indexed places.old.entries filespaces.old.entries }
+    requires counted { IsCounted tally.old filespaces.old.entries }
     requires there { 0 < length (versions_at number path.now filespaces.old.entries) }
     ensures value { filespaces_after number path.now (Undo class active) filespaces.old.entries ≡ Ok filespaces.new.entries }
     ensures indexed { Indexed places.new.entries filespaces.new.entries }
+    ensures counted { IsCounted tally.new filespaces.new.entries }
 {
     if let Some(object) = newest(filespaces, number, path) {
         let undo = GroupChange::Undo { class, active };
-        match filespaces::change(filespaces, number, path, undo) {
+        match counted::change(filespaces, tally, number, path, undo, object) {
             Ok(()) => {
                 places.remove(&object);
             }
@@ -182,18 +209,28 @@ pub(crate) fn undo(
 pub(crate) fn alter(
     places: &BTreeMap<u64, Place>,
     filespaces: &mut BTreeMap<u32, Filespace>,
+    tally: &mut Tally,
     object: u64,
     change: CopyChange,
 ) -> Result<(), Refusal>
     requires indexed { Indexed places.now.entries filespaces.old.entries }
+    requires counted { IsCounted tally.old filespaces.old.entries }
     requires free { IsTrue (takes_free_pool change (copies_of object (versions_of filespaces.old.entries))) }
     ensures value { Alters change result filespaces.old.entries filespaces.new.entries (filespaces_altered object change filespaces.old.entries) }
     ensures indexed { Indexed places.now.entries filespaces.new.entries }
+    ensures counted { IsCounted tally.new filespaces.new.entries }
 {
     match places.get(&object) {
         None => Err(Refusal::NotFound),
         Some(place) => {
-            filespaces::alter(filespaces, place.filespace, &place.path, object, change)
+            counted::alter(
+                filespaces,
+                tally,
+                place.filespace,
+                &place.path,
+                object,
+                change,
+            )
         }
     }
 }

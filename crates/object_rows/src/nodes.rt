@@ -3,9 +3,10 @@ ghost use Rattle.std.specs.Map.{lookup, remove_entry};
 ghost use Rattle.kinds.specs.Answers.{Becomes, Makes};
 ghost use Rattle.object_rows.specs.Changes.{nodes_with, nodes_without};
 ghost use Rattle.object_rows.specs.Filespaces.{at_number};
-ghost use Rattle.object_rows.specs.Names.{node_named, NodesIndexed};
+ghost use Rattle.object_rows.specs.Names.{node_named, NodesIndexed, SpacesIndexed};
 
 use crate::place::Node;
+use crate::space_names::SpaceNames;
 use crate::spaces;
 use kinds::{By, Name, NodeName, Refusal};
 use std::collections::BTreeMap;
@@ -74,16 +75,18 @@ fn remove(
 pub(crate) fn delete(
     names: &mut BTreeMap<NodeName, u32>,
     nodes: &mut BTreeMap<u32, Node>,
+    spaces: &BTreeMap<u32, SpaceNames>,
     filespaces: &BTreeMap<u32, Filespace>,
     name: &NodeName,
 ) -> Result<(), Refusal>
-    requires { NodesIndexed names.old.entries nodes.old.entries }
+    requires indexed { NodesIndexed names.old.entries nodes.old.entries }
+    requires named { SpacesIndexed spaces.now.entries filespaces.now.entries }
     ensures value { Makes result nodes.old.entries nodes.new.entries (nodes_without name.now filespaces.now.entries nodes.old.entries) }
     ensures indexed { NodesIndexed names.new.entries nodes.new.entries }
 {
     match named(names, nodes, name) {
         None => Err(Refusal::NotFound),
-        Some(number) => match spaces::of_node(filespaces, number) {
+        Some(number) => match spaces::of_node(spaces, filespaces, number) {
             Some(filespace) => Err(Refusal::InUse(By::Filespace(filespace))),
             None => {
                 remove(names, nodes, name, number);

@@ -11,13 +11,17 @@ ghost use Rattle.version_groups.specs.declared.group.GroupChange.TheVariants.{Go
 ghost use Rattle.version_groups.specs.declared.copies.CopyChange.TheVariants.{Add, Replace, Drop};
 ghost use Rattle.version_groups.specs.Copies.{has_copy, without_copy, Alters};
 ghost use Rattle.object_rows.specs.Changes.{Changes, HasFreeNumber, rows_changed};
-ghost use Rattle.object_rows.specs.Names.{filespace_named, node_named};
+ghost use Rattle.object_rows.specs.Held.{holds_copy};
+ghost use Rattle.object_rows.specs.Items.{items_of_rows, left};
+ghost use Rattle.object_rows.specs.Names.{filespace_named, filespace_of, node_named};
 ghost use Rattle.object_rows.specs.Filespaces.{group_at, versions_at, versions_of};
-ghost use Rattle.object_rows.specs.Places.{PathsAscend};
+ghost use Rattle.object_rows.specs.Places.{PathsAscend, filespace_with};
 ghost use Rattle.object_rows.specs.Rows.{IsNew, FreePool, IsMadeOf, IsSound, rows_with, rows_without, rows_after, rows_altered, UndoGivesBack};
 
 use crate::place::{Node, Place};
-use crate::{build, indexed, nodes, spaces};
+use crate::space_names::SpaceNames;
+use crate::tally::Tally;
+use crate::{build, indexed, items, nodes, spaces};
 use kinds::{Day, DefineOrDelete, FilespaceName, Name, NodeName, ObjectChange, Path, Refusal};
 use std::alloc::{AllocError, Global};
 use std::collections::BTreeMap;
@@ -34,19 +38,22 @@ pub struct Objects {
     nodes: BTreeMap<u32, Node>,
     names: BTreeMap<NodeName, u32>,
     filespaces: BTreeMap<u32, Filespace>,
+    spaces: BTreeMap<u32, SpaceNames>,
     places: BTreeMap<u64, Place>,
+    tally: Tally,
 }
 
 impl Model for Objects {
-    ghost use Rattle.object_rows.specs.Names.{NodesIndexed};
+    ghost use Rattle.object_rows.specs.Names.{NodesIndexed, SpacesIndexed};
     ghost use Rattle.object_rows.specs.Places.{Indexed};
     ghost use Rattle.object_rows.specs.Rows.{Rows};
+    ghost use Rattle.object_rows.specs.Tally.{IsCounted};
 
     ghost Value = { Rows };
 
     ghost view = { λ o. record { nodes = o.nodes.entries; filespaces = o.filespaces.entries } };
 
-    ghost invariant = { λ o. NodesIndexed o.names.entries o.nodes.entries × Indexed o.places.entries o.filespaces.entries };
+    ghost invariant = { λ o. NodesIndexed o.names.entries o.nodes.entries × Indexed o.places.entries o.filespaces.entries × IsCounted o.tally o.filespaces.entries × SpacesIndexed o.spaces.entries o.filespaces.entries };
 }
 
 impl Objects {
@@ -59,12 +66,14 @@ impl Objects {
             nodes: BTreeMap::new(alloc),
             names: BTreeMap::new(alloc),
             filespaces: BTreeMap::new(alloc),
+            spaces: BTreeMap::new(alloc),
             places: BTreeMap::new(alloc),
+            tally: Tally::new(alloc),
         }
     }
 
-    /// These nodes and filespaces; none where two nodes have one name, two versions are of one object, or a group has no
-    /// version.
+    /// These nodes and filespaces; none where two nodes, or two filespaces of one node, have one name, two versions are of one object,
+    /// or a group has no version.
     pub fn from_parts(
         alloc: Global,
         nodes: BTreeMap<u32, Node>,
@@ -79,18 +88,25 @@ impl Objects {
         if !build::add_nodes(&mut names, &nodes)? {
             return Ok(None);
         }
+        let mut spaces = BTreeMap::new(alloc);
+        if !build::add_spaces(alloc, &mut spaces, &filespaces)? {
+            return Ok(None);
+        }
         let mut places = BTreeMap::new(alloc);
         if !build::add_filespaces(&mut places, &filespaces)? {
             return Ok(None);
         }
         let _ = nodes.len();
         let _ = filespaces.len();
+        let tally = Tally::of(alloc, &filespaces);
         Ok(Some(Objects {
             alloc,
             nodes,
             names,
             filespaces,
+            spaces,
             places,
+            tally,
         }))
     }
 
@@ -125,11 +141,18 @@ impl Objects {
         nodes::named(&self.names, &self.nodes, name)
     }
 
-    /// The number of the node's filespace with this name. It takes no memory.
+    /// The number of the node's filespace with this name. It takes no memory, and no walk.
     pub fn filespace_named(&self, node: u32, name: &FilespaceName) -> Option<u32>
         ensures { result ≡ filespace_named node name.now self.now.filespaces }
     {
-        spaces::named(&self.filespaces, node, name)
+        spaces::named(&self.spaces, &self.filespaces, node, name)
+    }
+
+    /// The least number of a filespace of the node. It takes no memory, and walks the filespaces only where the node has one.
+    pub fn filespace_of_node(&self, node: u32) -> Option<u32>
+        ensures { result ≡ filespace_of node self.now.filespaces }
+    {
+        spaces::of_node(&self.spaces, &self.filespaces, node)
     }
 
     /// The version of the object. It takes no memory.
@@ -163,6 +186,41 @@ impl Objects {
         ensures { result ≡ has_copy pool (without_copy from (copies_of object (versions_of self.now.filespaces))) }
     {
         from != pool && self.has_copy(object, pool)
+    }
+
+    /// The number of the filespace in which the object's version stands. It takes no memory, and no walk.
+    pub fn filespace_of(&self, object: u64) -> Option<u32>
+        ensures { result ≡ filespace_with object self.now.filespaces }
+    {
+        match self.places.get(&object) {
+            None => None,
+            Some(place) => Some(place.filespace),
+        }
+    }
+
+    /// How many versions are kept. It takes no memory, and no walk.
+    pub fn count(&self) -> usize
+        ensures { result ≡ length (versions_of self.now.filespaces) }
+    {
+        self.places.len()
+    }
+
+    /// What is left of the room once the nodes and filespaces with their groups, versions, copies and segments are in it; none
+    /// where they have no room. It takes no memory, and no walk while they are fewer than 2^128.
+    pub fn items_left(&self, room: u128) -> Option<u128>
+        ensures { result ≡ left (items_of_rows self.now) room }
+    {
+        let rest = items::left_by(self.nodes.len(), room)?;
+        let rest = items::left_by(self.filespaces.len(), rest)?;
+        self.tally.items_left(&self.filespaces, rest)
+    }
+
+    /// Whether a copy of a version lies in the pool. It takes no memory, and no walk, unless memory was once wanted for the count of the
+    /// copies in a pool: then it walks the versions, up to such a copy.
+    pub fn holds_copy(&self, pool: u32) -> bool
+        ensures { result ≡ holds_copy pool self.now.filespaces }
+    {
+        self.tally.holds_copy(&self.filespaces, pool)
     }
 
     /// The group of a path of a filespace. It takes no memory.
@@ -223,7 +281,13 @@ impl Objects {
                 verb: DefineOrDelete::Delete,
                 node,
                 ..
-            } => nodes::delete(&mut self.names, &mut self.nodes, &self.filespaces, node),
+            } => nodes::delete(
+                &mut self.names,
+                &mut self.nodes,
+                &self.spaces,
+                &self.filespaces,
+                node,
+            ),
             ObjectChange::Filespace {
                 verb: DefineOrDelete::Define,
                 node,
@@ -233,6 +297,7 @@ impl Objects {
                 self.alloc,
                 &self.nodes,
                 &self.places,
+                &mut self.spaces,
                 &mut self.filespaces,
                 *node,
                 name,
@@ -242,7 +307,12 @@ impl Objects {
                 verb: DefineOrDelete::Delete,
                 filespace,
                 ..
-            } => spaces::delete(&self.places, &mut self.filespaces, *filespace),
+            } => spaces::delete(
+                &self.places,
+                &mut self.spaces,
+                &mut self.filespaces,
+                *filespace,
+            ),
         }
     }
 
@@ -273,6 +343,7 @@ impl Objects {
         indexed::put(
             &mut self.places,
             &mut self.filespaces,
+            &mut self.tally,
             filespace,
             path,
             class,
@@ -310,6 +381,7 @@ impl Objects {
         indexed::remove(
             &mut self.places,
             &mut self.filespaces,
+            &mut self.tally,
             filespace,
             path,
             object,
@@ -321,7 +393,12 @@ impl Objects {
     pub fn discard(&mut self, object: u64) -> Result<(), Refusal>
         ensures { Makes result self.old self.new (rows_without object self.old) }
     {
-        indexed::discard(&mut self.places, &mut self.filespaces, object)
+        indexed::discard(
+            &mut self.places,
+            &mut self.filespaces,
+            &mut self.tally,
+            object,
+        )
     }
 
     /// Binds the path to this class. A filespace or a path that is not there is `NotFound`. It takes no memory.
@@ -340,6 +417,7 @@ impl Objects {
         indexed::undo(
             &mut self.places,
             &mut self.filespaces,
+            &mut self.tally,
             filespace,
             path,
             class,
@@ -375,7 +453,13 @@ impl Objects {
         requires { FreePool change object self.old }
         ensures { Alters change result self.old self.new (rows_altered object change self.old) }
     {
-        indexed::alter(&self.places, &mut self.filespaces, object, change)
+        indexed::alter(
+            &self.places,
+            &mut self.filespaces,
+            &mut self.tally,
+            object,
+            change,
+        )
     }
 }
 
@@ -388,7 +472,9 @@ impl Clone for Objects {
             nodes: self.nodes.clone()?,
             names: self.names.clone()?,
             filespaces: self.filespaces.clone()?,
+            spaces: self.spaces.clone()?,
             places: self.places.clone()?,
+            tally: self.tally.clone()?,
         })
     }
 }

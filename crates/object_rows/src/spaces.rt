@@ -1,43 +1,36 @@
-ghost use Rattle.std.specs.Prelude.{◌≡◌, false, is_some, ◌∷◌, ◌==◌, ◌&&◌, Some, None, map, length, Ok};
+ghost use Rattle.std.specs.Prelude.{◌≡◌, false, is_some, ◌∷◌, ◌==◌, Some, None, map, length, Ok};
 ghost use Rattle.std.specs.Map.{lookup, remove_entry};
 ghost use Rattle.kinds.specs.Answers.{Becomes, Makes};
 ghost use Rattle.object_rows.specs.Changes.{lesser, least, least_object, filespaces_defined, filespaces_without};
 ghost use Rattle.object_rows.specs.Filespaces.{at_number, filespace_at};
-ghost use Rattle.object_rows.specs.Names.{at_name, filespace_named, filespace_of};
+ghost use Rattle.object_rows.specs.Names.{filespace_named, filespace_of, SpacesIndexed};
 ghost use Rattle.object_rows.specs.Places.{Indexed};
+ghost use Rattle.object_rows.specs.declared.tally.Tally.{Tally};
+ghost use Rattle.object_rows.specs.Tally.{IsCounted};
 
 use crate::place::{Node, Place};
+use crate::space_names;
+use crate::space_names::SpaceNames;
 use kinds::{By, FilespaceName, Path, Refusal};
 use std::alloc::Global;
 use std::collections::BTreeMap;
 use version_groups::{Filespace, Group, Groups, Version};
 
-/// Whether the filespace is the node's and has this name.
-fn is_named(filespace: &Filespace, node: u32, name: &FilespaceName) -> bool
-    ensures { result ≡ (filespace.now.node == node && at_name name.now filespace.now.name) }
-{
-    filespace.node == node && name.cmp(&filespace.name).is_eq()
-}
-
-/// The number of the node's filespace with this name.
-#[tactic(auto, using(crate::proofs::SpaceLaws::named_more))]
+/// The number of the node's filespace with this name. It takes no memory.
 pub(crate) fn named(
+    spaces: &BTreeMap<u32, SpaceNames>,
     filespaces: &BTreeMap<u32, Filespace>,
     node: u32,
     name: &FilespaceName,
 ) -> Option<u32>
+    requires { SpacesIndexed spaces.now.entries filespaces.now.entries }
     ensures { result ≡ filespace_named node name.now filespaces.now.entries }
 {
-    'filespaces: for (number, filespace) in filespaces.iter() {
-        if is_named(filespace, node, name) {
-            return Some(*number);
-        }
-    }
-    None
+    space_names::get(spaces, node, name)
 }
 
 /// The least number of a filespace of the node.
-pub(crate) fn of_node(filespaces: &BTreeMap<u32, Filespace>, node: u32) -> Option<u32>
+fn least_of_node(filespaces: &BTreeMap<u32, Filespace>, node: u32) -> Option<u32>
     ensures { result ≡ filespace_of node filespaces.now.entries }
 {
     'filespaces: for (number, filespace) in filespaces.iter() {
@@ -46,6 +39,21 @@ pub(crate) fn of_node(filespaces: &BTreeMap<u32, Filespace>, node: u32) -> Optio
         }
     }
     None
+}
+
+/// The least number of a filespace of the node. It walks the filespaces only where there is one.
+pub(crate) fn of_node(
+    spaces: &BTreeMap<u32, SpaceNames>,
+    filespaces: &BTreeMap<u32, Filespace>,
+    node: u32,
+) -> Option<u32>
+    requires { SpacesIndexed spaces.now.entries filespaces.now.entries }
+    ensures { result ≡ filespace_of node filespaces.now.entries }
+{
+    if space_names::has_none(spaces, node) {
+        return None;
+    }
+    least_of_node(filespaces, node)
 }
 
 /// The lesser of two numbers, of which each may be missing.
@@ -86,20 +94,24 @@ pub(crate) fn define(
     alloc: Global,
     nodes: &BTreeMap<u32, Node>,
     places: &BTreeMap<u64, Place>,
+    spaces: &mut BTreeMap<u32, SpaceNames>,
     filespaces: &mut BTreeMap<u32, Filespace>,
     node: u32,
     name: &FilespaceName,
     number: u32,
 ) -> Result<(), Refusal>
     requires indexed { Indexed places.now.entries filespaces.old.entries }
+    requires named { SpacesIndexed spaces.old.entries filespaces.old.entries }
     requires free { is_some (filespace_at number filespaces.old.entries) ≡ false }
     ensures value { Becomes result filespaces.old.entries filespaces.new.entries (filespaces_defined node name.now number nodes.now.entries filespaces.old.entries) }
     ensures indexed { Indexed places.now.entries filespaces.new.entries }
+    ensures named { SpacesIndexed spaces.new.entries filespaces.new.entries }
+    ensures counted { (tally : Tally) → IsCounted tally filespaces.old.entries → IsCounted tally filespaces.new.entries }
 {
     if !nodes.contains_key(&node) {
         return Err(Refusal::NotFound);
     }
-    if named(filespaces, node, name).is_some() {
+    if named(spaces, filespaces, node, name).is_some() {
         return Err(Refusal::Exists);
     }
     let filespace = Filespace {
@@ -107,20 +119,30 @@ pub(crate) fn define(
         name: name.clone()?,
         groups: Groups::new(alloc),
     };
-    filespaces.insert(number, filespace)?;
-    Ok(())
+    space_names::put(alloc, spaces, node, name.clone()?, number)?;
+    match filespaces.insert(number, filespace) {
+        Ok(_) => Ok(()),
+        Err(_) => {
+            space_names::take(spaces, node, name);
+            Err(Refusal::Memory)
+        }
+    }
 }
 
 /// Takes a filespace away that has no version. One that is not there is `NotFound`, one with versions is in use by the least
 /// of their objects.
 pub(crate) fn delete(
     places: &BTreeMap<u64, Place>,
+    spaces: &mut BTreeMap<u32, SpaceNames>,
     filespaces: &mut BTreeMap<u32, Filespace>,
     number: u32,
 ) -> Result<(), Refusal>
-    requires { Indexed places.now.entries filespaces.old.entries }
+    requires indexed { Indexed places.now.entries filespaces.old.entries }
+    requires named { SpacesIndexed spaces.old.entries filespaces.old.entries }
     ensures value { Makes result filespaces.old.entries filespaces.new.entries (filespaces_without number filespaces.old.entries) }
     ensures indexed { Indexed places.now.entries filespaces.new.entries }
+    ensures named { SpacesIndexed spaces.new.entries filespaces.new.entries }
+    ensures counted { (tally : Tally) → IsCounted tally filespaces.old.entries → IsCounted tally filespaces.new.entries }
 {
     match filespaces.get(&number) {
         None => return Err(Refusal::NotFound),
@@ -128,6 +150,7 @@ pub(crate) fn delete(
             if let Some(object) = least_object(filespace.groups.as_map()) {
                 return Err(Refusal::InUse(By::Object(object)));
             }
+            space_names::take(spaces, filespace.node, &filespace.name);
         }
     }
     filespaces.remove(&number);

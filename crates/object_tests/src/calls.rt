@@ -135,6 +135,35 @@ pub fn replace_copy(
     objects.replace_copy(object, from, copy)
 }
 
+/// Takes away a version of a path of the filespace 1.
+pub fn remove(objects: &mut Objects, path: &Path, object: u64) -> Result<(), Refusal> {
+    objects.remove(1, path, object)
+}
+
+/// What is left of room for nine items.
+pub fn room_of_nine(objects: &Objects) -> Option<u128> {
+    objects.items_left(9)
+}
+
+/// How many versions there are.
+pub fn versions(objects: &Objects) -> usize {
+    objects.count()
+}
+
+/// Whether the pools 3 and 4 hold a copy.
+pub fn pools_held(objects: &Objects) -> (bool, bool) {
+    (objects.holds_copy(3), objects.holds_copy(4))
+}
+
+/// The filespaces of the objects 1, 2 and 3.
+pub fn spaces_of(objects: &Objects) -> (Option<u32>, Option<u32>, Option<u32>) {
+    (
+        objects.filespace_of(1),
+        objects.filespace_of(2),
+        objects.filespace_of(3),
+    )
+}
+
 /// The node TOM, 1, and its filespace /home, 1.
 pub fn one_filespace(alloc: Global) -> Result<Objects, Fail> {
     let mut objects = Objects::new(alloc);

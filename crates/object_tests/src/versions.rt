@@ -1,5 +1,6 @@
 use crate::calls::{
-    add_copy, class, copy, mark_gone, one_filespace, path, put, replace_copy, shown, undo,
+    add_copy, class, copy, mark_gone, one_filespace, path, pools_held, put, remove, replace_copy,
+    room_of_nine, shown, spaces_of, undo, versions,
 };
 use kinds::Refusal;
 use object_rows::Objects;
@@ -93,6 +94,40 @@ fn copies_come_and_go(rt: HostRuntime) -> Result<(), Fail> {
     assert_eq!(rt; objects.drop_copy(1, 3), Err(Refusal::NotFound));
     assert_eq!(rt; objects.drop_copy(1, 4), Ok(()));
     assert_eq!(rt; objects.has_copy(1, 4), false);
+    Ok(())
+}
+
+#[test]
+fn copies_are_counted(rt: HostRuntime) -> Result<(), Fail> {
+    let alloc = rt.alloc();
+    let mut objects = two_versions(alloc)?;
+    // a node, a filespace, a path and two versions
+    assert_eq!(rt; room_of_nine(&objects), Some(4));
+    assert_eq!(rt; pools_held(&objects), (false, false));
+    // a copy and its one segment
+    add_copy(&mut objects, 1, copy(alloc, 3, 4)?)?;
+    assert_eq!(rt; room_of_nine(&objects), Some(2));
+    assert_eq!(rt; pools_held(&objects), (true, false));
+    replace_copy(&mut objects, 1, 3, copy(alloc, 4, 6)?)?;
+    assert_eq!(rt; room_of_nine(&objects), Some(2));
+    assert_eq!(rt; pools_held(&objects), (false, true));
+    Ok(())
+}
+
+#[test]
+fn versions_are_counted(rt: HostRuntime) -> Result<(), Fail> {
+    let alloc = rt.alloc();
+    let a = path(alloc, b"/a")?;
+    let mut objects = two_versions(alloc)?;
+    add_copy(&mut objects, 1, copy(alloc, 4, 6)?)?;
+    assert_eq!(rt; spaces_of(&objects), (Some(1), Some(1), None));
+    remove(&mut objects, &a, 1)?;
+    assert_eq!(rt; spaces_of(&objects), (None, Some(1), None));
+    assert_eq!(rt; pools_held(&objects), (false, false));
+    assert_eq!(rt; (room_of_nine(&objects), versions(&objects)), (Some(5), 1));
+    // with its last version the path goes
+    remove(&mut objects, &a, 2)?;
+    assert_eq!(rt; (room_of_nine(&objects), versions(&objects)), (Some(7), 0));
     Ok(())
 }
 

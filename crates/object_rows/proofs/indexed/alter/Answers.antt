@@ -6,6 +6,7 @@ use Rattle.version_groups.specs.declared.groups.Filespace.{Filespace}
 use Rattle.version_groups.specs.Copies.{Alters, takes_free_pool}
 use Rattle.object_rows.specs.Filespaces.{filespaces_altered_at}
 use Rattle.object_rows.proofs.ByNumber.{altered-at, altered-missing, copies-there}
+use Rattle.object_rows.proofs.Counts.{distinct_there}
 use Rattle.object_rows.proofs.Kept.{indexed_alter}
 use Rattle.object_rows.proofs.Answered.{altered}
 use Rattle.object_rows.proofs.Stands.{distinct-listed, missing, stands}
@@ -35,3 +36,7 @@ returns-in-Some-clause-indexed c =
     indexed_alter c.args.places.now.entries c.in-Some.place.now.filespace c.in-Some.place.now.path c.args.object c.args.change c.args.filespaces.now.entries c.alter.new.map.entries c.requires.indexed
     (altered c.args.change c.alter.result c.args.filespaces.now.entries c.alter.new.map.entries (filespaces_altered_at c.in-Some.place.now.filespace c.in-Some.place.now.path c.args.object c.args.change c.args.filespaces.now.entries) c.alter.ensures.value)
     (c.alter.ensures.orderly c.requires.indexed.orderly)
+
+pub returns-in-Some-clause-counted : goal.returns-in-Some-clause-counted
+returns-in-Some-clause-counted c =
+    c.alter.ensures.counted (distinct_there c.args.places.now.entries c.in-Some.place.now.filespace c.in-Some.place.now.path c.args.filespaces.now.entries c.requires.indexed) c.requires.counted

@@ -9,6 +9,7 @@ returns-clause-sound c =
     subst IsSound c.self.view_is
     (record {
       names = c.self.invariant.0.index.distinct;
+      spaces = λ node. (c.self.invariant.3.index node).distinct;
       objects = distinct-listed c.self.inside.filespaces.entries c.self.invariant.1.index.distinct;
       full = full_from c.self.inside.filespaces.entries c.self.invariant.1.orderly;
     })

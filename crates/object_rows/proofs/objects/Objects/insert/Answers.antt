@@ -5,6 +5,8 @@ use Rattle.kinds.specs.Answers.{Becomes}
 use Rattle.version_groups.specs.Versions.{superseded}
 use Rattle.object_rows.specs.Filespaces.{filespace_at, filespaces_with, versions_at, versions_of}
 use Rattle.object_rows.specs.Rows.{Rows, IsNew, rows_with, with_filespaces, UndoGivesBack}
+use Rattle.object_rows.proofs.Answered.{became}
+use Rattle.object_rows.proofs.NamedSpaces.{spaces_with}
 use Rattle.object_rows.proofs.PutLaws.{put_newest, put_found, put_undone, became_ok}
 use Rattle.object_rows.proofs.RowLaws.{becomes_rows, length-places, rows_full}
 use Rattle.object_rows.proofs.objects.Objects.insert.Goals as goal
@@ -48,3 +50,12 @@ returns-clause-undone c =
     (became_ok (UndoGivesBack c.args.filespace c.args.path.now (record { nodes = c.self.inside.nodes.entries; filespaces = c.self.inside.filespaces.entries }) (record { nodes = c.self.inside.nodes.entries; filespaces = c.put.new.filespaces.entries }))
     c.put.result c.self.inside.filespaces.entries c.put.new.filespaces.entries (filespaces_with c.args.filespace c.args.path.now c.in_ok-class.class c.args.version c.self.inside.filespaces.entries) c.put.ensures.value
     (λ said was active so. ap (with_filespaces (record { nodes = c.self.inside.nodes.entries; filespaces = c.put.new.filespaces.entries })) (put_undone c.args.filespace c.args.path.now c.in_ok-class.class c.args.version c.self.inside.filespaces.entries c.put.new.filespaces.entries c.self.invariant.1.orderly said was active so)))
+
+pub invariant_of-self : goal.invariant_of-self
+invariant_of-self c = (
+  c.self.invariant.0,
+  c.put.ensures.indexed,
+  c.put.ensures.counted,
+  spaces_with c.self.inside.spaces.entries c.args.filespace c.args.path.now c.in_ok-class.class c.args.version c.self.inside.filespaces.entries c.put.new.filespaces.entries
+      (became c.put.result c.self.inside.filespaces.entries c.put.new.filespaces.entries (filespaces_with c.args.filespace c.args.path.now c.in_ok-class.class c.args.version c.self.inside.filespaces.entries) c.put.ensures.value) c.self.invariant.3,
+)

@@ -1,0 +1,14 @@
+use Rattle.version_groups.specs.declared.group.GroupChange.TheVariants.{Rebind}
+use Rattle.object_rows.specs.Filespaces.{filespaces_after}
+use Rattle.object_rows.proofs.Answered.{made}
+use Rattle.object_rows.proofs.NamedSpaces.{spaces_after}
+use Rattle.object_rows.proofs.objects.Objects.rebind.Goals as goal
+
+pub invariant_of-self : goal.invariant_of-self
+invariant_of-self c = (
+  c.self.invariant.0,
+  c.rebind.ensures.indexed,
+  c.rebind.ensures.counted c.self.inside.tally c.self.invariant.2,
+  spaces_after c.self.inside.spaces.entries c.args.filespace c.args.path.now (Rebind c.args.class) c.self.inside.filespaces.entries c.rebind.new.filespaces.entries
+      (made c.rebind.result c.self.inside.filespaces.entries c.rebind.new.filespaces.entries (filespaces_after c.args.filespace c.args.path.now (Rebind c.args.class) c.self.inside.filespaces.entries) c.rebind.ensures.value) c.self.invariant.3,
+)
