@@ -1,6 +1,7 @@
 -- A valid database has parts such as tables hold them.
-use Rattle.std.proofs.Common.{◌≡◌, ℕ, Bool, true, false, not, cond, ◌&&◌, List, [], ◌∷◌, map, Option, Some, None, refl, sym, ap, subst, ◌∙◌}
-use Rattle.std.specs.Prelude.{is_none, is_some, if◌then◌else◌}
+use Rattle.std.proofs.Common.{◌≡◌, ℕ, Bool, true, false, not, cond, ◌&&◌, List, [], ◌∷◌, ◌++◌, map, Option, Some, None, refl, sym, ap, subst, ◌∙◌}
+use Rattle.std.proofs.lemmas.Bool.{eq-eqb, eqb-true}
+use Rattle.std.specs.Prelude.{◌==◌, ◌||◌, is_none, is_some, if◌then◌else◌}
 use Rattle.std.specs.BTreeMap.{is_at}
 use Rattle.std.specs.Cmp.Lexicographic.{slice_cmp}
 use Rattle.std.specs.List.{list_all, flat_map}
@@ -10,10 +11,11 @@ use Rattle.kinds.specs.declared.segment.Segment.{Segment}
 use Rattle.version_groups.specs.declared.copies.CopyRow.{CopyRow}
 use Rattle.version_groups.specs.declared.group.Group.{Group}
 use Rattle.version_groups.specs.declared.groups.Filespace.{Filespace}
+use Rattle.version_groups.specs.Entries.{all_later}
 use Rattle.version_groups.specs.Versions.{is_empty}
 use Rattle.object_rows.specs.declared.place.Node.{Node}
 use Rattle.object_rows.specs.Index.{AreDistinct}
-use Rattle.object_rows.specs.Names.{named}
+use Rattle.object_rows.specs.Names.{named, named_of}
 use Rattle.object_rows.specs.Places.{are_all_full, are_full}
 use Rattle.object_rows.specs.Rows as rows
 use Rattle.pool_tables.specs.Names.{are_apart, pool_name, row_named}
@@ -70,6 +72,41 @@ nodes_distinct (e ∷ es) h = (
   nodes_distinct es (rest (list_all (λ b. not (is_same_name e.1.name b)) (map (λ e. e.1.name) es)) (names_apart (map (λ e. e.1.name) es)) h),
 )
 
+-- the names of the filespaces of one node are given once
+space_behind : (node : ℕ) (name : List ℕ) (g : ℕ × Filespace) (fs : List (ℕ × Filespace)) → (not (node == g.1.node) || not (is_same_name name g.1.name)) ≡ true → lookup (is_at (slice_cmp nat_cmp name)) (named_of node fs) ≡ None
+    → (b : Bool) → (g.1.node == node) ≡ b → lookup (is_at (slice_cmp nat_cmp name)) ((if b then (g.1.name, g.0) ∷ [] else []) ++ named_of node fs) ≡ None
+space_behind node name g fs apart none false same = none
+space_behind node name g fs apart none true same =
+    ap (λ b. cond b (Some g.0) (lookup (is_at (slice_cmp nat_cmp name)) (named_of node fs))) (at_name name g.1.name)
+    ∙ differs (is_same_name name g.1.name) (ap (λ b. not b || not (is_same_name name g.1.name)) (sym (eq-eqb node g.1.node (sym (eqb-true g.1.node node same)))) ∙ apart) where
+      differs : (b : Bool) → (not true || not b) ≡ true → cond b (Some g.0) (lookup (is_at (slice_cmp nat_cmp name)) (named_of node fs)) ≡ None
+      differs true h = absurd (cc)
+      differs false h = none
+
+space_absent : (node : ℕ) (name : List ℕ) (fs : List (ℕ × Filespace)) → list_all (λ g. not (node == g.1.node) || not (is_same_name name g.1.name)) fs ≡ true → lookup (is_at (slice_cmp nat_cmp name)) (named_of node fs) ≡ None
+space_absent node name [] h = refl
+space_absent node name (g ∷ fs) h =
+    space_behind node name g fs (first (not (node == g.1.node) || not (is_same_name name g.1.name)) (list_all (λ g. not (node == g.1.node) || not (is_same_name name g.1.name)) fs) h)
+    (space_absent node name fs (rest (not (node == g.1.node) || not (is_same_name name g.1.name)) (list_all (λ g. not (node == g.1.node) || not (is_same_name name g.1.name)) fs) h))
+    (g.1.node == node) refl
+
+space_before : (node : ℕ) (f : ℕ × Filespace) (fs : List (ℕ × Filespace)) → list_all (λ g. not (f.1.node == g.1.node) || not (is_same_name f.1.name g.1.name)) fs ≡ true → AreDistinct (slice_cmp nat_cmp) (named_of node fs)
+    → (b : Bool) → (f.1.node == node) ≡ b → AreDistinct (slice_cmp nat_cmp) ((if b then (f.1.name, f.0) ∷ [] else []) ++ named_of node fs)
+space_before node f fs h d false same = d
+space_before node f fs h d true same = (
+  space_absent node f.1.name fs (ap (λ n. list_all (λ (g : ℕ × Filespace). not (n == g.1.node) || not (is_same_name f.1.name g.1.name)) fs) (sym (eqb-true f.1.node node same)) ∙ h),
+  d,
+)
+
+spaces_distinct : (fs : List (ℕ × Filespace)) → all_later (λ f g. not (f.1.node == g.1.node) || not (is_same_name f.1.name g.1.name)) fs ≡ true → (node : ℕ) → AreDistinct (slice_cmp nat_cmp) (named_of node fs)
+spaces_distinct [] h node = tt
+spaces_distinct (f ∷ fs) h node =
+    let here : list_all (λ g. not (f.1.node == g.1.node) || not (is_same_name f.1.name g.1.name)) fs ≡ true =
+    first (list_all (λ g. not (f.1.node == g.1.node) || not (is_same_name f.1.name g.1.name)) fs) (all_later (λ f g. not (f.1.node == g.1.node) || not (is_same_name f.1.name g.1.name)) fs) h in
+    space_before node f fs here
+    (spaces_distinct fs (rest (list_all (λ g. not (f.1.node == g.1.node) || not (is_same_name f.1.name g.1.name)) fs) (all_later (λ f g. not (f.1.node == g.1.node) || not (is_same_name f.1.name g.1.name)) fs) h) node)
+    (f.1.node == node) refl
+
 full : (groups : List (List ℕ × Group)) → list_all (λ g. is_orderly g.1) groups ≡ true → are_full groups ≡ true
 full [] h = refl
 full (g ∷ groups) h =
@@ -86,7 +123,7 @@ all_full (f ∷ filespaces) h =
 
 pub sound : (v : Inv) → Facts v → AreSound v
 sound v f = record {
-  clients = record { names = nodes_distinct v.clients.nodes f.node_names; objects = f.objects_apart; full = all_full v.clients.filespaces f.groups_orderly };
+  clients = record { names = nodes_distinct v.clients.nodes f.node_names; spaces = spaces_distinct v.clients.filespaces f.filespace_names; objects = f.objects_apart; full = all_full v.clients.filespaces f.groups_orderly };
   stores =
       ap (λ b. if b then Some v.stores else None)
       (both (are_apart pool_name v.stores.pools) _ (rows_apart pool_name v.stores.pools f.pool_names)

@@ -17,32 +17,33 @@ use entries::Entry;
 use inventory_answers::{Answer, Query};
 use inventory_check::is_valid;
 use inventory_rows::Tables;
-use item_refusals::{AtMost, NoPast, Past};
+use item_refusals::{NoPast, Past};
 use kinds::Refusal;
 use payload_fits::tables_fit;
 use std::alloc::Global;
 use std::marker::Model;
-use transactions::{count, make};
+use transactions::{count_items, make};
 
 /// The server's whole database. Every value is valid.
 #[derive(Drop)]
 pub struct Inventory {
     tables: Tables,
-    at_most: AtMost,
+    // an upper bound of how many items the tables have
+    most_items: u128,
 }
 
 impl Model for Inventory {
-    ghost use Rattle.std.specs.Prelude.{◌≡◌, true};
+    ghost use Rattle.std.specs.Prelude.{◌≡◌, ◌≤◌, true};
+    ghost use Rattle.inventory_rows.specs.Items.{count_items};
     ghost use Rattle.inventory_rows.specs.State.{Inv, inv_of};
     ghost use Rattle.inventory_rules.specs.Held.{IsTied};
     ghost use Rattle.inventory_rules.specs.Valid.{is_valid};
-    ghost use Rattle.item_refusals.specs.Bounds.{Bounds};
 
     ghost Value = { Inv };
 
     ghost view = { λ i. inv_of i.tables };
 
-    ghost invariant = { λ i. (is_valid (inv_of i.tables) ≡ true) × IsTied (inv_of i.tables) × Bounds i.at_most (inv_of i.tables) };
+    ghost invariant = { λ i. (is_valid (inv_of i.tables) ≡ true) × IsTied (inv_of i.tables) × (count_items (inv_of i.tables) ≤ i.most_items) };
 }
 
 /// The inventory of these tables, where they are those of one.
@@ -54,8 +55,8 @@ fn checked(alloc: Global, tables: Tables) -> Result<Option<Inventory>, Refusal>
 {
     match is_valid(alloc, &tables) {
         Ok(true) => {
-            let at_most = count(&tables);
-            Ok(Some(Inventory { tables, at_most }))
+            let most_items = count_items(&tables);
+            Ok(Some(Inventory { tables, most_items }))
         }
         Ok(false) => Ok(None),
         Err(_) => Err(Refusal::Memory),
@@ -68,8 +69,8 @@ impl Inventory {
         ensures { AnswersBy (λ i. i) result fresh }
     {
         let tables = Tables::fresh(alloc)?;
-        let at_most = count(&tables);
-        Ok(Inventory { tables, at_most })
+        let most_items = count_items(&tables);
+        Ok(Inventory { tables, most_items })
     }
 
     /// The rows of the database, which are those of a valid one.
@@ -86,7 +87,7 @@ impl Inventory {
     pub fn refused<J: Past>(&self, past: &J, change: &Change) -> Option<Refusal>
         ensures { result ≡ refused (J.journal past.now) change.now self.now }
     {
-        transactions::refused(past, &self.tables, change, &self.at_most)
+        transactions::refused(past, &self.tables, change, self.most_items)
     }
 
     /// The answer to a query: `NotFound` exactly where what it names isn't there, or want of memory.
@@ -112,7 +113,7 @@ impl Database for Inventory {
     }
 
     fn apply(&mut self, alloc: Global, entry: &Entry) -> Result<(), Refusal> {
-        make(alloc, &mut self.tables, &mut self.at_most, &entry.change)
+        make(alloc, &mut self.tables, &mut self.most_items, &entry.change)
     }
 
     fn encode(&self, alloc: Global) -> Result<Vec<u8>, Refusal> {
@@ -133,7 +134,7 @@ impl Database for Inventory {
         let tables = self.tables.clone()?;
         Ok(Inventory {
             tables,
-            at_most: self.at_most,
+            most_items: self.most_items,
         })
     }
 

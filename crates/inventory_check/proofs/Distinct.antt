@@ -1,16 +1,13 @@
 -- Keys of which each stands once: as an index needs it, and as a test of all pairs says it.
-use Rattle.std.proofs.Common.{◌≡◌, ℕ, Bool, true, false, ◌&&◌, not, cond, is_none, List, [], ◌∷◌, map, Some, None, Result, Ok, Err, refl, sym, ap, subst, ◌∙◌}
-use Rattle.std.specs.Prelude.{◌==◌, ◌||◌}
+use Rattle.std.proofs.Common.{◌≡◌, ℕ, Bool, true, false, ◌&&◌, not, cond, is_none, List, [], ◌∷◌, ◌++◌, map, Option, Some, None, Result, Ok, Err, refl, sym, ap, subst, ◌∙◌}
+use Rattle.std.specs.Prelude.{◌==◌, ◌||◌, if◌then◌else◌}
 use Rattle.std.specs.BTreeMap.{is_at}
-use Rattle.std.specs.Cmp.{IsTotalOrder, nat_cmp_total}
-use Rattle.std.specs.Cmp.Lexicographic.{slice_cmp, nat_list_cmp_total}
+use Rattle.std.specs.Cmp.Lexicographic.{slice_cmp}
 use Rattle.std.specs.List.{list_all}
 use Rattle.std.specs.Map.{lookup}
-use Rattle.std.specs.Ordering.{is_eq, nat_cmp, ordering_then}
+use Rattle.std.specs.Ordering.{nat_cmp}
 use Rattle.std.specs.declared.cmp.Ordering.{Ordering}
-use Rattle.std.specs.declared.cmp.Ordering.TheVariants.{Less, Equal, Greater}
-use Rattle.std.proofs.lemmas.Bool.{and_from, and_parts}
-use Rattle.std.proofs.lemmas.Cmp.{on_total, then_total}
+use Rattle.std.proofs.lemmas.Bool.{and_from, and_parts, eq-eqb, eqb-true}
 use Rattle.std.proofs.lemmas.List.Concat.{flat_map_single}
 use Rattle.std.proofs.lemmas.List.Folds.{list_all-map}
 use Rattle.kinds.specs.Answers.{AnswersBy}
@@ -20,7 +17,7 @@ use Rattle.version_groups.specs.Entries.{all_later}
 use Rattle.volume_rows.specs.declared.volume.Volume.{Volume}
 use Rattle.object_rows.specs.Build.{Builds}
 use Rattle.object_rows.specs.Index.{AreDistinct, IsIndex}
-use Rattle.object_rows.specs.Names.{named}
+use Rattle.object_rows.specs.Names.{named, named_of}
 use Rattle.object_rows.specs.declared.place.Node.{Node}
 use Rattle.object_rows.specs.Rows.{IsSound}
 use Rattle.pool_tables.specs.declared.pool.Pool.{Pool}
@@ -35,7 +32,7 @@ use Rattle.inventory_rules.specs.Valid.{names_apart}
 use Rattle.inventory_rules.specs.Valid as valid
 use Rattle.inventory_check.proofs.Apart.{same_number}
 use Rattle.inventory_check.proofs.Walking.{list_all-same}
-use Rattle.inventory_check.specs.Rows.{numbered, space_cmp, spaced, spaces_apart}
+use Rattle.inventory_check.specs.Rows.{numbered}
 
 -- ---- tests of all pairs
 all_later-map : {X Y : Type 0} (r : Y → Y → Bool) (f : X → Y) (xs : List X) → all_later r (map f xs) ≡ all_later (λ a b. r (f a) (f b)) xs
@@ -103,26 +100,55 @@ pub numbers_answer : (r : Result Bool Refusal) (old new : List (ℕ × ℕ)) (ba
 numbers_answer r old new backups h empty = built_answers nat_cmp r old new (numbered backups) (valid.are_apart (map (λ (b : ℕ × Backup). b.1.number) backups)) h empty (numbers_differ backups)
 
 -- ---- filespaces
-pub space_total : IsTotalOrder space_cmp
-space_total = then_total (on_total (λ (k : ℕ × List ℕ). k.0) nat_cmp_total) (on_total (λ (k : ℕ × List ℕ). k.1) nat_list_cmp_total)
+flips : (a b : ℕ) → (a == b) ≡ (b == a)
+flips a b = elim (a == b) as (λ t. (a == b) ≡ t → t ≡ (b == a)) [
+  | true ↦ λ e. sym (eq-eqb b a (sym (eqb-true a b e)))
+  | false ↦ λ e. if_not (b == a) (λ t. let same : (a == b) ≡ true = eq-eqb a b (sym (eqb-true b a t)) in absurd (cc))
+] refl
 
-then_equal : (a b : Ordering) → not (is_eq (ordering_then a b)) ≡ (not (is_eq a) || not (is_eq b))
-then_equal Less b = refl
-then_equal Equal b = refl
-then_equal Greater b = refl
+-- the filespaces of two nodes, or of two names
+abbrev differs : ℕ → List ℕ → ℕ × Filespace → Bool
+differs node name g = not (node == g.1.node) || not (is_same_name name g.1.name)
 
-spaces_differ : (filespaces : List (ℕ × Filespace)) → keys_differ space_cmp (spaced filespaces) ≡ spaces_apart filespaces
-spaces_differ filespaces =
-    all_later-map (λ (a b : (ℕ × List ℕ) × ℕ). not (is_at (space_cmp a.0) b.0)) (λ (f : ℕ × Filespace). ((f.1.node, f.1.name), f.0)) filespaces
-    ∙ all_later-same (λ (f g : ℕ × Filespace). not (is_at (space_cmp (f.1.node, f.1.name)) (g.1.node, g.1.name))) (λ (f g : ℕ × Filespace). not (f.1.node == g.1.node) || not (is_same_name f.1.name g.1.name))
-    (λ f g.
-    then_equal (nat_cmp f.1.node g.1.node) (slice_cmp nat_cmp f.1.name g.1.name)
-    ∙ ap (λ b. not b || not (is_at (slice_cmp nat_cmp f.1.name) g.1.name)) (same_number f.1.node g.1.node)
-    ∙ ap (λ b. not (f.1.node == g.1.node) || not b) (at_name f.1.name g.1.name))
-    filespaces
+abbrev name_of_one : Bool → ℕ × Filespace → List (List ℕ × ℕ)
+name_of_one b g = if b then (g.1.name, g.0) ∷ [] else []
 
-pub spaces_answer : (r : Result Bool Refusal) (old new : List ((ℕ × List ℕ) × ℕ)) (filespaces : List (ℕ × Filespace)) → Builds space_cmp r old new (spaced filespaces) → old ≡ [] → AnswersBy (λ b. b) r (spaces_apart filespaces)
-spaces_answer r old new filespaces h empty = built_answers space_cmp r old new (spaced filespaces) (spaces_apart filespaces) h empty (spaces_differ filespaces)
+not_first : (b : Bool) (x : ℕ) (found : Option ℕ) → cond b (Some x) found ≡ None → (b ≡ false) × (found ≡ None)
+not_first true x found h = absurd (cc)
+not_first false x found h = (refl, h)
+
+or_true : (b : Bool) → (b || true) ≡ true
+or_true true = refl
+or_true false = refl
+
+passed : (node : ℕ) (name : List ℕ) (g : ℕ × Filespace) (fs : List (ℕ × Filespace)) (b : Bool) → (g.1.node == node) ≡ b → lookup (is_at (slice_cmp nat_cmp name)) (name_of_one b g ++ named_of node fs) ≡ None
+    → (differs node name g ≡ true) × (lookup (is_at (slice_cmp nat_cmp name)) (named_of node fs) ≡ None)
+passed node name g fs true same h =
+    let w : (is_at (slice_cmp nat_cmp name) g.1.name ≡ false) × (lookup (is_at (slice_cmp nat_cmp name)) (named_of node fs) ≡ None) = not_first (is_at (slice_cmp nat_cmp name) g.1.name) g.0 (lookup (is_at (slice_cmp nat_cmp name)) (named_of node fs)) h in
+    (ap (λ b. not (node == g.1.node) || not b) (sym (at_name name g.1.name) ∙ w.0) ∙ or_true (not (node == g.1.node)), w.1)
+passed node name g fs false other h = (ap (λ b. not b || not (is_same_name name g.1.name)) (flips node g.1.node ∙ other), h)
+
+all_differ : (node : ℕ) (name : List ℕ) (fs : List (ℕ × Filespace)) → lookup (is_at (slice_cmp nat_cmp name)) (named_of node fs) ≡ None → list_all (differs node name) fs ≡ true
+all_differ node name [] h = refl
+all_differ node name (g ∷ fs) h =
+    let w : (differs node name g ≡ true) × (lookup (is_at (slice_cmp nat_cmp name)) (named_of node fs) ≡ None) = passed node name g fs (g.1.node == node) refl h in
+    and_from (differs node name g) (list_all (differs node name) fs) w.0 (all_differ node name fs w.1)
+
+behind : (node : ℕ) (f : ℕ × Filespace) (fs : List (ℕ × Filespace)) (b : Bool) → AreDistinct (slice_cmp nat_cmp) (name_of_one b f ++ named_of node fs) → AreDistinct (slice_cmp nat_cmp) (named_of node fs)
+behind node f fs true d = d.1
+behind node f fs false d = d
+
+alone : (node : ℕ) (f : ℕ × Filespace) (fs : List (ℕ × Filespace)) (b : Bool) → b ≡ true → AreDistinct (slice_cmp nat_cmp) (name_of_one b f ++ named_of node fs) → lookup (is_at (slice_cmp nat_cmp f.1.name)) (named_of node fs) ≡ None
+alone node f fs true is d = d.0
+alone node f fs false is d = absurd (cc)
+
+-- the names of the filespaces of one node are their own
+spaces_apart : (fs : List (ℕ × Filespace)) → ((node : ℕ) → AreDistinct (slice_cmp nat_cmp) (named_of node fs)) → all_later (λ f g. not (f.1.node == g.1.node) || not (is_same_name f.1.name g.1.name)) fs ≡ true
+spaces_apart [] d = refl
+spaces_apart (f ∷ fs) d =
+    and_from (list_all (differs f.1.node f.1.name) fs) (all_later (λ (f g : ℕ × Filespace). not (f.1.node == g.1.node) || not (is_same_name f.1.name g.1.name)) fs)
+    (all_differ f.1.node f.1.name fs (alone f.1.node f fs (f.1.node == f.1.node) (eq-eqb f.1.node f.1.node refl) (d f.1.node)))
+    (spaces_apart fs (λ node. behind node f fs (f.1.node == node) (d node)))
 
 -- ---- what the tables see to
 pub nodes_apart : (nodes : List (ℕ × Node)) → AreDistinct (slice_cmp nat_cmp) (named nodes) → names_apart (map (λ n. n.1.name) nodes) ≡ true
@@ -152,18 +178,15 @@ rows_differ {V} name_of (e ∷ rows) =
 pub rows_apart : {V : Type 0} (name_of : V → List ℕ) (rows : List (ℕ × V)) → are_apart name_of rows ≡ true → names_apart (map (λ e. name_of e.1) rows) ≡ true
 rows_apart {V} name_of rows h = all_later-map (λ a b. not (is_same_name a b)) (λ (e : ℕ × V). name_of e.1) rows ∙ rows_differ name_of rows ∙ h
 
-and_nothing : (b : Bool) → (b && true) ≡ b
-and_nothing true = refl
-and_nothing false = refl
-
-pub named_by_spaces : (v : Inv) → IsSound v.clients → are_apart pool_name v.stores.pools ≡ true → are_sound v.stores.volumes ≡ true → valid.are_named v ≡ spaces_apart v.clients.filespaces
-named_by_spaces v sound pools volumes =
+pub all_named : (v : Inv) → IsSound v.clients → are_apart pool_name v.stores.pools ≡ true → are_sound v.stores.volumes ≡ true → valid.are_named v ≡ true
+all_named v sound pools volumes =
     let parts = and_parts (are_apart volume_name v.stores.volumes) (are_rightly_named v.stores.volumes) volumes in
     let pools_named : Bool = names_apart (map (λ (p : ℕ × Pool). p.1.name) v.stores.pools) in
     let volumes_named : Bool = names_apart (map (λ (f : ℕ × Volume). f.1.name) v.stores.volumes) in
+    let spaces_named : Bool = valid.filespaces_apart v in
     let soundly : Bool = list_all valid.is_named_soundly v.stores.volumes in
-    ap (λ b. b && (pools_named && (volumes_named && (spaces_apart v.clients.filespaces && soundly)))) (nodes_apart v.clients.nodes sound.names)
-    ∙ ap (λ b. b && (volumes_named && (spaces_apart v.clients.filespaces && soundly))) (rows_apart pool_name v.stores.pools pools)
-    ∙ ap (λ b. b && (spaces_apart v.clients.filespaces && soundly)) (rows_apart volume_name v.stores.volumes parts.0)
-    ∙ ap (λ b. spaces_apart v.clients.filespaces && b) parts.1
-    ∙ and_nothing (spaces_apart v.clients.filespaces)
+    ap (λ b. b && (pools_named && (volumes_named && (spaces_named && soundly)))) (nodes_apart v.clients.nodes sound.names)
+    ∙ ap (λ b. b && (volumes_named && (spaces_named && soundly))) (rows_apart pool_name v.stores.pools pools)
+    ∙ ap (λ b. b && (spaces_named && soundly)) (rows_apart volume_name v.stores.volumes parts.0)
+    ∙ ap (λ b. b && soundly) (spaces_apart v.clients.filespaces sound.spaces)
+    ∙ parts.1

@@ -4,4 +4,5 @@ pub mod Joined
 pub mod Lying
 pub mod Orderly
 pub mod Pairs
+pub mod Room
 pub mod Walking

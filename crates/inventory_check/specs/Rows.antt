@@ -1,16 +1,10 @@
 -- What is asked of the rows of each table, row by row.
-use Rattle.std.specs.Prelude.{ℕ, Bool, true, nat_le, not, ◌==◌, ◌&&◌, ◌||◌, is_some, List, [], ◌∷◌, map, Option, Some, None}
-use Rattle.std.specs.Cmp.Lexicographic.{slice_cmp}
+use Rattle.std.specs.Prelude.{ℕ, Bool, true, nat_le, ◌&&◌, is_some, List, [], ◌∷◌, map, Option, Some, None}
 use Rattle.std.specs.List.{list_all}
-use Rattle.std.specs.Ordering.{nat_cmp, ordering_then}
-use Rattle.std.specs.declared.cmp.Ordering.{Ordering}
 use Rattle.kinds.specs.declared.rule.BackupRule.{BackupRule}
 use Rattle.policy_domains.specs.Rows.{SetRow, DomainRow}
 use Rattle.version_groups.specs.declared.group.Group.{Group}
 use Rattle.version_groups.specs.declared.versions.Version.{Version}
-use Rattle.version_groups.specs.declared.groups.Filespace.{Filespace}
-use Rattle.version_groups.specs.Entries.{all_later}
-use Rattle.pool_tables.specs.Rows.{is_same_name}
 use Rattle.inventory_rows.specs.declared.backup.Backup.{Backup}
 use Rattle.inventory_rows.specs.Search.{pool}
 use Rattle.inventory_rows.specs.State.{Inv}
@@ -51,15 +45,3 @@ domain_has_defaults row = list_all (λ s. is_default_there s.0 s.1) row.sets
 -- the numbers of the backups, each with the backup's file
 abbrev pub numbered : List (ℕ × Backup) → List (ℕ × ℕ)
 numbered backups = map (λ b. (b.1.number, b.0)) backups
-
--- by node, then by name
-abbrev pub space_cmp : ℕ × List ℕ → ℕ × List ℕ → Ordering
-space_cmp a b = ordering_then (nat_cmp a.0 b.0) (slice_cmp nat_cmp a.1 b.1)
-
--- the filespaces' nodes and names, each with the filespace's number
-abbrev pub spaced : List (ℕ × Filespace) → List ((ℕ × List ℕ) × ℕ)
-spaced filespaces = map (λ f. ((f.1.node, f.1.name), f.0)) filespaces
-
--- the names of the filespaces of one node are their own
-abbrev pub spaces_apart : List (ℕ × Filespace) → Bool
-spaces_apart filespaces = all_later (λ f g. not (f.1.node == g.1.node) || not (is_same_name f.1.name g.1.name)) filespaces

@@ -7,14 +7,13 @@ ghost use Rattle.kinds.specs.Answers.{AnswersBy};
 ghost use Rattle.object_rows.specs.Build.{Builds};
 ghost use Rattle.inventory_rows.specs.State.{inv_of};
 ghost use Rattle.inventory_rules.specs.Valid.{are_apart, are_named, are_numbered};
-ghost use Rattle.inventory_check.specs.Rows.{numbered, space_cmp, spaced, spaces_apart};
+ghost use Rattle.inventory_check.specs.Rows.{numbered};
 
 use crate::numbers::files_apart;
 use inventory_rows::{Backup, Tables};
-use kinds::{FilespaceName, Refusal};
+use kinds::Refusal;
 use std::alloc::Global;
 use std::collections::BTreeMap;
-use version_groups::Filespace;
 
 /// Puts each backup's number into the index; false where two backups have one.
 fn add_numbers(
@@ -40,31 +39,6 @@ fn backups_apart(alloc: Global, backups: &BTreeMap<u32, Backup>) -> Result<bool,
     add_numbers(&mut numbers, backups)
 }
 
-/// Puts each filespace's name, with its node, into the index; false where two filespaces of one node have one.
-fn add_spaces(
-    names: &mut BTreeMap<(u32, FilespaceName), u32>,
-    filespaces: &BTreeMap<u32, Filespace>,
-) -> Result<bool, Refusal>
-    ensures { Builds space_cmp result names.old.entries names.new.entries (spaced filespaces.now.entries) }
-{
-    'filespaces: for (number, filespace) in filespaces {
-        let name = (filespace.node, filespace.name.clone()?);
-        if names.contains_key(&name) {
-            return Ok(false);
-        }
-        names.insert(name, *number)?;
-    }
-    Ok(true)
-}
-
-/// Whether the filespaces of each node have names of their own.
-fn filespaces_apart(alloc: Global, filespaces: &BTreeMap<u32, Filespace>) -> Result<bool, Refusal>
-    ensures { AnswersBy (λ apart. apart) result (spaces_apart filespaces.now.entries) }
-{
-    let mut names = BTreeMap::new(alloc);
-    add_spaces(&mut names, filespaces)
-}
-
 /// Whether files and backups have numbers of their own.
 fn numbers_apart(alloc: Global, tables: &Tables) -> Result<bool, Refusal>
     ensures { AnswersBy (λ apart. apart) result (are_apart (keys_of tables.now.pools.volumes ++ keys_of tables.now.backups.entries) && are_apart (map (λ b. b.1.number) tables.now.backups.entries)) }
@@ -81,12 +55,12 @@ pub fn are_numbered(alloc: Global, tables: &Tables) -> Result<bool, Refusal>
     numbers_apart(alloc, tables)
 }
 
-/// Whether nodes, pools, volumes and the filespaces of each node have names of their own, and volumes names of their kind. The tables of nodes,
-/// pools and volumes see to theirs. Its one refusal is want of memory.
-pub fn are_named(alloc: Global, tables: &Tables) -> Result<bool, Refusal>
-    ensures { AnswersBy (λ named. named) result (are_named (inv_of tables.now)) }
+/// Whether nodes, pools, volumes and the filespaces of each node have names of their own, and volumes names of their kind. The tables see to it.
+pub fn are_named(tables: &Tables) -> bool
+    ensures { result ≡ are_named (inv_of tables.now) }
 {
+    let _ = tables.objects.filespaces();
     let _ = tables.pools.pools();
     let _ = tables.pools.volumes();
-    filespaces_apart(alloc, tables.objects.filespaces())
+    true
 }

@@ -57,8 +57,7 @@ pub fn is_valid(alloc: Global, tables: &Tables) -> Result<bool, Refusal>
     requires { IsTied (inv_of tables.now) }
     ensures { AnswersBy (λ valid. valid) result (is_valid (inv_of tables.now)) }
 {
-    let small = is_small(tables)?;
     let numbered = are_numbered(alloc, tables)?;
-    let named = are_named(alloc, tables)?;
-    Ok(together(tables, numbered, named, small))
+    let named = are_named(tables);
+    Ok(together(tables, numbered, named, is_small(tables)))
 }

@@ -1,3 +1,2 @@
 pub mod CanMake
 pub mod Delaying
-pub mod Holding

@@ -9,7 +9,6 @@ ghost use Rattle.std.specs.BTreeMap.{is_at};
 ghost use Rattle.std.specs.Map.{lookup};
 ghost use Rattle.std.specs.Ordering.{nat_cmp};
 
-use crate::holding::holds_copy;
 use crate::rows::draw_file;
 use inventory_rows::{Backup, Delays, Tables};
 use kinds::{Days, Refusal};
@@ -31,7 +30,7 @@ pub(crate) fn lower_delays(backups: &mut BTreeMap<u32, Backup>, pool: u32, delay
 fn has_delay(tables: &Tables, pool: u32) -> bool
     ensures { result ≡ has_delay (inv_of tables.now) pool }
 {
-    tables.pools.is_sequential(pool) && holds_copy(tables, pool)
+    tables.pools.is_sequential(pool) && tables.objects.holds_copy(pool)
 }
 
 /// The delay of a pool is kept, where a backup that begins now keeps it.
@@ -62,7 +61,7 @@ fn delays_now(alloc: Global, tables: &Tables) -> Result<BTreeMap<u32, Days>, Ref
 }
 
 /// A backup into a file begins. It holds what was before the next transaction, and that transaction itself. Its one refusal is
-/// want of memory; then all is as it was. It walks the versions once for each sequential pool, up to a copy there.
+/// want of memory; then all is as it was. It walks the pools.
 pub fn begin_backup(alloc: Global, tables: &mut Tables, file: u32) -> Result<(), Refusal>
     requires next { file + 1 < 2 ^ 32 }
     requires number { tables.old.number + 1 < 2 ^ 64 }

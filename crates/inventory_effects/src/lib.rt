@@ -2,7 +2,6 @@
 #![tactic(auto)]
 
 mod backups;
-mod holding;
 mod rows;
 mod transaction;
 

@@ -1,6 +1,5 @@
 pub mod Ahead
 pub mod Clear
-pub mod Copied
 pub mod Each
 pub mod HeldRows
 pub mod Lie

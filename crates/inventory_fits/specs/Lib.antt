@@ -1,6 +1,5 @@
 pub mod Fitting
 pub mod Frames
-pub mod Holding
 pub mod Lying
 pub mod Sizes
 pub mod Targets

@@ -3,7 +3,6 @@
 #![tactic(auto)]
 
 mod frames;
-mod holding;
 mod items;
 mod neighbours;
 mod overlaps;

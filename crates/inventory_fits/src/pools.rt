@@ -9,7 +9,6 @@ ghost use Rattle.inventory_rows.specs.State.{inv_of};
 ghost use Rattle.inventory_rules.specs.Valid.{is_format_size, may_have};
 ghost use Rattle.inventory_facts.specs.Parts.{capacity_fits, volume_fits, store_fits, scratch_fits};
 
-use crate::holding::holds_copy;
 use change_items::ScratchVolume;
 use inventory_rows::Tables;
 use kinds::{Access, Capacity, Name, PoolChange, PoolKind, Verb};
@@ -83,13 +82,13 @@ fn pool_goes(tables: &Tables, name: &Name) -> bool
     ensures { result ≡ option_map_or (λ n. not (holds_copy n (inv_of tables.now))) (pool_named name.now (inv_of tables.now).stores) true }
 {
     match tables.pools.pool_named(name) {
-        Some(number) => !holds_copy(tables, number),
+        Some(number) => !tables.objects.holds_copy(number),
         None => true,
     }
 }
 
 /// Whether a change of device classes, storage pools and volumes fits: a pool that goes holds no copy, and a volume that is defined has a
-/// name, a capacity and an access that its pool's volumes may have. It takes no memory, but for a pool that goes a walk over all versions.
+/// name, a capacity and an access that its pool's volumes may have. It takes no memory.
 pub(crate) fn store_fits(tables: &Tables, change: &PoolChange) -> bool
     ensures { result ≡ store_fits change.now (inv_of tables.now) }
 {

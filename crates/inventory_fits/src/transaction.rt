@@ -74,7 +74,7 @@ fn change_fits(tables: &Tables, change: &Change) -> bool
 /// volume that is defined has a name, a capacity and an access that its pool's volumes may have; scratch volumes are made for sequential
 /// pools; and new versions, new copies and copies that move have their pools, the bytes of their versions, and segments that lie on volumes
 /// of their pools, end within them and overlap nothing. It takes no memory; for each new segment the logarithm of what lies on its volume and
-/// as many steps as the transaction has scratch volumes and other segments, and for a pool that goes a walk over all versions.
+/// as many steps as the transaction has scratch volumes and other segments.
 #[tactic(auto, using(crate::proofs::Lie::lying))]
 pub fn parts_fit(tables: &Tables, change: &Change) -> bool
     requires valid { is_valid (inv_of tables.now) ≡ true }

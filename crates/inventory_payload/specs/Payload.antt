@@ -114,8 +114,9 @@ unheld_stores rows = record rows { volumes = unheld_volumes rows.volumes }
 abbrev pub unheld : Inv → Inv
 unheld v = record v { stores = unheld_stores v.stores }
 
--- The parts are such as tables hold them: no two nodes have one name, no two versions are of one object, each group has a version, no two
--- pools or volumes have one name, and a volume has the name of a scratch volume exactly where it is one.
+-- The parts are such as tables hold them: no two nodes have one name, nor do two filespaces of one node, no two versions are of one
+-- object, each group has a version, no two pools or volumes have one name, and a volume has the name of a scratch volume exactly where it
+-- is one.
 pub record AreSound (v : Inv) : Type 0 where
   pub clients : IsSound v.clients
   pub stores : with_rows v.stores.classes v.stores.pools v.stores.volumes ≡ Some v.stores

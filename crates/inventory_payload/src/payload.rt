@@ -49,8 +49,8 @@ pub fn encode(alloc: Global, tables: &Tables) -> Result<Vec<u8>, Memory>
 }
 
 /// The database whose bytes these are, with the segments of all copies on their volumes; none where they are no database's, or
-/// where nodes, pools or volumes of one name, two versions of one object, a group without a version, a volume of another kind's
-/// name or a segment on a volume that isn't there stand in them.
+/// where nodes, filespaces of one node, pools or volumes of one name, two versions of one object, a group without a version, a volume of
+/// another kind's name or a segment on a volume that isn't there stand in them.
 pub fn decode(alloc: Global, bytes: &[u8]) -> Result<Option<Tables>, Memory>
     ensures found { IfOk result (λ o. IfSome o (λ t. payload.Fits (unheld (inv_of t)) × (bytes.now ≡ payload.spell (inv_of t)))) }
     ensures tied { IfOk result (λ o. IfSome o (λ t. IsTied (inv_of t))) }

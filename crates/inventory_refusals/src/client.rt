@@ -7,7 +7,7 @@ ghost use Rattle.inventory_rows.specs.State.{inv_of};
 ghost use Rattle.inventory_rules.specs.Refused.{client_bounds, client_refused};
 ghost use Rattle.inventory_refusals.specs.Errors.{error_of};
 
-use crate::least::{filespace_of, least_object};
+use crate::least::least_object;
 use inventory_rows::Tables;
 use item_refusals::{bad_value, full_at, unless};
 use kinds::{By, DefineOrDelete, FilespaceName, NodeName, ObjectChange, Refusal, sooner_of};
@@ -29,7 +29,7 @@ fn node_delete(objects: &Objects, name: &NodeName) -> Option<Refusal>
     let Some(number) = objects.node_named(name) else {
         return Some(Refusal::NotFound);
     };
-    match filespace_of(objects.filespaces(), number) {
+    match objects.filespace_of_node(number) {
         Some(filespace) => Some(Refusal::InUse(By::Filespace(filespace))),
         None => None,
     }

@@ -2,27 +2,14 @@
 
 ghost use Rattle.std.specs.Prelude.{◌≡◌, ◌==◌, Some, map};
 ghost use Rattle.object_rows.specs.Changes.{lesser, least, least_object};
-ghost use Rattle.object_rows.specs.Names.{filespace_of};
 ghost use Rattle.pool_tables.specs.Rows.{is_same_name, number_where};
 ghost use Rattle.pool_rows.specs.Changes.{is_pool};
 
 use kinds::{Name, Path};
 use pool_tables::Pool;
 use std::collections::BTreeMap;
-use version_groups::{Filespace, Group, Version};
+use version_groups::{Group, Version};
 use volume_rows::Volume;
-
-/// The least number of a filespace of the node.
-pub(crate) fn filespace_of(filespaces: &BTreeMap<u32, Filespace>, node: u32) -> Option<u32>
-    ensures { result ≡ filespace_of node filespaces.now.entries }
-{
-    'filespaces: for (number, filespace) in filespaces.iter() {
-        if filespace.node == node {
-            return Some(*number);
-        }
-    }
-    None
-}
 
 /// The lesser of two numbers, of which the first may be missing.
 fn lesser(found: Option<u64>, other: u64) -> u64

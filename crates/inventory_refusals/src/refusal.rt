@@ -1,8 +1,7 @@
 //! Why the database refuses a transaction.
 
-ghost use Rattle.std.specs.Prelude.{◌≡◌, ◌≤◌, ◌++◌, length, nat_le};
+ghost use Rattle.std.specs.Prelude.{◌≡◌, ◌++◌, nat_le};
 ghost use Rattle.kinds.specs.Refusals.{foremost};
-ghost use Rattle.inventory_rows.specs.Search as search;
 ghost use Rattle.inventory_rows.specs.State.{inv_of};
 ghost use Rattle.inventory_rules.specs.RefusedData.{unless, backup_refused, move_refused, copy_list_refused};
 ghost use Rattle.inventory_rules.specs.Refused.{causes, scratch_refused, object_bounds};
@@ -30,12 +29,11 @@ fn day_refused(tables: &Tables, day: Day) -> Option<Refusal>
 }
 
 #[tactic(auto, using(item_refusals::proofs::Foremost::foremost_append))]
-fn versions_refused(tables: &Tables, versions: &NewVersions, known: usize) -> Option<Refusal>
-    requires { length (search.versions (inv_of tables.now)) ≤ known }
+fn versions_refused(tables: &Tables, versions: &NewVersions) -> Option<Refusal>
     ensures { result ≡ foremost (backup_refused versions.now.filespace versions.now.items (inv_of tables.now)
         ++ (scratch_refused versions.now.scratch (inv_of tables.now) ++ object_bounds versions.now.items (inv_of tables.now))) }
 {
-    let items = backup_refused(tables, versions.filespace, versions.items.as_slice(), known);
+    let items = backup_refused(tables, versions.filespace, versions.items.as_slice());
     let scratch = scratch_refused(tables, versions.scratch.as_slice());
     let objects = objects_refused(tables, versions.items.as_slice());
     sooner_of(items, sooner_of(scratch, objects))
@@ -61,14 +59,8 @@ fn copies_refused<J: Past>(past: &J, tables: &Tables, copies: &NewCopies) -> Opt
 
 /// Why the database refuses a transaction with this change, where it does: of all the refusals that hold of it, in the order of their causes,
 /// the one with the least number. That what the transaction would leave is valid, and no larger than a database may be, is not looked at. It
-/// takes no memory. The database keeps no more versions than `known`; only where these leave no room for those that come does it walk all paths.
-pub fn refusal_of<J: Past>(
-    past: &J,
-    tables: &Tables,
-    change: &Change,
-    known: usize,
-) -> Option<Refusal>
-    requires { length (search.versions (inv_of tables.now)) ≤ known }
+/// takes no memory.
+pub fn refusal_of<J: Past>(past: &J, tables: &Tables, change: &Change) -> Option<Refusal>
     ensures { result ≡ foremost (causes (J.journal past.now) change.now (inv_of tables.now)) }
 {
     match change {
@@ -76,7 +68,7 @@ pub fn refusal_of<J: Past>(
         Change::Policy(change) => policy_refused(tables, change),
         Change::Object(change) => client_refused(tables, change),
         Change::Pool(change) => store_refused(tables, change),
-        Change::Backup(versions) => versions_refused(tables, versions, known),
+        Change::Backup(versions) => versions_refused(tables, versions),
         Change::Rebind(paths) => {
             rebind_refused(past, tables, paths.filespace, paths.items.as_slice())
         }

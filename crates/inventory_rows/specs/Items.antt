@@ -5,6 +5,7 @@ use Rattle.policy_domains.specs.Rows.{DomainRow}
 use Rattle.version_groups.specs.declared.group.Group.{Group}
 use Rattle.version_groups.specs.declared.groups.Filespace.{Filespace}
 use Rattle.version_groups.specs.declared.versions.Version.{Version}
+use Rattle.object_rows.specs.Items as object
 use Rattle.inventory_rows.specs.declared.backup.Backup.{Backup}
 use Rattle.inventory_rows.specs.State.{Inv}
 
@@ -20,19 +21,19 @@ abbrev pub items_of_domain : DomainRow → ℕ
 items_of_domain d = length d.sets + sum_by (λ s. length s.1.classes) d.sets
 
 abbrev pub items_of_version : Version → ℕ
-items_of_version version = length version.copies + sum_by (λ c. length c.segments) version.copies
+items_of_version version = object.items_of_version version
 
 abbrev pub items_of_group : Group → ℕ
-items_of_group group = length group.versions + sum_by items_of_version group.versions
+items_of_group group = object.items_of_group group
 
 abbrev pub items_of_filespace : Filespace → ℕ
-items_of_filespace f = length f.groups + sum_by (λ g. items_of_group g.1) f.groups
+items_of_filespace f = object.items_of_filespace f
 
 -- how many items the lists of a database have together: domains, sets and classes; nodes; filespaces, groups, versions, copies and segments;
 -- device classes, pools and volumes; database backups and their delays
 abbrev pub count_items : Inv → ℕ
 count_items v =
     length v.domains + sum_by (λ d. items_of_domain d.1) v.domains
-    + (length v.clients.nodes + (length v.clients.filespaces + sum_by (λ f. items_of_filespace f.1) v.clients.filespaces))
+    + object.items_of_rows v.clients
     + (length v.stores.classes + (length v.stores.pools + length v.stores.volumes))
     + (length v.backups + sum_by (λ b. length b.1.delays) v.backups)

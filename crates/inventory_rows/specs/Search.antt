@@ -18,7 +18,9 @@ use Rattle.version_groups.specs.Versions.{version_of}
 use Rattle.object_rows.specs.declared.place.Node.{Node}
 use Rattle.object_rows.specs.declared.place.Place.{Place}
 use Rattle.object_rows.specs.Filespaces.{at_number, filespace_at, group_at, versions_of}
-use Rattle.object_rows.specs.Places.{listed}
+use Rattle.object_rows.specs.Held.{copies_in}
+use Rattle.object_rows.specs.Held as held
+use Rattle.object_rows.specs.Places.{place_of}
 use Rattle.pool_tables.specs.declared.pool.Pool.{Pool}
 use Rattle.pool_rows.specs.PoolRows.{PoolRows}
 use Rattle.pool_tables.specs.Rows.{row_at, number_where}
@@ -34,7 +36,7 @@ version object v = version_of object (versions v)
 
 -- the filespace and the path under which the version of an object stands
 abbrev pub place : ℕ → Inv → Option Place
-place object v = lookup (at_number object) (listed v.clients.filespaces)
+place object v = place_of object v.clients.filespaces
 
 -- the group of a path
 abbrev pub group : ℕ → List ℕ → Inv → Option Group
@@ -90,11 +92,11 @@ node_in domain v = number_where (λ n. is_same_name n.domain domain) v.clients.n
 
 -- the copies of all versions, each with its object
 abbrev pub copies : Inv → List (ℕ × CopyRow)
-copies v = flat_map (λ version. map (λ c. (version.object, c)) version.copies) (versions v)
+copies v = copies_in v.clients.filespaces
 
 -- a copy lies in the pool
 abbrev pub holds_copy : ℕ → Inv → Bool
-holds_copy pool v = list_any (λ e. e.1.pool == pool) (copies v)
+holds_copy pool v = held.holds_copy pool v.clients.filespaces
 
 -- the segments on a volume, each with its object
 abbrev pub segments_on : ℕ → Inv → List (ℕ × Segment)

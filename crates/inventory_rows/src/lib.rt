@@ -3,6 +3,7 @@
 #![tactic(auto)]
 
 mod backup;
+mod items;
 mod tables;
 
 pub use backup::{Backup, Delays};

@@ -1,4 +1,3 @@
-pub mod Copied
 pub mod KeptDelays
 pub mod Paths
 pub mod Rooms

@@ -8,7 +8,7 @@ use Rattle.policy_domains.specs.Rows.{is_same_name}
 use Rattle.inventory_rows.specs.Search.{group}
 use Rattle.inventory_rows.specs.State.{Inv}
 use Rattle.item_counts.specs.Counts.{one_if, paths_added}
-use Rattle.inventory_sizes.specs.Room.{left}
+use Rattle.object_rows.specs.Items.{left}
 use Rattle.inventory_sizes.proofs.Rooms.{two_more, two_stop}
 
 -- the paths of items, the last one first

@@ -1,7 +1,8 @@
 -- Room for things that are counted in parts.
 use Rattle.std.proofs.Common.{◌≡◌, ℕ, ◌+◌, ◌-◌, ◌<◌, ◌≤◌, Bool, true, false, cond, min, nat_le, Some, None, refl, sym, ap, ◌∙◌, arith}
 use Rattle.std.proofs.lemmas.Bool.{leb-true, leb-false, le-leb, lt-leb}
-use Rattle.inventory_sizes.specs.Room.{left, sum_within}
+use Rattle.object_rows.specs.Items.{left}
+use Rattle.inventory_sizes.specs.Room.{sum_within}
 
 left_when : (count room : ℕ) (b : Bool) → nat_le count room ≡ b → left count room ≡ cond b (Some (room - count)) None
 left_when count room b h = ap (λ t. cond t (Some (room - count)) None) h

@@ -3,19 +3,20 @@
 ghost use Rattle.std.specs.Prelude.{◌≡◌, ◌+◌, ◌||◌, [], is_some, length, not};
 ghost use Rattle.std.specs.List.{list_any, sum_by};
 ghost use Rattle.policy_domains.specs.Rows.{is_same_name};
+ghost use Rattle.object_rows.specs.Items.{left};
 ghost use Rattle.inventory_rows.specs.Search.{group};
 ghost use Rattle.inventory_rows.specs.State.{inv_of};
 ghost use Rattle.inventory_rules.specs.Effects.{delays_now};
 ghost use Rattle.item_counts.specs.Counts.{is_new_client, is_new_store, items_added, items_of_new, paths_added, policy_added};
-ghost use Rattle.inventory_sizes.specs.Room.{left};
 
 use crate::delays::left_by_delays;
 use crate::gone::items_of_set;
-use crate::room::{left_by, left_by_many, left_by_one};
+use crate::room::left_by_one;
 use change_items::{MovedCopies, MovedCopy, NewCopies, NewCopy, NewVersion, NewVersions};
 use changes::Change;
 use inventory_rows::Tables;
 use kinds::{DefineOrDelete, Name, ObjectChange, Path, PolicyChange, PoolChange, Verb};
+use object_rows::{left_by, left_by_many};
 use policy_domains::PolicyDomain;
 use std::collections::BTreeMap;
 

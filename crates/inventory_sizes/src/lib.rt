@@ -5,7 +5,6 @@
 mod added;
 mod delays;
 mod gone;
-mod held;
 mod room;
 mod sizes;
 

@@ -1,26 +1,10 @@
-//! Room for a number of things.
+//! Room for a thing that may come.
 
 ghost use Rattle.std.specs.Prelude.{◌≡◌};
+ghost use Rattle.object_rows.specs.Items.{left};
 ghost use Rattle.item_counts.specs.Counts.{one_if};
-ghost use Rattle.inventory_sizes.specs.Room.{left};
 
-/// What is left of the room once so many things are in it.
-pub(crate) fn left_by_many(count: u128, room: u128) -> Option<u128>
-    ensures { result ≡ left count room }
-{
-    if count <= room {
-        Some(room - count)
-    } else {
-        None
-    }
-}
-
-/// What is left of the room once so many things are in it.
-pub(crate) fn left_by(count: usize, room: u128) -> Option<u128>
-    ensures { result ≡ left count room }
-{
-    left_by_many(count as u128, room)
-}
+use object_rows::left_by;
 
 /// What is left of the room once a thing is in it that may come.
 pub(crate) fn left_by_one(comes: bool, room: u128) -> Option<u128>

@@ -9,7 +9,6 @@ ghost use Rattle.inventory_sizes.specs.Sizes.{has_item_room};
 
 use crate::added::left_by_change;
 use crate::gone::items_gone;
-use crate::held::left_by_tables;
 use changes::Change;
 use inventory_rows::Tables;
 
@@ -31,30 +30,31 @@ pub fn items_after(tables: &Tables, change: &Change, known: u128) -> Option<u128
     }
 }
 
-/// How many items the lists of the database have, counted up to how many they may have. It walks all that the tables hold, and takes no memory.
+/// How many items the lists of the database have, counted up to how many they may have. It walks the domains, their sets and the database
+/// backups, and takes no memory.
 pub fn count_items(tables: &Tables) -> u128
     ensures { result ≡ min (count_items (inv_of tables.now)) most_items }
 {
-    match left_by_tables(tables, MOST_ITEMS) {
+    match tables.items_left(MOST_ITEMS) {
         Some(rest) => MOST_ITEMS - rest,
         None => MOST_ITEMS,
     }
 }
 
-/// Whether there is room for the items, by a walk over all that the tables hold, up to where the room ends.
+/// Whether there is room for the items, by a walk over the domains, their sets and the database backups, up to where the room ends.
 fn has_counted_room(tables: &Tables, change: &Change) -> bool
     ensures { result ≡ has_item_room change.now (inv_of tables.now) }
 {
     let room = MOST_ITEMS + items_gone(change, tables);
     match left_by_change(change, tables, room) {
-        Some(rest) => left_by_tables(tables, rest).is_some(),
+        Some(rest) => tables.items_left(rest).is_some(),
         None => false,
     }
 }
 
 /// Whether the lists of the database have no more items than they may once a transaction is made: with those that it brings, and without those
-/// that it replaces. They have no more items than `known`. Only where these leave no room for what comes does it walk all that the tables hold,
-/// up to where the room ends. It takes no memory.
+/// that it replaces. They have no more items than `known`. Only where these leave no room for what comes does it walk the domains, their sets and
+/// the database backups, up to where the room ends. It takes no memory.
 pub fn has_item_room(tables: &Tables, change: &Change, known: u128) -> bool
     requires { count_items (inv_of tables.now) ≤ known }
     ensures { result ≡ has_item_room change.now (inv_of tables.now) }

@@ -2,5 +2,4 @@ pub mod Files
 pub mod Foremost
 pub mod Lists
 pub mod Places
-pub mod Rooms
 pub mod Standings

@@ -1,24 +1,19 @@
 //! Why versions don't go with their copies.
 
-ghost use Rattle.std.specs.Prelude.{◌≡◌, ◌&&◌, ◌==◌};
-ghost use Rattle.std.specs.List.{list_any};
-ghost use Rattle.std.specs.Option.{option_map};
+ghost use Rattle.std.specs.Prelude.{◌≡◌};
 ghost use Rattle.kinds.specs.Refusals.{foremost};
-ghost use Rattle.object_rows.specs.Filespaces.{at_number};
-ghost use Rattle.version_groups.specs.Versions.{has_object};
 ghost use Rattle.inventory_rows.specs.Search.{lies_on, place};
 ghost use Rattle.inventory_rows.specs.State.{inv_of};
 ghost use Rattle.inventory_rules.specs.RefusedData.{all_lie_on, primary_lies_on, in_use, is_in, discard_reason_refused, discarded_refused, discard_refused};
-ghost use Rattle.item_refusals.specs.Standing.{stands_in, filespace_of, is_number};
+ghost use Rattle.item_refusals.specs.Standing.{is_number};
 
 use crate::causes::{bad_value, gone_or_unknown, once, unless};
 use crate::past::Past;
 use crate::primary::is_primary;
 use change_items::{DiscardReason, DiscardedVersion};
 use inventory_rows::Tables;
-use kinds::{By, Digest, Path, Refusal, sooner_of};
-use std::collections::BTreeMap;
-use version_groups::{CopyRow, Filespace, Group, Version};
+use kinds::{By, Digest, Refusal, sooner_of};
+use version_groups::{CopyRow, Version};
 
 /// Whether one of the copy's segments lies on the volume.
 pub(crate) fn lies_on(file: u32, copy: &CopyRow) -> bool
@@ -49,30 +44,6 @@ fn primary_lies_on(tables: &Tables, file: u32, version: &Version) -> bool
         && lies_on(file, copy))
 }
 
-/// Whether one of the groups has a version of the object.
-fn stands_in(groups: &BTreeMap<Path, Group>, object: u64) -> bool
-    ensures { result ≡ stands_in object groups.now.entries }
-{
-    'groups: for (_, group) in groups.iter() {
-        if group.versions.contains(object) {
-            return true;
-        }
-    }
-    false
-}
-
-/// The filespace in which the object's version stands, found by a walk over all groups.
-fn filespace_of(filespaces: &BTreeMap<u32, Filespace>, object: u64) -> Option<u32>
-    ensures { result ≡ filespace_of object filespaces.now.entries }
-{
-    'filespaces: for (number, filespace) in filespaces.iter() {
-        if stands_in(filespace.groups.as_map(), object) {
-            return Some(*number);
-        }
-    }
-    None
-}
-
 fn is_number(filespace: u32, found: Option<u32>) -> bool
     ensures { result ≡ is_number filespace found }
 {
@@ -86,7 +57,7 @@ fn is_number(filespace: u32, found: Option<u32>) -> bool
 fn is_in(tables: &Tables, filespace: u32, object: u64) -> bool
     ensures { result ≡ is_in filespace (place object (inv_of tables.now)) }
 {
-    is_number(filespace, filespace_of(tables.objects.filespaces(), object))
+    is_number(filespace, tables.objects.filespace_of(object))
 }
 
 pub(crate) fn in_use(object: u64) -> Refusal
@@ -139,7 +110,7 @@ fn discarded_refusal<J: Past>(
 /// Why versions don't go with their copies: an object that is named twice is `BadValue`; one without a version is `Gone` or `NotFound`. After
 /// an audit, a copy without a segment on the volume is `InUse` and a digest that is the kept one is `BadValue`; with a volume that is deleted, a
 /// version of which neither the primary copy nor each copy has a segment on it is `InUse`; with a filespace, one that stands in another is
-/// `NotFound`. It takes no memory; with a filespace, each item takes a walk over all paths.
+/// `NotFound`. It takes no memory.
 pub fn discard_refused<J: Past>(
     past: &J,
     tables: &Tables,

@@ -3,7 +3,6 @@
 #![tactic(auto)]
 
 mod apart;
-mod at_most;
 mod causes;
 mod copies;
 mod discards;
@@ -16,7 +15,6 @@ mod room;
 mod scratch;
 mod versions;
 
-pub use at_most::AtMost;
 pub use causes::{bad_value, unless};
 pub use copies::{copy_list_refused, move_refused};
 pub use discards::discard_refused;
@@ -24,6 +22,5 @@ pub use drops::drop_refused;
 pub use numbers::{file_bound, file_refusal, full_at};
 pub use past::{NoPast, Past};
 pub use primary::{is_primary, is_primary_kind};
-pub use room::count_versions;
 pub use scratch::{objects_refused, scratch_refused};
 pub use versions::{backup_refused, expire_refused, gone_refused, rebind_refused};

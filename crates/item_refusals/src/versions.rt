@@ -1,8 +1,7 @@
 //! Why transactions on versions are refused.
 
-ghost use Rattle.std.specs.Prelude.{◌≡◌, ◌≤◌, length};
+ghost use Rattle.std.specs.Prelude.{◌≡◌};
 ghost use Rattle.kinds.specs.Refusals.{foremost};
-ghost use Rattle.inventory_rows.specs.Search.{versions};
 ghost use Rattle.inventory_rows.specs.State.{inv_of};
 ghost use Rattle.inventory_rules.specs.RefusedData.{filespace_there, backup_refused, rebinding_refused, rebind_refused, stale_version, named_gone_refused, gone_refused, expired_refused, expire_refused};
 
@@ -22,20 +21,13 @@ fn filespace_there(tables: &Tables, filespace: u32) -> Option<Refusal>
 }
 
 /// Why new versions are refused: an object that is named twice is `BadValue`, a filespace that isn't there is `NotFound`, and more than 2^20
-/// versions in all are `InventoryFull`. There are no more versions than `known`; only where these leave no room does it walk all paths. It takes
-/// no memory.
-pub fn backup_refused(
-    tables: &Tables,
-    filespace: u32,
-    items: &[NewVersion],
-    known: usize,
-) -> Option<Refusal>
-    requires { length (versions (inv_of tables.now)) ≤ known }
+/// versions in all are `InventoryFull`. It takes no memory.
+pub fn backup_refused(tables: &Tables, filespace: u32, items: &[NewVersion]) -> Option<Refusal>
     ensures { result ≡ foremost (backup_refused filespace items.now (inv_of tables.now)) }
 {
     let there = filespace_there(tables, filespace);
     let once = once(items);
-    let room = unless(has_room(tables, items.len(), known), Refusal::InventoryFull);
+    let room = unless(has_room(tables, items.len()), Refusal::InventoryFull);
     sooner_of(there, sooner_of(once, room))
 }
 

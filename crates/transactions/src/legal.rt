@@ -6,7 +6,6 @@ ghost use Rattle.inventory_rows.specs.State.{inv_of};
 ghost use Rattle.inventory_rules.specs.Held.{IsTied};
 ghost use Rattle.inventory_rules.specs.Refused.{full_at};
 ghost use Rattle.inventory_rules.specs.Valid.{is_valid};
-ghost use Rattle.item_refusals.specs.Bounds.{Bounds};
 ghost use Rattle.transactions.specs.Legal.{refused, sizes};
 
 use changes::Change;
@@ -14,7 +13,7 @@ use inventory_fits::parts_fit;
 use inventory_refusals::refusal_of;
 use inventory_rows::Tables;
 use inventory_sizes::has_item_room;
-use item_refusals::{AtMost, Past, bad_value, unless};
+use item_refusals::{Past, bad_value, unless};
 use kinds::{Refusal, sooner_of};
 
 /// How many numbers there are for transactions.
@@ -38,22 +37,22 @@ fn sizes_refused(tables: &Tables, change: &Change, known: u128) -> Option<Refusa
 }
 
 /// Why a transaction with this change is refused, where it is: by the foremost of the causes, a database that would be too large among them,
-/// and behind them by `BadValue` where what it brings doesn't fit where it comes. It takes no memory. Only where the bounds leave no room for
-/// what comes is what the database holds counted.
+/// and behind them by `BadValue` where what it brings doesn't fit where it comes. The database holds no more than `most_items` items. Only where
+/// these leave no room for what comes are they counted. It takes no memory.
 #[tactic(auto, using(item_refusals::proofs::Foremost::foremost_append), unfolding(crate::specs::Legal::refused))]
 pub fn refused<J: Past>(
     past: &J,
     tables: &Tables,
     change: &Change,
-    at_most: &AtMost,
+    most_items: u128,
 ) -> Option<Refusal>
     requires valid { is_valid (inv_of tables.now) ≡ true }
     requires tied { IsTied (inv_of tables.now) }
-    requires bounds { Bounds at_most.now (inv_of tables.now) }
+    requires bound { count_items (inv_of tables.now) ≤ most_items }
     ensures { result ≡ refused (J.journal past.now) change.now (inv_of tables.now) }
 {
-    let causes = refusal_of(past, tables, change, at_most.versions);
-    match sooner_of(causes, sizes_refused(tables, change, at_most.items)) {
+    let causes = refusal_of(past, tables, change);
+    match sooner_of(causes, sizes_refused(tables, change, most_items)) {
         Some(refusal) => Some(refusal),
         None => unless(parts_fit(tables, change), bad_value()),
     }

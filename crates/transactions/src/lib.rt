@@ -7,6 +7,6 @@ pub mod laws;
 mod legal;
 mod made;
 
-pub use bounds::count;
+pub use bounds::count_items;
 pub use legal::refused;
 pub use made::make;

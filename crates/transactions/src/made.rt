@@ -1,20 +1,20 @@
 //! A transaction is made.
-ghost use Rattle.std.specs.Prelude.{◌≡◌, true, None, Ok, IfErr};
+ghost use Rattle.std.specs.Prelude.{◌≡◌, ◌≤◌, true, None, Ok, IfErr};
 ghost use Rattle.kinds.specs.Answers.{Becomes};
+ghost use Rattle.inventory_rows.specs.Items.{count_items};
 ghost use Rattle.inventory_rows.specs.State.{inv_of};
 ghost use Rattle.inventory_rules.specs.Effects.{effect};
 ghost use Rattle.inventory_rules.specs.Held.{IsTied};
 ghost use Rattle.inventory_rules.specs.Journal.{no_journal};
 ghost use Rattle.inventory_rules.specs.Valid.{is_valid};
-ghost use Rattle.item_refusals.specs.Bounds.{Bounds};
 ghost use Rattle.row_order.specs.Ascending.{AreAscending};
 ghost use Rattle.transactions.specs.Legal.{refused, IsDayOf};
 
-use crate::bounds::{or_counted, raised};
+use crate::bounds::or_counted;
 use changes::Change;
 use inventory_effects::apply;
 use inventory_rows::Tables;
-use item_refusals::AtMost;
+use inventory_sizes::items_after;
 use kinds::Refusal;
 use row_order::are_ascending;
 use std::alloc::Global;
@@ -42,29 +42,30 @@ fn make_rows(alloc: Global, tables: &mut Tables, change: &Change) -> Result<(), 
     apply(alloc, tables, change)
 }
 
-/// Makes a transaction that isn't refused. Refused only for want of memory, and then nothing changes, the bounds included. Otherwise the bounds
-/// rise by what the transaction brings; where one of them would be more than a database may hold, what the database holds is counted anew.
+/// Makes a transaction that isn't refused. Refused only for want of memory, and then nothing changes, the bound included. The database holds no
+/// more than `most_items` items, before and after: the bound rises by what the transaction brings, and where it would be more than a database may
+/// hold, the items are counted anew.
 pub fn make(
     alloc: Global,
     tables: &mut Tables,
-    at_most: &mut AtMost,
+    most_items: &mut u128,
     change: &Change,
 ) -> Result<(), Refusal>
     requires valid { is_valid (inv_of tables.old) ≡ true }
     requires tied { IsTied (inv_of tables.old) }
-    requires bounds { Bounds at_most.old (inv_of tables.old) }
+    requires bound { count_items (inv_of tables.old) ≤ most_items.old }
     requires legal { refused no_journal change.now (inv_of tables.old) ≡ None }
     ensures becomes { Becomes result (inv_of tables.old) (inv_of tables.new) (Ok (effect change.now (inv_of tables.old))) }
     ensures valid { is_valid (inv_of tables.new) ≡ true }
     ensures tied { IsTied (inv_of tables.new) }
-    ensures bounds { Bounds at_most.new (inv_of tables.new) }
-    ensures memory { IfErr result (λ e. at_most.new ≡ at_most.old) }
+    ensures bound { count_items (inv_of tables.new) ≤ most_items.new }
+    ensures memory { IfErr result (λ e. most_items.new ≡ most_items.old) }
 {
     are_ascending(tables);
-    let higher = raised(tables, at_most, change);
+    let higher = items_after(tables, change, *most_items);
     match make_rows(alloc, tables, change) {
         Ok(()) => {
-            *at_most = or_counted(tables, higher);
+            *most_items = or_counted(tables, higher);
             Ok(())
         }
         Err(refusal) => Err(refusal),

@@ -4,10 +4,10 @@ use Rattle.std.proofs.lemmas.Bool.{true≢false}
 use Rattle.std.proofs.lemmas.Map.Text.{is_eq-slice_cmp}
 use Rattle.std.specs.Cmp.Lexicographic.{nat_list_eq_equiv}
 use Rattle.std.specs.List.{list_all}
+use Rattle.std.specs.Map.{lookup}
 use Rattle.version_groups.specs.declared.groups.Filespace.{Filespace}
 use Rattle.object_rows.specs.declared.place.Node.{Node}
 use Rattle.object_rows.specs.Names.{at_name, filespace_named, filespace_of, first_number, named_of, node_named}
-use Rattle.object_rows.proofs.SpaceLaws.{named_more}
 use Rattle.pool_tables.specs.Rows.{is_same_name, number_where}
 use Rattle.inventory_facts.proofs.Facts.{both}
 
@@ -26,6 +26,10 @@ node_unnamed name (e ∷ es) h =
       | true ↦ λ _ t. absurd (cc)
       | false ↦ λ no t. both _ _ (ap not (sym (at-same name e.1.name) ∙ no)) (node_unnamed name es t)
     ] refl h
+
+-- a search by name goes past a filespace that is another node's or has another name
+named_more : (node : ℕ) (name : List ℕ) (e : ℕ × Filespace) (es : List (ℕ × Filespace)) → filespace_named node name (e ∷ es) ≡ cond (eqb e.1.node node && at_name name e.1.name) (Some e.0) (filespace_named node name es)
+named_more node name e es = elim (eqb e.1.node node) as (λ b. lookup (at_name name) (cond b ((e.1.name, e.0) ∷ []) [] ++ named_of node es) ≡ cond (b && at_name name e.1.name) (Some e.0) (filespace_named node name es)) [ true ↦ refl | false ↦ refl ]
 
 other_space : (node : ℕ) (name : List ℕ) (x : ℕ) (other : List ℕ) → (eqb x node && at_name name other) ≡ false → (not (eqb node x) || not (is_same_name name other)) ≡ true
 other_space node name x other h =

@@ -6,4 +6,4 @@ use Rattle.inventory_check.proofs.valid.is_valid.Goals as goal
 pub returns : goal.returns
 returns c =
     c.together.ensures
-    ∙ valid_together (inv_of c.args.tables.now) c.in_ok-numbered.numbered c.in_ok-named.named c.in_ok-small.small c.in_ok-numbered.ensures c.in_ok-named.ensures c.in_ok-small.ensures
+    ∙ valid_together (inv_of c.args.tables.now) c.in_ok-numbered.numbered c.are_named-named.result c.is_small.result c.in_ok-numbered.ensures c.are_named-named.ensures c.is_small.ensures

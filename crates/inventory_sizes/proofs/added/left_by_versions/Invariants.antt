@@ -1,7 +1,7 @@
 use Rattle.std.proofs.Common.{◌≡◌, drop}
 use Rattle.std.specs.List.{sum_by}
 use Rattle.item_counts.specs.Counts.{items_of_new}
-use Rattle.inventory_sizes.specs.Room.{left}
+use Rattle.object_rows.specs.Items.{left}
 use Rattle.inventory_sizes.proofs.added.left_by_versions.Given as goal
 
 abbrev pub invariant-items : goal.invariant-items

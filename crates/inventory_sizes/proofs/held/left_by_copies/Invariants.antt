@@ -1,7 +1,0 @@
-use Rattle.std.proofs.Common.{◌≡◌, length, drop}
-use Rattle.std.specs.List.{sum_by}
-use Rattle.inventory_sizes.specs.Room.{left}
-use Rattle.inventory_sizes.proofs.held.left_by_copies.Given as goal
-
-abbrev pub invariant-copies : goal.invariant-copies
-invariant-copies l = left (sum_by (λ c. length c.segments) (drop l.copy-index l.copies)) l.rest ≡ left (sum_by (λ c. length c.segments) l.copies) l.fn.room

@@ -1,8 +1,0 @@
-use Rattle.std.proofs.Common.{◌≡◌}
-use Rattle.std.specs.List.{sum_by}
-use Rattle.inventory_rows.specs.Items.{items_of_domain}
-use Rattle.inventory_sizes.specs.Room.{left}
-use Rattle.inventory_sizes.proofs.held.left_by_domains.Given as goal
-
-abbrev pub invariant-domains : goal.invariant-domains
-invariant-domains l = left (sum_by (λ d. items_of_domain d.1) l.domain-iterator) l.rest ≡ left (sum_by (λ d. items_of_domain d.1) l.domains.entries) l.fn.room

@@ -1,8 +1,0 @@
-use Rattle.std.proofs.Common.{◌≡◌}
-use Rattle.std.specs.List.{sum_by}
-use Rattle.inventory_rows.specs.Items.{items_of_group}
-use Rattle.inventory_sizes.specs.Room.{left}
-use Rattle.inventory_sizes.proofs.held.left_by_groups.Given as goal
-
-abbrev pub invariant-groups : goal.invariant-groups
-invariant-groups l = left (sum_by (λ g. items_of_group g.1) l.group-iterator) l.rest ≡ left (sum_by (λ g. items_of_group g.1) l.groups.entries) l.fn.room
