@@ -1,5 +1,5 @@
 // How a transaction is made.
-ghost use Rattle.std.specs.Prelude.{◌≡◌, ◌⊎◌, ◌+◌, ◌-◌, ◌<◌, ◌≤◌, ◌^◌, ◌∷◌, [], List, ℕ, length, drop, reverse, None, OnOk, IfErr};
+ghost use Rattle.std.specs.Prelude.{◌≡◌, ◌⊎◌, ◌+◌, ◌-◌, ◌<◌, ◌≤◌, ◌^◌, ◌∷◌, [], List, ℕ, length, drop, reverse, None, Ok, OnOk, IfErr};
 ghost use Rattle.store_api.specs.Cause.{Rose};
 ghost use Rattle.inventory_rules.specs.Journal.{no_journal};
 ghost use Rattle.transactions.specs.Legal.{refused};
@@ -156,12 +156,14 @@ impl<S: Store> Server<S> {
         Ok(())
     }
 
-    /// Makes a checkpoint where the log has 4 MiB or more. Where none can be made now, but for a fault, the log goes on.
+    /// Makes a checkpoint where the log has 4 MiB or more, and does nothing where it has less. Where none can be made now, but for a fault,
+    /// the log goes on.
     pub fn checkpoint_where_long(&mut self, alloc: Global) -> Result<(), Stop>
         requires sure { self.old.vault.fault ≡ None }
         ensures leaves { Leaves S.told S.moment_of S.faults_of result [] [] self.old self.new }
         ensures halts { IfErr result (OnlyFaults (λ file. Rose (S.faults_of self.old.store file) (S.faults_of self.new.store file))) }
         ensures generation { (self.new.vault.generation ≡ self.old.vault.generation) ⊎ (self.new.vault.generation ≡ self.old.vault.generation + 1) }
+        ensures short { self.old.vault.end < 2 ^ 22 → (result ≡ Ok tt) × (self.new ≡ self.old) }
     {
         if self.vault.log_end() < LONG {
             return Ok(());

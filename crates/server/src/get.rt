@@ -4,6 +4,8 @@ ghost use Rattle.std.specs.List.{list_all};
 ghost use Rattle.volume_frames.specs.Frames.{bytes_len};
 ghost use Rattle.std.specs.Option.{option_copied};
 ghost use Rattle.store_api.specs.Cause.{Rose};
+ghost use Rattle.store_api.specs.Told.{Told};
+ghost use Rattle.log_file.specs.Cursor.{Looked};
 ghost use Rattle.inventory_rows.specs.State.{inv_of};
 ghost use Rattle.inventory_rules.specs.Valid.{is_valid};
 ghost use Rattle.version_groups.specs.declared.versions.Version.{Version};
@@ -132,7 +134,7 @@ fn find_version<'a>(
 }
 
 impl<S: Store> Server<S> {
-    /// Reads the active version of a path of a node's filespace, from a copy that can be read. `NotFound` where there is no such version,
+    /// Reads the active version of a path of a node's filespace, from a copy that can be read, and changes no file. `NotFound` where there is no such version,
     /// `Unavailable` where each of its copies has a segment on a volume that can't be read now.
     pub fn get(
         &mut self,
@@ -146,6 +148,7 @@ impl<S: Store> Server<S> {
         ensures gets { (contents : ℕ → List ℕ) → Gets (λ file. Rose (S.faults_of self.old.store file) (S.faults_of self.new.store file)) (2 ^ 62 - 2 ^ 24 ≤ S.moment_of self.new.store)
             (IsSure contents self.old.vault (S.told self.old.store)) contents self.old.vault.database node.now filespace.now path.now result }
         ensures vault { self.new.vault ≡ self.old.vault }
+        ensures looked { Told (S.told self.old.store) (S.told self.new.store) Looked }
     {
         let tables = self.vault.database().tables();
         let Some(version) = find_version(tables, node, filespace, path) else {

@@ -1,19 +1,25 @@
 -- A database is put into files, whatever they hold.
-use Rattle.std.proofs.Common.{◌≡◌, ⊎_elim, inl, inr, ℕ, ◌+◌, ◌<◌, ◌≤◌, List, [], Result, Ok, Err, sym, ◌∙◌, ap, subst, arith}
-use Rattle.store_api.specs.Disk.{History, reads, standing, settled, now, ImageAt}
+use Rattle.std.proofs.Common.{◌≡◌, inl, inr, ℕ, ◌+◌, ◌<◌, ◌≤◌, List, [], Option, Result, Ok, Err, refl, sym, ◌∙◌, ap, subst, arith}
+use Rattle.std.proofs.lemmas.Bool.{cases_eq}
+use Rattle.store_api.specs.Disk.{History, reads, standing, settled, now}
 use Rattle.store_api.specs.Runs.{GoesOn, EachImage}
-use Rattle.store_api.proofs.Runs.{goes_then, goes_weaker, goes_standing, now_image}
+use Rattle.store_api.specs.Told.{Told}
+use Rattle.store_api.proofs.Runs.{goes_then, goes_weaker, goes_standing, told_then}
+use Rattle.kinds.specs.declared.refusal.OpenRefused.{OpenRefused}
+use Rattle.log_file.specs.declared.writer.Log.{Log}
 use Rattle.log_file.specs.Steps.{Created}
 use Rattle.db_image.specs.Steps.{FirmShut, Shut}
 use Rattle.db_image.proofs.One.{can_shut}
-use Rattle.entries.specs.declared.entry.Entry.{Entry}
 use Rattle.database.specs.Meaning.{Meaning}
 use Rattle.vault.specs.Files.{image_file, log_file, IsOurs, IsOf}
-use Rattle.vault.specs.Recovery.{after_all, RecoversWithin}
+use Rattle.vault.specs.Recovery.{IsBase}
 use Rattle.vault.specs.Images.{IsImage, Replaced}
 use Rattle.vault.specs.Vaults.{Holds}
-use Rattle.vault.specs.Openings.{SettledBelow, Cleared, Formatted}
-use Rattle.vault.proofs.Goodness.{holds_left, shut_beside, image_ours, log_ours}
+use Rattle.vault.specs.Openings.{SettledBelow, SettledAll, Cleared, Formatted}
+use Rattle.vault.proofs.Checkpointing.{holds_fresh}
+use Rattle.vault.proofs.Goodness.{shut_beside, image_ours, log_ours}
+use Rattle.vault.proofs.Sounding.{settled_below}
+use Rattle.vault.proofs.Telling.{told_three}
 
 -- the gate of the first image was shut
 pub record First (old new : History) : Type 0 where
@@ -24,6 +30,10 @@ pub record First (old new : History) : Type 0 where
 -- both were
 abbrev pub IsClear : History → History → Type 0
 IsClear old new = let done : Result (Unit {0}) ℕ = Ok tt in Cleared done old new
+
+-- all files were made durable
+abbrev pub IsSettled : History → History → Type 0
+IsSettled old new = let done : Result (Unit {0}) OpenRefused = Ok tt in SettledAll done old new
 
 ours_one : (file : ℕ) (old new : History) → IsOurs file → GoesOn (λ other. other ≡ file) old new → GoesOn IsOurs old new
 ours_one file old new ours goes = goes_weaker (λ other. other ≡ file) IsOurs old new (λ other here. subst IsOurs (sym here) ours) goes
@@ -60,28 +70,68 @@ pub of_ours : (generation file : ℕ) → IsOf generation file → IsOurs file
 of_ours generation file (inl is) = subst IsOurs (sym is) (image_ours generation)
 of_ours generation file (inr is) = subst IsOurs (sym is) (log_ours generation)
 
-module _ {D : Type 0} (m : Meaning D) where
-  -- each image of now recovers to what no stop takes away
-  pub holds_images : (generation : ℕ) (base : D) (entries : List Entry) (end : ℕ) (h : History) → Holds m generation base entries end h → EachImage (now h) h (λ files. RecoversWithin m files (after_all m base entries))
-  holds_images generation base entries end h holds moment files from to here =
-      let there = now_image h files (subst (λ (k : ℕ). ImageAt h k files) (let e : moment ≡ now h = omega (arith, from, to) in e) here) in
-      holds_left m generation base entries end h files holds (record { image = there (image_file generation); other = there (image_file (generation + 1)); log = there (log_file generation) })
+-- the image's file that a generation leaves alone
+other_apart : (generation : ℕ) → ¬ IsOf generation (image_file (generation + 1))
+other_apart generation (inl is) = absurd (omega (arith, is))
+other_apart generation (inr is) = absurd (omega (arith, is))
 
-  module _ (d : D) where
-    pub not_formatted : {T E : Type 0} (why : E) (old new : History) → GoesOn IsOurs old new → (let result : Result T E = Err why in Formatted m d result old new)
-    not_formatted why old new goes = record { goes = goes; installed = tt }
+shut_in : (h : History) (file : ℕ) → file < 2 → FirmShut (standing h 0) × FirmShut (standing h 1) → FirmShut (standing h file)
+shut_in h file image shut = elim (cases_eq file 0) [
+  | inl is ↦ subst (λ (n : ℕ). FirmShut (standing h n)) (sym is) shut.0
+  | inr not ↦ subst (λ (n : ℕ). FirmShut (standing h n)) (let e : 1 ≡ file = omega (arith, image, not) in e) shut.1
+]
 
-    pub is_formatted : {T E U V : Type 0} (done : T) (log : U) (payload : List ℕ) → m.Valid d → payload ≡ m.spelled d → (old mid clear new : History) → SettledBelow 4 old mid → IsClear mid clear → (let put : Result U V = Ok log in Replaced 0 payload put clear new) → (let result : Result T E = Ok done in Formatted m d result old new)
-    is_formatted done log payload valid spelled old mid clear new below clears replaced =
-        let shut = clears.shut (λ file lt. below.durable file (omega (arith, lt)) ∙ ap settled (sym (below.calm.same file))) in
-        let there = replaced.stands (inl (shut.0.gate, shut.0.firm)) in
-        record {
-          goes = goes_then IsOurs old mid new below.calm.goes (goes_then IsOurs mid clear new clears.goes (goes_weaker (IsOf 0) IsOurs clear new (of_ours 0) replaced.goes));
-          installed = holds_images 0 d [] 0 new (record {
-            image = subst (λ (p : List ℕ). IsImage new 0 0 p) spelled there.0;
-            other = inl (shut_beside (IsOf 0) clear new replaced.goes 1 (λ is. ⊎_elim (λ e. absurd (omega (arith, e))) (λ e. absurd (omega (arith, e))) is) shut.1);
-            log = there.1;
-            valid = valid;
-            legal = tt;
-          });
-        }
+module _ {D : Type 0} (m : Meaning D) (d : D) where
+  -- each image of now is the base that no stop takes away
+  pub holds_base : (generation : ℕ) (h : History) → Holds m generation d [] 0 h → EachImage (now h) h (IsBase m generation d)
+  holds_base generation h holds moment files from to here =
+      let fresh = holds_fresh m generation d h holds moment files from to here in
+      record {
+        recovers = record { generation = generation; base = d; entries = []; valid = holds.valid; newest = fresh.0; log = fresh.1; legal = tt; gives = refl };
+        by_image = refl;
+        alone = refl;
+      }
+
+  pub not_formatted : {T E : Type 0} (why : E) (old new : History) → GoesOn IsOurs old new → (let result : Result T E = Err why in Formatted m d result old new)
+  not_formatted why old new goes = record { goes = goes; installed = tt }
+
+  -- an image of any generation, written where both gates were shut
+  pub image_put : {U V : Type 0} (generation : ℕ) (log : U) (payload : List ℕ) → m.Valid d → payload ≡ m.spelled d → (old mid clear new : History) → SettledBelow 4 old mid → IsClear mid clear → (let put : Result U V = Ok log in Replaced generation payload put clear new) → GoesOn IsOurs old new × EachImage (now new) new (IsBase m generation d)
+  image_put generation log payload valid spelled old mid clear new below clears replaced =
+      let shut = clears.shut (λ file lt. below.durable file (omega (arith, lt)) ∙ ap settled (sym (below.calm.same file))) in
+      let here = shut_in clear (image_file generation) (omega arith) shut in
+      let there = replaced.stands (inl (here.gate, here.firm)) in (
+        goes_then IsOurs old mid new below.calm.goes (goes_then IsOurs mid clear new clears.goes (goes_weaker (IsOf generation) IsOurs clear new (of_ours generation) replaced.goes)),
+        holds_base generation new (record {
+          image = subst (λ (p : List ℕ). IsImage new (image_file generation) generation p) spelled there.0;
+          other = inl (shut_beside (IsOf generation) clear new replaced.goes (image_file (generation + 1)) (other_apart generation) (shut_in clear (image_file (generation + 1)) (omega arith) shut));
+          log = there.1;
+          valid = valid;
+          legal = tt;
+        }),
+      )
+
+  -- What is told of formatting. That all files were made durable comes last, since it is looked for.
+  module _ (w x y : Option History) where
+    pub told_not_cleared : (why : ℕ) (again : OpenRefused) → (let cleared : Result (Unit {0}) ℕ = Err why in Told x y (Cleared cleared)) → Told w x IsSettled → (let result : Result (Unit {0}) OpenRefused = Err again in Told w y (Formatted m d result))
+    told_not_cleared why again cleared settles =
+        let failed : Result (Unit {0}) ℕ = Err why in
+        let result : Result (Unit {0}) OpenRefused = Err again in
+        told_then w x y IsSettled (Cleared failed) (Formatted m d result) (λ h k n all clears. not_formatted again h n (goes_then IsOurs h k n all.calm.goes clears.goes)) settles cleared
+
+    module _ (z : Option History) (generation : ℕ) (payload : List ℕ) where
+      pub told_not_put : (why : ℕ) (again : OpenRefused) → Told x y IsClear → (let put : Result Log ℕ = Err why in Told y z (Replaced generation payload put)) → Told w x IsSettled → (let result : Result (Unit {0}) OpenRefused = Err again in Told w z (Formatted m d result))
+      told_not_put why again cleared put settles =
+          let failed : Result Log ℕ = Err why in
+          let result : Result (Unit {0}) OpenRefused = Err again in
+          told_three w x y z IsSettled IsClear (Replaced generation payload failed) (Formatted m d result)
+          (λ h k l n all clears replaced. not_formatted again h n (goes_then IsOurs h k n all.calm.goes (goes_then IsOurs k l n clears.goes (goes_weaker (IsOf generation) IsOurs l n (of_ours generation) replaced.goes)))) settles cleared put
+
+      pub told_put : (done : Unit {0}) (log : Log) → m.Valid d → payload ≡ m.spelled d → Told x y IsClear → (let put : Result Log ℕ = Ok log in Told y z (Replaced generation payload put)) → Told w x IsSettled → generation ≡ 0 → (let result : Result (Unit {0}) OpenRefused = Ok done in Told w z (Formatted m d result))
+      told_put done log valid spelled cleared put settles first =
+          let made : Result Log ℕ = Ok log in
+          let result : Result (Unit {0}) OpenRefused = Ok done in
+          told_three w x y z IsSettled IsClear (Replaced generation payload made) (Formatted m d result)
+          (λ h k l n all clears replaced.
+          let is = image_put generation log payload valid spelled h k l n (settled_below tt h k all) clears replaced in
+          record { goes = is.0; installed = subst (λ (g : ℕ). EachImage (now n) n (IsBase m g d)) first is.1 }) settles cleared put

@@ -1,27 +1,38 @@
 -- A database is put in the place of what files recover to.
-use Rattle.std.proofs.Common.{◌≡◌, ◌⊎◌, ⊎_elim, inl, inr, ℕ, ◌+◌, ◌<◌, ◌^◌, List, [], Option, None, Some, Result, Ok, Err, OnOk, sym, subst, arith}
+use Rattle.std.proofs.Common.{◌≡◌, ◌⊎◌, ⊎_elim, inl, inr, ℕ, ◌+◌, ◌<◌, ◌≤◌, ◌^◌, List, [], Option, None, Some, Result, Ok, Err, OnOk, refl, sym, subst, arith}
+use Rattle.std.proofs.lemmas.Bool.{cases_lt}
 use Rattle.store_api.specs.Disk.{History, reads, standing, settled, now, ImageAt}
 use Rattle.store_api.specs.Runs.{GoesOn, EachImage, Firm}
 use Rattle.store_api.specs.Told.{Told}
-use Rattle.store_api.proofs.Runs.{goes_none, goes_then, goes_weaker, goes_later, each_then}
+use Rattle.store_api.proofs.Runs.{told_map, goes_none, goes_then, goes_weaker, goes_later, each_then}
 use Rattle.store_api.proofs.Pieces.{image_reads}
 use Rattle.kinds.specs.declared.refusal.OpenRefused.{OpenRefused}
 use Rattle.kinds.specs.declared.refusal.OpenRefused.TheVariants.{NotFormatted, Damaged}
+use Rattle.log_file.specs.declared.writer.Log.{Log}
 use Rattle.db_image.specs.declared.mark.Mark.TheVariants.{Server}
 use Rattle.db_image.specs.Images.{image_bytes}
 use Rattle.db_image.specs.Steps.{CanShut}
 use Rattle.db_image.proofs.One.{can_shut, image_settled}
 use Rattle.database.specs.Meaning.{Meaning, IsMeaning}
 use Rattle.vault.specs.Files.{image_file, log_file, IsOurs, IsOf}
-use Rattle.vault.specs.Recovery.{records_of, Recovers, RecoversWithin}
+use Rattle.vault.specs.Recovery.{records_of, Recovers, RecoversWithin, IsBase, IsNext, IsInstalledAs}
 use Rattle.vault.specs.Images.{IsImage, StaysOlder, Replaced}
 use Rattle.vault.specs.Vaults.{State, IsGood}
 use Rattle.vault.specs.Openings.{IsSound, Calm, Opened, ImagesAre, Formatted, HadOne, PutBehind, Installed, SaysWhy}
 use Rattle.vault.proofs.Checkpointing.{replaced_since, image_apart}
 use Rattle.vault.proofs.Goodness.{image_again, image_beside, good_image, good_since}
-use Rattle.vault.proofs.Formatting.{of_ours, holds_images}
-use Rattle.vault.proofs.Sounding.{ends_log}
+use Rattle.vault.proofs.Formatting.{of_ours, holds_base}
+use Rattle.vault.proofs.Sounding.{ends_log, newest_one}
 use Rattle.vault.proofs.Unique.{is_formatted, not_damaged_there}
+
+-- what an answer brings, one step on
+on_ok : {T E : Type 0} (r : Result T E) {P Q : Type 0} → (P → Q) → OnOk r P → OnOk r Q
+on_ok (Ok x) f p = f p
+on_ok (Err e) f p = tt
+
+-- behind the last generation it is 0 again
+first_again : (generation : ℕ) → (generation + 1 < 2 ^ 62 → ⊥) → IsNext generation 0
+first_again generation last = inr (elim (cases_lt (generation + 1) (2 ^ 62)) [ inl few ↦ absurd (last few) | inr le ↦ le ], refl)
 
 module _ {D : Type 0} (m : Meaning D) (vault : State D) (d : D) where
   -- nothing was done
@@ -30,7 +41,7 @@ module _ {D : Type 0} (m : Meaning D) (vault : State D) (d : D) where
 
   -- it was behind the last generation
   pub put_again : {T E : Type 0} (result : Result T E) (old new : History) → (vault.generation + 1 < 2 ^ 62 → ⊥) → Formatted m d result old new → PutBehind m vault d result old new
-  put_again (Ok done) old new last formatted = record { goes = formatted.goes; installed = λ start are. formatted.installed; since = λ few. absurd (last few) }
+  put_again (Ok done) old new last formatted = record { goes = formatted.goes; installed = λ start are. (0, first_again vault.generation last, formatted.installed); since = λ few. absurd (last few) }
   put_again (Err why) old new last formatted = record { goes = formatted.goes; installed = tt; since = λ few. absurd (last few) }
 
   module _ (payload : List ℕ) (valid : m.Valid d) (spelled : payload ≡ m.spelled d) (old new : History) where
@@ -42,13 +53,13 @@ module _ {D : Type 0} (m : Meaning D) (vault : State D) (d : D) where
     ours : {U V : Type 0} (put : Result U V) → Replaced (vault.generation + 1) payload put old new → GoesOn IsOurs old new
     ours put replaced = goes_weaker (IsOf (vault.generation + 1)) IsOurs old new (of_ours (vault.generation + 1)) replaced.goes
 
-    pub not_put : {T E U V : Type 0} (why : E) (failed : V) → (let put : Result U V = Err failed in Replaced (vault.generation + 1) payload put old new) → (let result : Result T E = Err why in PutBehind m vault d result old new)
+    not_put : {T E U V : Type 0} (why : E) (failed : V) → (let put : Result U V = Err failed in Replaced (vault.generation + 1) payload put old new) → (let result : Result T E = Err why in PutBehind m vault d result old new)
     not_put why failed replaced = record { goes = ours (Err failed) replaced; installed = tt; since = since (Err failed) replaced }
 
-    pub is_put : {T E U V : Type 0} (done : T) (log : U) → (let put : Result U V = Ok log in Replaced (vault.generation + 1) payload put old new) → (let result : Result T E = Ok done in PutBehind m vault d result old new)
-    is_put done log replaced = record { goes = ours (Ok log) replaced; installed = installed; since = since (Ok log) replaced }
+    is_put : {T E U V : Type 0} (done : T) (log : U) → vault.generation + 1 < 2 ^ 62 → (let put : Result U V = Ok log in Replaced (vault.generation + 1) payload put old new) → (let result : Result T E = Ok done in PutBehind m vault d result old new)
+    is_put done log few replaced = record { goes = ours (Ok log) replaced; installed = λ start are. (vault.generation + 1, inl (few, refl), installed start are); since = since (Ok log) replaced }
       where
-        installed : (start : History) → ImagesAre vault.generation start old → EachImage (now new) new (λ files. RecoversWithin m files d)
+        installed : (start : History) → ImagesAre vault.generation start old → EachImage (now new) new (IsBase m (vault.generation + 1) d)
         installed start are =
             let durable : (file : ℕ) → file < 2 → standing old file ≡ settled (reads start file) = are.durable in
             let can : CanShut (standing old (image_file (vault.generation + 1))) = subst CanShut (sym (durable (image_file (vault.generation + 1)) (omega arith))) (can_shut (reads start (image_file (vault.generation + 1)))) in
@@ -58,13 +69,27 @@ module _ {D : Type 0} (m : Meaning D) (vault : State D) (d : D) where
               allowed = are.newest.stands.allowed;
               small = are.newest.stands.small;
             } in
-            holds_images m (vault.generation + 1) d [] 0 new (record {
+            holds_base m d (vault.generation + 1) new (record {
               image = subst (λ (p : List ℕ). IsImage new (image_file (vault.generation + 1)) (vault.generation + 1) p) spelled there.0;
               other = subst (λ (n : ℕ). StaysOlder (vault.generation + 1) n new) (sym (image_again vault.generation)) (inr (vault.generation, are.payload, image_beside (IsOf (vault.generation + 1)) old new replaced.goes (image_file vault.generation) vault.generation are.payload (image_apart vault.generation) before, omega arith));
               log = there.1;
               valid = valid;
               legal = tt;
             })
+
+-- what is told of it, where the image is of the next generation
+module _ {D : Type 0} (m : Meaning D) (vault : State D) (d : D) (valid : m.Valid d) (x y : Option History) (next : ℕ) (payload : List ℕ) (spelled : payload ≡ m.spelled d) where
+  pub told_not_put : (why : OpenRefused) (failed : ℕ) → (let put : Result Log ℕ = Err failed in Told x y (Replaced next payload put)) → next ≡ vault.generation + 1 → (let result : Result (Unit {0}) OpenRefused = Err why in Told x y (PutBehind m vault d result))
+  told_not_put why failed put is =
+      let made : Result Log ℕ = Err failed in
+      let result : Result (Unit {0}) OpenRefused = Err why in
+      told_map x y (Replaced next payload made) (PutBehind m vault d result) (λ old new replaced. not_put m vault d payload valid spelled old new why failed (subst (λ (k : ℕ). Replaced k payload made old new) is replaced)) put
+
+  pub told_put : (done : Unit {0}) (log : Log) → (let put : Result Log ℕ = Ok log in Told x y (Replaced next payload put)) → next ≡ vault.generation + 1 → vault.generation + 1 < 2 ^ 62 → (let result : Result (Unit {0}) OpenRefused = Ok done in Told x y (PutBehind m vault d result))
+  told_put done log put is few =
+      let made : Result Log ℕ = Ok log in
+      let result : Result (Unit {0}) OpenRefused = Ok done in
+      told_map x y (Replaced next payload made) (PutBehind m vault d result) (λ old new replaced. is_put m vault d payload valid spelled old new done log few (subst (λ (k : ℕ). Replaced k payload made old new) is replaced)) put
 
 module _ {D : Type 0} (m : Meaning D) (law : IsMeaning m) (d : D) (old mid new : History) where
   -- while it was read each image was one of the start
@@ -77,7 +102,7 @@ module _ {D : Type 0} (m : Meaning D) (law : IsMeaning m) (d : D) (old mid new :
   pub installed_behind : {T E : Type 0} (vault : State D) (result : Result T E) → (let opening : Result (State D) OpenRefused = Ok vault in Opened m opening old mid) → PutBehind m vault d result mid new → Installed m d result old new
   installed_behind vault result opened put = record {
     goes = goes_then IsOurs old mid new opened.calm.goes put.goes;
-    installed = on_ok result (λ f. f old opened.images) put.installed;
+    installed = on_ok result (λ f. as_next (f old opened.images)) put.installed;
     since = λ sound few.
         each_then IsOurs old mid new (λ files. HadOne m old files ⊎ RecoversWithin m files d) put.goes (λ moment files from to here. inl (had_one mid opened.calm sound moment files from to here))
         (λ moment files from to here. ⊎_elim
@@ -92,14 +117,16 @@ module _ {D : Type 0} (m : Meaning D) (law : IsMeaning m) (d : D) (old mid new :
         (put.since (few vault.generation opened.images.payload opened.images.newest) (opened.good sound) moment files from to here));
   }
     where
-      on_ok : {T E : Type 0} (r : Result T E) {P Q : Type 0} → (P → Q) → OnOk r P → OnOk r Q
-      on_ok (Ok x) f p = f p
-      on_ok (Err e) f p = tt
+      as_next : (next : ℕ) × IsNext vault.generation next × EachImage (now new) new (IsBase m next d) → (next : ℕ) × IsInstalledAs m (reads old) next × EachImage (now new) new (IsBase m next d)
+      as_next is =
+          let recovers : Recovers m (reads old) vault.database = opened.recovers in
+          let same : recovers.generation ≡ vault.generation = (newest_one (reads old) recovers.generation vault.generation (m.spelled recovers.base) opened.images.payload recovers.newest opened.images.newest).0 in
+          (is.0, inl (vault.database, recovers, subst (λ (g : ℕ). IsNext g is.0) (sym same) is.1), is.2)
 
   pub installed_again : {T E : Type 0} (refusal : OpenRefused) (result : Result T E) → (((e : D) → Recovers m (reads old) e → SaysWhy m (reads old) refusal → ⊥)) → (let opening : Result (State D) OpenRefused = Err refusal in Opened m opening old mid) → Formatted m d result mid new → Installed m d result old new
   installed_again refusal result none opened formatted = record {
     goes = goes_then IsOurs old mid new opened.calm.goes formatted.goes;
-    installed = formatted.installed;
+    installed = on_ok result (λ each. (0, inr ((λ e recovers. none e recovers opened.says), refl), each)) formatted.installed;
     since = λ sound few. absurd (let is = sound (reads old) (image_reads old) in
         none is.0 (record { generation = is.1.generation; base = is.1.base; entries = is.1.entries; valid = is.1.valid; newest = is.1.newest; log = ends_log (reads old (log_file is.1.generation)) (records_of is.1.entries) is.1.log; legal = is.1.legal; gives = is.1.gives }) opened.says);
   }

@@ -16,7 +16,7 @@ use Rattle.entries.specs.declared.entry.Entry.{Entry}
 use Rattle.entries.specs.EntryForm as entry
 use Rattle.database.specs.Meaning.{Meaning, IsLegal, Spells}
 use Rattle.vault.specs.Files.{image_file, IsOurs}
-use Rattle.vault.specs.Recovery.{Newest, Headed, NotFormatted, IsDamaged, IsForeign, IsRefused, LogDamaged, Recovers, RecoversWithin, records_of, after_all, AllLegal}
+use Rattle.vault.specs.Recovery.{Newest, Headed, NotFormatted, IsDamaged, IsForeign, IsRefused, LogDamaged, Recovers, RecoversWithin, IsBase, IsNext, IsInstalledAs, records_of, after_all, AllLegal}
 use Rattle.vault.specs.Vaults.{State, IsGood}
 
 -- The store is sound: each image of now recovers to a database, and the gate that ends its log lies within its file.
@@ -172,10 +172,10 @@ pub record Cleared {T E : Type 0} (result : Result T E) (old new : History) : Ty
   pub goes : GoesOn IsOurs old new
   pub shut : OnOk result (((file : ℕ) → file < 2 → standing old file ≡ settled (reads old file)) → FirmShut (standing new 0) × FirmShut (standing new 1))
 
--- The database was put into the files. On Ok each image of now recovers to it, and the newest image is the database, with an empty log.
+-- The database was put into the files. On Ok each image of now is it, as generation 0 with an empty log.
 pub record Formatted {D T E : Type 0} (m : Meaning D) (d : D) (result : Result T E) (old new : History) : Type 0 where
   pub goes : GoesOn IsOurs old new
-  pub installed : OnOk result (EachImage (now new) new (λ files. RecoversWithin m files d))
+  pub installed : OnOk result (EachImage (now new) new (IsBase m 0 d))
 
 -- the files recover to a database to which those that a stop might have left then recover, too
 pub record HadOne {D : Type 0} (m : Meaning D) (old : History) (files : ℕ → List ℕ) : Type 0 where
@@ -185,22 +185,22 @@ pub record HadOne {D : Type 0} (m : Meaning D) (old : History) (files : ℕ → 
   pub left : ImageAt old (now old) start
   pub same : RecoversWithin m start database
 
--- A database was put into the files of a vault, whose images are on the disk, as its next generation. Where the vault was good and its
+-- A database was put into the files of a vault, whose images are on the disk, as its next generation with an empty log. Where the vault was good and its
 -- generation isn't the last, each image since recovers to what it did, or to that database.
 pub record PutBehind {D T E : Type 0} (m : Meaning D) (vault : State D) (d : D) (result : Result T E) (old new : History) : Type 0 where
   pub goes : GoesOn IsOurs old new
-  pub installed : OnOk result ((start : History) → ImagesAre vault.generation start old → EachImage (now new) new (λ files. RecoversWithin m files d))
+  pub installed : OnOk result ((start : History) → ImagesAre vault.generation start old → (next : ℕ) × IsNext vault.generation next × EachImage (now new) new (IsBase m next d))
   pub since : vault.generation + 1 < 2 ^ 62 → IsGood m vault old → EachImage (now old) new (λ files. RecoversWithin m files vault.database ⊎ RecoversWithin m files d)
 
 -- no newest image is of the last generation
 abbrev pub NotLast : (ℕ → List ℕ) → Type 0
 NotLast files = (generation : ℕ) (payload : List ℕ) → Newest files generation payload → generation + 1 < 2 ^ 62
 
--- The same, over a store that may be in use. Where it is sound, and its newest image not of the last generation, each image since recovers to a database that one had at the start, or to
+-- The same, over a store that may be in use: behind the generation of what its files recovered to. Where it is sound, and its newest image not of the last generation, each image since recovers to a database that one had at the start, or to
 -- the one that is put in its place.
 pub record Installed {D T E : Type 0} (m : Meaning D) (d : D) (result : Result T E) (old new : History) : Type 0 where
   pub goes : GoesOn IsOurs old new
-  pub installed : OnOk result (EachImage (now new) new (λ files. RecoversWithin m files d))
+  pub installed : OnOk result ((next : ℕ) × IsInstalledAs m (reads old) next × EachImage (now new) new (IsBase m next d))
   pub since : IsSound m old → NotLast (reads old) → EachImage (now old) new (λ files. HadOne m old files ⊎ RecoversWithin m files d)
 
 -- Why no database was put into the files: a call on a file of the vault failed, the moment is all but the last, or want of memory.

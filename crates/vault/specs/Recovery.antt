@@ -1,5 +1,5 @@
 -- What whole files recover to. Lists of entries stand newest first.
-use Rattle.std.specs.Prelude.{◌≡◌, ◌⊎◌, ℕ, ◌+◌, ◌<◌, List, [], ◌∷◌, ◌++◌, length}
+use Rattle.std.specs.Prelude.{◌≡◌, ◌⊎◌, ℕ, ◌+◌, ◌<◌, ◌≤◌, ◌^◌, List, [], ◌∷◌, ◌++◌, length}
 use Rattle.std.specs.List.{AllByRecursion}
 use Rattle.log_file.specs.Blocks.{Fits, blocks, IsClosed, LogIs, LogEnds}
 use Rattle.log_file.specs.Blocks as log
@@ -55,6 +55,20 @@ Recovers m files d = RecoversBy m LogIs files d
 -- The same, and the gate that ends the log lies within its file.
 abbrev pub RecoversWithin : {D : Type 0} → Meaning D → (ℕ → List ℕ) → D → Type 0
 RecoversWithin m files d = RecoversBy m LogEnds files d
+
+-- The newest image is of this generation and is this database, and its log is empty.
+pub record IsBase {D : Type 0} (m : Meaning D) (number : ℕ) (d : D) (files : ℕ → List ℕ) : Type 0 where
+  pub recovers : RecoversWithin m files d
+  pub by_image : recovers.generation ≡ number
+  pub alone : recovers.entries ≡ []
+
+-- the generation behind this one; behind the last, 2^62 - 1, it is 0 again
+abbrev pub IsNext : ℕ → ℕ → Type 0
+IsNext generation next = ((generation + 1 < 2 ^ 62) × (next ≡ generation + 1)) ⊎ ((2 ^ 62 ≤ generation + 1) × (next ≡ 0))
+
+-- Of which generation an image is that is put in the place of what the files recover to: of the next one; where they recover to nothing, of 0.
+abbrev pub IsInstalledAs : {D : Type 0} → Meaning D → (ℕ → List ℕ) → ℕ → Type 0
+IsInstalledAs {D} m files next = ((d : D) × (recovers : Recovers m files d) × IsNext recovers.generation next) ⊎ (((d : D) → Recovers m files d → ⊥) × (next ≡ 0))
 
 -- No image has an open gate.
 abbrev pub NotFormatted : (ℕ → List ℕ) → Type 0

@@ -1,5 +1,9 @@
 use Rattle.std.proofs.Common.{◌≡◌, ◌∙◌, ◌-◌, ◌≤◌, ◌^◌, [], List, ℕ, None, Some, reverse, subst, sym}
 use Rattle.store_api.specs.Cause.{Rose}
+use Rattle.store_api.specs.Told.{Told}
+use Rattle.store_api.proofs.Runs.{told_map}
+use Rattle.log_file.specs.Cursor.{Looked}
+use Rattle.log_file.proofs.Told.{looked_same}
 use Rattle.inventory_rows.specs.State.{Inv, inv_of}
 use Rattle.server.specs.Outcomes.{Leaves}
 use Rattle.server.specs.Reads.{ReadsVersion, version_found}
@@ -41,3 +45,12 @@ returns-clause-gets g c =
     (λ contents.
     gets_found (λ file. Rose (f c.self.inside.store file) (f now file)) (2 ^ 62 - 2 ^ 24 ≤ m now) (IsSure contents c.self.inside.vault (t c.self.inside.store)) contents c.self.inside.vault.database c.args.path.now (Some version) c.read_version.result c.args.node.now c.args.filespace.now found
     (version_shown t m f old now version contents c.args.node.now c.args.filespace.now c.args.path.now c.read_version.result found reads))
+
+pub returns-in_default-clause-looked : goal.returns-in_default-clause-looked
+returns-in_default-clause-looked g c = looked_same (g.S.Store.told c.args.self.now.store)
+
+pub returns-clause-looked : goal.returns-clause-looked
+returns-clause-looked g c =
+    let now = c.read_version.new.store in
+    subst (λ (s : Running g.row.S.Denot). Told (g.S.Store.told s.store) (g.S.Store.told now) Looked) c.self.view_is
+    (told_map (g.S.Store.told c.self.inside.store) (g.S.Store.told now) _ Looked (λ h n looked. looked.goes) c.read_version.ensures.reads.looked)
