@@ -108,7 +108,7 @@ module _ (rose : ℕ → Type 0) (full sure : Type 0) (file : ℕ) where
 
   module _ (base : Inv) (first : ℕ → List ℕ) where
     stops_rose : (old : Site) (line : List ℕ) (new : Site) → StopsAt rose full sure base first old line (halt.LogFault file) new → Some_rose rose
-    stops_rose old line new (added, stops, kept) = ends_rose (contents_after first old.kept) (database_after base old.kept) old.generation (asked line) added new.generation stops
+    stops_rose old line new (added, stops, kept, stamped) = ends_rose (contents_after first old.kept) (database_after base old.kept) old.generation (asked line) added new.generation stops
 
     halts_rose : (script : Option (List ℕ)) (taken : List (List ℕ)) (mid new : Site) → Halts (RepliesAt rose full sure base first) (StopsAt rose full sure base first) script taken mid (halt.LogFault file) new → Some_rose rose
     halts_rose script taken mid new (inl (line, front, stops)) = stops_rose mid line new stops
@@ -137,7 +137,7 @@ pub ran_fault : (command : Command) (told left_told : Option History) (before mi
     RanScript command told left_told (RoseBetween mid after) opened last end status journal stamps base generation script left was is → status ≡ 6 → (file : ℕ) × (file < 4) × Rose (before file) (after file)
 ran_fault command told left_told before mid after opened last end status journal stamps base generation script left was is none ran six =
     let said = (ran.runs (λ number. [])).says in
-    let rose = status_fault (RoseBetween mid after) (2 ^ 62 - 2 ^ 24 ≤ last) (Sure command (λ number. []) told) ran.database (λ number. []) (record { kept = []; generation = ran.start }) (record { kept = ran.kept; generation = generation }) script end said.0 (sym ran.code ∙ six) said.2 in
+    let rose = status_fault (RoseBetween mid after) (2 ^ 62 - 2 ^ 24 ≤ last) (Sure command (λ number. []) told) ran.database (λ number. []) (record { kept = []; generation = ran.start; stamped = 0 }) (record { kept = ran.kept; generation = generation; stamped = length stamps }) script end said.0 (sym ran.code ∙ six) said.2 in
     (rose.0, rose.1.0, omega (arith, none rose.0, rose.1.1))
 
 not_six : (why : Closing) → closing_status why ≡ 6 → ⊥

@@ -1,5 +1,5 @@
 -- A new database is made, and perhaps a script is run over it; and how all of a call ended.
-use Rattle.std.proofs.Common.{◌≡◌, ◌⊎◌, ⊎_elim, inl, inr, ℕ, ◌<◌, Bool, false, Option, None, Some, is_some, IfSome, List, Result, Ok, refl, sym, subst, arith, reverse}
+use Rattle.std.proofs.Common.{◌≡◌, ◌⊎◌, ⊎_elim, inl, inr, ℕ, ◌<◌, Bool, false, Option, None, Some, is_some, IfSome, List, Result, Ok, refl, sym, ◌∙◌, subst, arith, reverse}
 use Rattle.store_api.specs.Cause.{NoneFell}
 use Rattle.store_api.specs.Disk.{History, now, reads}
 use Rattle.store_api.specs.Told.{Told}
@@ -13,15 +13,19 @@ use Rattle.inventory_rows.specs.Fresh.{fresh}
 use Rattle.inventory_rows.specs.State.{Inv}
 use Rattle.script_loop.specs.declared.ends.End.{End}
 use Rattle.vault.specs.Openings.{is_formatted as has_gate, Formatted, SaysWhy, MayRefuseLooking, MayRefuseFormatting}
-use Rattle.vault.specs.Recovery.{RecoversWithin}
+use Rattle.vault.specs.Recovery.{RecoversWithin, IsBase}
+use Rattle.vault.proofs.Sounding.{newest_one}
 use Rattle.vault.proofs.Unique.{one_database, is_formatted, not_damaged_there}
 use Rattle.server.proofs.Soundness.{within_recovers, new_sound}
-use Rattle.tsm_top.specs.Serve.{Command, format, run, fresh_run, Closing, no_command, formatted, exists, refused_opening, HasCause, OpensNot, IsNone, IsNew, HasImage, RunsOver, Sure, RanScript, RoseBetween}
+use Rattle.tsm_top.specs.Serve.{Command, format, run, fresh_run, Closing, no_command, formatted, exists, refused_opening, HasCause, OpensNot, IsNone, IsNew, HasImage, RunsOver, StartsAt, Sure, RanScript, RoseBetween}
 use Rattle.tsm_top.proofs.Saying.{ran_over}
 
 -- files that hold a new database recover to it alone
+new_base : (h : History) → IsNew (Some h) → IsBase meaning 0 fresh (reads h)
+new_base h new = new (now h) (reads h) (omega arith) (omega arith) (image_reads h)
+
 new_recovers : (h : History) → IsNew (Some h) → RecoversWithin meaning (reads h) fresh
-new_recovers h new = new (now h) (reads h) (omega arith) (omega arith) (image_reads h)
+new_recovers h new = (new_base h new).recovers
 
 never_refused : (h : History) (refusal : OpenRefused) → IsNew (Some h) → (refusal ≡ refused.NotFormatted) ⊎ ((file : ℕ) × (at : ℕ) × (refusal ≡ refused.Damaged file at)) → SaysWhy meaning (reads h) refusal → ⊥
 never_refused h refusal new (inl is) says = is_formatted meaning is_meaning (reads h) fresh (within_recovers (reads h) fresh (new_recovers h new)) (subst (λ (r : OpenRefused). SaysWhy meaning (reads h) r) is says)
@@ -49,7 +53,15 @@ new_over (Some a) (Some h) base same had new over = (had, one_database meaning i
 
 new_sure : (first : ℕ → List ℕ) (x y : Option History) → is_some y ≡ is_some x → IsNew y → Sure fresh_run first x → Sure run first y
 new_sure first x None same new known = absurd (cc)
-new_sure first x (Some h) same new known = new_sound first h new
+new_sure first x (Some h) same new known = new_sound first h (λ moment files from to here. (new moment files from to here).recovers)
+
+-- its newest image is of generation 0
+new_starts : (x y : Option History) (start : ℕ) → is_some y ≡ is_some x → IsNew y → StartsAt run y start → StartsAt fresh_run x start
+new_starts None y start same new starts = tt
+new_starts (Some a) None start same new starts = absurd (cc)
+new_starts (Some a) (Some h) start same new starts =
+    let base = new_base h new in
+    (newest_one (reads h) start base.recovers.generation starts.0 (meaning.spelled base.recovers.base) starts.1 base.recovers.newest).0 ∙ base.by_image
 
 -- a script that was run over it
 pub new_script : (x y left_told : Option History) (rose : ℕ → Type 0) (opened last : ℕ) (end : End) (status : ℕ) (journal : List Entry) (stamps : List ℕ) (base : Option Inv) (generation : ℕ) (script left before after : Option (List ℕ)) → is_some y ≡ is_some x → HasImage false x → IsNew y →
@@ -64,7 +76,7 @@ new_script x y left_told rose opened last end status journal stamps base generat
   rest = ran.rest;
   timely = ran.timely;
   start = ran.start;
-  begins = tt;
+  begins = new_starts x y ran.start same new ran.begins;
   runs = λ first. ran_over (Sure run first y) (Sure fresh_run first x) rose first ran.database _ _ opened last left_told end (reverse stamps) script before after (λ known. new_sure first x y same new known) (ran.runs first);
 }
 

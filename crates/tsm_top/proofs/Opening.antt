@@ -1,5 +1,6 @@
 -- A script is run over a vault that was opened, over what the store holds or over a database that was just put there.
-use Rattle.std.proofs.Common.{◌≡◌, ℕ, Option, None, Some, IfSome, List, [], ◌++◌, Result, Ok, Err, reverse, refl, sym, ◌∙◌, ap, subst, append-nil}
+use Rattle.std.proofs.Common.{◌≡◌, ℕ, Option, None, Some, IfSome, List, [], ◌++◌, length, Result, Ok, Err, reverse, refl, sym, ◌∙◌, ap, subst, append-nil}
+use Rattle.std.proofs.lemmas.List.{length-reverse}
 use Rattle.store_api.specs.Disk.{History, now}
 use Rattle.store_api.specs.Told.{Told}
 use Rattle.store_api.specs.Runs.{GoesOn}
@@ -27,12 +28,15 @@ use Rattle.tsm_top.proofs.Machines.{Sim, says, safe_after, left_after}
 use Rattle.tsm_top.proofs.Saying.{ran_over}
 use Rattle.server.proofs.Stepping.{does_none}
 
+same_site : (a : Site) (generation stamped : ℕ) → a.generation ≡ generation → a.stamped ≡ stamped → a ≡ record { kept = a.kept; generation = generation; stamped = stamped }
+same_site a generation stamped number count = rw (sym number) (rw (sym count) refl)
+
 module _ {S : Type 0} (told : S → Option History) (moment : S → ℕ) (faults : S → ℕ → ℕ) (clock : (s : S) → IfSome (told s) (λ h. now h ≡ moment s)) (start : Running S) (none : start.stamps ≡ []) (begun : start.vault.journal ≡ []) (sure : start.vault.fault ≡ None) where
   abbrev site : Site
-  site = record { kept = []; generation = start.vault.generation }
+  site = record { kept = []; generation = start.vault.generation; stamped = 0 }
 
   begins : (old : Session S) → old.server ≡ start → Sim told moment faults clock start old.server site []
-  begins old is = subst (λ (server : Running S). Sim told moment faults clock start server site []) (sym is) (record { does = does_none told moment faults start sure; generation = refl })
+  begins old is = subst (λ (server : Running S). Sim told moment faults clock start server site []) (sym is) (record { does = does_none told moment faults start sure; generation = refl; stamped = refl })
 
   -- what a run of the server leaves
   pub record Whole (last : S) (end : End) (status : ℕ) (journal : List Entry) (stamps : List ℕ) (generation : ℕ) (script left before after : Option (List ℕ)) : Type 0 where
@@ -46,11 +50,10 @@ module _ {S : Type 0} (told : S → Option History) (moment : S → ℕ) (faults
       let all = says told moment faults clock start end script before after old new site [] (begins old is) said in
       let last = all.left in
       let fresh_is : reverse stamps ≡ all.fresh = stamps_are ∙ last.adds.stamps ∙ ap (λ (l : List ℕ). all.fresh ++ l) none ∙ append-nil all.fresh in
-      let number : all.after.generation ≡ generation = sym last.generation ∙ sym generation_is in
+      let there = same_site all.after generation (length stamps) (sym last.generation ∙ sym generation_is) (last.stamped ∙ ap length (sym fresh_is) ∙ length-reverse stamps) in
       let rose : ℕ → Type 0 = RoseBetween (faults start.store) (faults new.server.store) in
       let over : (first : ℕ → List ℕ) → RanOver (IsSure first start.vault (told start.store)) rose first start.vault.database site all.after (moment start.store) (moment new.server.store) (told new.server.store) end all.fresh script before after = λ first. record {
-        says = (said.0, said.1, (all.run first).0);
-        stamped = (all.run first).1;
+        says = (said.0, said.1, all.run first);
         left = λ known. left_after first start.vault all.after.kept all.fresh (moment new.server.store) (told start.store) (told new.server.store) (clock new.server.store) last.files known;
         images = λ known. safe_after first start.vault (moment start.store) all.after.kept all.fresh (told start.store) (told new.server.store) (clock start.store) last.files known;
       } in
@@ -61,8 +64,8 @@ module _ {S : Type 0} (told : S → Option History) (moment : S → ℕ) (faults
           journal_is = ap reverse journal_is ∙ last.adds.journal ∙ ap (λ (l : List Entry). entries_of all.after.kept ++ reverse l) begun ∙ append-nil (entries_of all.after.kept);
           rest = rest;
           timely = subst (λ (l : List ℕ). Timely (moment start.store) (moment new.server.store) l) (sym fresh_is) last.adds.timely;
-          runs = λ first. subst (λ (l : List ℕ). RanOver (IsSure first start.vault (told start.store)) rose first start.vault.database site (record { kept = all.after.kept; generation = generation }) (moment start.store) (moment new.server.store) (told new.server.store) end l script before after) (sym fresh_is)
-              (subst (λ (n : ℕ). RanOver (IsSure first start.vault (told start.store)) rose first start.vault.database site (record { kept = all.after.kept; generation = n }) (moment start.store) (moment new.server.store) (told new.server.store) end all.fresh script before after) number (over first));
+          runs = λ first. subst (λ (l : List ℕ). RanOver (IsSure first start.vault (told start.store)) rose first start.vault.database site (record { kept = all.after.kept; generation = generation; stamped = length stamps }) (moment start.store) (moment new.server.store) (told new.server.store) end l script before after) (sym fresh_is)
+              (subst (λ (s : Site). RanOver (IsSure first start.vault (told start.store)) rose first start.vault.database site s (moment start.store) (moment new.server.store) (told new.server.store) end all.fresh script before after) there (over first));
         };
         later = last.later;
         goes = told_map (told start.store) (told new.server.store) (Went start.vault all.after.kept all.fresh) (GoesOn (λ file. Unit {0})) (λ a b went. went.goes) last.files;

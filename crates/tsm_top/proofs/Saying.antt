@@ -1,5 +1,5 @@
 -- A run that one machine may make is one that another may, where each of its lines is.
-use Rattle.std.proofs.Common.{◌≡◌, inl, inr, ℕ, ◌+◌, ◌≤◌, ◌^◌, ◌-◌, Option, List, [], ◌∷◌, refl, sym, subst}
+use Rattle.std.proofs.Common.{inl, inr, ℕ, ◌+◌, ◌≤◌, ◌^◌, ◌-◌, Option, List, [], ◌∷◌}
 use Rattle.store_api.specs.Disk.{History}
 use Rattle.inventory_rows.specs.State.{Inv}
 use Rattle.script_loop.specs.Reply.{Answer}
@@ -8,7 +8,7 @@ use Rattle.script_loop.specs.declared.tally.Tally.{Tally}
 use Rattle.script_loop.specs.declared.ends.Halt.{Halt}
 use Rattle.script_loop.specs.declared.ends.End.{End}
 use Rattle.script_loop.specs.declared.ends.End.TheVariants.{Done, SourceFault, SinkFault, Halted, TooLong}
-use Rattle.tsm_top.specs.Machine.{Site, RepliesAt, StopsAt, Stamped, own_end}
+use Rattle.tsm_top.specs.Machine.{Site, RepliesAt, StopsAt}
 use Rattle.tsm_top.specs.Serve.{RanOver}
 use Rattle.tsm_top.proofs.Weaker.{replies, stops}
 
@@ -42,19 +42,10 @@ module _ {S : Type 0} (serves others : S → List ℕ → Answer → S → Type 
 -- What a run kept, as it is said under one premise, is so under a stronger one.
 module _ (sure known : Type 0) (rose : ℕ → Type 0) (full : Type 0) (base : Inv) (first : ℕ → List ℕ) (knows : known → sure) where
   replies_at : (old : Site) (line : List ℕ) (answer : Answer) (new : Site) → RepliesAt rose full sure base first old line answer new → RepliesAt rose full known base first old line answer new
-  replies_at old line answer new (added, is, kept) = (added, replies rose rose full full sure known (λ file is. is) (λ is. is) knows _ _ old.generation line answer added new.generation is, kept)
+  replies_at old line answer new (added, is, kept, stamped) = (added, replies rose rose full full sure known (λ file is. is) (λ is. is) knows _ _ old.generation line answer added new.generation is, kept, stamped)
 
   stops_at : (old : Site) (line : List ℕ) (how : Halt) (new : Site) → StopsAt rose full sure base first old line how new → StopsAt rose full known base first old line how new
-  stops_at old line how new (added, is, kept) = (added, stops rose rose full full sure known (λ file is. is) (λ is. is) knows _ _ old.generation line how added new.generation is, kept)
-
-  same_end : (old new : Site) (script : Option (List ℕ)) (end : End) (put : List ℕ) (run : Prints (RepliesAt rose full sure base first) (StopsAt rose full sure base first) old script end put new) →
-      own_end rose full known base first old new script end put (prints_map (RepliesAt rose full sure base first) (RepliesAt rose full known base first) (StopsAt rose full sure base first) (StopsAt rose full known base first) replies_at stops_at end script put old new run) ≡ own_end rose full sure base first old new script end put run
-  unfolding prints_map
-  same_end old new script (Done tally) put run = refl
-  same_end old new script SourceFault put run = refl
-  same_end old new script SinkFault put run = refl
-  same_end old new script (Halted how) put run = refl
-  same_end old new script (TooLong n) put run = refl
+  stops_at old line how new (added, is, kept, stamped) = (added, stops rose rose full full sure known (λ file is. is) (λ is. is) knows _ _ old.generation line how added new.generation is, kept, stamped)
 
 pub ran_over : (sure known : Type 0) (rose : ℕ → Type 0) (first : ℕ → List ℕ) (base : Inv) (old new : Site) (opened last : ℕ) (told : Option History) (end : End) (stamps : List ℕ) (script before after : Option (List ℕ)) → (known → sure) →
     RanOver sure rose first base old new opened last told end stamps script before after → RanOver known rose first base old new opened last told end stamps script before after
@@ -63,7 +54,6 @@ ran_over sure known rose first base old new opened last told end stamps script b
     let run = prints_map (RepliesAt rose full sure base first) (RepliesAt rose full known base first) (StopsAt rose full sure base first) (StopsAt rose full known base first) (replies_at sure known rose full base first knows) (stops_at sure known rose full base first knows) end script ran.says.0 old new ran.says.2 in
     record {
       says = (ran.says.0, ran.says.1, run);
-      stamped = subst (λ (e : End). Stamped e new.kept stamps) (sym (same_end sure known rose full base first knows old new script end ran.says.0 ran.says.2)) ran.stamped;
       images = λ k. ran.images (knows k);
       left = λ k. ran.left (knows k);
     }

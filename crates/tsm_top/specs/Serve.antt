@@ -1,5 +1,5 @@
 -- What the top call answers, puts and leaves.
-use Rattle.std.specs.Prelude.{◌≡◌, ◌⊎◌, ℕ, ◌-◌, ◌^◌, ◌<◌, ◌≤◌, Bool, true, false, is_some, Option, None, Some, IfSome, List, [], ◌∷◌, ◌++◌, map, reverse, codes, decimal, String, string_bytes}
+use Rattle.std.specs.Prelude.{◌≡◌, ◌⊎◌, ℕ, ◌-◌, ◌^◌, ◌<◌, ◌≤◌, Bool, true, false, is_some, Option, None, Some, IfSome, List, [], ◌∷◌, ◌++◌, length, map, reverse, codes, decimal, String, string_bytes}
 use Rattle.std.specs.Io.KnownBytes.{Appends}
 use Rattle.std.specs.declared.alloc.Global.{Global}
 use Rattle.store_api.specs.Disk.{History, now, reads}
@@ -18,7 +18,7 @@ use Rattle.script_loop.specs.Ends.{told_number, status_of, DoneAtEnd}
 use Rattle.script_loop.specs.Runs.{Says, IsFront}
 use Rattle.script_loop.specs.declared.ends.End.{End}
 use Rattle.vault.specs.Openings.{Calm, is_formatted, SaysWhy}
-use Rattle.vault.specs.Recovery.{Newest, Recovers, RecoversWithin}
+use Rattle.vault.specs.Recovery.{Newest, Recovers, IsBase}
 use Rattle.server.specs.Left.{HasFirst}
 use Rattle.server.specs.Running.{IsSure}
 use Rattle.server.specs.Sound.{IsSound}
@@ -26,7 +26,7 @@ use Rattle.server.specs.World.{Kept, entries_of}
 use Rattle.vault.specs.Vaults.{State}
 use Rattle.tsm_top.specs.declared.top.NotMade.{NotMade}
 use Rattle.tsm_top.specs.declared.top.NotMade.TheVariants.{Exists, Refused}
-use Rattle.tsm_top.specs.Machine.{Site, RepliesAt, StopsAt, Stamped, own_end, AllSafe}
+use Rattle.tsm_top.specs.Machine.{Site, RepliesAt, StopsAt, AllSafe}
 
 -- what the words ask
 pub data Command : Type 0 where
@@ -108,9 +108,9 @@ OpensNot command told last rose refused.Memory = Unit {0}
 abbrev pub HasImage : Bool → Option History → Type 0
 HasImage is told = IfSome told (λ h. is_formatted (reads h) ≡ is)
 
--- each image of now recovers to a new server's database
+-- each image of now is a new server's database, as generation 0 with an empty log
 abbrev pub IsNew : Option History → Type 0
-IsNew told = IfSome told (λ h. EachImage (now h) h (λ files. RecoversWithin meaning files fresh))
+IsNew told = IfSome told (λ h. EachImage (now h) h (IsBase meaning 0 fresh))
 
 -- What opening took from the files: nothing. Where they were opened, nothing that is read changed, and an image since is one that a stop might have left
 -- at the start; where a database was to be made, the files were only looked at, or no image had an open gate.
@@ -167,11 +167,11 @@ RunsOver format told base = ⊥
 RunsOver run told base = IfSome told (λ h. Recovers meaning (reads h) base)
 RunsOver fresh_run told base = HasImage false told × IfSome told (λ h. base ≡ fresh)
 
--- the generation of the newest image when a script begins; of a new database it is the one that making it gave
+-- the generation of the newest image when a script begins; of a new database, over a store that tells its bytes, it is 0
 abbrev pub StartsAt : Command → (told : Option History) → ℕ → Type 0
 StartsAt format told start = ⊥
 StartsAt run told start = IfSome told (λ h. (payload : List ℕ) × Newest (reads h) start payload)
-StartsAt fresh_run told start = Unit {0}
+StartsAt fresh_run told start = IfSome told (λ h. start ≡ 0)
 
 -- what is known at the start: of a store that is run, that it is sound, its objects having these bytes; of a new database that the store tells its bytes
 abbrev pub Sure : Command → (first : ℕ → List ℕ) → (told : Option History) → Type 0
@@ -180,15 +180,15 @@ Sure run first None = ⊥
 Sure run first (Some h) = IsSound first h
 Sure fresh_run first told = is_some told ≡ true
 
--- What a run kept, over the bytes that the objects had at the opening: what was put, which transactions have their stamps, what each image since gives back, and what the store has at the return. `rose` says of a file that its count of faults rose since then; `opened` and `last` are the moments at the end of opening
+-- What a run kept, over the bytes that the objects had at the opening: what was put and made, what each image since gives back, and what the store has at the return. `rose` says of a file that its count of faults rose since then; `opened` and `last` are the moments at the end of opening
 -- and at the return.
 pub record RanOver (sure : Type 0) (rose : ℕ → Type 0) (first : ℕ → List ℕ) (base : Inv) (old new : Site) (opened last : ℕ) (told : Option History) (end : End) (stamps : List ℕ) (script before after : Option (List ℕ)) : Type 0 where
   pub says : Says (RepliesAt rose (2 ^ 62 - 2 ^ 24 ≤ last) sure base first) (StopsAt rose (2 ^ 62 - 2 ^ 24 ≤ last) sure base first) old new script before after end
-  pub stamped : Stamped (own_end rose (2 ^ 62 - 2 ^ 24 ≤ last) sure base first old new script end says.0 says.2) new.kept stamps
   pub images : sure → IfSome told (AllSafe base first opened new.kept stamps)
   pub left : sure → IfSome told (HasFirst base first new.kept (acknowledged last stamps))
 
--- A script was run over a database. `told` is what the store told at the start, and `left_told` what it tells at the return.
+-- A script was run over a database. `told` is what the store told at the start, and `left_told` what it tells at the return. As many transactions are known to be
+-- durable as have their stamps.
 pub record RanScript (command : Command) (told left_told : Option History) (rose : ℕ → Type 0) (opened last : ℕ) (end : End) (status : ℕ) (journal : List Entry) (stamps : List ℕ) (base : Option Inv) (generation : ℕ) (script left before after : Option (List ℕ)) : Type 0 where
   pub code : status ≡ status_of end
   pub database : Inv
@@ -200,7 +200,7 @@ pub record RanScript (command : Command) (told left_told : Option History) (rose
   pub timely : Timely opened last (reverse stamps)
   pub start : ℕ
   pub begins : StartsAt command told start
-  pub runs : (first : ℕ → List ℕ) → RanOver (Sure command first told) rose first database (record { kept = []; generation = start }) (record { kept = kept; generation = generation }) opened last left_told end (reverse stamps) script before after
+  pub runs : (first : ℕ → List ℕ) → RanOver (Sure command first told) rose first database (record { kept = []; generation = start; stamped = 0 }) (record { kept = kept; generation = generation; stamped = length stamps }) opened last left_told end (reverse stamps) script before after
 
 -- The same over a vault that was opened.
 pub record RanFrom (vault : State Inv) (told left_told : Option History) (rose : ℕ → Type 0) (opened last : ℕ) (end : End) (status : ℕ) (journal : List Entry) (stamps : List ℕ) (generation : ℕ) (script left before after : Option (List ℕ)) : Type 0 where
@@ -209,4 +209,4 @@ pub record RanFrom (vault : State Inv) (told left_told : Option History) (rose :
   pub journal_is : reverse journal ≡ entries_of kept
   pub rest : DoneAtEnd end left
   pub timely : Timely opened last (reverse stamps)
-  pub runs : (first : ℕ → List ℕ) → RanOver (IsSure first vault told) rose first vault.database (record { kept = []; generation = vault.generation }) (record { kept = kept; generation = generation }) opened last left_told end (reverse stamps) script before after
+  pub runs : (first : ℕ → List ℕ) → RanOver (IsSure first vault told) rose first vault.database (record { kept = []; generation = vault.generation; stamped = 0 }) (record { kept = kept; generation = generation; stamped = length stamps }) opened last left_told end (reverse stamps) script before after

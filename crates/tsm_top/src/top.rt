@@ -32,7 +32,7 @@ pub struct Ended<S: Store> {
     pub status: u8,
     /// The store as it was left.
     pub store: S,
-    /// The transactions that this run made, oldest first. Only after a fault of a log or image may the last one be in doubt.
+    /// The transactions that this run made, oldest first. Only after a fault of a log or image may the last one be in doubt, and only if the line that met the fault made it.
     pub journal: Vec<Entry>,
     /// The store's moment at which each of the journal's transactions was known to be durable; one in doubt has none.
     pub stamps: Vec<u64>,
