@@ -80,9 +80,18 @@ fn take_lock<R: Files<File = File>>(files: &R, alloc: Global, path: &str) -> io:
     Ok(file)
 }
 
-impl<R: Files<File = File> + Drop> Folder<R> {
-    // The folder at a path, made where it is missing, and locked.
-    pub fn open(files: R, alloc: Global, path: &str) -> io::Result<Folder<R>> {
+// A folder that is still to be opened.
+#[derive(Drop)]
+pub(crate) struct Waiting<R: Files<File = File> + Drop> {
+    pub files: R,
+    pub alloc: Global,
+    pub path: &'static str,
+}
+
+impl<R: Files<File = File> + Drop> Waiting<R> {
+    // The folder, made where it is missing, and locked.
+    pub fn open(self) -> io::Result<Folder<R>> {
+        let Waiting { files, alloc, path } = self;
         make_folder(&files, path)?;
         sync_parent(&files, path)?;
         let handle = open_folder(&files, path)?;
@@ -99,7 +108,9 @@ impl<R: Files<File = File> + Drop> Folder<R> {
             is_synced: false,
         })
     }
+}
 
+impl<R: Files<File = File> + Drop> Folder<R> {
     // Whether the file is open; it is then the one that was used last.
     pub fn refer(&mut self, file: u32) -> bool {
         match self.open.iter().position(|it| it.file == file) {

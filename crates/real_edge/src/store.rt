@@ -3,7 +3,7 @@ ghost use Rattle.std.specs.Prelude.{◌≡◌, ◌+◌, ◌<◌, ◌≤◌, ◌^
 ghost use Rattle.store_api.specs.Cause.{Rose, NoneFell};
 ghost use Rattle.real_edge.specs.Ledger.{faults_of, is_lost, StayLost};
 
-use crate::folder::Folder;
+use crate::folder::{Folder, Waiting};
 use crate::ledger::Ledger;
 use std::alloc::Global;
 use std::fs::File;
@@ -18,8 +18,11 @@ use store_api::{Failed, Store};
 /// A file that is not there reads as empty, and a write makes it. It is synced when it is first opened in a run, since a run that
 /// was cut off may have left of it what no disk has, and the folder is synced with it where a file was made. A file of which a sync
 /// failed isn't used again: what it reads as may be what no stop leaves.
+///
+/// The folder is made, opened and locked by the first call on the store, so a program that makes none leaves no folder behind.
 #[derive(Drop)]
 pub struct FolderStore<R: Files<File = File> + Drop> {
+    waiting: Option<Waiting<R>>,
     folder: Option<Folder<R>>,
     ledger: Ledger,
     moment: u64,
@@ -31,6 +34,23 @@ impl<R: Files<File = File> + Drop> Model for FolderStore<R> {
     ghost Value = { Kept };
 
     ghost view = { λ s. record { moment = s.moment; faults = s.ledger } };
+}
+
+// Opens the folder, where no call has yet.
+fn enter<R: Files<File = File> + Drop>(
+    waiting: &mut Option<Waiting<R>>,
+    folder: &mut Option<Folder<R>>,
+    ledger: &mut Ledger,
+)
+    ensures counts { NoneFell (faults_of ledger.old) (faults_of ledger.new) }
+    ensures stay { StayLost (is_lost ledger.old) (is_lost ledger.new) }
+{
+    if let Some(waiting) = waiting.take() {
+        match waiting.open() {
+            Ok(opened) => *folder = Some(opened),
+            Err(_) => ledger.lose_all(),
+        }
+    }
 }
 
 // Opens a file, where it isn't open, and makes it where it is missing and is to be made. Answers whether it is there; it is then
@@ -314,23 +334,16 @@ fn sync<R: Files<File = File> + Drop>(
 }
 
 impl<R: Files<File = File> + Drop> FolderStore<R> {
-    /// The store in the folder at a path, which is made where it is missing; the folder that it lies in must be there. Where it
-    /// can't be made, opened or locked, each call on the store fails.
-    pub fn new(files: R, alloc: Global, path: &str) -> FolderStore<R>
+    /// The store in the folder at a path, which the first call on it makes where it is missing; the folder that it lies in must be
+    /// there. Where it can't be made, opened or locked, each call on the store fails.
+    pub fn new(files: R, alloc: Global, path: &'static str) -> FolderStore<R>
         ensures moment { result.moment ≡ 0 }
         ensures faults { (file : ℕ) → faults_of result.faults file ≡ 0 }
     {
-        let mut ledger = Ledger::new(alloc);
-        let folder = match Folder::open(files, alloc, path) {
-            Ok(folder) => Some(folder),
-            Err(_) => {
-                ledger.lose_all();
-                None
-            }
-        };
         FolderStore {
-            folder,
-            ledger,
+            waiting: Some(Waiting { files, alloc, path }),
+            folder: None,
+            ledger: Ledger::new(alloc),
             moment: 0,
         }
     }
@@ -379,6 +392,7 @@ impl<R: Files<File = File> + Drop> Store for FolderStore<R> {
         ensures stay { StayLost (is_lost self.old.faults) (is_lost self.new.faults) }
         ensures lost { IsTrue (is_lost self.old.faults file) → IsErr result }
     {
+        enter(&mut self.waiting, &mut self.folder, &mut self.ledger);
         let answer = measure(&mut self.folder, &mut self.ledger, file);
         self.end(file, answer)
     }
@@ -392,6 +406,7 @@ impl<R: Files<File = File> + Drop> Store for FolderStore<R> {
         ensures stay { StayLost (is_lost self.old.faults) (is_lost self.new.faults) }
         ensures lost { IsTrue (is_lost self.old.faults file) → IsErr result }
     {
+        enter(&mut self.waiting, &mut self.folder, &mut self.ledger);
         let answer = read(&mut self.folder, &mut self.ledger, file, offset, into);
         self.end(file, answer)
     }
@@ -405,6 +420,7 @@ impl<R: Files<File = File> + Drop> Store for FolderStore<R> {
         ensures stay { StayLost (is_lost self.old.faults) (is_lost self.new.faults) }
         ensures lost { IsTrue (is_lost self.old.faults file) → IsErr result }
     {
+        enter(&mut self.waiting, &mut self.folder, &mut self.ledger);
         let answer = write(&mut self.folder, &mut self.ledger, file, offset, bytes);
         self.end(file, answer)
     }
@@ -417,6 +433,7 @@ impl<R: Files<File = File> + Drop> Store for FolderStore<R> {
         ensures stay { StayLost (is_lost self.old.faults) (is_lost self.new.faults) }
         ensures lost { IsTrue (is_lost self.old.faults file) → IsErr result }
     {
+        enter(&mut self.waiting, &mut self.folder, &mut self.ledger);
         let answer = cut(&mut self.folder, &mut self.ledger, file, len);
         self.end(file, answer)
     }
@@ -430,6 +447,7 @@ impl<R: Files<File = File> + Drop> Store for FolderStore<R> {
         ensures lost { IsTrue (is_lost self.old.faults file) → IsErr result }
         ensures failed { OnErr result (IsTrue (is_lost self.new.faults file)) }
     {
+        enter(&mut self.waiting, &mut self.folder, &mut self.ledger);
         let answer = sync(&mut self.folder, &mut self.ledger, file);
         self.end(file, answer)
     }

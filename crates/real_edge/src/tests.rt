@@ -7,12 +7,13 @@ use std::{fs, io};
 use store_api::{Failed, Store};
 use tree_api::{Sink, Source};
 
-// What one run wrote the next one reads, with zeros between, cut, and under the names that files have. A second run on the folder
-// is refused while the first one lasts.
+// What one run wrote the next one reads, with zeros between, cut, and under the names that files have. The folder is made by the
+// first call. A second run on it is refused while the first one lasts.
 #[test]
 fn a_folder_keeps_files(rt: HostRuntime) -> Result<(), Fail> {
     let _ = fs::remove_dir_all(&rt, "kept_folder");
     let mut store = FolderStore::new(rt, rt.alloc(), "kept_folder");
+    assert!(rt; fs::metadata(&rt, "kept_folder").is_err());
     assert_eq!(rt; store.len(7), Ok(0));
     assert_eq!(rt; store.write_at(7, 3, b"abcd"), Ok(()));
     assert_eq!(rt; store.write_at(u32::MAX, 0, b"last"), Ok(()));
@@ -82,6 +83,7 @@ fn many_files(rt: HostRuntime) -> Result<(), Fail> {
 fn faults_are_counted(rt: HostRuntime) -> Result<(), Fail> {
     let _ = fs::remove_dir_all(&rt, "faulty_folder");
     let mut store = FolderStore::new(rt, rt.alloc(), "faulty_folder");
+    assert_eq!(rt; store.len(9), Ok(0));
     fs::create_dir(&rt, "faulty_folder/f00000009")?;
     symlink(&rt, "/dev/null", "faulty_folder/f00000008")?;
     assert_eq!(rt; store.write_at(9, 0, b"a"), Err(Failed));
