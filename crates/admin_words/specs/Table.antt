@@ -9,7 +9,21 @@ use Rattle.command_words.specs.Choice.{is_whole, choose}
 use Rattle.command_words.specs.Rows.{Place}
 use Rattle.command_words.specs.Values.{has_words}
 use Rattle.admin_words.specs.declared.table.Form.{Form}
-use Rattle.admin_words.specs.declared.table.Form.TheVariants.{ActivateSet, AssignClass, AuditVolume, BackupPool, Day, DefineClass, DefineDevClass, DefineDomain, DefineGroup, DefinePool, DefineSet, DefineVolume, DeleteClass, DeleteDevClass, DeleteDomain, DeleteFilespace, DeleteGroup, DeletePool, DeleteSet, DeleteVolume, Erase, Get, Incremental, MigratePool, MoveData, Put, QueryBackup, QueryClass, QueryContent, QueryGroup, QuerySet, ReclaimPool, RegisterNode, RemoveNode, RestoreFiles, RestorePool, RestoreVolume, UpdateDomain, UpdateGroup, UpdatePool, UpdateVolume, ValidateSet, Write}
+use Rattle.admin_words.specs.declared.table.Form.TheVariants as forms
+use Rattle.admin_words.specs.declared.table.PolicyForm.{PolicyForm}
+use Rattle.admin_words.specs.declared.table.PolicyForm.TheVariants.{ActivateSet, DefineDomain, DefineSet, DeleteDomain, DeleteSet, QuerySet, UpdateDomain, ValidateSet}
+use Rattle.admin_words.specs.declared.table.ClassForm.{ClassForm}
+use Rattle.admin_words.specs.declared.table.ClassForm.TheVariants.{AssignClass, DefineClass, DefineGroup, DeleteClass, DeleteGroup, QueryClass, QueryGroup, UpdateGroup}
+use Rattle.admin_words.specs.declared.table.NodeForm.{NodeForm}
+use Rattle.admin_words.specs.declared.table.NodeForm.TheVariants.{DeleteFilespace, QueryBackup, RegisterNode, RemoveNode}
+use Rattle.admin_words.specs.declared.table.PoolForm.{PoolForm}
+use Rattle.admin_words.specs.declared.table.PoolForm.TheVariants.{BackupPool, DefineDevClass, DefinePool, DeleteDevClass, DeletePool, MigratePool, ReclaimPool, RestorePool, UpdatePool}
+use Rattle.admin_words.specs.declared.table.VolumeForm.{VolumeForm}
+use Rattle.admin_words.specs.declared.table.VolumeForm.TheVariants.{AuditVolume, DefineVolume, DeleteVolume, MoveData, QueryContent, RestoreVolume, UpdateVolume}
+use Rattle.admin_words.specs.declared.table.FileForm.{FileForm}
+use Rattle.admin_words.specs.declared.table.FileForm.TheVariants.{Erase, Get, Incremental, Put, RestoreFiles, Write}
+use Rattle.admin_words.specs.declared.table.DatabaseForm.{DatabaseForm}
+use Rattle.admin_words.specs.declared.table.DatabaseForm.TheVariants.{Day}
 use Rattle.admin_words.specs.Rows.{Row, Verb, is_bare}
 
 -- a word of one or more letters, all in upper case
@@ -77,51 +91,77 @@ number = Number 0 9999999999
 abbrev pub day : Kind
 day = Number 0 2147483647
 
+abbrev pub policy_places : PolicyForm → List Kind
+policy_places ActivateSet = Name ∷ Name ∷ []
+policy_places DefineDomain = Name ∷ []
+policy_places DefineSet = Name ∷ Name ∷ []
+policy_places DeleteDomain = Name ∷ []
+policy_places DeleteSet = Name ∷ Name ∷ []
+policy_places QuerySet = Name ∷ []
+policy_places UpdateDomain = Name ∷ []
+policy_places ValidateSet = Name ∷ Name ∷ []
+policy_places form = []
+
+abbrev pub class_places : ClassForm → List Kind
+class_places AssignClass = Name ∷ Name ∷ Name ∷ []
+class_places DefineClass = Name ∷ Name ∷ Name ∷ []
+class_places DefineGroup = Name ∷ Name ∷ Name ∷ []
+class_places DeleteClass = Name ∷ Name ∷ Name ∷ []
+class_places DeleteGroup = Name ∷ Name ∷ Name ∷ []
+class_places QueryClass = Name ∷ Name ∷ []
+class_places QueryGroup = Name ∷ Name ∷ []
+class_places UpdateGroup = Name ∷ Name ∷ Name ∷ []
+
+abbrev pub node_places : NodeForm → List Kind
+node_places DeleteFilespace = NodeName ∷ FilespaceName ∷ []
+node_places QueryBackup = NodeName ∷ FilespaceName ∷ []
+node_places RegisterNode = NodeName ∷ []
+node_places RemoveNode = NodeName ∷ []
+node_places form = []
+
+abbrev pub pool_places : PoolForm → List Kind
+pool_places BackupPool = Name ∷ Name ∷ []
+pool_places DefineDevClass = Name ∷ []
+pool_places DefinePool = Name ∷ Name ∷ []
+pool_places DeleteDevClass = Name ∷ []
+pool_places DeletePool = Name ∷ []
+pool_places MigratePool = Name ∷ []
+pool_places ReclaimPool = Name ∷ []
+pool_places RestorePool = Name ∷ []
+pool_places UpdatePool = Name ∷ []
+pool_places form = []
+
+abbrev pub volume_places : VolumeForm → List Kind
+volume_places AuditVolume = Name ∷ []
+volume_places DefineVolume = Name ∷ Name ∷ []
+volume_places DeleteVolume = Name ∷ []
+volume_places MoveData = Name ∷ []
+volume_places QueryContent = Name ∷ []
+volume_places RestoreVolume = Name ∷ []
+volume_places UpdateVolume = Name ∷ []
+volume_places form = []
+
+abbrev pub file_places : FileForm → List Kind
+file_places Erase = number ∷ Path ∷ []
+file_places Get = NodeName ∷ FilespaceName ∷ Path ∷ []
+file_places Incremental = NodeName ∷ FilespaceName ∷ number ∷ []
+file_places Put = NodeName ∷ FilespaceName ∷ Path ∷ number ∷ []
+file_places RestoreFiles = NodeName ∷ FilespaceName ∷ number ∷ []
+file_places Write = number ∷ Path ∷ number ∷ []
+
+abbrev pub database_places : DatabaseForm → List Kind
+database_places Day = day ∷ []
+database_places form = []
+
 abbrev pub taken_as : Form → List Kind
-taken_as ActivateSet = Name ∷ Name ∷ []
-taken_as AssignClass = Name ∷ Name ∷ Name ∷ []
-taken_as AuditVolume = Name ∷ []
-taken_as BackupPool = Name ∷ Name ∷ []
-taken_as Day = day ∷ []
-taken_as DefineClass = Name ∷ Name ∷ Name ∷ []
-taken_as DefineDevClass = Name ∷ []
-taken_as DefineDomain = Name ∷ []
-taken_as DefineGroup = Name ∷ Name ∷ Name ∷ []
-taken_as DefinePool = Name ∷ Name ∷ []
-taken_as DefineSet = Name ∷ Name ∷ []
-taken_as DefineVolume = Name ∷ Name ∷ []
-taken_as DeleteClass = Name ∷ Name ∷ Name ∷ []
-taken_as DeleteDevClass = Name ∷ []
-taken_as DeleteDomain = Name ∷ []
-taken_as DeleteFilespace = NodeName ∷ FilespaceName ∷ []
-taken_as DeleteGroup = Name ∷ Name ∷ Name ∷ []
-taken_as DeletePool = Name ∷ []
-taken_as DeleteSet = Name ∷ Name ∷ []
-taken_as DeleteVolume = Name ∷ []
-taken_as Erase = number ∷ Path ∷ []
-taken_as Get = NodeName ∷ FilespaceName ∷ Path ∷ []
-taken_as Incremental = NodeName ∷ FilespaceName ∷ number ∷ []
-taken_as MigratePool = Name ∷ []
-taken_as MoveData = Name ∷ []
-taken_as Put = NodeName ∷ FilespaceName ∷ Path ∷ number ∷ []
-taken_as QueryBackup = NodeName ∷ FilespaceName ∷ []
-taken_as QueryClass = Name ∷ Name ∷ []
-taken_as QueryContent = Name ∷ []
-taken_as QueryGroup = Name ∷ Name ∷ []
-taken_as QuerySet = Name ∷ []
-taken_as ReclaimPool = Name ∷ []
-taken_as RegisterNode = NodeName ∷ []
-taken_as RemoveNode = NodeName ∷ []
-taken_as RestoreFiles = NodeName ∷ FilespaceName ∷ number ∷ []
-taken_as RestorePool = Name ∷ []
-taken_as RestoreVolume = Name ∷ []
-taken_as UpdateDomain = Name ∷ []
-taken_as UpdateGroup = Name ∷ Name ∷ Name ∷ []
-taken_as UpdatePool = Name ∷ []
-taken_as UpdateVolume = Name ∷ []
-taken_as ValidateSet = Name ∷ Name ∷ []
-taken_as Write = number ∷ Path ∷ number ∷ []
-taken_as form = []
+taken_as (forms.Policy form) = policy_places form
+taken_as (forms.Class form) = class_places form
+taken_as (forms.Node form) = node_places form
+taken_as (forms.Pool form) = pool_places form
+taken_as (forms.Volume form) = volume_places form
+taken_as (forms.File form) = file_places form
+taken_as (forms.Database form) = database_places form
+taken_as (forms.Block form) = []
 
 -- the same kind, among those as which a reader takes a place
 abbrev pub is_kind : Kind → Kind → Bool

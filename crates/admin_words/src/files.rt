@@ -4,6 +4,7 @@ ghost use Rattle.kinds.specs.Answers.{AnswersBy};
 ghost use Rattle.command_words.specs.Rows.{given_view};
 ghost use Rattle.admin_words.specs.Files.{contents, file_write, file_erase, file_put, file_get, incremental_backup, wanted_on, wanted, files_restore};
 
+use crate::nodes::{NodeFilespace, read_node_filespace};
 use crate::words::first_byte;
 use command_words::{Given, Text, field, text_at};
 use kinds::{Day, FilespaceName, NodeName, Path, Refusal};
@@ -100,10 +101,12 @@ pub struct FilePut {
 pub fn read_file_put(alloc: Global, places: &[Given], keys: &[Given]) -> Result<FilePut, Refusal>
     ensures { AnswersBy (λ x. x) result (file_put (map given_view places.now) (map given_view keys.now)) }
 {
-    let node = field::node_name(alloc, text_at(places, 0))?;
-    let filespace = field::filespace(alloc, text_at(places, 1))?;
-    let path = field::path(alloc, text_at(places, 2))?;
     let text = field::text(alloc, text_at(keys, 0))?;
+    let FileGet {
+        node,
+        filespace,
+        path,
+    } = read_file_get(alloc, places, keys)?;
     Ok(FilePut {
         node,
         filespace,
@@ -125,9 +128,8 @@ pub struct FileGet {
 pub fn read_file_get(alloc: Global, places: &[Given], keys: &[Given]) -> Result<FileGet, Refusal>
     ensures { AnswersBy (λ x. x) result (file_get (map given_view places.now) (map given_view keys.now)) }
 {
-    let node = field::node_name(alloc, text_at(places, 0))?;
-    let filespace = field::filespace(alloc, text_at(places, 1))?;
     let path = field::path(alloc, text_at(places, 2))?;
+    let NodeFilespace { node, filespace } = read_node_filespace(alloc, places, keys)?;
     Ok(FileGet {
         node,
         filespace,
@@ -151,8 +153,7 @@ pub fn read_incremental_backup(
 ) -> Result<IncrementalBackup, Refusal>
     ensures { AnswersBy (λ x. x) result (incremental_backup (map given_view places.now) (map given_view keys.now)) }
 {
-    let node = field::node_name(alloc, text_at(places, 0))?;
-    let filespace = field::filespace(alloc, text_at(places, 1))?;
+    let NodeFilespace { node, filespace } = read_node_filespace(alloc, places, keys)?;
     Ok(IncrementalBackup {
         node,
         filespace,
@@ -216,9 +217,8 @@ pub fn read_files_restore(
 ) -> Result<FilesRestore, Refusal>
     ensures { AnswersBy (λ x. x) result (files_restore (map given_view places.now) (map given_view keys.now)) }
 {
-    let node = field::node_name(alloc, text_at(places, 0))?;
-    let filespace = field::filespace(alloc, text_at(places, 1))?;
     let wanted = read_wanted(alloc, text_at(keys, 0), text_at(keys, 1), text_at(keys, 2))?;
+    let NodeFilespace { node, filespace } = read_node_filespace(alloc, places, keys)?;
     Ok(FilesRestore {
         node,
         filespace,

@@ -102,9 +102,8 @@ pub fn read_named_class(
 ) -> Result<NamedClass, Refusal>
     ensures { AnswersBy (λ x. x) result (named_class (map given_view places.now) (map given_view keys.now)) }
 {
-    let domain = field::name(alloc, text_at(places, 0))?;
-    let set = field::name(alloc, text_at(places, 1))?;
     let class = field::name(alloc, text_at(places, 2))?;
+    let NamedSet { domain, set } = read_named_set(alloc, places, keys)?;
     Ok(NamedClass { domain, set, class })
 }
 
@@ -132,10 +131,8 @@ pub fn read_group_definition(
 ) -> Result<GroupDefinition, Refusal>
     ensures { AnswersBy (λ x. x) result (group_definition (map given_view places.now) (map given_view keys.now)) }
 {
-    let domain = field::name(alloc, text_at(places, 0))?;
-    let set = field::name(alloc, text_at(places, 1))?;
-    let class = field::name(alloc, text_at(places, 2))?;
     let destination = field::name(alloc, text_at(keys, 1))?;
+    let NamedClass { domain, set, class } = read_named_class(alloc, places, keys)?;
     Ok(GroupDefinition {
         domain,
         set,
@@ -175,10 +172,8 @@ pub fn read_group_update(
 ) -> Result<GroupUpdate, Refusal>
     ensures { AnswersBy (λ x. x) result (group_update (map given_view places.now) (map given_view keys.now)) }
 {
-    let domain = field::name(alloc, text_at(places, 0))?;
-    let set = field::name(alloc, text_at(places, 1))?;
-    let class = field::name(alloc, text_at(places, 2))?;
     let destination = field::name_if(alloc, text_at(keys, 1))?;
+    let NamedClass { domain, set, class } = read_named_class(alloc, places, keys)?;
     Ok(GroupUpdate {
         domain,
         set,

@@ -4,68 +4,119 @@ ghost use Rattle.admin_words.specs.Table.{are_options, are_sound_rows, are_legib
 
 use command_words::{Kind, Need, Place, Slot, Words};
 
-/// Which command a row of the table is.
-#[derive(Clone, Copy, Debug, PartialEq, Eq)]
-pub enum Form {
+/// The commands of policy domains and policy sets.
+#[derive(Clone, Copy)]
+pub enum PolicyForm {
     ActivateSet,
-    And,
-    AssignClass,
-    AuditVolume,
-    BackupDatabase,
-    BackupPool,
-    Checkpoint,
-    Day,
-    DefineClass,
-    DefineDevClass,
     DefineDomain,
-    DefineGroup,
-    DefinePool,
     DefineSet,
-    DefineVolume,
-    DeleteClass,
-    DeleteDevClass,
     DeleteDomain,
-    DeleteFilespace,
-    DeleteGroup,
-    DeleteHistory,
-    DeletePool,
     DeleteSet,
-    DeleteVolume,
-    End,
-    Erase,
-    ExpireInventory,
-    Get,
-    Incremental,
-    MigrateAll,
-    MigratePool,
-    MoveData,
-    Parallel,
-    Put,
-    QueryBackup,
-    QueryClass,
-    QueryContent,
-    QueryDevClass,
     QueryDomain,
-    QueryFilespace,
-    QueryGroup,
-    QueryHistory,
-    QueryNode,
-    QueryPool,
     QuerySet,
-    QueryVolume,
-    ReclaimPool,
+    UpdateDomain,
+    ValidateSet,
+}
+
+/// The commands of management classes and copy groups.
+#[derive(Clone, Copy)]
+pub enum ClassForm {
+    AssignClass,
+    DefineClass,
+    DefineGroup,
+    DeleteClass,
+    DeleteGroup,
+    QueryClass,
+    QueryGroup,
+    UpdateGroup,
+}
+
+/// The commands of nodes and filespaces.
+#[derive(Clone, Copy)]
+pub enum NodeForm {
+    DeleteFilespace,
+    QueryBackup,
+    QueryFilespace,
+    QueryNode,
     RegisterNode,
     RemoveNode,
-    RestoreFiles,
+}
+
+/// The commands of device classes and storage pools.
+#[derive(Clone, Copy)]
+pub enum PoolForm {
+    BackupPool,
+    DefineDevClass,
+    DefinePool,
+    DeleteDevClass,
+    DeletePool,
+    MigrateAll,
+    MigratePool,
+    QueryDevClass,
+    QueryPool,
+    ReclaimPool,
     RestorePool,
+    UpdatePool,
+}
+
+/// The commands of volumes.
+#[derive(Clone, Copy)]
+pub enum VolumeForm {
+    AuditVolume,
+    DefineVolume,
+    DeleteVolume,
+    MoveData,
+    QueryContent,
+    QueryVolume,
     RestoreVolume,
     ReuseVolumes,
-    UpdateDomain,
-    UpdateGroup,
-    UpdatePool,
     UpdateVolume,
-    ValidateSet,
+}
+
+/// The commands of files.
+#[derive(Clone, Copy)]
+pub enum FileForm {
+    Erase,
+    Get,
+    Incremental,
+    Put,
+    RestoreFiles,
     Write,
+}
+
+/// The commands of the database, its history and the day.
+#[derive(Clone, Copy)]
+pub enum DatabaseForm {
+    BackupDatabase,
+    Checkpoint,
+    Day,
+    DeleteHistory,
+    ExpireInventory,
+    QueryHistory,
+}
+
+/// The commands of blocks.
+#[derive(Clone, Copy, Debug)]
+pub enum BlockForm {
+    /// AND, which ends a job of a block and begins the next.
+    And,
+    /// END, which ends a block.
+    End,
+    /// PARALLEL, which begins a block.
+    Parallel,
+}
+
+/// Which command a row of the table is, by families.
+#[derive(Clone, Copy)]
+pub enum Form {
+    Policy(PolicyForm),
+    Class(ClassForm),
+    Node(NodeForm),
+    Pool(PoolForm),
+    Volume(VolumeForm),
+    File(FileForm),
+    Database(DatabaseForm),
+    Block(BlockForm),
 }
 
 /// A row of the table: the second word of the command, in upper case, or an empty text where it has none; which command it
@@ -371,30 +422,50 @@ const OBJECT: Slot = (
 );
 
 /// The rows that begin with ACTIVATE.
-pub const ACTIVATE_NOUNS: &[Noun] = &[("POLICYSET", Form::ActivateSet, &[NAME, NAME], &[])];
+pub const ACTIVATE_NOUNS: &[Noun] = &[(
+    "POLICYSET",
+    Form::Policy(PolicyForm::ActivateSet),
+    &[NAME, NAME],
+    &[],
+)];
 
 /// The rows that begin with ASSIGN.
-pub const ASSIGN_NOUNS: &[Noun] = &[("DEFMGMTCLASS", Form::AssignClass, &[NAME, NAME, NAME], &[])];
+pub const ASSIGN_NOUNS: &[Noun] = &[(
+    "DEFMGMTCLASS",
+    Form::Class(ClassForm::AssignClass),
+    &[NAME, NAME, NAME],
+    &[],
+)];
 
 /// The rows that begin with AUDIT.
-pub const AUDIT_NOUNS: &[Noun] = &[("VOLUME", Form::AuditVolume, &[NAME], &[FIX, WAIT])];
+pub const AUDIT_NOUNS: &[Noun] = &[(
+    "VOLUME",
+    Form::Volume(VolumeForm::AuditVolume),
+    &[NAME],
+    &[FIX, WAIT],
+)];
 
 /// The rows that begin with BACKUP.
 pub const BACKUP_NOUNS: &[Noun] = &[
     (
         "DB",
-        Form::BackupDatabase,
+        Form::Database(DatabaseForm::BackupDatabase),
         &[],
         &[DEVCLASS, TYPE_FULL, WAIT],
     ),
-    ("STGPOOL", Form::BackupPool, &[NAME, NAME], &[WAIT]),
+    (
+        "STGPOOL",
+        Form::Pool(PoolForm::BackupPool),
+        &[NAME, NAME],
+        &[WAIT],
+    ),
 ];
 
 /// The rows that begin with DEFINE.
 pub const DEFINE_NOUNS: &[Noun] = &[
     (
         "COPYGROUP",
-        Form::DefineGroup,
+        Form::Class(ClassForm::DefineGroup),
         &[NAME, NAME, NAME, STANDARD_IF],
         &[
             TYPE_BACKUP,
@@ -410,26 +481,31 @@ pub const DEFINE_NOUNS: &[Noun] = &[
     ),
     (
         "DEVCLASS",
-        Form::DefineDevClass,
+        Form::Pool(PoolForm::DefineDevClass),
         &[NAME],
         &[DEVTYPE, MAXCAPACITY],
     ),
     (
         "DOMAIN",
-        Form::DefineDomain,
+        Form::Policy(PolicyForm::DefineDomain),
         &[NAME],
         &[BACKRETENTION, DESCRIPTION],
     ),
     (
         "MGMTCLASS",
-        Form::DefineClass,
+        Form::Class(ClassForm::DefineClass),
         &[NAME, NAME, NAME],
         &[DESCRIPTION],
     ),
-    ("POLICYSET", Form::DefineSet, &[NAME, NAME], &[DESCRIPTION]),
+    (
+        "POLICYSET",
+        Form::Policy(PolicyForm::DefineSet),
+        &[NAME, NAME],
+        &[DESCRIPTION],
+    ),
     (
         "STGPOOL",
-        Form::DefinePool,
+        Form::Pool(PoolForm::DefinePool),
         &[NAME, NAME],
         &[
             POOLTYPE,
@@ -443,99 +519,209 @@ pub const DEFINE_NOUNS: &[Noun] = &[
             DESCRIPTION,
         ],
     ),
-    ("VOLUME", Form::DefineVolume, &[NAME, NAME], &[FORMATSIZE]),
+    (
+        "VOLUME",
+        Form::Volume(VolumeForm::DefineVolume),
+        &[NAME, NAME],
+        &[FORMATSIZE],
+    ),
 ];
 
 /// The rows that begin with DELETE.
 pub const DELETE_NOUNS: &[Noun] = &[
     (
         "COPYGROUP",
-        Form::DeleteGroup,
+        Form::Class(ClassForm::DeleteGroup),
         &[NAME, NAME, NAME, STANDARD_IF],
         &[TYPE_BACKUP],
     ),
-    ("DEVCLASS", Form::DeleteDevClass, &[NAME], &[]),
-    ("DOMAIN", Form::DeleteDomain, &[NAME], &[]),
-    ("FILESPACE", Form::DeleteFilespace, &[NODE, FILESPACE], &[]),
-    ("MGMTCLASS", Form::DeleteClass, &[NAME, NAME, NAME], &[]),
-    ("POLICYSET", Form::DeleteSet, &[NAME, NAME], &[]),
-    ("STGPOOL", Form::DeletePool, &[NAME], &[]),
+    (
+        "DEVCLASS",
+        Form::Pool(PoolForm::DeleteDevClass),
+        &[NAME],
+        &[],
+    ),
+    (
+        "DOMAIN",
+        Form::Policy(PolicyForm::DeleteDomain),
+        &[NAME],
+        &[],
+    ),
+    (
+        "FILESPACE",
+        Form::Node(NodeForm::DeleteFilespace),
+        &[NODE, FILESPACE],
+        &[],
+    ),
+    (
+        "MGMTCLASS",
+        Form::Class(ClassForm::DeleteClass),
+        &[NAME, NAME, NAME],
+        &[],
+    ),
+    (
+        "POLICYSET",
+        Form::Policy(PolicyForm::DeleteSet),
+        &[NAME, NAME],
+        &[],
+    ),
+    ("STGPOOL", Form::Pool(PoolForm::DeletePool), &[NAME], &[]),
     (
         "VOLHISTORY",
-        Form::DeleteHistory,
+        Form::Database(DatabaseForm::DeleteHistory),
         &[],
         &[TODATE, TYPE_DBBACKUP],
     ),
-    ("VOLUME", Form::DeleteVolume, &[NAME], &[DISCARDDATA]),
+    (
+        "VOLUME",
+        Form::Volume(VolumeForm::DeleteVolume),
+        &[NAME],
+        &[DISCARDDATA],
+    ),
 ];
 
 /// The rows that begin with DSMC.
 pub const DSMC_NOUNS: &[Noun] = &[
     (
         "INCREMENTAL",
-        Form::Incremental,
+        Form::File(FileForm::Incremental),
         &[NODE, FILESPACE, NUMBER],
         &[],
     ),
     (
         "RESTORE",
-        Form::RestoreFiles,
+        Form::File(FileForm::RestoreFiles),
         &[NODE, FILESPACE, NUMBER],
         &[PATTERN, PITDATE, OBJECT],
     ),
 ];
 
 /// The rows that begin with EXPIRE.
-pub const EXPIRE_NOUNS: &[Noun] = &[("INVENTORY", Form::ExpireInventory, &[], &[WAIT])];
+pub const EXPIRE_NOUNS: &[Noun] = &[(
+    "INVENTORY",
+    Form::Database(DatabaseForm::ExpireInventory),
+    &[],
+    &[WAIT],
+)];
 
 /// The rows that begin with MIGRATE.
 pub const MIGRATE_NOUNS: &[Noun] = &[
-    ("ALL", Form::MigrateAll, &[], &[WAIT]),
-    ("STGPOOL", Form::MigratePool, &[NAME], &[LOWMIG, WAIT]),
+    ("ALL", Form::Pool(PoolForm::MigrateAll), &[], &[WAIT]),
+    (
+        "STGPOOL",
+        Form::Pool(PoolForm::MigratePool),
+        &[NAME],
+        &[LOWMIG, WAIT],
+    ),
 ];
 
 /// The rows that begin with MOVE.
-pub const MOVE_NOUNS: &[Noun] = &[("DATA", Form::MoveData, &[NAME], &[STGPOOL, WAIT])];
+pub const MOVE_NOUNS: &[Noun] = &[(
+    "DATA",
+    Form::Volume(VolumeForm::MoveData),
+    &[NAME],
+    &[STGPOOL, WAIT],
+)];
 
 /// The rows that begin with QUERY.
 pub const QUERY_NOUNS: &[Noun] = &[
-    ("BACKUP", Form::QueryBackup, &[NODE, FILESPACE], &[]),
-    ("CONTENT", Form::QueryContent, &[NAME], &[]),
-    ("COPYGROUP", Form::QueryGroup, &[NAME, NAME], &[]),
-    ("DEVCLASS", Form::QueryDevClass, &[], &[]),
-    ("DOMAIN", Form::QueryDomain, &[], &[]),
-    ("FILESPACE", Form::QueryFilespace, &[NODE_IF], &[]),
-    ("MGMTCLASS", Form::QueryClass, &[NAME, NAME], &[]),
-    ("NODE", Form::QueryNode, &[], &[]),
-    ("POLICYSET", Form::QuerySet, &[NAME], &[]),
-    ("STGPOOL", Form::QueryPool, &[NAME_IF], &[]),
-    ("VOLHISTORY", Form::QueryHistory, &[], &[]),
-    ("VOLUME", Form::QueryVolume, &[NAME_IF], &[STGPOOL]),
+    (
+        "BACKUP",
+        Form::Node(NodeForm::QueryBackup),
+        &[NODE, FILESPACE],
+        &[],
+    ),
+    (
+        "CONTENT",
+        Form::Volume(VolumeForm::QueryContent),
+        &[NAME],
+        &[],
+    ),
+    (
+        "COPYGROUP",
+        Form::Class(ClassForm::QueryGroup),
+        &[NAME, NAME],
+        &[],
+    ),
+    ("DEVCLASS", Form::Pool(PoolForm::QueryDevClass), &[], &[]),
+    ("DOMAIN", Form::Policy(PolicyForm::QueryDomain), &[], &[]),
+    (
+        "FILESPACE",
+        Form::Node(NodeForm::QueryFilespace),
+        &[NODE_IF],
+        &[],
+    ),
+    (
+        "MGMTCLASS",
+        Form::Class(ClassForm::QueryClass),
+        &[NAME, NAME],
+        &[],
+    ),
+    ("NODE", Form::Node(NodeForm::QueryNode), &[], &[]),
+    (
+        "POLICYSET",
+        Form::Policy(PolicyForm::QuerySet),
+        &[NAME],
+        &[],
+    ),
+    ("STGPOOL", Form::Pool(PoolForm::QueryPool), &[NAME_IF], &[]),
+    (
+        "VOLHISTORY",
+        Form::Database(DatabaseForm::QueryHistory),
+        &[],
+        &[],
+    ),
+    (
+        "VOLUME",
+        Form::Volume(VolumeForm::QueryVolume),
+        &[NAME_IF],
+        &[STGPOOL],
+    ),
 ];
 
 /// The rows that begin with RECLAIM.
-pub const RECLAIM_NOUNS: &[Noun] = &[("STGPOOL", Form::ReclaimPool, &[NAME], &[THRESHOLD, WAIT])];
+pub const RECLAIM_NOUNS: &[Noun] = &[(
+    "STGPOOL",
+    Form::Pool(PoolForm::ReclaimPool),
+    &[NAME],
+    &[THRESHOLD, WAIT],
+)];
 
 /// The rows that begin with REGISTER.
-pub const REGISTER_NOUNS: &[Noun] = &[("NODE", Form::RegisterNode, &[NODE, PASSWORD], &[DOMAIN])];
+pub const REGISTER_NOUNS: &[Noun] = &[(
+    "NODE",
+    Form::Node(NodeForm::RegisterNode),
+    &[NODE, PASSWORD],
+    &[DOMAIN],
+)];
 
 /// The rows that begin with REMOVE.
-pub const REMOVE_NOUNS: &[Noun] = &[("NODE", Form::RemoveNode, &[NODE], &[])];
+pub const REMOVE_NOUNS: &[Noun] = &[("NODE", Form::Node(NodeForm::RemoveNode), &[NODE], &[])];
 
 /// The rows that begin with RESTORE.
 pub const RESTORE_NOUNS: &[Noun] = &[
-    ("STGPOOL", Form::RestorePool, &[NAME], &[WAIT]),
-    ("VOLUME", Form::RestoreVolume, &[NAME], &[WAIT]),
+    (
+        "STGPOOL",
+        Form::Pool(PoolForm::RestorePool),
+        &[NAME],
+        &[WAIT],
+    ),
+    (
+        "VOLUME",
+        Form::Volume(VolumeForm::RestoreVolume),
+        &[NAME],
+        &[WAIT],
+    ),
 ];
 
 /// The rows that begin with REUSE.
-pub const REUSE_NOUNS: &[Noun] = &[("VOLUMES", Form::ReuseVolumes, &[], &[])];
+pub const REUSE_NOUNS: &[Noun] = &[("VOLUMES", Form::Volume(VolumeForm::ReuseVolumes), &[], &[])];
 
 /// The rows that begin with UPDATE.
 pub const UPDATE_NOUNS: &[Noun] = &[
     (
         "COPYGROUP",
-        Form::UpdateGroup,
+        Form::Class(ClassForm::UpdateGroup),
         &[NAME, NAME, NAME, STANDARD_IF],
         &[
             TYPE_BACKUP,
@@ -551,13 +737,13 @@ pub const UPDATE_NOUNS: &[Noun] = &[
     ),
     (
         "DOMAIN",
-        Form::UpdateDomain,
+        Form::Policy(PolicyForm::UpdateDomain),
         &[NAME],
         &[NEW_BACKRETENTION, DESCRIPTION],
     ),
     (
         "STGPOOL",
-        Form::UpdatePool,
+        Form::Pool(PoolForm::UpdatePool),
         &[NAME],
         &[
             MAXSIZE,
@@ -570,40 +756,55 @@ pub const UPDATE_NOUNS: &[Noun] = &[
             DESCRIPTION,
         ],
     ),
-    ("VOLUME", Form::UpdateVolume, &[NAME], &[ACCESS]),
+    (
+        "VOLUME",
+        Form::Volume(VolumeForm::UpdateVolume),
+        &[NAME],
+        &[ACCESS],
+    ),
 ];
 
 /// The rows that begin with VALIDATE.
-pub const VALIDATE_NOUNS: &[Noun] = &[("POLICYSET", Form::ValidateSet, &[NAME, NAME], &[])];
+pub const VALIDATE_NOUNS: &[Noun] = &[(
+    "POLICYSET",
+    Form::Policy(PolicyForm::ValidateSet),
+    &[NAME, NAME],
+    &[],
+)];
 
 /// The rows that begin with AND.
-pub const AND_NOUNS: &[Noun] = &[("", Form::And, &[], &[])];
+pub const AND_NOUNS: &[Noun] = &[("", Form::Block(BlockForm::And), &[], &[])];
 
 /// The rows that begin with CHECKPOINT.
-pub const CHECKPOINT_NOUNS: &[Noun] = &[("", Form::Checkpoint, &[], &[])];
+pub const CHECKPOINT_NOUNS: &[Noun] = &[("", Form::Database(DatabaseForm::Checkpoint), &[], &[])];
 
 /// The rows that begin with DAY.
-pub const DAY_NOUNS: &[Noun] = &[("", Form::Day, &[DAY], &[])];
+pub const DAY_NOUNS: &[Noun] = &[("", Form::Database(DatabaseForm::Day), &[DAY], &[])];
 
 /// The rows that begin with END.
-pub const END_NOUNS: &[Noun] = &[("", Form::End, &[], &[])];
+pub const END_NOUNS: &[Noun] = &[("", Form::Block(BlockForm::End), &[], &[])];
 
 /// The rows that begin with ERASE.
-pub const ERASE_NOUNS: &[Noun] = &[("", Form::Erase, &[NUMBER, PATH], &[])];
+pub const ERASE_NOUNS: &[Noun] = &[("", Form::File(FileForm::Erase), &[NUMBER, PATH], &[])];
 
 /// The rows that begin with GET.
-pub const GET_NOUNS: &[Noun] = &[("", Form::Get, &[NODE, FILESPACE, PATH], &[])];
+pub const GET_NOUNS: &[Noun] = &[("", Form::File(FileForm::Get), &[NODE, FILESPACE, PATH], &[])];
 
 /// The rows that begin with PARALLEL.
-pub const PARALLEL_NOUNS: &[Noun] = &[("", Form::Parallel, &[], &[])];
+pub const PARALLEL_NOUNS: &[Noun] = &[("", Form::Block(BlockForm::Parallel), &[], &[])];
 
 /// The rows that begin with PUT.
-pub const PUT_NOUNS: &[Noun] = &[("", Form::Put, &[NODE, FILESPACE, PATH, NUMBER], &[TEXT])];
+pub const PUT_NOUNS: &[Noun] = &[(
+    "",
+    Form::File(FileForm::Put),
+    &[NODE, FILESPACE, PATH, NUMBER],
+    &[TEXT],
+)];
 
 /// The rows that begin with WRITE.
 pub const WRITE_NOUNS: &[Noun] = &[(
     "",
-    Form::Write,
+    Form::File(FileForm::Write),
     &[NUMBER, PATH, NUMBER],
     &[TEXT_ALONE, SIZE, FILL],
 )];

@@ -7,10 +7,10 @@ use Rattle.fields.specs.FormLaws.{only_form, pair_form, viewed_form}
 use Rattle.kinds.specs.declared.refusal.Refusal.{Refusal}
 use Rattle.kinds.specs.declared.refusal.Refusal.TheVariants.{DayBack, InventoryFull, NotFound}
 use Rattle.kinds.specs.ValueForms.{day, day_form}
-use Rattle.changes.specs.declared.change.Change.{Change}
-use Rattle.changes.specs.declared.change.Change.TheVariants as change
+use Rattle.entries.specs.declared.change.Change.{Change}
+use Rattle.entries.specs.declared.change.Change.TheVariants as change
 use Rattle.entries.specs.declared.entry.Entry.{Entry}
-use Rattle.database.specs.Meaning.{Meaning}
+use Rattle.entries.specs.Meaning.{Meaning}
 
 -- the number of the last transaction, and the day
 pub record Dated : Type 0 where

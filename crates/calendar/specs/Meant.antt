@@ -2,7 +2,7 @@
 use Rattle.std.proofs.Common.{◌≡◌, ℕ, ◌^◌, ◌<◌, List, [], ◌++◌, refl, sym, ap, ◌∙◌, arith}
 use Rattle.std.proofs.lemmas.Bool.{ltb-true}
 use Rattle.std.proofs.lemmas.Option.{same_Some}
-use Rattle.database.specs.Meaning.{IsMeaning}
+use Rattle.entries.specs.Meaning.{IsMeaning}
 use Rattle.calendar.specs.Dates.{Dated, dated, dated_form, meaning}
 
 -- two values with one spelling are one

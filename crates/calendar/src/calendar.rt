@@ -2,9 +2,7 @@ ghost use Rattle.std.specs.Prelude.{◌≡◌, ◌<◌, ◌^◌, IsTrue};
 ghost use Rattle.calendar.specs.Dates.{dated, dated_form, meaning};
 ghost use Rattle.calendar.specs.Meant.{is_meaning};
 
-use changes::Change;
-use database::Database;
-use entries::Entry;
+use entries::{Change, Database, Entry};
 use fields::{Fault, Formed, Memory, Reader, put_u64};
 use kinds::{Day, Fitting, Refusal};
 use std::alloc::Global;

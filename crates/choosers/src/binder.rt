@@ -9,7 +9,7 @@ use kinds::Name;
 use std::marker::Model;
 
 /// An include-exclude list by which paths are bound.
-#[derive(Debug, Drop)]
+#[derive(Drop)]
 pub struct Binder {
     rules: Vec<Rule>,
 }

@@ -17,6 +17,3 @@ pub use matching::match_rules;
 pub use path_patterns::Pattern;
 pub use rule::{Bound, Rule};
 pub use rule_text::read_rules;
-
-#[cfg(test)]
-mod tests;

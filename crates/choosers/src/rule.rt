@@ -4,7 +4,7 @@ use kinds::Name;
 use path_patterns::Pattern;
 
 /// A rule of an include-exclude list.
-#[derive(Debug, Drop)]
+#[derive(Drop)]
 pub enum Rule {
     /// Paths that match are sent, and are bound to this management class, or to the default class where none is named.
     Include {
@@ -18,7 +18,7 @@ pub enum Rule {
 }
 
 /// How a path is bound.
-#[derive(Clone, Copy, Debug, PartialEq, Eq)]
+#[derive(Clone, Copy, Debug)]
 pub enum Bound {
     /// By the INCLUDE rule with this number in the list, counted from 0.
     ByRule(usize),

@@ -13,7 +13,7 @@ use path_patterns::Pattern;
 use std::alloc::Global;
 
 /// The first word of a rule.
-#[derive(Clone, Copy, Debug, PartialEq, Eq)]
+#[derive(Clone, Copy)]
 pub(crate) enum Verb {
     Including,
     Excluding,

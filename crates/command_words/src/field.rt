@@ -1,7 +1,6 @@
 ghost use Rattle.std.specs.Prelude.{◌≡◌, ◌<◌, ◌≤◌, ◌==◌, ◌^◌, ℕ, map, length, unwrap_or, if◌then◌else◌, Some, None, IfSome, IsSome, IsTrue};
 ghost use Rattle.std.specs.Str.{str_to_ascii_uppercase};
-ghost use Rattle.std.specs.Option.{ForSome};
-ghost use Rattle.std.specs.Option.{option_copied};
+ghost use Rattle.std.specs.Option.{ForSome, option_copied};
 ghost use Rattle.kinds.specs.Answers.{AnswersBy};
 ghost use Rattle.command_words.specs.Fields.{name_of, name_if, path_of, text_of, at_most, number_of, size_of, IsSpelled, limit_at, limit_spelled, limit_of, size_limit_at, size_limit_spelled, size_limit_of, capacity_of, word_of};
 ghost use Rattle.command_words.specs.Values.{decimal, size, fits};

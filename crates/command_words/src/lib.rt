@@ -14,6 +14,3 @@ pub use row::{Given, Need, Place, Slot, row_values, text_at};
 pub use text::Text;
 pub use value::{Kind, Words, decimal, is_no_limit, size, unquoted, valued};
 pub use words::{EQUALS, QUOTE, Word, is_blank, torn_at, words_behind, words_of};
-
-#[cfg(test)]
-mod tests;

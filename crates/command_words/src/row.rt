@@ -23,7 +23,7 @@ pub type Slot = (&'static str, Kind, Words, Need);
 pub type Given<'a> = (usize, &'a [u8]);
 
 /// Whether a keyword must be there.
-#[derive(Clone, Copy, Debug, PartialEq, Eq)]
+#[derive(Clone, Copy)]
 pub enum Need {
     Optional,
     Required,

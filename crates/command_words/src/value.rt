@@ -15,7 +15,7 @@ use std::str;
 pub type Words = &'static [&'static str];
 
 /// What may stand as a value.
-#[derive(Clone, Copy, Debug, PartialEq, Eq)]
+#[derive(Clone, Copy)]
 pub enum Kind {
     /// A name of 1 to 30 characters.
     Name,

@@ -18,7 +18,7 @@ const TAB: u8 = b'\t';
 pub type Word<'a> = (u32, &'a [u8], bool);
 
 /// Where a byte of a line stands.
-#[derive(Clone, Copy, Debug, PartialEq, Eq)]
+#[derive(Clone, Copy)]
 pub enum Spot {
     /// Between words.
     Between,

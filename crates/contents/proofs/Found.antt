@@ -5,15 +5,15 @@ use Rattle.std.proofs.lemmas.Bool.{eqb-true}
 use Rattle.std.proofs.lemmas.List.Sums.{sum_by-cons}
 use Rattle.std.proofs.lemmas.Option.{same_Some}
 use Rattle.kinds.specs.declared.segment.Segment.{Segment}
-use Rattle.version_groups.specs.declared.copies.CopyRow.{CopyRow}
-use Rattle.version_groups.specs.declared.versions.Version.{Version}
-use Rattle.version_groups.specs.Copies.{are_by_pool}
-use Rattle.version_groups.specs.Entries.{is_nil}
+use Rattle.inventory_rows.specs.version_groups.declared.copies.CopyRow.{CopyRow}
+use Rattle.inventory_rows.specs.version_groups.declared.versions.Version.{Version}
+use Rattle.inventory_rows.specs.version_groups.Copies.{are_by_pool}
+use Rattle.inventory_rows.specs.version_groups.Entries.{is_nil}
 use Rattle.volume_frames.specs.Frames.{bytes_len}
 use Rattle.inventory_rows.specs.Search.{version, versions}
 use Rattle.inventory_rows.specs.State.{Inv}
 use Rattle.inventory_rules.specs.Valid.{is_copied, is_valid, primary_copies}
-use Rattle.inventory_facts.proofs.Facts.{facts_of, rest}
+use Rattle.inventory_laws.proofs.Facts.{facts_of, rest}
 use Rattle.contents.specs.Contents.{HasVersion, HaveAll}
 use Rattle.contents.proofs.Segments.{all_weaker, each_passes}
 

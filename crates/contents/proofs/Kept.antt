@@ -3,8 +3,8 @@ use Rattle.std.proofs.Common.{◌≡◌, inl, inr, ℕ, ◌+◌, ◌<◌, ◌≤
 use Rattle.std.specs.List.{AllByRecursion, list_all}
 use Rattle.std.proofs.lemmas.Bool.{cases_eq}
 use Rattle.kinds.specs.declared.segment.Segment.{Segment}
-use Rattle.version_groups.specs.declared.copies.CopyRow.{CopyRow}
-use Rattle.version_groups.specs.declared.versions.Version.{Version}
+use Rattle.inventory_rows.specs.version_groups.declared.copies.CopyRow.{CopyRow}
+use Rattle.inventory_rows.specs.version_groups.declared.versions.Version.{Version}
 use Rattle.store_api.specs.Disk.{History, standing, reads, now, ImageAt}
 use Rattle.store_api.specs.Runs.{Firm, Stands, GoesOn, EachImage, WroteWithin}
 use Rattle.store_api.proofs.Standings.{leaves_firm}
@@ -13,7 +13,7 @@ use Rattle.store_api.proofs.Pieces.{image_reads, firm_beside, firm_since, sound_
 use Rattle.inventory_rows.specs.Search.{segments_on, versions}
 use Rattle.inventory_rows.specs.State.{Inv}
 use Rattle.inventory_rules.specs.Valid.{is_valid}
-use Rattle.inventory_facts.specs.Parts.{are_clear}
+use Rattle.inventory_rules.specs.Segments.{are_clear}
 use Rattle.contents.specs.Contents.{FramesHave, HaveAll, InImage, InStore, Holds, IsKept}
 use Rattle.contents.proofs.Segments.{EachSegment, Carries, all_carried, each_of, each_weaker, on_volumes, each_on, clear_outside}
 

@@ -6,7 +6,7 @@ use Rattle.kinds.specs.declared.segment.Segment.{Segment}
 use Rattle.store_api.specs.Disk.{History, standing}
 use Rattle.store_api.specs.Runs.{Stands, Firm}
 use Rattle.volume_frames.specs.Frames.{frame_header}
-use Rattle.version_groups.specs.declared.versions.Version.{Version}
+use Rattle.inventory_rows.specs.version_groups.declared.versions.Version.{Version}
 use Rattle.inventory_rows.specs.Search.{versions}
 use Rattle.inventory_rows.specs.State.{Inv}
 

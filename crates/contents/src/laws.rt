@@ -4,12 +4,12 @@ ghost use Rattle.std.specs.List.{AllByRecursion, list_all};
 ghost use Rattle.kinds.specs.declared.segment.Segment.{Segment};
 ghost use Rattle.store_api.specs.Disk.{History, standing, reads, now, ImageAt};
 ghost use Rattle.store_api.specs.Runs.{Firm, GoesOn, EachImage, WroteWithin};
-ghost use Rattle.version_groups.specs.declared.versions.Version.{Version};
+ghost use Rattle.inventory_rows.specs.version_groups.declared.versions.Version.{Version};
 ghost use Rattle.volume_frames.specs.Frames.{bytes_len};
 ghost use Rattle.inventory_rows.specs.Search.{segments_on, version};
 ghost use Rattle.inventory_rows.specs.State.{Inv};
 ghost use Rattle.inventory_rules.specs.Valid.{is_valid};
-ghost use Rattle.inventory_facts.specs.Parts.{are_all_clear, are_clear};
+ghost use Rattle.inventory_rules.specs.Segments.{are_all_clear, are_clear};
 ghost use Rattle.contents.specs.Contents.{frame, FramesHave, HasVersion, InImage, InStore, Holds, IsKept};
 
 /// What a store keeps, each image of now holds, and so do the files as they read.

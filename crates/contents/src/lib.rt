@@ -3,5 +3,6 @@
 
 mod frames;
 pub mod laws;
+pub mod transactions;
 
 pub use frames::{Unread, framed, read_copy};

@@ -102,6 +102,3 @@ pub fn unretained(
     places.reverse();
     Ok(places)
 }
-
-#[cfg(test)]
-mod tests;

@@ -4,8 +4,8 @@ use Rattle.std.specs.Int.{w32}
 use Rattle.fields.specs.Forms.{Form, IsForm, number, pair, viewed}
 use Rattle.fields.specs.FieldLaws.{number_form, wide32}
 use Rattle.fields.specs.FormLaws.{pair_form, viewed_form}
-use Rattle.changes.specs.ChangeForm.{change, change_form}
-use Rattle.changes.specs.declared.change.Change.{Change}
+use Rattle.entries.specs.ChangeForm.{change, change_form}
+use Rattle.entries.specs.declared.change.Change.{Change}
 use Rattle.entries.specs.declared.entry.Entry.{Entry}
 
 -- who makes the change, and the change

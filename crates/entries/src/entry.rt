@@ -4,7 +4,7 @@ ghost use Rattle.kinds.specs.Answers.{AnswersBy};
 ghost use Rattle.kinds.specs.declared.refusal.Refusal.TheVariants.{RecordFull, Memory as NoMemory};
 ghost use Rattle.entries.specs.EntryForm.{entry, entry_form, Spells};
 
-use changes::Change;
+use crate::change::Change;
 use fields::{Fault, Formed, Memory, Reader, put_u32};
 use kinds::{Fitting, Refusal};
 use std::alloc::Global;

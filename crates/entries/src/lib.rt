@@ -5,10 +5,14 @@
 //! grammar: each entry that exists has a spelling.
 #![tactic(auto)]
 
+mod change;
+mod database;
 mod entry;
+mod nodes;
+mod policy;
+mod pools;
 
-pub use changes::Change;
+pub use change::Change;
+pub use change_items;
+pub use database::Database;
 pub use entry::{Entry, MOST_BYTES};
-
-#[cfg(test)]
-mod tests;

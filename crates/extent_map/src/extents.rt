@@ -14,7 +14,7 @@ const HEADER: u64 = 32;
 const BLOCK: u64 = 4096;
 
 /// Blocks of a volume that lie one behind the other.
-#[derive(Clone, Copy, Debug, PartialEq, Eq)]
+#[derive(Clone, Copy)]
 pub struct Run {
     /// The number of the first block.
     pub first: u32,

@@ -3,8 +3,6 @@
 
 mod block_set;
 mod extents;
-#[cfg(test)]
-mod tests;
 mod word;
 
 pub use extents::{Extents, Run};

@@ -6,11 +6,11 @@ ghost use Rattle.fields.specs.declared.errors.Fault.TheVariants as variants;
 use std::alloc::{AllocError, AllocFailed};
 
 /// Memory ran out.
-#[derive(Clone, Copy, Debug, PartialEq, Eq)]
+#[derive(Clone, Copy)]
 pub struct Memory;
 
 /// Fewer bytes are left than a field needs. The number is the reader's place, in bytes from its start.
-#[derive(Clone, Copy, Debug, PartialEq, Eq)]
+#[derive(Clone, Copy)]
 pub struct Short(pub u64);
 
 impl From<AllocError> for Memory {
@@ -30,7 +30,7 @@ impl<T: Drop> From<AllocFailed<T>> for Memory {
 }
 
 /// Why a value could not be read.
-#[derive(Clone, Copy, Debug, PartialEq, Eq)]
+#[derive(Clone, Copy)]
 pub enum Fault {
     /// The bytes don't begin with a value's form.
     Malformed,

@@ -1,12 +1,13 @@
 //! A list that a contract sees as its values.
 
-ghost use Rattle.std.specs.Prelude.{◌≡◌, ◌<◌, ◌≤◌, ◌++◌, ◌∷◌, [], ◌↔◌, length, OnOk, OnErr, IsTrue};
+ghost use Rattle.std.specs.Prelude.{◌≡◌, ◌<◌, ◌≤◌, ◌++◌, ◌∷◌, [], length, OnOk, OnErr};
 ghost use Rattle.fields.specs.Forms.{items};
 ghost use Rattle.fields.specs.ListLaws.{items_form};
 
+use crate::codec::Own;
 use crate::errors::{Fault, Memory};
 use crate::formed::Formed;
-use crate::lists::{put_items, take_items};
+use crate::lists::{put_list, take_list};
 use crate::reader::Reader;
 use std::alloc::Global;
 use std::marker::Model;
@@ -37,23 +38,6 @@ impl<T, const MOST: u32> Items<T, MOST> {
         }
     }
 
-    /// These values.
-    pub fn from_vec(values: Vec<T>) -> Items<T, MOST>
-        requires { length values.items ≤ MOST }
-        ensures { result ≡ values.items }
-    {
-        Items { values }
-    }
-
-    /// The values, which take no new memory.
-    pub fn into_vec(self) -> Vec<T>
-        ensures same { result.items ≡ self }
-        ensures few { length result.items ≤ MOST }
-    {
-        let Items { values } = self;
-        values
-    }
-
     /// The values in order.
     pub fn as_slice(&self) -> &[T]
         ensures same { result.now ≡ self.now }
@@ -68,20 +52,6 @@ impl<T, const MOST: u32> Items<T, MOST> {
         ensures few { result ≤ MOST }
     {
         self.values.len()
-    }
-
-    /// Whether there are none.
-    pub fn is_empty(&self) -> bool
-        ensures { IsTrue result ↔ (length self.now ≡ 0) }
-    {
-        self.values.is_empty()
-    }
-
-    /// Whether there is no room for another.
-    pub fn is_full(&self) -> bool
-        ensures { IsTrue result ↔ (length self.now ≡ MOST) }
-    {
-        self.values.len() >= MOST as usize
     }
 }
 
@@ -102,11 +72,11 @@ impl<T: Formed, const MOST: u32> Formed for Items<T, MOST> {
     ghost form = { items MOST T.form };
 
     fn write_to(&self, out: &mut Vec<u8>) -> Result<(), Memory> {
-        put_items(out, self.as_slice())
+        put_list::<T, Own>(out, self.as_slice())
     }
 
     fn read_from(alloc: Global, reader: &mut Reader<'_>) -> Result<Self, Fault> {
-        let values = take_items(alloc, reader, MOST)?;
+        let values = take_list::<T, Own>(alloc, reader, MOST)?;
         Ok(Items { values })
     }
 

@@ -8,10 +8,14 @@
 //! `specs/ListLaws.antt`. Then `encode` gives the one spelling of a value, and `decode` the value of a spelling, or that
 //! the bytes are no value's.
 //!
+//! A `Codec` is a type of its own that says how values of another type are spelled, as of one that stands in another
+//! crate; `Own` is that of a type that is `Formed`. Lists and ordered maps are written and read by a codec of their values.
+//!
 //! In an enum whose variants stand under tags, what follows the tag is best read by a function of the tag, whose
 //! clause names the table of tags at that number: so each arm is proved by itself.
 #![tactic(auto)]
 
+mod codec;
 mod errors;
 mod formed;
 mod items;
@@ -20,18 +24,12 @@ mod maps;
 mod plain;
 mod puts;
 mod reader;
-mod table;
-mod text;
 
+pub use codec::{Codec, Own};
 pub use errors::{Fault, Memory, Short};
 pub use formed::{Formed, decode, encode, take_front};
 pub use items::Items;
-pub use lists::{put_items, take_items};
-pub use maps::{put_map, take_map};
+pub use lists::{put_each, put_list, take_list};
+pub use maps::{put_table, take_table};
 pub use puts::{put_digest, put_text, put_u8, put_u16, put_u32, put_u64};
 pub use reader::Reader;
-pub use table::Table;
-pub use text::Text;
-
-#[cfg(test)]
-mod tests;

@@ -5,63 +5,63 @@ ghost use Rattle.std.specs.List.{flat_map, AllByRecursion};
 ghost use Rattle.fields.specs.Forms.{items, times_at};
 ghost use Rattle.fields.specs.Gives.{GivesBy};
 
+use crate::codec::Codec;
 use crate::errors::{Fault, Memory};
-use crate::formed::Formed;
 use crate::puts::put_u32;
 use crate::reader::Reader;
 use std::alloc::Global;
 
 /// Puts the values' spellings at the end, one after the other.
-fn put_all<T: Formed>(out: &mut Vec<u8>, values: &[T]) -> Result<(), Memory>
-    requires { AllByRecursion T.form.Fits values.now }
-    ensures { OnOk result (out.new.items ≡ out.old.items ++ flat_map T.form.spell values.now) }
+pub fn put_each<T: Drop, C: Codec<T>>(out: &mut Vec<u8>, values: &[T]) -> Result<(), Memory>
+    requires { AllByRecursion C.form.Fits values.now }
+    ensures { OnOk result (out.new.items ≡ out.old.items ++ flat_map C.form.spell values.now) }
 {
     'values: for value in values {
-        value.write_to(out)?;
+        C::put(out, value)?;
     }
     Ok(())
 }
 
 /// Puts a list at the end: the values' number in four bytes, and their spellings. After an `Err` a part of them may stand there.
-pub fn put_items<T: Formed>(out: &mut Vec<u8>, values: &[T]) -> Result<(), Memory>
+pub fn put_list<T: Drop, C: Codec<T>>(out: &mut Vec<u8>, values: &[T]) -> Result<(), Memory>
     requires short { length values.now < 2 ^ 32 }
-    requires fit { AllByRecursion T.form.Fits values.now }
-    ensures { OnOk result (out.new.items ≡ out.old.items ++ (items (length values.now) T.form).spell values.now) }
+    requires fit { AllByRecursion C.form.Fits values.now }
+    ensures { OnOk result (out.new.items ≡ out.old.items ++ (items (length values.now) C.form).spell values.now) }
 {
     put_u32(out, values.len() as u32)?;
-    put_all(out, values)?;
+    put_each::<T, C>(out, values)?;
     Ok(())
 }
 
 /// Takes so many values.
-fn take_times<T: Formed>(
+fn take_times<T: Drop, C: Codec<T>>(
     alloc: Global,
     reader: &mut Reader<'_>,
     count: u32,
 ) -> Result<Vec<T>, Fault>
-    ensures gives { GivesBy (λ v. v.items) result reader.new.rest (times_at T.form.read count reader.old.rest) }
+    ensures gives { GivesBy (λ v. v.items) result reader.new.rest (times_at C.form.read count reader.old.rest) }
     ensures count { IfOk result (λ v. length v.items ≡ count) }
 {
     let mut values = Vec::new(alloc);
     'values: for _ in 0..count {
-        let value = T::read_from(alloc, reader)?;
+        let value = C::take(alloc, reader)?;
         values.push(value)?;
     }
     Ok(values)
 }
 
 /// Takes a list of at most `most` values. After an `Err` the reader stands anywhere.
-pub fn take_items<T: Formed>(
+pub fn take_list<T: Drop, C: Codec<T>>(
     alloc: Global,
     reader: &mut Reader<'_>,
     most: u32,
 ) -> Result<Vec<T>, Fault>
-    ensures gives { GivesBy (λ v. v.items) result reader.new.rest ((items most T.form).read reader.old.rest) }
+    ensures gives { GivesBy (λ v. v.items) result reader.new.rest ((items most C.form).read reader.old.rest) }
     ensures few { IfOk result (λ v. length v.items ≤ most) }
 {
     let count = reader.u32()?;
     if count > most {
         return Err(Fault::Malformed);
     }
-    take_times(alloc, reader, count)
+    take_times::<T, C>(alloc, reader, count)
 }

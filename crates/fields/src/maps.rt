@@ -7,6 +7,7 @@ ghost use Rattle.std.specs.declared.cmp.Ordering.TheVariants.{Greater};
 ghost use Rattle.fields.specs.Forms.{pair, ascending, ascending_at, entry_at, is_behind, last_key};
 ghost use Rattle.fields.specs.Gives.{Fails, GivesBy};
 
+use crate::codec::Codec;
 use crate::errors::{Fault, Memory};
 use crate::formed::Formed;
 use crate::puts::put_u32;
@@ -14,39 +15,32 @@ use crate::reader::Reader;
 use std::alloc::Global;
 use std::collections::BTreeMap;
 
-fn put_entry<K: Formed, V: Formed>(out: &mut Vec<u8>, key: &K, value: &V) -> Result<(), Memory>
-    requires { (pair K.form V.form).Fits (key.now, value.now) }
-    ensures { OnOk result (out.new.items ≡ out.old.items ++ (pair K.form V.form).spell (key.now, value.now)) }
-{
-    key.write_to(out)?;
-    value.write_to(out)?;
-    Ok(())
-}
-
-fn put_entries<K: Ord + Formed, V: Formed>(
+/// Puts the entries' spellings at the end, one after the other.
+fn put_entries<K: Ord + Formed, V: Drop, C: Codec<V>>(
     out: &mut Vec<u8>,
     map: &BTreeMap<K, V>,
 ) -> Result<(), Memory>
-    requires { AllByRecursion (pair K.form V.form).Fits map.now.entries }
-    ensures { OnOk result (out.new.items ≡ out.old.items ++ flat_map (pair K.form V.form).spell map.now.entries) }
+    requires { AllByRecursion (pair K.form C.form).Fits map.now.entries }
+    ensures { OnOk result (out.new.items ≡ out.old.items ++ flat_map (pair K.form C.form).spell map.now.entries) }
 {
     'entries: for (key, value) in map.iter() {
-        put_entry(out, key, value)?;
+        key.write_to(out)?;
+        C::put(out, value)?;
     }
     Ok(())
 }
 
 /// Puts a map at the end: the entries' number in four bytes, and their spellings. After an `Err` a part of them may stand there.
-pub fn put_map<K: Ord + Formed, V: Formed>(
+pub fn put_table<K: Ord + Formed, V: Drop, C: Codec<V>>(
     out: &mut Vec<u8>,
     map: &BTreeMap<K, V>,
 ) -> Result<(), Memory>
     requires short { length map.now.entries < 2 ^ 32 }
-    requires fit { AllByRecursion (pair K.form V.form).Fits map.now.entries }
-    ensures { OnOk result (out.new.items ≡ out.old.items ++ (ascending K.cmp (length map.now.entries) K.form V.form).spell map.now.entries) }
+    requires fit { AllByRecursion (pair K.form C.form).Fits map.now.entries }
+    ensures { OnOk result (out.new.items ≡ out.old.items ++ (ascending K.cmp (length map.now.entries) K.form C.form).spell map.now.entries) }
 {
     put_u32(out, map.len() as u32)?;
-    put_entries(out, map)?;
+    put_entries::<K, V, C>(out, map)?;
     Ok(())
 }
 
@@ -62,16 +56,17 @@ fn is_next<K: Ord, V>(map: &BTreeMap<K, V>, key: &K) -> bool
 }
 
 /// Takes the next entry, whose key comes behind all that the map has.
-fn take_entry<K: Ord + Formed, V: Formed>(
+fn take_entry<K: Ord + Formed, V: Drop, C: Codec<V>>(
     alloc: Global,
     map: &mut BTreeMap<K, V>,
     reader: &mut Reader<'_>,
 ) -> Result<(), Fault>
     ensures ok { OnOk result ((e : K × V) × (map.new.entries ≡ map.old.entries ++ e ∷ [])
-        × (entry_at K.cmp (pair K.form V.form).read (last_key map.old.entries) reader.old.rest ≡ Some (e, reader.new.rest))) }
-    ensures err { IfErr result (λ f. Fails f (entry_at K.cmp (pair K.form V.form).read (last_key map.old.entries) reader.old.rest)) }
+        × (entry_at K.cmp (pair K.form C.form).read (last_key map.old.entries) reader.old.rest ≡ Some (e, reader.new.rest))) }
+    ensures err { IfErr result (λ f. Fails f (entry_at K.cmp (pair K.form C.form).read (last_key map.old.entries) reader.old.rest)) }
 {
-    let (key, value) = <(K, V)>::read_from(alloc, reader)?;
+    let key = K::read_from(alloc, reader)?;
+    let value = C::take(alloc, reader)?;
     if !is_next(map, &key) {
         return Err(Fault::Malformed);
     }
@@ -80,33 +75,33 @@ fn take_entry<K: Ord + Formed, V: Formed>(
 }
 
 /// Takes so many entries.
-fn take_entries<K: Ord + Formed, V: Formed>(
+fn take_entries<K: Ord + Formed, V: Drop, C: Codec<V>>(
     alloc: Global,
     reader: &mut Reader<'_>,
     count: u32,
 ) -> Result<BTreeMap<K, V>, Fault>
-    ensures gives { GivesBy (λ m. m.entries) result reader.new.rest (ascending_at K.cmp (pair K.form V.form).read None count reader.old.rest) }
+    ensures gives { GivesBy (λ m. m.entries) result reader.new.rest (ascending_at K.cmp (pair K.form C.form).read None count reader.old.rest) }
     ensures count { IfOk result (λ m. length m.entries ≡ count) }
 {
     let mut map = BTreeMap::new(alloc);
     'entries: for _ in 0..count {
-        take_entry(alloc, &mut map, reader)?;
+        take_entry::<K, V, C>(alloc, &mut map, reader)?;
     }
     Ok(map)
 }
 
 /// Takes a map of at most `most` entries. After an `Err` the reader stands anywhere.
-pub fn take_map<K: Ord + Formed, V: Formed>(
+pub fn take_table<K: Ord + Formed, V: Drop, C: Codec<V>>(
     alloc: Global,
     reader: &mut Reader<'_>,
     most: u32,
 ) -> Result<BTreeMap<K, V>, Fault>
-    ensures gives { GivesBy (λ m. m.entries) result reader.new.rest ((ascending K.cmp most K.form V.form).read reader.old.rest) }
+    ensures gives { GivesBy (λ m. m.entries) result reader.new.rest ((ascending K.cmp most K.form C.form).read reader.old.rest) }
     ensures few { IfOk result (λ m. length m.entries ≤ most) }
 {
     let count = reader.u32()?;
     if count > most {
         return Err(Fault::Malformed);
     }
-    take_entries(alloc, reader, count)
+    take_entries::<K, V, C>(alloc, reader, count)
 }

@@ -1,14 +1,14 @@
-//! The forms of numbers, flags, digests, pairs and options.
+//! The forms of numbers, flags, pairs and options.
 
 ghost use Rattle.std.specs.Int.{w16, w32, w64};
-ghost use Rattle.fields.specs.Forms.{byte, number, block, flag, pair, option, option_body};
+ghost use Rattle.fields.specs.Forms.{byte, number, flag, pair, option, option_body};
 ghost use Rattle.fields.specs.Gives.{Gives};
-ghost use Rattle.fields.specs.FieldLaws.{byte_form, number_form, block_form, wide16, wide32, wide64};
+ghost use Rattle.fields.specs.FieldLaws.{byte_form, number_form, wide16, wide32, wide64};
 ghost use Rattle.fields.specs.FormLaws.{flag_form, pair_form, option_form};
 
 use crate::errors::{Fault, Memory};
 use crate::formed::Formed;
-use crate::puts::{put_digest, put_u8, put_u16, put_u32, put_u64};
+use crate::puts::{put_u8, put_u16, put_u32, put_u64};
 use crate::reader::Reader;
 use std::alloc::Global;
 
@@ -66,21 +66,6 @@ impl Formed for u64 {
     }
 
     ghost is_form = { number_form w64 wide64 };
-}
-
-/// A digest's 32 bytes.
-impl Formed for [u8; 32] {
-    ghost form = { block 32 };
-
-    fn write_to(&self, out: &mut Vec<u8>) -> Result<(), Memory> {
-        put_digest(out, self)
-    }
-
-    fn read_from(_alloc: Global, reader: &mut Reader<'_>) -> Result<Self, Fault> {
-        Ok(reader.digest()?)
-    }
-
-    ghost is_form = { block_form 32 };
 }
 
 /// 0 or 1.

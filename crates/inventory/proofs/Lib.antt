@@ -1,1 +1,5 @@
+pub mod Nothing
+pub mod Orders
 pub mod Sound
+pub mod Stays
+pub mod Within

@@ -8,29 +8,30 @@ use Rattle.std.specs.List.{list_all, flat_map}
 use Rattle.std.specs.Map.{lookup}
 use Rattle.std.specs.Ordering.{nat_cmp}
 use Rattle.kinds.specs.declared.segment.Segment.{Segment}
-use Rattle.version_groups.specs.declared.copies.CopyRow.{CopyRow}
-use Rattle.version_groups.specs.declared.group.Group.{Group}
-use Rattle.version_groups.specs.declared.groups.Filespace.{Filespace}
-use Rattle.version_groups.specs.Entries.{all_later}
-use Rattle.version_groups.specs.Versions.{is_empty}
-use Rattle.object_rows.specs.declared.place.Node.{Node}
-use Rattle.object_rows.specs.Index.{AreDistinct}
-use Rattle.object_rows.specs.Names.{named, named_of}
-use Rattle.object_rows.specs.Places.{are_all_full, are_full}
-use Rattle.object_rows.specs.Rows as rows
-use Rattle.pool_tables.specs.Names.{are_apart, pool_name, row_named}
-use Rattle.pool_tables.specs.Rows.{is_same_name, number_where, row_at}
-use Rattle.pool_tables.specs.Scratch.{are_rightly_named, volume_name}
-use Rattle.pool_tables.proofs.Names.{at_name, same_flips}
-use Rattle.pool_rows.specs.PoolRows.{with_rows}
-use Rattle.volume_rows.specs.declared.volume.Volume.{Volume}
+use Rattle.inventory_rows.specs.version_groups.declared.copies.CopyRow.{CopyRow}
+use Rattle.inventory_rows.specs.version_groups.declared.group.Group.{Group}
+use Rattle.inventory_rows.specs.version_groups.declared.groups.Filespace.{Filespace}
+use Rattle.inventory_rows.specs.version_groups.Entries.{all_later}
+use Rattle.inventory_rows.specs.version_groups.Versions.{is_empty}
+use Rattle.inventory_rows.specs.object_rows.declared.place.Node.{Node}
+use Rattle.inventory_rows.specs.object_rows.Index.{AreDistinct}
+use Rattle.inventory_rows.specs.object_rows.Names.{named, named_of}
+use Rattle.inventory_rows.specs.object_rows.Places.{are_all_full, are_full}
+use Rattle.inventory_rows.specs.object_rows.Rows as rows
+use Rattle.inventory_rows.specs.pool_tables.Names.{are_apart, pool_name, row_named}
+use Rattle.kinds.specs.Names.{is_same_name}
+use Rattle.inventory_rows.specs.pool_tables.Rows.{number_where, row_at}
+use Rattle.inventory_rows.specs.pool_tables.Scratch.{are_rightly_named, volume_name}
+use Rattle.inventory_rows.proofs.of_pool_tables.Names.{at_name, same_flips}
+use Rattle.inventory_rows.specs.pool_rows.PoolRows.{with_rows}
+use Rattle.inventory_rows.specs.volume_rows.declared.volume.Volume.{Volume}
 use Rattle.inventory_rows.specs.Search.{copies, pool}
 use Rattle.inventory_rows.specs.State.{Inv}
-use Rattle.inventory_facts.specs.Facts.{Facts}
-use Rattle.inventory_facts.proofs.Facts.{both, first, rest}
+use Rattle.inventory_rules.specs.Facts.{Facts}
+use Rattle.inventory_laws.proofs.Facts.{both, first, rest}
 use Rattle.inventory_rules.specs.Valid.{is_of_pool, is_orderly, names_apart}
-use Rattle.inventory_payload.specs.Payload.{AreSound}
-use Rattle.inventory_payload.specs.Segments.{all_lie, is_there}
+use Rattle.inventory_bytes.specs.Payload.{AreSound}
+use Rattle.inventory_bytes.specs.Segments.{all_lie, is_there}
 
 -- a name that none of the others is isn't found among them
 unnamed_behind : {V : Type 0} (name_of : V → List ℕ) (name : List ℕ) (e : ℕ × V) (es : List (ℕ × V)) → not (is_same_name name (name_of e.1)) ≡ true → is_none (row_named name_of name es) ≡ true → (b : Bool) → is_same_name (name_of e.1) name ≡ b → is_none (cond b (Some e.0) (row_named name_of name es)) ≡ true

@@ -1,2 +1,3 @@
+pub mod Legal
 pub mod Meaningful
 pub mod Meant

@@ -2,16 +2,16 @@
 use Rattle.std.proofs.Common.{◌≡◌, ℕ, ◌+◌, ◌^◌, ◌<◌, refl}
 use Rattle.std.proofs.lemmas.Bool.{ltb-true}
 use Rattle.std.specs.Prelude.{length}
-use Rattle.changes.specs.declared.change.Change.{Change}
+use Rattle.entries.specs.declared.change.Change.{Change}
 use Rattle.entries.specs.declared.entry.Entry.{Entry}
-use Rattle.database.specs.Meaning.{IsMeaning}
-use Rattle.inventory_facts.specs.Facts.{Facts}
-use Rattle.inventory_facts.proofs.Facts.{facts_of}
-use Rattle.inventory_payload.specs.Payload.{payload}
-use Rattle.inventory_payload.proofs.Decoded.{alone}
+use Rattle.entries.specs.Meaning.{IsMeaning}
+use Rattle.inventory_rules.specs.Facts.{Facts}
+use Rattle.inventory_laws.proofs.Facts.{facts_of}
+use Rattle.inventory_bytes.specs.Payload.{payload}
+use Rattle.inventory_bytes.proofs.Decoded.{alone}
 use Rattle.inventory_rows.specs.State.{Inv}
-use Rattle.inventory_rules.specs.Effects.{effect}
-use Rattle.payload_size.proofs.Whole.{short as payload_short}
+use Rattle.inventory_rules.specs.Transactions.{effect}
+use Rattle.inventory_bytes.proofs.WholeSize.{short as payload_short}
 use Rattle.inventory.specs.Meant.{IsInventory, meaning}
 
 next : (v : Inv) (c : Change) → (effect c v).number ≡ v.number + 1

@@ -7,22 +7,21 @@ ghost use Rattle.inventory_rows.specs.Fresh.{fresh};
 ghost use Rattle.inventory_rows.specs.State.{inv_of};
 ghost use Rattle.inventory_rules.specs.Held.{IsTied};
 ghost use Rattle.inventory_rules.specs.Valid.{is_valid};
-ghost use Rattle.transactions.specs.Legal.{refused};
+ghost use Rattle.inventory.specs.Legal.{refused};
 ghost use Rattle.inventory.specs.Meant.{meaning};
 ghost use Rattle.inventory.specs.Meaningful.{is_meaning};
 
-use changes::Change;
-use database::Database;
-use entries::Entry;
+use crate::bounds::count_items;
+use crate::made::make;
+use entries::{Change, Database, Entry};
 use inventory_answers::{Answer, Query};
+use inventory_bytes::tables_fit;
 use inventory_check::is_valid;
 use inventory_rows::Tables;
 use item_refusals::{NoPast, Past};
 use kinds::Refusal;
-use payload_fits::tables_fit;
 use std::alloc::Global;
 use std::marker::Model;
-use transactions::{count_items, make};
 
 /// The server's whole database. Every value is valid.
 #[derive(Drop)]
@@ -87,7 +86,7 @@ impl Inventory {
     pub fn refused<J: Past>(&self, past: &J, change: &Change) -> Option<Refusal>
         ensures { result ≡ refused (J.journal past.now) change.now self.now }
     {
-        transactions::refused(past, &self.tables, change, self.most_items)
+        crate::legal::refused(past, &self.tables, change, self.most_items)
     }
 
     /// The answer to a query: `NotFound` exactly where what it names isn't there, or want of memory.
@@ -118,12 +117,12 @@ impl Database for Inventory {
 
     fn encode(&self, alloc: Global) -> Result<Vec<u8>, Refusal> {
         tables_fit(&self.tables);
-        let bytes = inventory_payload::encode(alloc, &self.tables)?;
+        let bytes = inventory_bytes::encode(alloc, &self.tables)?;
         Ok(bytes)
     }
 
     fn decode(alloc: Global, bytes: &[u8]) -> Result<Option<Self>, Refusal> {
-        match inventory_payload::decode(alloc, bytes) {
+        match inventory_bytes::decode(alloc, bytes) {
             Ok(Some(tables)) => checked(alloc, tables),
             Ok(None) => Ok(None),
             Err(_) => Err(Refusal::Memory),

@@ -2,6 +2,10 @@
 //! be made, and `apply` makes it. `encode` gives its bytes, `decode` reads them, and `answer` answers queries.
 #![tactic(auto)]
 
+mod bounds;
 mod inventory;
+pub mod laws;
+mod legal;
+mod made;
 
 pub use inventory::Inventory;

@@ -3,15 +3,15 @@ use Rattle.std.specs.Prelude.{ℕ, suc, Bool, List, [], ◌∷◌, map, length, 
 use Rattle.std.specs.List.{flat_map, sum_by}
 use Rattle.kinds.specs.declared.refusal.Refusal.{Refusal}
 use Rattle.kinds.specs.declared.rule.RuleFound.{RuleFound}
-use Rattle.version_groups.specs.declared.group.Group.{Group}
-use Rattle.version_groups.specs.declared.groups.Filespace.{Filespace}
-use Rattle.version_groups.specs.declared.versions.Version.{Version}
-use Rattle.version_groups.specs.Entries.{on_ok, if_found}
-use Rattle.version_groups.specs.Versions.{has_active}
-use Rattle.object_rows.specs.declared.place.Node.{Node}
-use Rattle.object_rows.specs.Filespaces.{filespace_at, groups_in}
-use Rattle.object_rows.specs.Names.{node_named, filespace_named}
-use Rattle.object_rows.specs.Rows.{Rows}
+use Rattle.inventory_rows.specs.version_groups.declared.group.Group.{Group}
+use Rattle.inventory_rows.specs.version_groups.declared.groups.Filespace.{Filespace}
+use Rattle.inventory_rows.specs.version_groups.declared.versions.Version.{Version}
+use Rattle.inventory_rows.specs.version_groups.Entries.{on_ok, if_found}
+use Rattle.inventory_rows.specs.version_groups.Versions.{has_active}
+use Rattle.inventory_rows.specs.object_rows.declared.place.Node.{Node}
+use Rattle.inventory_rows.specs.object_rows.Filespaces.{filespace_at, groups_in}
+use Rattle.inventory_rows.specs.object_rows.Names.{node_named, filespace_named}
+use Rattle.inventory_rows.specs.object_rows.Rows.{Rows}
 use Rattle.inventory_rows.specs.Search.{rule_in}
 use Rattle.inventory_rows.specs.State.{Inv}
 use Rattle.inventory_answers.specs.declared.lines.NodeLine.{NodeLine}

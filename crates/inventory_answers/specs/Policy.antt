@@ -4,9 +4,9 @@ use Rattle.std.specs.List.{flat_map}
 use Rattle.std.specs.Option.{option_map_or}
 use Rattle.kinds.specs.declared.refusal.Refusal.{Refusal}
 use Rattle.kinds.specs.declared.rule.BackupRule.{BackupRule}
-use Rattle.policy_domains.specs.Rows.{SetRow, DomainRow, active_set, row_of}
-use Rattle.version_groups.specs.Entries.{on_ok, if_found}
-use Rattle.pool_rows.specs.PoolRows.{PoolRows}
+use Rattle.inventory_rows.specs.policy_domains.Rows.{SetRow, DomainRow, active_set, row_of}
+use Rattle.inventory_rows.specs.version_groups.Entries.{on_ok, if_found}
+use Rattle.inventory_rows.specs.pool_rows.PoolRows.{PoolRows}
 use Rattle.inventory_answers.specs.declared.lines.DomainLine.{DomainLine}
 use Rattle.inventory_answers.specs.declared.lines.SetLine.{SetLine}
 use Rattle.inventory_answers.specs.declared.lines.ClassLine.{ClassLine}

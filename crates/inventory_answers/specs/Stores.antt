@@ -2,13 +2,13 @@
 use Rattle.std.specs.Prelude.{ℕ, ◌*◌, Bool, List, map, Option, Result, Ok, Err, if◌then◌else◌}
 use Rattle.std.specs.List.{flat_map}
 use Rattle.kinds.specs.declared.refusal.Refusal.{Refusal}
-use Rattle.version_groups.specs.Entries.{on_ok}
-use Rattle.volume_rows.specs.declared.volume.Volume.{Volume}
-use Rattle.volume_rows.specs.Holdings.{live_bytes, used_blocks}
-use Rattle.volume_rows.specs.Volumes.{status_of}
-use Rattle.pool_tables.specs.declared.pool.Pool.{Pool}
-use Rattle.pool_rows.specs.PoolRows.{PoolRows, is_sequential}
-use Rattle.pool_rows.specs.Shares.{percent_of}
+use Rattle.inventory_rows.specs.version_groups.Entries.{on_ok}
+use Rattle.inventory_rows.specs.volume_rows.declared.volume.Volume.{Volume}
+use Rattle.inventory_rows.specs.volume_rows.Holdings.{live_bytes, used_blocks}
+use Rattle.inventory_rows.specs.volume_rows.Volumes.{status_of}
+use Rattle.inventory_rows.specs.pool_tables.declared.pool.Pool.{Pool}
+use Rattle.inventory_rows.specs.pool_rows.PoolRows.{PoolRows, is_sequential}
+use Rattle.inventory_rows.specs.pool_rows.Shares.{percent_of}
 use Rattle.inventory_rows.specs.declared.backup.Backup.{Backup}
 use Rattle.inventory_answers.specs.declared.lines.DeviceLine.{DeviceLine}
 use Rattle.inventory_answers.specs.declared.lines.PoolLine.{PoolLine}

@@ -8,12 +8,12 @@ ghost use Rattle.inventory_answers.specs.Clients.{node_line, active_files, files
 use crate::lines::{FilespaceLine, NodeLine, VersionLine};
 use crate::look::{is_asked, name_of_node, node_asked, plus};
 use inventory_rows::Tables;
+use inventory_rows::object_rows::{Node, Objects};
+use inventory_rows::version_groups::{Filespace, Group, Version};
 use inventory_work::{Listed, is_owed, place_of, rule_in};
 use kinds::{Day, FilespaceName, Name, NodeName, Path, Refusal, RuleFound};
-use object_rows::{Node, Objects};
 use std::alloc::Global;
 use std::collections::BTreeMap;
-use version_groups::{Filespace, Group, Version};
 
 fn node_line(number: u32, node: &Node) -> Result<NodeLine, Refusal>
     ensures { AnswersBy (λ line. line) result (node_line (number, node.now)) }

@@ -2,19 +2,19 @@
 ghost use Rattle.std.specs.Prelude.{◌≡◌, ℕ, List, []};
 ghost use Rattle.std.specs.Option.{option_copied};
 ghost use Rattle.kinds.specs.Answers.{Answers, AnswersBy};
-ghost use Rattle.volume_rows.specs.declared.held.HeldSegment.{HeldSegment};
+ghost use Rattle.inventory_rows.specs.volume_rows.declared.held.HeldSegment.{HeldSegment};
 ghost use Rattle.inventory_rows.specs.State.{inv_of};
 ghost use Rattle.inventory_answers.specs.Content.{so_far, with_segment, counted, content_line, content_lines, size_of_object, volume_at, content_of, Counts, segments_of};
 
 use crate::lines::ContentLine;
 use crate::look::plus;
 use inventory_rows::Tables;
+use inventory_rows::pool_rows::Pools;
+use inventory_rows::volume_rows::{HeldSegment, Volume};
 use inventory_work::Listed;
 use kinds::{Name, Refusal};
-use pool_rows::Pools;
 use std::alloc::Global;
 use std::collections::BTreeMap;
-use volume_rows::{HeldSegment, Volume};
 
 fn so_far(counts: &BTreeMap<u64, u64>, object: u64) -> u64
     ensures { result ≡ so_far object counts.now.entries }

@@ -1,8 +1,8 @@
+use inventory_rows::volume_rows::Status;
 use kinds::{
     Access, BackupRule, Capacity, Day, Days, Digest, FilespaceName, Name, NodeName, Path, PoolKind,
     PoolRule,
 };
-use volume_rows::Status;
 
 /// A policy domain.
 #[derive(Drop)]

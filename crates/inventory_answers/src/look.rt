@@ -2,14 +2,14 @@
 ghost use Rattle.std.specs.Prelude.{◌≡◌, ◌+◌, ◌*◌};
 ghost use Rattle.std.specs.Option.{option_copied};
 ghost use Rattle.kinds.specs.Answers.{AnswersBy};
-ghost use Rattle.policy_domains.specs.Rows.{active_set, row_of};
-ghost use Rattle.policy_domains.specs.Seen.{seen};
+ghost use Rattle.inventory_rows.specs.policy_domains.Rows.{active_set, row_of};
+ghost use Rattle.inventory_rows.specs.policy_domains.Seen.{seen};
 ghost use Rattle.inventory_answers.specs.Look.{set_row, name_of_pool, next_name, name_of_node, node_asked, pool_asked, volume_asked, is_asked};
 
+use inventory_rows::object_rows::Objects;
+use inventory_rows::policy_domains::{Domains, PolicyDomain, PolicySet};
+use inventory_rows::pool_rows::Pools;
 use kinds::{Name, NodeName, Refusal};
-use object_rows::Objects;
-use policy_domains::{Domains, PolicyDomain, PolicySet};
-use pool_rows::Pools;
 use std::alloc::Global;
 
 /// The name of the policy set that binds clients.

@@ -1,16 +1,16 @@
 // Policy domains, policy sets, management classes and copy groups.
 ghost use Rattle.std.specs.Prelude.{◌≡◌, is_some};
 ghost use Rattle.kinds.specs.Answers.{Answers, AnswersBy};
-ghost use Rattle.policy_domains.specs.Rows.{active_set};
+ghost use Rattle.inventory_rows.specs.policy_domains.Rows.{active_set};
 ghost use Rattle.inventory_work.specs.Lists.{Writes};
 ghost use Rattle.inventory_answers.specs.Policy.{domain_line, domain_lines, set_line, set_lines, sets_of, class_line, class_lines, classes_of, group_line, group_lines_of, group_lines, groups_of};
 
 use crate::lines::{ClassLine, DomainLine, GroupLine, SetLine};
 use crate::look::{active_name, domain_row, name_of_pool, set_row};
+use inventory_rows::policy_domains::{Domains, PolicyDomain, PolicySet};
+use inventory_rows::pool_rows::Pools;
 use inventory_work::Listed;
 use kinds::{CopyGroup, Name, Refusal};
-use policy_domains::{Domains, PolicyDomain, PolicySet};
-use pool_rows::Pools;
 use std::alloc::Global;
 
 fn domain_line(active: &Name, name: &Name, domain: &PolicyDomain) -> Result<DomainLine, Refusal>

@@ -12,20 +12,21 @@ use Rattle.std.proofs.lemmas.List.Concat.{flat_map_single}
 use Rattle.std.proofs.lemmas.List.Folds.{list_all-map}
 use Rattle.kinds.specs.Answers.{AnswersBy}
 use Rattle.kinds.specs.declared.refusal.Refusal.{Refusal}
-use Rattle.version_groups.specs.declared.groups.Filespace.{Filespace}
-use Rattle.version_groups.specs.Entries.{all_later}
-use Rattle.volume_rows.specs.declared.volume.Volume.{Volume}
-use Rattle.object_rows.specs.Build.{Builds}
-use Rattle.object_rows.specs.Index.{AreDistinct, IsIndex}
-use Rattle.object_rows.specs.Names.{named, named_of}
-use Rattle.object_rows.specs.declared.place.Node.{Node}
-use Rattle.object_rows.specs.Rows.{IsSound}
-use Rattle.pool_tables.specs.declared.pool.Pool.{Pool}
-use Rattle.pool_tables.specs.Counted.{are_sound}
-use Rattle.pool_tables.specs.Names.{are_apart, pool_name}
-use Rattle.pool_tables.specs.Scratch.{are_rightly_named, volume_name}
-use Rattle.pool_tables.specs.Rows.{is_same_name, number_where}
-use Rattle.pool_tables.proofs.Names.{at_name, same_flips}
+use Rattle.inventory_rows.specs.version_groups.declared.groups.Filespace.{Filespace}
+use Rattle.inventory_rows.specs.version_groups.Entries.{all_later}
+use Rattle.inventory_rows.specs.volume_rows.declared.volume.Volume.{Volume}
+use Rattle.inventory_rows.specs.object_rows.Build.{Builds}
+use Rattle.inventory_rows.specs.object_rows.Index.{AreDistinct, IsIndex}
+use Rattle.inventory_rows.specs.object_rows.Names.{named, named_of}
+use Rattle.inventory_rows.specs.object_rows.declared.place.Node.{Node}
+use Rattle.inventory_rows.specs.object_rows.Rows.{IsSound}
+use Rattle.inventory_rows.specs.pool_tables.declared.pool.Pool.{Pool}
+use Rattle.inventory_rows.specs.pool_tables.Counted.{are_sound}
+use Rattle.inventory_rows.specs.pool_tables.Names.{are_apart, pool_name}
+use Rattle.inventory_rows.specs.pool_tables.Scratch.{are_rightly_named, volume_name}
+use Rattle.kinds.specs.Names.{is_same_name}
+use Rattle.inventory_rows.specs.pool_tables.Rows.{number_where}
+use Rattle.inventory_rows.proofs.of_pool_tables.Names.{at_name, same_flips}
 use Rattle.inventory_rows.specs.declared.backup.Backup.{Backup}
 use Rattle.inventory_rows.specs.State.{Inv}
 use Rattle.inventory_rules.specs.Valid.{names_apart}

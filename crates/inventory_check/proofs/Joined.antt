@@ -1,6 +1,7 @@
 -- The conditions of validity, taken together in parts.
 use Rattle.std.proofs.Common.{◌≡◌, Bool, true, false, nat_le, ◌&&◌, length, refl, ap, ◌∙◌}
-use Rattle.inventory_rows.specs.Items.{count_items, most_items, most_versions}
+use Rattle.inventory_rows.specs.object_rows.Rows.{most_versions}
+use Rattle.inventory_rows.specs.Items.{count_items, most_items}
 use Rattle.inventory_rows.specs.Search.{versions}
 use Rattle.inventory_rows.specs.State.{Inv}
 use Rattle.inventory_rules.specs.Valid.{are_bounded, are_by_today, are_drawn, are_named, are_numbered, are_past, copies_cite, defaults_are_there, filespaces_cite, groups_are_orderly, is_valid, no_ring, nodes_cite, pools_cite, rules_cite, versions_are_copied, volumes_are, volumes_cite}

@@ -13,13 +13,13 @@ use Rattle.std.proofs.lemmas.Bool.Decides.{nat_tests}
 use Rattle.std.proofs.lemmas.Map.Keys.{sorted_head, sorted_tail}
 use Rattle.std.proofs.lemmas.Nat.{le-div}
 use Rattle.kinds.specs.declared.segment.Segment.{Segment}
-use Rattle.version_groups.specs.Entries.{all_later, is_nil}
-use Rattle.volume_rows.specs.declared.held.HeldSegment.{HeldSegment}
-use Rattle.volume_rows.specs.declared.volume.Volume.{Volume}
-use Rattle.volume_rows.specs.Held.{held_cmp, held_of}
-use Rattle.volume_rows.specs.Holdings.{is_bare, raised, repeats_of, with_segment}
-use Rattle.volume_rows.proofs.Segments.{held_same}
-use Rattle.pool_rows.specs.PoolRows.{is_sequential}
+use Rattle.inventory_rows.specs.version_groups.Entries.{all_later, is_nil}
+use Rattle.inventory_rows.specs.volume_rows.declared.held.HeldSegment.{HeldSegment}
+use Rattle.inventory_rows.specs.volume_rows.declared.volume.Volume.{Volume}
+use Rattle.inventory_rows.specs.volume_rows.Held.{held_cmp, held_of}
+use Rattle.inventory_rows.specs.volume_rows.Holdings.{is_bare, raised, repeats_of, with_segment}
+use Rattle.inventory_rows.proofs.of_volume_rows.Segments.{held_same}
+use Rattle.inventory_rows.specs.pool_rows.PoolRows.{is_sequential}
 use Rattle.inventory_rows.specs.Search.{is_primary, segments_on}
 use Rattle.inventory_rows.specs.State.{Inv}
 use Rattle.inventory_rules.specs.Held.{holding}

@@ -6,7 +6,7 @@ use Rattle.std.specs.Map.{lookup, set_value}
 use Rattle.std.specs.Ordering.{is_eq, match_ordering}
 use Rattle.std.specs.declared.cmp.Ordering.{Ordering}
 use Rattle.std.specs.declared.cmp.Ordering.TheVariants.{Less, Equal, Greater}
-use Rattle.version_groups.specs.Entries.{all_later}
+use Rattle.inventory_rows.specs.version_groups.Entries.{all_later}
 
 -- ---- tests
 swapped : (a b c : Bool) → (a && (b && c)) ≡ (b && (a && c))

@@ -7,11 +7,11 @@ use Rattle.std.proofs.lemmas.Bool.Decides.{nat_tests}
 use Rattle.std.proofs.lemmas.List.Folds.{list_all-append, list_all-map}
 use Rattle.std.proofs.lemmas.List.Sums.{sum_by-drop_more}
 use Rattle.kinds.specs.declared.rule.BackupRule.{BackupRule}
-use Rattle.policy_domains.specs.Rows.{SetRow, DomainRow}
-use Rattle.version_groups.specs.declared.copies.CopyRow.{CopyRow}
-use Rattle.version_groups.specs.declared.groups.Filespace.{Filespace}
-use Rattle.version_groups.specs.declared.versions.Version.{Version}
-use Rattle.object_rows.specs.Filespaces.{versions_in, versions_of}
+use Rattle.inventory_rows.specs.policy_domains.Rows.{SetRow, DomainRow}
+use Rattle.inventory_rows.specs.version_groups.declared.copies.CopyRow.{CopyRow}
+use Rattle.inventory_rows.specs.version_groups.declared.groups.Filespace.{Filespace}
+use Rattle.inventory_rows.specs.version_groups.declared.versions.Version.{Version}
+use Rattle.inventory_rows.specs.object_rows.Filespaces.{versions_in, versions_of}
 use Rattle.inventory_rows.specs.Search.{copies, pool, rules_of_set, versions}
 use Rattle.inventory_rows.specs.State.{Inv}
 use Rattle.inventory_rules.specs.Valid.{rules_cite}

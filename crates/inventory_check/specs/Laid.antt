@@ -1,9 +1,9 @@
 -- The segments on a volume in the order of their offsets, each once and behind the one before it.
 use Rattle.std.specs.Prelude.{ℕ, ◌+◌, ◌/◌, ◌%◌, ◌==◌, ◌&&◌, ◌||◌, Bool, true, not, nat_le, is_some, is_none, List, [], ◌∷◌, if◌then◌else◌}
-use Rattle.volume_rows.specs.declared.held.HeldSegment.{HeldSegment}
-use Rattle.volume_rows.specs.declared.volume.Volume.{Volume}
-use Rattle.volume_rows.specs.Held.{end_of}
-use Rattle.volume_rows.specs.Holdings.{is_bare}
+use Rattle.inventory_rows.specs.volume_rows.declared.held.HeldSegment.{HeldSegment}
+use Rattle.inventory_rows.specs.volume_rows.declared.volume.Volume.{Volume}
+use Rattle.inventory_rows.specs.volume_rows.Held.{end_of}
+use Rattle.inventory_rows.specs.volume_rows.Holdings.{is_bare}
 use Rattle.inventory_rows.specs.Search.{is_primary}
 use Rattle.inventory_rows.specs.State.{Inv}
 use Rattle.inventory_rules.specs.Valid.{is_sized, may_have}

@@ -2,9 +2,9 @@
 use Rattle.std.specs.Prelude.{ℕ, Bool, true, nat_le, ◌&&◌, is_some, List, [], ◌∷◌, map, Option, Some, None}
 use Rattle.std.specs.List.{list_all}
 use Rattle.kinds.specs.declared.rule.BackupRule.{BackupRule}
-use Rattle.policy_domains.specs.Rows.{SetRow, DomainRow}
-use Rattle.version_groups.specs.declared.group.Group.{Group}
-use Rattle.version_groups.specs.declared.versions.Version.{Version}
+use Rattle.inventory_rows.specs.policy_domains.Rows.{SetRow, DomainRow}
+use Rattle.inventory_rows.specs.version_groups.declared.group.Group.{Group}
+use Rattle.inventory_rows.specs.version_groups.declared.versions.Version.{Version}
 use Rattle.inventory_rows.specs.declared.backup.Backup.{Backup}
 use Rattle.inventory_rows.specs.Search.{pool}
 use Rattle.inventory_rows.specs.State.{Inv}

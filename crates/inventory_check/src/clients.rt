@@ -1,17 +1,17 @@
 //! What is asked of client nodes, filespaces and groups.
 
 ghost use Rattle.std.specs.Prelude.{◌≡◌, is_some};
-ghost use Rattle.policy_domains.specs.Rows.{row_of};
+ghost use Rattle.inventory_rows.specs.policy_domains.Rows.{row_of};
 ghost use Rattle.inventory_rows.specs.State.{inv_of};
 ghost use Rattle.inventory_rules.specs.Valid.{are_all_inactive, filespaces_cite, groups_are_orderly, is_orderly, nodes_cite};
 ghost use Rattle.inventory_check.specs.Rows.{days_fall, groups_orderly, is_not_later};
 
 use inventory_rows::Tables;
+use inventory_rows::object_rows::Node;
+use inventory_rows::policy_domains::Domains;
+use inventory_rows::version_groups::{Group, Version};
 use kinds::{Day, Path};
-use object_rows::Node;
-use policy_domains::Domains;
 use std::collections::BTreeMap;
-use version_groups::{Group, Version};
 
 fn node_cites(domains: &Domains, node: &Node) -> bool
     ensures { result ≡ is_some (row_of node.now.domain domains.now) }

@@ -1,7 +1,8 @@
 //! How much a database holds.
 
 ghost use Rattle.std.specs.Prelude.{◌≡◌, ◌&&◌, length, nat_le};
-ghost use Rattle.inventory_rows.specs.Items.{count_items, most_items, most_versions};
+ghost use Rattle.inventory_rows.specs.object_rows.Rows.{most_versions};
+ghost use Rattle.inventory_rows.specs.Items.{count_items, most_items};
 ghost use Rattle.inventory_rows.specs.Search.{versions};
 ghost use Rattle.inventory_rows.specs.State.{inv_of};
 

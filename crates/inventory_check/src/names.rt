@@ -4,7 +4,7 @@ ghost use Rattle.std.specs.Prelude.{◌≡◌, ◌&&◌, ◌++◌, map};
 ghost use Rattle.std.specs.Map.{keys_of};
 ghost use Rattle.std.specs.Ordering.{nat_cmp};
 ghost use Rattle.kinds.specs.Answers.{AnswersBy};
-ghost use Rattle.object_rows.specs.Build.{Builds};
+ghost use Rattle.inventory_rows.specs.object_rows.Build.{Builds};
 ghost use Rattle.inventory_rows.specs.State.{inv_of};
 ghost use Rattle.inventory_rules.specs.Valid.{are_apart, are_named, are_numbered};
 ghost use Rattle.inventory_check.specs.Rows.{numbered};

@@ -3,17 +3,17 @@
 ghost use Rattle.std.specs.Prelude.{◌≡◌, ◌&&◌, ◌++◌, is_some, nat_le, nat_lt, not};
 ghost use Rattle.std.specs.List.{list_all};
 ghost use Rattle.std.specs.Map.{keys_of};
-ghost use Rattle.pool_tables.specs.Rows.{row_at};
+ghost use Rattle.inventory_rows.specs.pool_tables.Rows.{row_at};
 ghost use Rattle.inventory_rows.specs.State.{inv_of};
 ghost use Rattle.inventory_rules.specs.Valid.{are_apart, are_bounded, are_drawn, lie_in};
 
 use crate::versions::objects_drawn;
+use inventory_rows::object_rows::Node;
+use inventory_rows::pool_tables::Pool;
+use inventory_rows::version_groups::Filespace;
+use inventory_rows::volume_rows::Volume;
 use inventory_rows::{Backup, Tables};
-use object_rows::Node;
-use pool_tables::Pool;
 use std::collections::BTreeMap;
-use version_groups::Filespace;
-use volume_rows::Volume;
 
 fn lies_in(least: u64, bound: u64, number: u64) -> bool
     ensures { result ≡ (nat_le least number && nat_lt number bound) }

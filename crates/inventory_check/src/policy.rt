@@ -1,14 +1,15 @@
 //! What is asked of policy domains.
 
 ghost use Rattle.std.specs.Prelude.{◌≡◌, is_some};
-ghost use Rattle.policy_domains.specs.Rows.{active_set, is_same_name, row_of};
+ghost use Rattle.kinds.specs.Names.{is_same_name};
+ghost use Rattle.inventory_rows.specs.policy_domains.Rows.{active_set, row_of};
 ghost use Rattle.inventory_rows.specs.State.{inv_of};
 ghost use Rattle.inventory_rules.specs.Valid.{defaults_are_there, is_default_there, rules_cite};
 ghost use Rattle.inventory_check.specs.Rows.{class_cites, domain_cites, domain_has_defaults, domains_cite, set_cites};
 
 use inventory_rows::Tables;
+use inventory_rows::policy_domains::{PolicyDomain, PolicySet};
 use kinds::{CopyGroup, Name};
-use policy_domains::{PolicyDomain, PolicySet};
 
 fn class_cites(tables: &Tables, group: Option<CopyGroup>) -> bool
     ensures { result ≡ class_cites (inv_of tables.now) group }

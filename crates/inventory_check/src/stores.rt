@@ -3,15 +3,14 @@
 ghost use Rattle.std.specs.Prelude.{◌≡◌, ◌&&◌, is_some, true, nat_le};
 ghost use Rattle.std.specs.List.{list_all};
 ghost use Rattle.std.specs.Option.{option_map_or};
-ghost use Rattle.pool_tables.specs.Rows.{named, row_at};
-ghost use Rattle.pool_rows.specs.Hierarchy.{comes_to, next_in};
+ghost use Rattle.inventory_rows.specs.pool_tables.Rows.{named};
+ghost use Rattle.inventory_rows.specs.pool_rows.Hierarchy.{comes_to};
 ghost use Rattle.inventory_rows.specs.State.{inv_of};
 ghost use Rattle.inventory_rules.specs.Valid.{next_is_there, no_ring, pools_cite, volumes_cite};
 
 use crate::days::is_none_or_by;
 use inventory_rows::Tables;
-use pool_tables::Pool;
-use std::collections::BTreeMap;
+use inventory_rows::pool_tables::Pool;
 
 fn next_is_there(tables: &Tables, next: Option<u32>) -> bool
     ensures { result ≡ next_is_there next (inv_of tables.now) }
@@ -65,38 +64,12 @@ pub(crate) fn volumes_by_today(tables: &Tables) -> bool
     true
 }
 
-fn next_of(pools: &BTreeMap<u32, Pool>, pool: u32) -> Option<u32>
-    ensures { result ≡ next_in (row_at pool pools.now.entries) }
-{
-    match pools.get(&pool) {
-        Some(pool) => pool.settings.rule().next,
-        None => None,
-    }
-}
-
-/// Whether the chain that begins with `next` comes to this pool.
-fn comes_to(pools: &BTreeMap<u32, Pool>, number: u32, next: Option<u32>) -> bool
-    ensures { result ≡ comes_to number next pools.now.entries }
-{
-    let mut next = next;
-    'steps: for _ in 0..pools.len() {
-        let Some(pool) = next else {
-            return false;
-        };
-        if pool == number {
-            return true;
-        }
-        next = next_of(pools, pool);
-    }
-    false
-}
-
 /// Whether no chain of next pools comes back to the pool where it began. It takes as many steps as there are pairs of pools.
 pub fn no_ring(tables: &Tables) -> bool
     ensures { result ≡ no_ring (inv_of tables.now) }
 {
     'pools: for (number, pool) in tables.pools.pools() {
-        if comes_to(tables.pools.pools(), *number, pool.settings.rule().next) {
+        if tables.pools.comes_to(*number, pool.settings.rule().next) {
             return false;
         }
     }

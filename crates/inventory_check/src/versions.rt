@@ -2,8 +2,8 @@
 
 ghost use Rattle.std.specs.Prelude.{◌≡◌, ◌==◌, length, filter, map, nat_le};
 ghost use Rattle.std.specs.List.{list_all, sum_by};
-ghost use Rattle.pool_tables.specs.Rows.{row_at};
-ghost use Rattle.version_groups.specs.Copies.{are_by_pool};
+ghost use Rattle.inventory_rows.specs.pool_tables.Rows.{row_at};
+ghost use Rattle.inventory_rows.specs.version_groups.Copies.{are_by_pool};
 ghost use Rattle.inventory_rows.specs.Search.{copies, is_primary, is_primary_kind, versions};
 ghost use Rattle.inventory_rows.specs.State.{inv_of};
 ghost use Rattle.inventory_rules.specs.Valid.{copies_cite, is_copied, is_of_pool, lie_in, versions_are_copied};
@@ -11,10 +11,10 @@ ghost use Rattle.inventory_check.specs.Asked.{all_in_filespaces, all_in_groups, 
 
 use crate::days::{is_by, is_none_or_by};
 use inventory_rows::Tables;
+use inventory_rows::pool_rows::Pools;
+use inventory_rows::version_groups::{Copies, CopyRow, Filespace, Group, Version};
 use kinds::{Day, Path, PoolKind, Segment};
-use pool_rows::Pools;
 use std::collections::BTreeMap;
-use version_groups::{Copies, CopyRow, Filespace, Group, Version};
 
 /// What is asked of each version.
 #[derive(Clone, Copy)]

@@ -1,8 +1,8 @@
 //! What is asked of each volume and of the segments on it.
 
 ghost use Rattle.std.specs.Prelude.{◌≡◌};
-ghost use Rattle.volume_rows.specs.Held.{end_of};
-ghost use Rattle.volume_rows.specs.Holdings.{is_bare};
+ghost use Rattle.inventory_rows.specs.volume_rows.Held.{end_of};
+ghost use Rattle.inventory_rows.specs.volume_rows.Holdings.{is_bare};
 ghost use Rattle.inventory_rows.specs.Search.{segments_on};
 ghost use Rattle.inventory_rows.specs.State.{inv_of};
 ghost use Rattle.inventory_rules.specs.Held.{IsTied, holding};
@@ -11,9 +11,9 @@ ghost use Rattle.inventory_check.specs.Laid.{are_laid, emptied_by, fits_below, h
 
 use crate::versions::is_primary;
 use inventory_rows::Tables;
+use inventory_rows::volume_rows::{HeldSegment, Volume};
 use kinds::Access;
 use std::collections::BTreeMap;
-use volume_rows::{HeldSegment, Volume};
 
 /// Where the segment's frame ends, in bytes.
 fn end_of(segment: &HeldSegment) -> u128

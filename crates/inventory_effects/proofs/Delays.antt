@@ -5,9 +5,9 @@ use Rattle.std.specs.List.Sorted.{IsStrictlySortedBy}
 use Rattle.std.specs.Map.{keys_of}
 use Rattle.std.specs.Ordering.{nat_cmp}
 use Rattle.std.proofs.lemmas.List.Kept.{IsStrictlySortedBy-filter}
-use Rattle.pool_tables.specs.declared.pool.Pool.{Pool}
-use Rattle.pool_tables.specs.Rows.{with_row}
-use Rattle.pool_tables.proofs.Ascending.{last_row}
+use Rattle.inventory_rows.specs.pool_tables.declared.pool.Pool.{Pool}
+use Rattle.inventory_rows.specs.pool_tables.Rows.{with_row}
+use Rattle.inventory_rows.proofs.of_pool_tables.Ascending.{last_row}
 use Rattle.inventory_rows.specs.State.{Inv}
 use Rattle.inventory_effects.specs.Delaying.{delay_kept, has_delay}
 

@@ -1,2 +1,3 @@
-pub mod CanMake
 pub mod Delaying
+pub mod Undoing
+pub mod Volumes

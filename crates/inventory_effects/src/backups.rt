@@ -3,16 +3,17 @@
 ghost use Rattle.std.specs.Prelude.{◌≡◌, ◌+◌, ◌<◌, ◌^◌, Ok, Some, map};
 ghost use Rattle.kinds.specs.Answers.{AnswersBy, Becomes};
 ghost use Rattle.inventory_rows.specs.State.{inv_of};
-ghost use Rattle.inventory_rules.specs.Effects.{backup_ended, backups_lowered, begin_backup, delays_now, delete_backup, end_backup};
+ghost use Rattle.inventory_rules.specs.Backups.{backup_ended, begin_backup, delays_now, delete_backup, end_backup};
+ghost use Rattle.inventory_rules.specs.Stores.{backups_lowered};
 ghost use Rattle.inventory_effects.specs.Delaying.{delay_kept, has_delay};
 ghost use Rattle.std.specs.BTreeMap.{is_at};
 ghost use Rattle.std.specs.Map.{lookup};
 ghost use Rattle.std.specs.Ordering.{nat_cmp};
 
 use crate::rows::draw_file;
+use inventory_rows::pool_tables::Pool;
 use inventory_rows::{Backup, Delays, Tables};
 use kinds::{Days, Refusal};
-use pool_tables::Pool;
 use std::alloc::Global;
 use std::collections::BTreeMap;
 

@@ -1,10 +1,17 @@
 //! What a transaction makes of the database.
 #![tactic(auto)]
 
+mod arrivals;
 mod backups;
+mod copies;
+mod moves;
+mod new_copies;
+mod puts;
+mod rebinds;
 mod rows;
+mod segments;
 mod transaction;
+mod undo;
+mod versions;
 
-pub use backups::{begin_backup, delete_backup, end_backup};
-pub use rows::{change_clients, change_policy, change_stores, reuse, set_day};
 pub use transaction::apply;

@@ -2,12 +2,14 @@
 
 ghost use Rattle.std.specs.Prelude.{◌≡◌, ◌+◌, ◌<◌, ◌^◌, Ok};
 ghost use Rattle.kinds.specs.Answers.{Becomes};
-ghost use Rattle.policy_domains.specs.Changes.{after};
-ghost use Rattle.pool_rows.specs.PoolRows.{pool_named};
-ghost use Rattle.pool_tables.specs.RowChanges.{reuse_volume};
+ghost use Rattle.inventory_rows.specs.policy_domains.Changes.{after};
+ghost use Rattle.inventory_rows.specs.pool_rows.PoolRows.{pool_named};
+ghost use Rattle.inventory_rows.specs.pool_tables.RowChanges.{reuse_volume};
 ghost use Rattle.inventory_rows.specs.State.{inv_of};
-ghost use Rattle.inventory_rules.specs.Effects.{backups_lowered, client_changed, draw_file, drawn_for_client, drawn_for_store, or_same, store_changed};
-ghost use Rattle.inventory_effects.specs.CanMake.{CanPolicy, CanClients, CanReuse, CanStores, HasNextClient, HasNextStore};
+ghost use Rattle.inventory_rules.specs.Clients.{client_changed, drawn_for_client, CanClients, HasNextClient};
+ghost use Rattle.inventory_rules.specs.Common.{draw_file, or_same};
+ghost use Rattle.inventory_rules.specs.Stores.{backups_lowered, drawn_for_store, store_changed, CanReuse, CanStores, HasNextStore};
+ghost use Rattle.inventory_rules.specs.Policy.{CanPolicy};
 
 use crate::backups::lower_delays;
 use inventory_rows::Tables;

@@ -3,20 +3,26 @@
 ghost use Rattle.std.specs.Prelude.{◌≡◌, ◌+◌, ◌<◌, ◌^◌, Ok};
 ghost use Rattle.kinds.specs.Answers.{Becomes};
 ghost use Rattle.inventory_rows.specs.State.{inv_of};
-ghost use Rattle.inventory_rules.specs.Effects.{add_copy, back_up, changed, each, effect, make_scratch, move_copy, put_moved};
-ghost use Rattle.inventory_steps.specs.Steps.{CanBackUp, CanCopy, CanEach, CanMoveAll, CanScratch};
-ghost use Rattle.inventory_steps.specs.Undoing.{Ends, Goes};
-ghost use Rattle.inventory_effects.specs.CanMake.{CanChange, CanMake};
+ghost use Rattle.inventory_rules.specs.Common.{each, CanEach};
+ghost use Rattle.inventory_rules.specs.Copies.{add_copy, move_copy, put_moved, CanCopy, CanMoveAll};
+ghost use Rattle.inventory_rules.specs.Segments.{make_scratch, CanScratch};
+ghost use Rattle.inventory_rules.specs.Transactions.{changed, effect, CanChange, CanMake};
+ghost use Rattle.inventory_rules.specs.Versions.{back_up, CanBackUp};
+ghost use Rattle.inventory_effects.specs.Undoing.{Ends, Goes};
 
+use crate::arrivals::back_up_all;
 use crate::backups::{begin_backup, delete_backup, end_backup};
+use crate::copies::drop_copies;
+use crate::moves::move_all;
+use crate::new_copies::add_copies;
+use crate::puts::make_scratch;
+use crate::rebinds::rebind_all;
 use crate::rows::{change_clients, change_policy, change_stores, reuse, set_day};
-use change_items::{MovedCopies, NewCopies, NewVersions};
-use changes::Change;
+use crate::undo::{UndoLog, undo_all};
+use crate::versions::{discard_all, expire_all, mark_all_gone};
+use entries::Change;
+use entries::change_items::{MovedCopies, NewCopies, NewVersions};
 use inventory_rows::Tables;
-use inventory_steps::{
-    UndoLog, add_copies, back_up_all, discard_all, drop_copies, expire_all, make_scratch,
-    mark_all_gone, move_all, rebind_all, undo_all,
-};
 use kinds::Refusal;
 use std::alloc::Global;
 
@@ -125,7 +131,7 @@ fn make(
 
 /// Makes a transaction with this change. Its one refusal is want of memory; then the database is as it was: what was begun has
 /// been undone.
-#[tactic(auto, unfolding(inventory_rules::specs::Effects::effect))]
+#[tactic(auto, unfolding(inventory_rules::specs::Transactions::effect))]
 pub fn apply(alloc: Global, tables: &mut Tables, change: &Change) -> Result<(), Refusal>
     requires { CanMake change.now (inv_of tables.old) }
     ensures { Becomes result (inv_of tables.old) (inv_of tables.new) (Ok (effect change.now (inv_of tables.old))) }

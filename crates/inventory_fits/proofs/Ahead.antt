@@ -12,12 +12,12 @@ use Rattle.std.specs.Ordering.{nat_cmp, ordering_then, is_le}
 use Rattle.std.specs.declared.cmp.Ordering.TheVariants.{Less, Equal, Greater}
 use Rattle.std.specs.declared.ops.Bound.TheVariants.{Included, Excluded, Unbounded}
 use Rattle.kinds.specs.declared.segment.Segment.{Segment}
-use Rattle.version_groups.specs.Entries.{all_later}
-use Rattle.volume_rows.specs.declared.held.HeldSegment.{HeldSegment}
-use Rattle.volume_rows.specs.Held.{held_cmp}
+use Rattle.inventory_rows.specs.version_groups.Entries.{all_later}
+use Rattle.inventory_rows.specs.volume_rows.declared.held.HeldSegment.{HeldSegment}
+use Rattle.inventory_rows.specs.volume_rows.Held.{held_cmp}
 use Rattle.inventory_rules.specs.Valid.{high_of, low_of}
-use Rattle.inventory_facts.specs.Parts.{are_clear}
-use Rattle.inventory_facts.proofs.Facts.{first, rest, both}
+use Rattle.inventory_rules.specs.Segments.{are_clear}
+use Rattle.inventory_laws.proofs.Facts.{first, rest, both}
 use Rattle.inventory_fits.specs.Frames.{frame_of, is_clear, are_held_apart, start_of}
 use Rattle.inventory_fits.proofs.Clear.{first_ends, clear_before, clear_behind}
 use Rattle.inventory_fits.proofs.Lists.{all_weaker, later_kept, kept_pass, in_two_parts, related_to_last}

@@ -3,7 +3,7 @@ use Rattle.std.proofs.Common.{◌≡◌, ℕ, ◌+◌, ◌/◌, ◌<◌, ◌≤�
 use Rattle.std.proofs.lemmas.Bool.{leb-true, le-leb}
 use Rattle.kinds.specs.declared.segment.Segment.{Segment}
 use Rattle.inventory_rules.specs.Valid.{high_of, low_of}
-use Rattle.inventory_facts.specs.Parts.{are_clear}
+use Rattle.inventory_rules.specs.Segments.{are_clear}
 
 either_second : (a b : Bool) → b ≡ true → (a || b) ≡ true
 either_second true b h = refl

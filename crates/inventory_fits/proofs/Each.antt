@@ -2,23 +2,25 @@
 use Rattle.std.proofs.Common.{◌≡◌, ℕ, eqb, Bool, true, false, cond, ◌&&◌, ◌||◌, not, nat_le, List, [], ◌∷◌, filter, Option, Some, None, refl, sym, ap, ◌∙◌}
 use Rattle.std.specs.List.{list_all, list_any}
 use Rattle.std.specs.Option.{option_map_or}
-use Rattle.change_items.specs.declared.items.MovedCopy.{MovedCopy}
-use Rattle.change_items.specs.declared.items.NewCopy.{NewCopy}
-use Rattle.change_items.specs.declared.items.NewVersion.{NewVersion}
-use Rattle.change_items.specs.declared.items.ScratchVolume.{ScratchVolume}
-use Rattle.version_groups.specs.declared.copies.CopyRow.{CopyRow}
-use Rattle.version_groups.specs.declared.versions.Version.{Version}
-use Rattle.version_groups.specs.Copies.{has_copy, without_copy}
-use Rattle.version_groups.specs.Entries.{is_nil}
-use Rattle.version_groups.specs.Versions.{has_object, version_of}
-use Rattle.object_rows.specs.Filespaces.{versions_of}
-use Rattle.object_rows.specs.Rows.{Rows}
-use Rattle.pool_tables.specs.declared.pool.Pool.{Pool}
-use Rattle.pool_tables.specs.Rows.{row_at}
+use Rattle.entries.specs.change_items.declared.items.MovedCopy.{MovedCopy}
+use Rattle.entries.specs.change_items.declared.items.NewCopy.{NewCopy}
+use Rattle.entries.specs.change_items.declared.items.NewVersion.{NewVersion}
+use Rattle.entries.specs.change_items.declared.items.ScratchVolume.{ScratchVolume}
+use Rattle.inventory_rows.specs.version_groups.declared.copies.CopyRow.{CopyRow}
+use Rattle.inventory_rows.specs.version_groups.declared.versions.Version.{Version}
+use Rattle.inventory_rows.specs.version_groups.Copies.{has_copy, without_copy}
+use Rattle.inventory_rows.specs.version_groups.Entries.{is_nil}
+use Rattle.inventory_rows.specs.version_groups.Versions.{has_object, version_of}
+use Rattle.inventory_rows.specs.object_rows.Filespaces.{versions_of}
+use Rattle.inventory_rows.specs.object_rows.Rows.{Rows}
+use Rattle.inventory_rows.specs.pool_tables.declared.pool.Pool.{Pool}
+use Rattle.inventory_rows.specs.pool_tables.Rows.{row_at}
 use Rattle.inventory_rows.specs.Search.{is_primary, is_primary_kind, version, versions}
 use Rattle.inventory_rows.specs.State.{Inv}
 use Rattle.inventory_rules.specs.Valid.{primary_copies}
-use Rattle.inventory_facts.specs.Parts.{is_new_object, copy_fits, new_version_fits, added_fits, new_copy_fits, replaced_fits, moved_copy_fits}
+use Rattle.inventory_rules.specs.Copies.{added_fits, new_copy_fits, replaced_fits, moved_copy_fits}
+use Rattle.inventory_rules.specs.Segments.{copy_fits}
+use Rattle.inventory_rules.specs.Versions.{is_new_object, new_version_fits}
 use Rattle.inventory_fits.specs.Fitting.{has_primary, has_other, are_primary_in, copy_fits_at, new_version_fits_at, added_fits_at, new_copy_fits_at, replaced_fits_at, moved_copy_fits_at}
 use Rattle.inventory_fits.specs.Targets.{made}
 use Rattle.inventory_fits.proofs.Made.{same_clients, same_pools}

@@ -7,15 +7,15 @@ use Rattle.std.specs.Ordering.{match_ordering, is_eq}
 use Rattle.std.specs.declared.cmp.Ordering.{Ordering}
 use Rattle.std.specs.declared.cmp.Ordering.TheVariants.{Less, Equal, Greater}
 use Rattle.kinds.specs.declared.segment.Segment.{Segment}
-use Rattle.version_groups.specs.Entries.{all_later}
-use Rattle.volume_rows.specs.declared.held.HeldSegment.{HeldSegment}
-use Rattle.volume_rows.specs.Held.{held_of, held_cmp}
-use Rattle.volume_rows.specs.Holdings.{repeats_of, raised, with_segment}
-use Rattle.volume_rows.proofs.Segments.{held_same}
+use Rattle.inventory_rows.specs.version_groups.Entries.{all_later}
+use Rattle.inventory_rows.specs.volume_rows.declared.held.HeldSegment.{HeldSegment}
+use Rattle.inventory_rows.specs.volume_rows.Held.{held_of, held_cmp}
+use Rattle.inventory_rows.specs.volume_rows.Holdings.{repeats_of, raised, with_segment}
+use Rattle.inventory_rows.proofs.of_volume_rows.Segments.{held_same}
 use Rattle.inventory_rules.specs.Held.{holding}
 use Rattle.inventory_rules.specs.Valid.{high_of, low_of, are_disjoint}
-use Rattle.inventory_facts.specs.Parts.{are_clear}
-use Rattle.inventory_facts.proofs.Facts.{first, rest, both}
+use Rattle.inventory_rules.specs.Segments.{are_clear}
+use Rattle.inventory_laws.proofs.Facts.{first, rest, both}
 use Rattle.inventory_fits.specs.Frames.{frame_of, is_clear, are_held_apart}
 
 swapped : (a b c : Bool) → (a && (b && c)) ≡ (b && (a && c))

@@ -6,18 +6,18 @@ use Rattle.std.specs.BTreeMap.{is_at}
 use Rattle.std.specs.Ordering.{nat_cmp}
 use Rattle.std.proofs.lemmas.Option.{same_Some}
 use Rattle.kinds.specs.declared.segment.Segment.{Segment}
-use Rattle.version_groups.specs.declared.copies.CopyRow.{CopyRow}
-use Rattle.volume_rows.specs.declared.volume.Volume.{Volume}
-use Rattle.object_rows.proofs.Stands.{at-eqb}
-use Rattle.pool_tables.specs.Rows.{row_at}
-use Rattle.pool_rows.specs.PoolRows.{is_sequential}
+use Rattle.inventory_rows.specs.version_groups.declared.copies.CopyRow.{CopyRow}
+use Rattle.inventory_rows.specs.volume_rows.declared.volume.Volume.{Volume}
+use Rattle.inventory_rows.proofs.of_object_rows.Stands.{at-eqb}
+use Rattle.inventory_rows.specs.pool_tables.Rows.{row_at}
+use Rattle.inventory_rows.specs.pool_rows.PoolRows.{is_sequential}
 use Rattle.inventory_rows.specs.Search.{copies, pool, segments_on, is_primary_kind}
 use Rattle.inventory_rows.specs.State.{Inv}
 use Rattle.inventory_rules.specs.Held.{holding, IsTied}
 use Rattle.inventory_rules.specs.Valid.{is_valid, is_volume, is_sized, may_have, is_placed, is_emptied_rightly, are_disjoint, is_of_pool}
 use Rattle.std.specs.Option.{option_map_or}
-use Rattle.inventory_facts.proofs.Facts.{facts_of, first, rest}
-use Rattle.inventory_facts.specs.Parts.{are_clear}
+use Rattle.inventory_laws.proofs.Facts.{facts_of, first, rest}
+use Rattle.inventory_rules.specs.Segments.{are_clear}
 use Rattle.inventory_fits.specs.Frames.{is_clear, are_held_apart}
 use Rattle.inventory_fits.specs.Lying.{Lying}
 use Rattle.inventory_fits.proofs.HeldRows.{held_are_apart, clear_of_held}

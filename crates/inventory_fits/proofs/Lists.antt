@@ -2,8 +2,8 @@
 use Rattle.std.proofs.Common.{◌≡◌, Bool, true, false, not, cond, ◌&&◌, List, [], ◌∷◌, ◌++◌, filter, refl, sym, ap, ◌∙◌}
 use Rattle.std.specs.List.{list_all, flat_map}
 use Rattle.std.proofs.lemmas.List.Folds.{list_all-append}
-use Rattle.version_groups.specs.Entries.{all_later}
-use Rattle.inventory_facts.proofs.Facts.{first, rest, both}
+use Rattle.inventory_rows.specs.version_groups.Entries.{all_later}
+use Rattle.inventory_laws.proofs.Facts.{first, rest, both}
 use Rattle.inventory_fits.specs.Fitting.{all_lead, lead}
 
 -- what each element passes, each passes that follows from it

@@ -6,15 +6,16 @@ use Rattle.std.specs.BTreeMap.{is_at}
 use Rattle.std.specs.Option.{option_map_or}
 use Rattle.std.specs.Ordering.{match_ordering, nat_cmp}
 use Rattle.std.specs.declared.cmp.Ordering.TheVariants.{Less, Equal, Greater}
-use Rattle.change_items.specs.declared.items.ScratchVolume.{ScratchVolume}
-use Rattle.volume_rows.specs.declared.volume.Volume.{Volume}
-use Rattle.object_rows.proofs.Stands.{at-eqb}
-use Rattle.pool_tables.specs.declared.pool.Pool.{Pool}
-use Rattle.pool_tables.specs.Rows.{row_at, with_row}
-use Rattle.pool_tables.specs.RowChanges.{scratch_volume}
-use Rattle.pool_rows.specs.PoolRows.{PoolRows, pool_capacity, pool_class_capacity}
+use Rattle.entries.specs.change_items.declared.items.ScratchVolume.{ScratchVolume}
+use Rattle.inventory_rows.specs.volume_rows.declared.volume.Volume.{Volume}
+use Rattle.inventory_rows.proofs.of_object_rows.Stands.{at-eqb}
+use Rattle.inventory_rows.specs.pool_tables.declared.pool.Pool.{Pool}
+use Rattle.inventory_rows.specs.pool_tables.Rows.{row_at, with_row}
+use Rattle.inventory_rows.specs.pool_tables.RowChanges.{scratch_volume}
+use Rattle.inventory_rows.specs.pool_rows.PoolRows.{PoolRows, pool_capacity, pool_class_capacity}
 use Rattle.inventory_rows.specs.State.{Inv}
-use Rattle.inventory_rules.specs.Effects.{each, make_scratch}
+use Rattle.inventory_rules.specs.Common.{each}
+use Rattle.inventory_rules.specs.Segments.{make_scratch}
 use Rattle.inventory_fits.specs.declared.targets.Target.{Target}
 use Rattle.inventory_fits.specs.Targets.{made, target_of, scratch_target, after_scratch, target_at}
 

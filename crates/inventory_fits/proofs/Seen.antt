@@ -2,17 +2,17 @@
 use Rattle.std.proofs.Common.{◌≡◌, ℕ, eqb, Bool, ◌&&◌, List, map, filter, is_some, Option, Some, None, refl, sym, ap, ◌∙◌}
 use Rattle.std.specs.List.{list_all, flat_map}
 use Rattle.kinds.specs.declared.segment.Segment.{Segment}
-use Rattle.change_items.specs.declared.items.ScratchVolume.{ScratchVolume}
-use Rattle.version_groups.specs.declared.copies.CopyRow.{CopyRow}
-use Rattle.version_groups.specs.declared.versions.Version.{Version}
-use Rattle.volume_rows.specs.declared.volume.Volume.{Volume}
-use Rattle.object_rows.specs.Filespaces.{versions_of}
-use Rattle.object_rows.specs.Rows.{Rows}
-use Rattle.pool_tables.specs.Rows.{row_at}
-use Rattle.pool_rows.specs.PoolRows.{is_sequential, is_sequential_at, is_sequential_row}
+use Rattle.entries.specs.change_items.declared.items.ScratchVolume.{ScratchVolume}
+use Rattle.inventory_rows.specs.version_groups.declared.copies.CopyRow.{CopyRow}
+use Rattle.inventory_rows.specs.version_groups.declared.versions.Version.{Version}
+use Rattle.inventory_rows.specs.volume_rows.declared.volume.Volume.{Volume}
+use Rattle.inventory_rows.specs.object_rows.Filespaces.{versions_of}
+use Rattle.inventory_rows.specs.object_rows.Rows.{Rows}
+use Rattle.inventory_rows.specs.pool_tables.Rows.{row_at}
+use Rattle.inventory_rows.specs.pool_rows.PoolRows.{is_sequential, is_sequential_at, is_sequential_row}
 use Rattle.inventory_rows.specs.Search.{pool, segments_on}
 use Rattle.inventory_rows.specs.State.{Inv}
-use Rattle.inventory_facts.specs.Parts.{are_clear, copy_fits, lies_rightly, segment_fits}
+use Rattle.inventory_rules.specs.Segments.{are_clear, copy_fits, lies_rightly, segment_fits}
 use Rattle.inventory_fits.specs.declared.targets.Target.{Target}
 use Rattle.inventory_fits.specs.Fitting.{copy_fits_at, segment_fits_at}
 use Rattle.inventory_fits.specs.Sizes.{have_bytes}

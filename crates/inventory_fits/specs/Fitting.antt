@@ -3,16 +3,17 @@ use Rattle.std.specs.Prelude.{ℕ, Bool, true, false, not, ◌==◌, ◌&&◌, �
 use Rattle.std.specs.List.{list_all, list_any, flat_map}
 use Rattle.std.specs.Option.{option_map_or}
 use Rattle.kinds.specs.declared.segment.Segment.{Segment}
-use Rattle.change_items.specs.declared.items.MovedCopy.{MovedCopy}
-use Rattle.change_items.specs.declared.items.NewCopy.{NewCopy}
-use Rattle.change_items.specs.declared.items.NewVersion.{NewVersion}
-use Rattle.change_items.specs.declared.items.ScratchVolume.{ScratchVolume}
-use Rattle.version_groups.specs.declared.copies.CopyRow.{CopyRow}
-use Rattle.version_groups.specs.declared.versions.Version.{Version}
-use Rattle.pool_rows.specs.PoolRows.{is_sequential, is_sequential_at}
+use Rattle.entries.specs.change_items.declared.items.MovedCopy.{MovedCopy}
+use Rattle.entries.specs.change_items.declared.items.NewCopy.{NewCopy}
+use Rattle.entries.specs.change_items.declared.items.NewVersion.{NewVersion}
+use Rattle.entries.specs.change_items.declared.items.ScratchVolume.{ScratchVolume}
+use Rattle.inventory_rows.specs.version_groups.declared.copies.CopyRow.{CopyRow}
+use Rattle.inventory_rows.specs.version_groups.declared.versions.Version.{Version}
+use Rattle.inventory_rows.specs.pool_rows.PoolRows.{is_sequential, is_sequential_at}
 use Rattle.inventory_rows.specs.Search.{is_primary, pool, segments_on, version}
 use Rattle.inventory_rows.specs.State.{Inv}
-use Rattle.inventory_facts.specs.Parts.{are_clear, is_new_object}
+use Rattle.inventory_rules.specs.Segments.{are_clear}
+use Rattle.inventory_rules.specs.Versions.{is_new_object}
 use Rattle.inventory_fits.specs.Sizes.{have_bytes}
 use Rattle.inventory_fits.specs.Targets.{lies_at, target_at}
 

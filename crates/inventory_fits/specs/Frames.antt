@@ -2,9 +2,9 @@
 use Rattle.std.specs.Prelude.{ℕ, Bool, List}
 use Rattle.std.specs.List.{list_all}
 use Rattle.kinds.specs.declared.segment.Segment.{Segment}
-use Rattle.version_groups.specs.Entries.{all_later}
-use Rattle.volume_rows.specs.declared.held.HeldSegment.{HeldSegment}
-use Rattle.inventory_facts.specs.Parts.{are_clear}
+use Rattle.inventory_rows.specs.version_groups.Entries.{all_later}
+use Rattle.inventory_rows.specs.volume_rows.declared.held.HeldSegment.{HeldSegment}
+use Rattle.inventory_rules.specs.Segments.{are_clear}
 
 -- a segment that is held, on whichever volume
 abbrev pub frame_of : HeldSegment → Segment

@@ -1,8 +1,8 @@
 -- How segments lie on the volumes of a valid database.
 use Rattle.std.specs.Prelude.{◌≡◌, ℕ, true, [], Some, None}
-use Rattle.volume_rows.specs.declared.volume.Volume.{Volume}
-use Rattle.pool_tables.specs.Rows.{row_at}
-use Rattle.pool_rows.specs.PoolRows.{is_sequential}
+use Rattle.inventory_rows.specs.volume_rows.declared.volume.Volume.{Volume}
+use Rattle.inventory_rows.specs.pool_tables.Rows.{row_at}
+use Rattle.inventory_rows.specs.pool_rows.PoolRows.{is_sequential}
 use Rattle.inventory_rows.specs.Search.{segments_on}
 use Rattle.inventory_rows.specs.State.{Inv}
 use Rattle.inventory_rules.specs.Held.{holding}

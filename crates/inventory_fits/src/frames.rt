@@ -2,11 +2,11 @@
 
 ghost use Rattle.std.specs.Prelude.{◌≡◌};
 ghost use Rattle.inventory_rules.specs.Valid.{high_of, low_of};
-ghost use Rattle.inventory_facts.specs.Parts.{are_clear};
+ghost use Rattle.inventory_rules.specs.Segments.{are_clear};
 ghost use Rattle.inventory_fits.specs.Frames.{frame_of};
 
+use inventory_rows::volume_rows::HeldSegment;
 use kinds::Segment;
-use volume_rows::HeldSegment;
 
 /// Where the frame begins: in bytes, or on a volume of random access in blocks of 4,096.
 fn low(sequential: bool, segment: &Segment) -> u128

@@ -4,7 +4,9 @@ ghost use Rattle.std.specs.Prelude.{◌≡◌, ◌&&◌, ◌||◌, not, Bool};
 ghost use Rattle.std.specs.List.{list_all};
 ghost use Rattle.inventory_rows.specs.Search.{is_primary};
 ghost use Rattle.inventory_rows.specs.State.{Inv, inv_of};
-ghost use Rattle.inventory_facts.specs.Parts.{is_new_object, new_version_fits, new_copy_fits, moved_copy_fits, items_fit};
+ghost use Rattle.inventory_rules.specs.Copies.{new_copy_fits, moved_copy_fits};
+ghost use Rattle.inventory_rules.specs.Segments.{items_fit};
+ghost use Rattle.inventory_rules.specs.Versions.{is_new_object, new_version_fits};
 ghost use Rattle.inventory_fits.specs.Fitting.{has_primary, has_other, are_primary_in, new_version_fits_at, added_fits_at, new_copy_fits_at, replaced_fits_at, moved_copy_fits_at};
 ghost use Rattle.inventory_fits.specs.Lying.{Lying};
 ghost use Rattle.inventory_fits.specs.Targets.{made};
@@ -12,10 +14,10 @@ ghost use Rattle.inventory_fits.specs.Targets.{made};
 use crate::overlaps::{Placed, are_all_clear};
 use crate::placing::copy_fits;
 use crate::pools::is_primary;
-use change_items::{MovedCopy, NewCopy, NewVersion, ScratchVolume};
+use entries::change_items::{MovedCopy, NewCopy, NewVersion, ScratchVolume};
 use inventory_rows::Tables;
+use inventory_rows::version_groups::{CopyRow, Version};
 use kinds::Segment;
-use version_groups::{CopyRow, Version};
 
 /// What a transaction places, which has to fit.
 pub(crate) trait Fitted: Placed {

@@ -3,13 +3,13 @@
 ghost use Rattle.std.specs.Prelude.{◌≡◌, true};
 ghost use Rattle.std.specs.BTreeMap.Range.{entries_between};
 ghost use Rattle.std.specs.declared.ops.Bound.TheVariants.{Included, Excluded, Unbounded};
-ghost use Rattle.volume_rows.specs.Held.{held_cmp};
+ghost use Rattle.inventory_rows.specs.volume_rows.Held.{held_cmp};
 ghost use Rattle.inventory_fits.specs.Frames.{is_clear, are_held_apart, start_of};
 
 use crate::frames::is_clear_of;
+use inventory_rows::volume_rows::HeldSegment;
 use kinds::Segment;
 use std::collections::BTreeMap;
-use volume_rows::HeldSegment;
 
 /// Whether the segment overlaps none of those that begin before it. They don't overlap one another, so only the last one matters.
 fn is_clear_below(

@@ -3,15 +3,15 @@
 ghost use Rattle.std.specs.Prelude.{◌≡◌, ◌&&◌, List};
 ghost use Rattle.std.specs.List.{list_all, flat_map};
 ghost use Rattle.kinds.specs.declared.segment.Segment.{Segment};
-ghost use Rattle.pool_rows.specs.PoolRows.{is_sequential_at};
+ghost use Rattle.inventory_rows.specs.pool_rows.PoolRows.{is_sequential_at};
 ghost use Rattle.inventory_rows.specs.State.{inv_of};
-ghost use Rattle.inventory_facts.specs.Parts.{are_all_clear};
+ghost use Rattle.inventory_rules.specs.Segments.{are_all_clear};
 ghost use Rattle.inventory_fits.specs.Fitting.{all_lead, are_clear_by, are_clear_pair, lead};
 ghost use Rattle.inventory_fits.specs.Targets.{made};
 
 use crate::frames::are_clear;
 use crate::targets::{is_sequential, target_at};
-use change_items::ScratchVolume;
+use entries::change_items::ScratchVolume;
 use inventory_rows::Tables;
 use kinds::Segment;
 

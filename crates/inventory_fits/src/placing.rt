@@ -4,7 +4,7 @@ ghost use Rattle.std.specs.Prelude.{◌≡◌, true};
 ghost use Rattle.std.specs.List.{list_all};
 ghost use Rattle.inventory_rows.specs.Search.{segments_on};
 ghost use Rattle.inventory_rows.specs.State.{inv_of};
-ghost use Rattle.inventory_facts.specs.Parts.{are_clear};
+ghost use Rattle.inventory_rules.specs.Segments.{are_clear};
 ghost use Rattle.inventory_fits.specs.Fitting.{copy_fits_at, segment_fits_at};
 ghost use Rattle.inventory_fits.specs.Frames.{is_clear, are_held_apart};
 ghost use Rattle.inventory_fits.specs.Lying.{Lying};
@@ -12,11 +12,11 @@ ghost use Rattle.inventory_fits.specs.Sizes.{have_bytes};
 
 use crate::neighbours::{is_clear_between, is_clear_of_all};
 use crate::targets::{lies_at, target_at};
-use change_items::ScratchVolume;
+use entries::change_items::ScratchVolume;
 use inventory_rows::Tables;
+use inventory_rows::volume_rows::HeldSegment;
 use kinds::Segment;
 use std::collections::BTreeMap;
-use volume_rows::HeldSegment;
 
 /// Whether the segment overlaps none that a row holds. Those don't overlap one another on a volume of the row's kind, so where the segment's
 /// pool is of that kind only its neighbours matter; where it isn't, since a scratch volume has the number of a volume that is there, each is

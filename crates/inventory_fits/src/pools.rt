@@ -2,18 +2,19 @@
 
 ghost use Rattle.std.specs.Prelude.{◌≡◌, ◌%◌, ◌^◌, ◌*◌, ◌==◌, ◌&&◌, not, nat_le, true};
 ghost use Rattle.std.specs.Option.{option_map_or};
-ghost use Rattle.pool_rows.specs.PoolRows.{is_sequential, pool_named};
+ghost use Rattle.inventory_rows.specs.pool_rows.PoolRows.{is_sequential, pool_named};
 ghost use Rattle.std.specs.List.{list_all};
 ghost use Rattle.inventory_rows.specs.Search.{holds_copy, is_primary, is_primary_kind};
 ghost use Rattle.inventory_rows.specs.State.{inv_of};
 ghost use Rattle.inventory_rules.specs.Valid.{is_format_size, may_have};
-ghost use Rattle.inventory_facts.specs.Parts.{capacity_fits, volume_fits, store_fits, scratch_fits};
+ghost use Rattle.inventory_rules.specs.Segments.{scratch_fits};
+ghost use Rattle.inventory_rules.specs.Stores.{capacity_fits, volume_fits, store_fits};
 
-use change_items::ScratchVolume;
+use entries::change_items::ScratchVolume;
 use inventory_rows::Tables;
+use inventory_rows::pool_rows::Pools;
+use inventory_rows::pool_tables::is_scratch_name;
 use kinds::{Access, Capacity, Name, PoolChange, PoolKind, Verb};
-use pool_rows::Pools;
-use pool_tables::is_scratch_name;
 
 /// Whether pools of this kind take what clients send.
 fn is_primary_kind(kind: PoolKind) -> bool

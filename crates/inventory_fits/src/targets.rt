@@ -2,12 +2,12 @@
 
 ghost use Rattle.std.specs.Prelude.{◌≡◌};
 ghost use Rattle.std.specs.Option.{option_copied};
-ghost use Rattle.pool_tables.specs.Rows.{row_at};
+ghost use Rattle.inventory_rows.specs.pool_tables.Rows.{row_at};
 ghost use Rattle.inventory_fits.specs.Targets.{target_of, scratch_target, target_at, is_sequential_target, lies_at};
 
-use change_items::ScratchVolume;
+use entries::change_items::ScratchVolume;
+use inventory_rows::pool_rows::Pools;
 use kinds::Segment;
-use pool_rows::Pools;
 
 /// A volume, as far as it matters to what comes on it.
 #[derive(Clone, Copy)]

@@ -4,14 +4,17 @@ ghost use Rattle.std.specs.Prelude.{◌≡◌, ◌&&◌, true};
 ghost use Rattle.inventory_rows.specs.State.{inv_of};
 ghost use Rattle.inventory_rules.specs.Held.{IsTied};
 ghost use Rattle.inventory_rules.specs.Valid.{is_valid};
-ghost use Rattle.inventory_facts.specs.Parts.{items_fit, moved_copy_fits, new_copy_fits, new_version_fits, parts_fit, scratch_fits};
+ghost use Rattle.inventory_rules.specs.Copies.{moved_copy_fits, new_copy_fits};
+ghost use Rattle.inventory_rules.specs.Segments.{items_fit, scratch_fits};
+ghost use Rattle.inventory_rules.specs.Transactions.{parts_fit};
+ghost use Rattle.inventory_rules.specs.Versions.{new_version_fits};
 ghost use Rattle.inventory_fits.specs.Lying.{Lying};
 ghost use Rattle.inventory_fits.specs.Targets.{made};
 
 use crate::items::items_fit;
 use crate::pools::{scratch_fits, store_fits};
-use change_items::{MovedCopies, NewCopies, NewVersions};
-use changes::Change;
+use entries::Change;
+use entries::change_items::{MovedCopies, NewCopies, NewVersions};
 use inventory_rows::Tables;
 
 fn versions_fit(tables: &Tables, versions: &NewVersions) -> bool
@@ -45,7 +48,7 @@ fn copies_fit(tables: &Tables, copies: &NewCopies) -> bool
         && items_fit(tables, copies.scratch.as_slice(), copies.items.as_slice())
 }
 
-#[tactic(auto, unfolding(inventory_facts::specs::Parts::parts_fit, crate::specs::Targets::made))]
+#[tactic(auto, unfolding(inventory_rules::specs::Transactions::parts_fit, crate::specs::Targets::made))]
 fn change_fits(tables: &Tables, change: &Change) -> bool
     requires { Lying (inv_of tables.now) }
     ensures { result ≡ parts_fit change.now (inv_of tables.now) }
@@ -55,18 +58,7 @@ fn change_fits(tables: &Tables, change: &Change) -> bool
         Change::Backup(versions) => versions_fit(tables, versions),
         Change::Move(moved) => moves_fit(tables, moved),
         Change::Copy(copies) => copies_fit(tables, copies),
-        Change::Day { .. } => true,
-        Change::Policy(_) => true,
-        Change::Object(_) => true,
-        Change::Rebind(_) => true,
-        Change::Gone(_) => true,
-        Change::DropCopies(_) => true,
-        Change::Expire(_) => true,
-        Change::Discard(_) => true,
-        Change::Reuse { .. } => true,
-        Change::DbBegin { .. } => true,
-        Change::DbEnd { .. } => true,
-        Change::DbDelete { .. } => true,
+        _ => true,
     }
 }
 

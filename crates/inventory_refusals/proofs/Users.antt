@@ -5,7 +5,7 @@ use Rattle.std.specs.List.{flat_map, list_any}
 use Rattle.std.specs.Option.{option_map_or}
 use Rattle.std.proofs.lemmas.List.Folds.{list_any-append}
 use Rattle.kinds.specs.declared.rule.BackupRule.{BackupRule}
-use Rattle.policy_domains.specs.Rows.{SetRow, DomainRow}
+use Rattle.inventory_rows.specs.policy_domains.Rows.{SetRow, DomainRow}
 use Rattle.inventory_rows.specs.Search.{rules_of_set, is_destination}
 use Rattle.inventory_rows.specs.State.{Inv}
 use Rattle.inventory_refusals.specs.Users.{goes_to, classes_go_to, sets_go_to, domains_go_to}

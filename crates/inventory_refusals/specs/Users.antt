@@ -2,7 +2,7 @@
 use Rattle.std.specs.Prelude.{ℕ, Bool, false, ◌==◌, List, Option, Some, None}
 use Rattle.std.specs.List.{list_any}
 use Rattle.kinds.specs.declared.rule.BackupRule.{BackupRule}
-use Rattle.policy_domains.specs.Rows.{SetRow, DomainRow}
+use Rattle.inventory_rows.specs.policy_domains.Rows.{SetRow, DomainRow}
 
 -- a class has a copy group, and it has the pool as its destination
 abbrev pub goes_to : ℕ → Option BackupRule → Bool

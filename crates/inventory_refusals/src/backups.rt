@@ -2,15 +2,15 @@
 
 ghost use Rattle.std.specs.Prelude.{◌≡◌, ◌++◌, ◌∷◌, [], is_some};
 ghost use Rattle.std.specs.Option.{option_copied};
-ghost use Rattle.kinds.specs.Refusals.{foremost};
+ghost use Rattle.kinds.specs.Refusals.{foremost, unless};
 ghost use Rattle.inventory_rows.specs.State.{inv_of};
-ghost use Rattle.inventory_rules.specs.RefusedData.{unless};
-ghost use Rattle.inventory_rules.specs.Refused.{files_refused, file_bound, is_unfinished, backup_at};
+ghost use Rattle.inventory_rules.specs.Backups.{is_unfinished, backup_at};
+ghost use Rattle.inventory_rules.specs.Common.{files_refused, file_bound};
 ghost use Rattle.kinds.specs.declared.refusal.Refusal.TheVariants.{NotFound};
 
 use inventory_rows::{Backup, Tables};
-use item_refusals::{file_bound, file_refusal, unless};
-use kinds::{Refusal, sooner_of};
+use item_refusals::{file_bound, file_refusal};
+use kinds::{Refusal, sooner_of, unless};
 
 /// Why a database backup doesn't begin: a file number that is below 4 or in use is `BadValue`, and a next file number that would reach its
 /// bound is `InventoryFull`. It takes no memory.

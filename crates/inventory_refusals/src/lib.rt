@@ -3,8 +3,6 @@
 
 mod backups;
 mod client;
-mod hierarchy;
-mod least;
 mod policy;
 mod refusal;
 mod reuse;

@@ -1,24 +1,26 @@
 //! Why the database refuses a transaction.
 
 ghost use Rattle.std.specs.Prelude.{◌≡◌, ◌++◌, nat_le};
-ghost use Rattle.kinds.specs.Refusals.{foremost};
+ghost use Rattle.kinds.specs.Refusals.{foremost, unless};
 ghost use Rattle.inventory_rows.specs.State.{inv_of};
-ghost use Rattle.inventory_rules.specs.RefusedData.{unless, backup_refused, move_refused, copy_list_refused};
-ghost use Rattle.inventory_rules.specs.Refused.{causes, scratch_refused, object_bounds};
+ghost use Rattle.inventory_rules.specs.Copies.{move_refused, copy_list_refused};
+ghost use Rattle.inventory_rules.specs.Versions.{backup_refused, object_bounds};
+ghost use Rattle.inventory_rules.specs.Segments.{scratch_refused};
+ghost use Rattle.inventory_rules.specs.Transactions.{causes};
 
 use crate::backups::{begin_refused, delete_refused, end_refused};
 use crate::client::client_refused;
 use crate::policy::policy_refused;
 use crate::reuse::reuse_refused;
 use crate::store::store_refused;
-use change_items::{MovedCopies, NewCopies, NewVersions};
-use changes::Change;
+use entries::Change;
+use entries::change_items::{MovedCopies, NewCopies, NewVersions};
 use inventory_rows::Tables;
 use item_refusals::{
     Past, backup_refused, copy_list_refused, discard_refused, drop_refused, expire_refused,
-    gone_refused, move_refused, objects_refused, rebind_refused, scratch_refused, unless,
+    gone_refused, move_refused, objects_refused, rebind_refused, scratch_refused,
 };
-use kinds::{Day, Refusal, sooner_of};
+use kinds::{Day, Refusal, sooner_of, unless};
 
 fn day_refused(tables: &Tables, day: Day) -> Option<Refusal>
     ensures { result ≡ foremost (unless (nat_le tables.now.today day) (Refusal.DayBack tables.now.today day)) }

@@ -7,8 +7,8 @@ ghost use Rattle.inventory_rows.specs.Search.{is_destination, node_in, rules_of_
 ghost use Rattle.inventory_refusals.specs.Users.{goes_to, classes_go_to, sets_go_to, domains_go_to};
 
 use inventory_rows::Tables;
+use inventory_rows::policy_domains::{PolicyDomain, PolicySet};
 use kinds::{CopyGroup, Name};
-use policy_domains::{PolicyDomain, PolicySet};
 use std::collections::BTreeMap;
 
 /// The least node of a domain.

@@ -9,10 +9,6 @@ use Rattle.object_rows.specs.Items as object
 use Rattle.inventory_rows.specs.declared.backup.Backup.{Backup}
 use Rattle.inventory_rows.specs.State.{Inv}
 
--- how many versions may be kept
-abbrev pub most_versions : ℕ
-most_versions = 2 ^ 20
-
 -- how many items the lists of a database may have together
 abbrev pub most_items : ℕ
 most_items = 15 * 2 ^ 20

@@ -8,7 +8,8 @@ use Rattle.kinds.specs.declared.pool.PoolKind.TheVariants.{Primary, Copy}
 use Rattle.kinds.specs.declared.rule.BackupRule.{BackupRule}
 use Rattle.kinds.specs.declared.rule.RuleFound.{RuleFound}
 use Rattle.kinds.specs.declared.segment.Segment.{Segment}
-use Rattle.policy_domains.specs.Rows.{SetRow, DomainRow, is_same_name}
+use Rattle.kinds.specs.Names.{is_same_name}
+use Rattle.policy_domains.specs.Rows.{SetRow, DomainRow}
 use Rattle.policy_domains.specs.Rules.{rule_of}
 use Rattle.version_groups.specs.declared.copies.CopyRow.{CopyRow}
 use Rattle.version_groups.specs.declared.group.Group.{Group}

@@ -2,9 +2,17 @@
 //! their volumes, database backups, the day, and the numbers that are given next.
 #![tactic(auto)]
 
+mod ascending;
 mod backup;
 mod items;
 mod tables;
 
+pub use ascending::are_ascending;
 pub use backup::{Backup, Delays};
+pub use object_rows;
+pub use policy_domains;
+pub use pool_rows;
+pub use pool_tables;
 pub use tables::Tables;
+pub use version_groups;
+pub use volume_rows;

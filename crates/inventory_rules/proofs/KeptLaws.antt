@@ -14,38 +14,44 @@ use Rattle.kinds.specs.declared.change.ObjectChange.TheVariants as client
 use Rattle.kinds.specs.declared.refusal.Refusal.{Refusal}
 use Rattle.kinds.specs.declared.refusal.Refusal.TheVariants.{Exists, NotFound}
 use Rattle.kinds.specs.declared.segment.Segment.{Segment}
-use Rattle.change_items.specs.declared.items.DiscardedVersion.{DiscardedVersion}
-use Rattle.change_items.specs.declared.items.DroppedCopy.{DroppedCopy}
-use Rattle.change_items.specs.declared.items.MovedCopy.{MovedCopy}
-use Rattle.change_items.specs.declared.items.NewCopy.{NewCopy}
-use Rattle.change_items.specs.declared.items.NewVersion.{NewVersion}
-use Rattle.change_items.specs.declared.items.ScratchVolume.{ScratchVolume}
-use Rattle.changes.specs.declared.change.Change.{Change}
-use Rattle.changes.specs.declared.change.Change.TheVariants as change
-use Rattle.version_groups.specs.declared.copies.CopyChange.{CopyChange}
-use Rattle.version_groups.specs.declared.copies.CopyRow.{CopyRow}
-use Rattle.version_groups.specs.declared.group.Group.{Group}
-use Rattle.version_groups.specs.declared.group.GroupChange.{GroupChange}
-use Rattle.version_groups.specs.declared.group.GroupChange.TheVariants as group
-use Rattle.version_groups.specs.declared.groups.Filespace.{Filespace}
-use Rattle.version_groups.specs.declared.versions.Version.{Version}
-use Rattle.version_groups.specs.Copies.{copies_after}
-use Rattle.version_groups.specs.Entries.{on_ok, if_found, changed_at}
-use Rattle.version_groups.specs.Groups.{at_path, class_after, group_after, group_at, group_with, groups_after, groups_with, names_kept, versions_after, versions_at, versions_in, without_empty}
-use Rattle.version_groups.specs.Versions.{has_active, has_object, having_copies, is_empty, retired, superseded, undone, version_of, with_copies, without_object}
-use Rattle.object_rows.specs.declared.place.Node.{Node}
-use Rattle.object_rows.specs.declared.place.Place.{Place}
+use Rattle.entries.specs.change_items.declared.items.DiscardedVersion.{DiscardedVersion}
+use Rattle.entries.specs.change_items.declared.items.DroppedCopy.{DroppedCopy}
+use Rattle.entries.specs.change_items.declared.items.MovedCopy.{MovedCopy}
+use Rattle.entries.specs.change_items.declared.items.NewCopy.{NewCopy}
+use Rattle.entries.specs.change_items.declared.items.NewVersion.{NewVersion}
+use Rattle.entries.specs.change_items.declared.items.ScratchVolume.{ScratchVolume}
+use Rattle.entries.specs.declared.change.Change.{Change}
+use Rattle.entries.specs.declared.change.Change.TheVariants as change
+use Rattle.inventory_rows.specs.version_groups.declared.copies.CopyChange.{CopyChange}
+use Rattle.inventory_rows.specs.version_groups.declared.copies.CopyRow.{CopyRow}
+use Rattle.inventory_rows.specs.version_groups.declared.group.Group.{Group}
+use Rattle.inventory_rows.specs.version_groups.declared.group.GroupChange.{GroupChange}
+use Rattle.inventory_rows.specs.version_groups.declared.group.GroupChange.TheVariants as group
+use Rattle.inventory_rows.specs.version_groups.declared.groups.Filespace.{Filespace}
+use Rattle.inventory_rows.specs.version_groups.declared.versions.Version.{Version}
+use Rattle.inventory_rows.specs.version_groups.Copies.{copies_after}
+use Rattle.inventory_rows.specs.version_groups.Entries.{on_ok, if_found, changed_at}
+use Rattle.inventory_rows.specs.version_groups.Groups.{at_path, class_after, group_after, group_at, group_with, groups_after, groups_with, names_kept, versions_after, versions_at, versions_in, without_empty}
+use Rattle.inventory_rows.specs.version_groups.Versions.{has_active, has_object, having_copies, is_empty, retired, superseded, undone, version_of, with_copies, without_object}
+use Rattle.inventory_rows.specs.object_rows.declared.place.Node.{Node}
+use Rattle.inventory_rows.specs.object_rows.declared.place.Place.{Place}
 use Rattle.kinds.specs.declared.change.PoolChange.{PoolChange}
 use Rattle.kinds.specs.declared.change.PoolChange.TheVariants as store
 use Rattle.kinds.specs.declared.change.Verb.TheVariants as verb
 use Rattle.kinds.specs.declared.refusal.By.{By}
-use Rattle.object_rows.specs.Changes.{by_filespace, by_object, filespaces_defined, filespaces_without, least, least_object, nodes_with, nodes_without, rows_changed, unless_used, with_nodes}
-use Rattle.object_rows.specs.Filespaces as filespace
-use Rattle.object_rows.specs.Names.{at_name, filespace_named, filespace_of, first_number, named_of, node_named}
-use Rattle.object_rows.specs.Places.{listed, listed_at, listed_in}
-use Rattle.object_rows.specs.Rows.{Rows, with_filespaces}
+use Rattle.inventory_rows.specs.object_rows.Changes.{by_filespace, by_object, filespaces_defined, filespaces_without, least, least_object, nodes_with, nodes_without, rows_changed, unless_used, with_nodes}
+use Rattle.inventory_rows.specs.object_rows.Filespaces as filespace
+use Rattle.inventory_rows.specs.object_rows.Names.{at_name, filespace_named, filespace_of, first_number, named_of, node_named}
+use Rattle.inventory_rows.specs.object_rows.Places.{listed, listed_at, listed_in}
+use Rattle.inventory_rows.specs.object_rows.Rows.{Rows, with_filespaces}
 use Rattle.inventory_rows.specs.State.{Inv}
-use Rattle.inventory_rules.specs.Effects as effect
+use Rattle.inventory_rules.specs.Clients as of_clients
+use Rattle.inventory_rules.specs.Common as of_common
+use Rattle.inventory_rules.specs.Copies as of_copies
+use Rattle.inventory_rules.specs.Segments as of_segments
+use Rattle.inventory_rules.specs.Stores as of_stores
+use Rattle.inventory_rules.specs.Transactions as of_transactions
+use Rattle.inventory_rules.specs.Versions as of_versions
 use Rattle.inventory_rules.specs.Kept as kept
 use Rattle.inventory_rules.proofs.MapValues.{values, remove_entry-values, insert_entry-values, changed_at-values}
 
@@ -161,7 +167,7 @@ filespaces_with-bare n path class w fs =
 filespaces_after-bare : (n : ℕ) (path : List ℕ) (c : GroupChange) (fs : List (ℕ × Filespace)) → filespace.filespaces_after n path c (kept.bare fs) ≡ on_ok kept.bare (filespace.filespaces_after n path c fs)
 filespaces_after-bare n path c fs = in_filespace-bare n (groups_after path c) (groups_after path c) (groups_after-bare path c) fs
 
-or_same-bare : (fs : List (ℕ × Filespace)) (r : Result (List (ℕ × Filespace)) Refusal) → effect.or_same (kept.bare fs) (on_ok kept.bare r) ≡ kept.bare (effect.or_same fs r)
+or_same-bare : (fs : List (ℕ × Filespace)) (r : Result (List (ℕ × Filespace)) Refusal) → of_common.or_same (kept.bare fs) (on_ok kept.bare r) ≡ kept.bare (of_common.or_same fs r)
 or_same-bare fs (Ok new) = refl
 or_same-bare fs (Err e) = refl
 
@@ -182,13 +188,13 @@ filespaces_copied-bare : (object : ℕ) (copies : List CopyRow) (fs : List (ℕ 
 filespaces_copied-bare object copies [] = refl
 filespaces_copied-bare object copies (f ∷ fs) = rw (groups_copied-bare object copies f.1.groups, filespaces_copied-bare object copies fs) refl
 
-altered-bare : (object : ℕ) (c : CopyChange) (fs : List (ℕ × Filespace)) → kept.bare (effect.or_same fs (filespace.filespaces_altered object c fs)) ≡ kept.bare fs
+altered-bare : (object : ℕ) (c : CopyChange) (fs : List (ℕ × Filespace)) → kept.bare (of_common.or_same fs (filespace.filespaces_altered object c fs)) ≡ kept.bare fs
 altered-bare object c fs = found (version_of object (filespace.versions_of fs)) where
-  copied : (r : Result (List CopyRow) Refusal) → kept.bare (effect.or_same fs (on_ok (λ copies. filespace.filespaces_copied object copies fs) r)) ≡ kept.bare fs
+  copied : (r : Result (List CopyRow) Refusal) → kept.bare (of_common.or_same fs (on_ok (λ copies. filespace.filespaces_copied object copies fs) r)) ≡ kept.bare fs
   copied (Ok copies) = filespaces_copied-bare object copies fs
   copied (Err e) = refl
 
-  found : (o : Option Version) → kept.bare (effect.or_same fs (if_found o (λ v. on_ok (λ copies. filespace.filespaces_copied object copies fs) (copies_after c v.copies)))) ≡ kept.bare fs
+  found : (o : Option Version) → kept.bare (of_common.or_same fs (if_found o (λ v. on_ok (λ copies. filespace.filespaces_copied object copies fs) (copies_after c v.copies)))) ≡ kept.bare fs
   found None = refl
   found (Some v) = copied (copies_after c v.copies)
 
@@ -283,7 +289,7 @@ rows_changed-bare (client.Filespace two.Define node name n) number rows =
 rows_changed-bare (client.Filespace two.Delete node name n) number rows =
     ap (with_filespaces (bare_rows rows)) (filespaces_without-bare n rows.filespaces) ∙ filespaces_changed-bare rows (filespaces_without n rows.filespaces)
 
-or_same_rows-bare : (rows : Rows) (r : Result Rows Refusal) → effect.or_same (bare_rows rows) (on_ok bare_rows r) ≡ bare_rows (effect.or_same rows r)
+or_same_rows-bare : (rows : Rows) (r : Result Rows Refusal) → of_common.or_same (bare_rows rows) (on_ok bare_rows r) ≡ bare_rows (of_common.or_same rows r)
 or_same_rows-bare rows (Ok new) = refl
 or_same_rows-bare rows (Err e) = refl
 
@@ -296,82 +302,82 @@ with_rows v rows = record { today = v.today; next_node = v.next_node; domains = 
 abbrev with_spaces : Inv → List (ℕ × Filespace) → kept.Kept
 with_spaces v fs = with_rows v (record { nodes = v.clients.nodes; filespaces = fs })
 
-put-kept : (object : ℕ) (segments : List Segment) (v : Inv) → kept.kept (effect.put object segments v) ≡ kept.kept v
+put-kept : (object : ℕ) (segments : List Segment) (v : Inv) → kept.kept (of_segments.put object segments v) ≡ kept.kept v
 put-kept object [] v = refl
-put-kept object (s ∷ segments) v = put-kept object segments (effect.put object (s ∷ []) v)
+put-kept object (s ∷ segments) v = put-kept object segments (of_segments.put object (s ∷ []) v)
 
-take_away-kept : (object : ℕ) (segments : List Segment) (v : Inv) → kept.kept (effect.take_away object segments v) ≡ kept.kept v
+take_away-kept : (object : ℕ) (segments : List Segment) (v : Inv) → kept.kept (of_segments.take_away object segments v) ≡ kept.kept v
 take_away-kept object [] v = refl
-take_away-kept object (s ∷ segments) v = take_away-kept object segments (effect.take_away object (s ∷ []) v)
+take_away-kept object (s ∷ segments) v = take_away-kept object segments (of_segments.take_away object (s ∷ []) v)
 
-take_all-kept : (object : ℕ) (copies : List CopyRow) (v : Inv) → kept.kept (effect.take_all object copies v) ≡ kept.kept v
+take_all-kept : (object : ℕ) (copies : List CopyRow) (v : Inv) → kept.kept (of_segments.take_all object copies v) ≡ kept.kept v
 take_all-kept object [] v = refl
-take_all-kept object (c ∷ copies) v = take_all-kept object copies (effect.take_away object c.segments v) ∙ take_away-kept object c.segments v
+take_all-kept object (c ∷ copies) v = take_all-kept object copies (of_segments.take_away object c.segments v) ∙ take_away-kept object c.segments v
 
-each-kept : {X : Type 0} (step : X → Inv → Inv) (other : X → kept.Kept → kept.Kept) → ((x : X) (v : Inv) → kept.kept (step x v) ≡ other x (kept.kept v)) → (xs : List X) (v : Inv) → kept.kept (effect.each step xs v) ≡ kept.each other xs (kept.kept v)
+each-kept : {X : Type 0} (step : X → Inv → Inv) (other : X → kept.Kept → kept.Kept) → ((x : X) (v : Inv) → kept.kept (step x v) ≡ other x (kept.kept v)) → (xs : List X) (v : Inv) → kept.kept (of_common.each step xs v) ≡ kept.each other xs (kept.kept v)
 each-kept step other same [] v = refl
 each-kept step other same (x ∷ xs) v = each-kept step other same xs (step x v) ∙ ap (kept.each other xs) (same x v)
 
-each-same : {X : Type 0} (step : X → Inv → Inv) → ((x : X) (v : Inv) → kept.kept (step x v) ≡ kept.kept v) → (xs : List X) (v : Inv) → kept.kept (effect.each step xs v) ≡ kept.kept v
+each-same : {X : Type 0} (step : X → Inv → Inv) → ((x : X) (v : Inv) → kept.kept (step x v) ≡ kept.kept v) → (xs : List X) (v : Inv) → kept.kept (of_common.each step xs v) ≡ kept.kept v
 each-same step same [] v = refl
 each-same step same (x ∷ xs) v = each-same step same xs (step x v) ∙ same x v
 
-scratch-kept : (scratch : List ScratchVolume) (v : Inv) → kept.kept (effect.each effect.make_scratch scratch v) ≡ kept.kept v
-scratch-kept scratch v = each-same effect.make_scratch (λ s w. refl) scratch v
+scratch-kept : (scratch : List ScratchVolume) (v : Inv) → kept.kept (of_common.each of_segments.make_scratch scratch v) ≡ kept.kept v
+scratch-kept scratch v = each-same of_segments.make_scratch (λ s w. refl) scratch v
 
-change_group-kept : (n : ℕ) (path : List ℕ) (c : GroupChange) (v : Inv) → kept.kept (effect.change_group n path c v) ≡ kept.change_group n path c (kept.kept v)
+change_group-kept : (n : ℕ) (path : List ℕ) (c : GroupChange) (v : Inv) → kept.kept (of_versions.change_group n path c v) ≡ kept.change_group n path c (kept.kept v)
 change_group-kept n path c v =
-    ap (with_spaces v) (sym (ap (effect.or_same (kept.bare v.clients.filespaces)) (filespaces_after-bare n path c v.clients.filespaces) ∙ or_same-bare v.clients.filespaces (filespace.filespaces_after n path c v.clients.filespaces)))
+    ap (with_spaces v) (sym (ap (of_common.or_same (kept.bare v.clients.filespaces)) (filespaces_after-bare n path c v.clients.filespaces) ∙ or_same-bare v.clients.filespaces (filespace.filespaces_after n path c v.clients.filespaces)))
 
-back_up-kept : (n : ℕ) (item : NewVersion) (v : Inv) → kept.kept (effect.back_up n item v) ≡ kept.back_up n item (kept.kept v)
+back_up-kept : (n : ℕ) (item : NewVersion) (v : Inv) → kept.kept (of_versions.back_up n item v) ≡ kept.back_up n item (kept.kept v)
 back_up-kept n item v =
-    let w = effect.new_version v item in
-    put-kept item.object item.segments (record (effect.with_filespaces (effect.or_same v.clients.filespaces (filespace.filespaces_with n item.path item.class w v.clients.filespaces)) v) { next_object = effect.after_object item v })
-    ∙ ap (with_spaces v) (sym (ap (effect.or_same (kept.bare v.clients.filespaces)) (filespaces_with-bare n item.path item.class w v.clients.filespaces) ∙ or_same-bare v.clients.filespaces (filespace.filespaces_with n item.path item.class w v.clients.filespaces)))
+    let w = of_versions.new_version v item in
+    put-kept item.object item.segments (record (of_common.with_filespaces (of_common.or_same v.clients.filespaces (filespace.filespaces_with n item.path item.class w v.clients.filespaces)) v) { next_object = of_versions.after_object item v })
+    ∙ ap (with_spaces v) (sym (ap (of_common.or_same (kept.bare v.clients.filespaces)) (filespaces_with-bare n item.path item.class w v.clients.filespaces) ∙ or_same-bare v.clients.filespaces (filespace.filespaces_with n item.path item.class w v.clients.filespaces)))
 
-remove-kept : (n : ℕ) (path : List ℕ) (object : ℕ) (v : Inv) → kept.kept (effect.remove n path object v) ≡ kept.change_group n path (group.Remove object) (kept.kept v)
+remove-kept : (n : ℕ) (path : List ℕ) (object : ℕ) (v : Inv) → kept.kept (of_versions.remove n path object v) ≡ kept.change_group n path (group.Remove object) (kept.kept v)
 remove-kept n path object v =
-    change_group-kept n path (group.Remove object) (effect.take_versions object v)
-    ∙ ap (kept.change_group n path (group.Remove object)) (take_all-kept object (effect.copies_at object v) v)
+    change_group-kept n path (group.Remove object) (of_versions.take_versions object v)
+    ∙ ap (kept.change_group n path (group.Remove object)) (take_all-kept object (of_versions.copies_at object v) v)
 
-discard_at-kept : (object : ℕ) (o : Option Place) (v : Inv) → kept.kept (effect.discard_at object o v) ≡ kept.discard_at object o (kept.kept v)
+discard_at-kept : (object : ℕ) (o : Option Place) (v : Inv) → kept.kept (of_versions.discard_at object o v) ≡ kept.discard_at object o (kept.kept v)
 discard_at-kept object None v = refl
 discard_at-kept object (Some place) v = remove-kept place.filespace place.path object v
 
-discard-kept : (item : DiscardedVersion) (v : Inv) → kept.kept (effect.discard item v) ≡ kept.discard item (kept.kept v)
+discard-kept : (item : DiscardedVersion) (v : Inv) → kept.kept (of_versions.discard item v) ≡ kept.discard item (kept.kept v)
 discard-kept item v =
     discard_at-kept item.object (lookup (filespace.at_number item.object) (listed v.clients.filespaces)) v
     ∙ ap (λ z. kept.discard_at item.object (lookup (filespace.at_number item.object) z) (kept.kept v)) (sym (listed-bare v.clients.filespaces))
 
-change_copy-kept : (object : ℕ) (c : CopyChange) (v : Inv) → kept.kept (effect.change_copy object c v) ≡ kept.kept v
+change_copy-kept : (object : ℕ) (c : CopyChange) (v : Inv) → kept.kept (of_copies.change_copy object c v) ≡ kept.kept v
 change_copy-kept object c v = ap (with_spaces v) (altered-bare object c v.clients.filespaces)
 
-move_copy-kept : (item : MovedCopy) (v : Inv) → kept.kept (effect.move_copy item v) ≡ kept.kept v
+move_copy-kept : (item : MovedCopy) (v : Inv) → kept.kept (of_copies.move_copy item v) ≡ kept.kept v
 move_copy-kept item v =
-    change_copy-kept item.object (effect.moved item v) (effect.take_moved item v)
-    ∙ take_away-kept item.object (effect.segments_in item.from (effect.version_at item.object v)) v
+    change_copy-kept item.object (of_copies.moved item v) (of_copies.take_moved item v)
+    ∙ take_away-kept item.object (of_copies.segments_in item.from (of_copies.version_at item.object v)) v
 
-add_copy-kept : (item : NewCopy) (v : Inv) → kept.kept (effect.add_copy item v) ≡ kept.kept v
-add_copy-kept item v = put-kept item.object item.segments (effect.change_copy item.object (effect.added item v) v) ∙ change_copy-kept item.object (effect.added item v) v
+add_copy-kept : (item : NewCopy) (v : Inv) → kept.kept (of_copies.add_copy item v) ≡ kept.kept v
+add_copy-kept item v = put-kept item.object item.segments (of_copies.change_copy item.object (of_copies.added item v) v) ∙ change_copy-kept item.object (of_copies.added item v) v
 
-drop_copy-kept : (item : DroppedCopy) (v : Inv) → kept.kept (effect.drop_copy item v) ≡ kept.kept v
+drop_copy-kept : (item : DroppedCopy) (v : Inv) → kept.kept (of_copies.drop_copy item v) ≡ kept.kept v
 drop_copy-kept item v =
-    change_copy-kept item.object (effect.dropped item) (effect.take_away item.object (effect.segments_in item.pool (effect.version_at item.object v)) v)
-    ∙ take_away-kept item.object (effect.segments_in item.pool (effect.version_at item.object v)) v
+    change_copy-kept item.object (of_copies.dropped item) (of_segments.take_away item.object (of_copies.segments_in item.pool (of_copies.version_at item.object v)) v)
+    ∙ take_away-kept item.object (of_copies.segments_in item.pool (of_copies.version_at item.object v)) v
 
-client-kept : (c : ObjectChange) (v : Inv) → kept.kept (effect.client_changed c v) ≡ kept.client_changed c (kept.kept v)
+client-kept : (c : ObjectChange) (v : Inv) → kept.kept (of_clients.client_changed c v) ≡ kept.client_changed c (kept.kept v)
 client-kept c v =
-    drawn c (effect.or_same v.clients (rows_changed c v.next_node v.clients)) v
+    drawn c (of_common.or_same v.clients (rows_changed c v.next_node v.clients)) v
     ∙ ap (λ z. record { today = v.today; next_node = kept.drawn c v.next_node; domains = v.domains; clients = z })
-    (sym (ap (effect.or_same (bare_rows v.clients)) (rows_changed-bare c v.next_node v.clients) ∙ or_same_rows-bare v.clients (rows_changed c v.next_node v.clients)))
+    (sym (ap (of_common.or_same (bare_rows v.clients)) (rows_changed-bare c v.next_node v.clients) ∙ or_same_rows-bare v.clients (rows_changed c v.next_node v.clients)))
   where
-    drawn : (c : ObjectChange) (rows : Rows) (v : Inv) → kept.kept (effect.drawn_for_client c (record v { clients = rows })) ≡ record { today = v.today; next_node = kept.drawn c v.next_node; domains = v.domains; clients = bare_rows rows }
+    drawn : (c : ObjectChange) (rows : Rows) (v : Inv) → kept.kept (of_clients.drawn_for_client c (record v { clients = rows })) ≡ record { today = v.today; next_node = kept.drawn c v.next_node; domains = v.domains; clients = bare_rows rows }
     drawn (client.Node two.Define name domain) rows v = refl
     drawn (client.Node two.Delete name domain) rows v = refl
     drawn (client.Filespace two.Define node name n) rows v = refl
     drawn (client.Filespace two.Delete node name n) rows v = refl
 
-store-kept : (c : PoolChange) (v : Inv) → kept.kept (effect.store_changed c v) ≡ kept.kept v
+store-kept : (c : PoolChange) (v : Inv) → kept.kept (of_stores.store_changed c v) ≡ kept.kept v
 store-kept (store.DevClass v1 name capacity) v = refl
 store-kept (store.Pool verb.Define name class kind rule) v = refl
 store-kept (store.Pool verb.Update name class kind rule) v = refl
@@ -381,22 +387,22 @@ store-kept (store.Volume verb.Update name pool file capacity access) v = refl
 store-kept (store.Volume verb.Delete name pool file capacity access) v = refl
 
 -- what a database keeps after a transaction is what the transaction makes of what it kept
-pub effect-kept : (c : Change) (v : Inv) → kept.kept (effect.effect c v) ≡ kept.kept_after c (kept.kept v)
-unfolding effect.effect kept.kept_after
+pub effect-kept : (c : Change) (v : Inv) → kept.kept (of_transactions.effect c v) ≡ kept.kept_after c (kept.kept v)
+unfolding of_transactions.effect kept.kept_after
 effect-kept (change.Day day) v = refl
 effect-kept (change.Policy c) v = refl
 effect-kept (change.Object c) v = client-kept c v
 effect-kept (change.Pool c) v = store-kept c v
-effect-kept (change.Backup c) v = each-kept (effect.back_up c.filespace) (kept.back_up c.filespace) (back_up-kept c.filespace) c.items (effect.each effect.make_scratch c.scratch v) ∙ ap (kept.each (kept.back_up c.filespace) c.items) (scratch-kept c.scratch v)
-effect-kept (change.Rebind c) v = each-kept (effect.rebind c.filespace) (kept.rebind c.filespace) (λ item w. change_group-kept c.filespace item.path (group.Rebind item.class) w) c.items v
-effect-kept (change.Gone c) v = each-kept (effect.mark_gone c.filespace) (kept.mark_gone c.filespace) (λ item w. change_group-kept c.filespace item.path (group.Gone item.object w.today) w) c.items v
+effect-kept (change.Backup c) v = each-kept (of_versions.back_up c.filespace) (kept.back_up c.filespace) (back_up-kept c.filespace) c.items (of_common.each of_segments.make_scratch c.scratch v) ∙ ap (kept.each (kept.back_up c.filespace) c.items) (scratch-kept c.scratch v)
+effect-kept (change.Rebind c) v = each-kept (of_versions.rebind c.filespace) (kept.rebind c.filespace) (λ item w. change_group-kept c.filespace item.path (group.Rebind item.class) w) c.items v
+effect-kept (change.Gone c) v = each-kept (of_versions.mark_gone c.filespace) (kept.mark_gone c.filespace) (λ item w. change_group-kept c.filespace item.path (group.Gone item.object w.today) w) c.items v
 effect-kept (change.Move c) v =
-    each-same effect.move_copy move_copy-kept c.items (effect.each effect.put_moved c.items (effect.each effect.make_scratch c.scratch v))
-    ∙ each-same effect.put_moved (λ i w. put-kept i.object i.segments w) c.items (effect.each effect.make_scratch c.scratch v) ∙ scratch-kept c.scratch v
-effect-kept (change.Copy c) v = each-same effect.add_copy add_copy-kept c.items (effect.each effect.make_scratch c.scratch v) ∙ scratch-kept c.scratch v
-effect-kept (change.DropCopies c) v = each-same effect.drop_copy drop_copy-kept c.items v
-effect-kept (change.Expire c) v = each-kept (effect.expire c.filespace) (kept.expire c.filespace) (λ item w. remove-kept c.filespace item.path item.object w) c.items v
-effect-kept (change.Discard c) v = each-kept effect.discard kept.discard discard-kept c.items v
+    each-same of_copies.move_copy move_copy-kept c.items (of_common.each of_copies.put_moved c.items (of_common.each of_segments.make_scratch c.scratch v))
+    ∙ each-same of_copies.put_moved (λ i w. put-kept i.object i.segments w) c.items (of_common.each of_segments.make_scratch c.scratch v) ∙ scratch-kept c.scratch v
+effect-kept (change.Copy c) v = each-same of_copies.add_copy add_copy-kept c.items (of_common.each of_segments.make_scratch c.scratch v) ∙ scratch-kept c.scratch v
+effect-kept (change.DropCopies c) v = each-same of_copies.drop_copy drop_copy-kept c.items v
+effect-kept (change.Expire c) v = each-kept (of_versions.expire c.filespace) (kept.expire c.filespace) (λ item w. remove-kept c.filespace item.path item.object w) c.items v
+effect-kept (change.Discard c) v = each-kept of_versions.discard kept.discard discard-kept c.items v
 effect-kept (change.Reuse file) v = refl
 effect-kept (change.DbBegin file) v = refl
 effect-kept (change.DbEnd file) v = refl

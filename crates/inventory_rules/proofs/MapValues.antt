@@ -7,7 +7,7 @@ use Rattle.std.specs.Ordering.{match_ordering}
 use Rattle.std.specs.declared.cmp.Ordering.TheVariants.{Less, Equal, Greater}
 use Rattle.std.proofs.lemmas.Map.Made.{lookup-map_values}
 use Rattle.kinds.specs.declared.refusal.Refusal.{Refusal}
-use Rattle.version_groups.specs.Entries.{on_ok, if_found, changed_at}
+use Rattle.inventory_rows.specs.version_groups.Entries.{on_ok, if_found, changed_at}
 
 module _ {K X Y : Type 0} (f : X → Y) where
   abbrev pub values : List (K × X) → List (K × Y)

@@ -8,29 +8,32 @@ use Rattle.kinds.specs.declared.change.PoolChange.TheVariants as store
 use Rattle.kinds.specs.declared.change.Verb.TheVariants as verb
 use Rattle.kinds.specs.declared.refusal.Refusal.{Refusal}
 use Rattle.kinds.specs.declared.segment.Segment.{Segment}
-use Rattle.change_items.specs.declared.items.DroppedCopy.{DroppedCopy}
-use Rattle.change_items.specs.declared.items.MovedCopy.{MovedCopy}
-use Rattle.change_items.specs.declared.items.NewCopy.{NewCopy}
-use Rattle.change_items.specs.declared.items.NewVersion.{NewVersion}
-use Rattle.change_items.specs.declared.items.ScratchVolume.{ScratchVolume}
-use Rattle.changes.specs.declared.change.Change.{Change}
-use Rattle.changes.specs.declared.change.Change.TheVariants as change
-use Rattle.version_groups.specs.declared.copies.CopyChange.{CopyChange}
-use Rattle.version_groups.specs.declared.copies.CopyRow.{CopyRow}
-use Rattle.version_groups.specs.declared.group.GroupChange.{GroupChange}
-use Rattle.version_groups.specs.declared.group.GroupChange.TheVariants as group
-use Rattle.version_groups.specs.declared.groups.Filespace.{Filespace}
-use Rattle.volume_rows.specs.declared.volume.Volume.{Volume}
-use Rattle.object_rows.specs.declared.place.Place.{Place}
-use Rattle.pool_tables.specs.Rows.{change_row}
-use Rattle.pool_rows.specs.PoolRows.{is_sequential_at}
-use Rattle.pool_rows.specs.Segments.{with_volumes}
-use Rattle.pool_tables.specs.RowChanges as row
-use Rattle.volume_rows.specs.Held.{held_of}
+use Rattle.entries.specs.change_items.declared.items.DroppedCopy.{DroppedCopy}
+use Rattle.entries.specs.change_items.declared.items.MovedCopy.{MovedCopy}
+use Rattle.entries.specs.change_items.declared.items.NewCopy.{NewCopy}
+use Rattle.entries.specs.change_items.declared.items.NewVersion.{NewVersion}
+use Rattle.entries.specs.change_items.declared.items.ScratchVolume.{ScratchVolume}
+use Rattle.entries.specs.declared.change.Change.{Change}
+use Rattle.entries.specs.declared.change.Change.TheVariants as change
+use Rattle.inventory_rows.specs.version_groups.declared.copies.CopyChange.{CopyChange}
+use Rattle.inventory_rows.specs.version_groups.declared.copies.CopyRow.{CopyRow}
+use Rattle.inventory_rows.specs.version_groups.declared.group.GroupChange.{GroupChange}
+use Rattle.inventory_rows.specs.version_groups.declared.group.GroupChange.TheVariants as group
+use Rattle.inventory_rows.specs.version_groups.declared.groups.Filespace.{Filespace}
+use Rattle.inventory_rows.specs.volume_rows.declared.volume.Volume.{Volume}
+use Rattle.inventory_rows.specs.object_rows.declared.place.Place.{Place}
+use Rattle.inventory_rows.specs.pool_tables.Rows.{change_row}
+use Rattle.inventory_rows.specs.pool_rows.PoolRows.{is_sequential_at}
+use Rattle.inventory_rows.specs.pool_rows.Segments.{with_volumes}
+use Rattle.inventory_rows.specs.pool_tables.RowChanges as row
+use Rattle.inventory_rows.specs.volume_rows.Held.{held_of}
 use Rattle.inventory_rows.specs.State.{Inv}
 use Rattle.inventory_rows.specs.Search.{place}
-use Rattle.inventory_rules.specs.Effects.{or_same, each, put, take_away, take_all, take_versions, make_scratch, back_up, change_group, rebind, mark_gone, remove, expire, discard_at, discard, change_copy, put_moved, move_copy, add_copy, drop_copy, copies_at, segments_in, version_at, take_moved, moved, added, dropped, with_filespaces, with_stores, effect}
-use Rattle.inventory_rules.specs.Touched.{is_of_data, OnlyData}
+use Rattle.inventory_rules.specs.Common.{or_same, each, with_filespaces, with_stores}
+use Rattle.inventory_rules.specs.Copies.{change_copy, put_moved, move_copy, add_copy, drop_copy, segments_in, version_at, take_moved, moved, added, dropped}
+use Rattle.inventory_rules.specs.Segments.{put, take_away, take_all, make_scratch}
+use Rattle.inventory_rules.specs.Transactions.{effect, is_of_data, OnlyData}
+use Rattle.inventory_rules.specs.Versions.{take_versions, back_up, change_group, rebind, mark_gone, remove, expire, discard_at, discard, copies_at}
 
 same : (v : Inv) → OnlyData v v
 same v = record { today = refl; next_node = refl; next_filespace = refl; next_pool = refl; domains = refl; nodes = refl; classes = refl; pools = refl; backups = refl }

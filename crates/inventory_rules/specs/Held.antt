@@ -2,9 +2,9 @@
 use Rattle.std.specs.Prelude.{◌≡◌, ℕ, List, [], ◌∷◌}
 use Rattle.std.specs.List.{AllByRecursion}
 use Rattle.kinds.specs.declared.segment.Segment.{Segment}
-use Rattle.volume_rows.specs.declared.held.HeldSegment.{HeldSegment}
-use Rattle.volume_rows.specs.Held.{held_of}
-use Rattle.volume_rows.specs.Holdings.{with_segment}
+use Rattle.inventory_rows.specs.volume_rows.declared.held.HeldSegment.{HeldSegment}
+use Rattle.inventory_rows.specs.volume_rows.Held.{held_of}
+use Rattle.inventory_rows.specs.volume_rows.Holdings.{with_segment}
 use Rattle.inventory_rows.specs.Search.{segments_on}
 use Rattle.inventory_rows.specs.State.{Inv}
 

@@ -3,27 +3,27 @@ use Rattle.std.specs.Prelude.{ℕ, ◌+◌, List, [], ◌∷◌, map, Option, So
 use Rattle.kinds.specs.declared.change.DefineOrDelete.TheVariants as two
 use Rattle.kinds.specs.declared.change.ObjectChange.{ObjectChange}
 use Rattle.kinds.specs.declared.change.ObjectChange.TheVariants as client
-use Rattle.change_items.specs.declared.items.DiscardedVersion.{DiscardedVersion}
-use Rattle.change_items.specs.declared.items.NamedVersion.{NamedVersion}
-use Rattle.change_items.specs.declared.items.NewVersion.{NewVersion}
-use Rattle.change_items.specs.declared.items.Rebinding.{Rebinding}
-use Rattle.changes.specs.declared.change.Change.{Change}
-use Rattle.changes.specs.declared.change.Change.TheVariants as change
-use Rattle.policy_domains.specs.Changes as policy
-use Rattle.policy_domains.specs.Rows.{DomainRow}
-use Rattle.version_groups.specs.declared.group.Group.{Group}
-use Rattle.version_groups.specs.declared.group.GroupChange.{GroupChange}
-use Rattle.version_groups.specs.declared.group.GroupChange.TheVariants as group
-use Rattle.version_groups.specs.declared.groups.Filespace.{Filespace}
-use Rattle.version_groups.specs.declared.versions.Version.{Version}
-use Rattle.object_rows.specs.declared.place.Place.{Place}
+use Rattle.entries.specs.change_items.declared.items.DiscardedVersion.{DiscardedVersion}
+use Rattle.entries.specs.change_items.declared.items.NamedVersion.{NamedVersion}
+use Rattle.entries.specs.change_items.declared.items.NewVersion.{NewVersion}
+use Rattle.entries.specs.change_items.declared.items.Rebinding.{Rebinding}
+use Rattle.entries.specs.declared.change.Change.{Change}
+use Rattle.entries.specs.declared.change.Change.TheVariants as change
+use Rattle.inventory_rows.specs.policy_domains.Changes as policy
+use Rattle.inventory_rows.specs.policy_domains.Rows.{DomainRow}
+use Rattle.inventory_rows.specs.version_groups.declared.group.Group.{Group}
+use Rattle.inventory_rows.specs.version_groups.declared.group.GroupChange.{GroupChange}
+use Rattle.inventory_rows.specs.version_groups.declared.group.GroupChange.TheVariants as group
+use Rattle.inventory_rows.specs.version_groups.declared.groups.Filespace.{Filespace}
+use Rattle.inventory_rows.specs.version_groups.declared.versions.Version.{Version}
+use Rattle.inventory_rows.specs.object_rows.declared.place.Place.{Place}
 use Rattle.std.specs.Map.{lookup}
-use Rattle.object_rows.specs.Changes.{rows_changed}
-use Rattle.object_rows.specs.Filespaces.{at_number, filespaces_with, filespaces_after}
-use Rattle.object_rows.specs.Places.{listed}
-use Rattle.object_rows.specs.Rows.{Rows}
+use Rattle.inventory_rows.specs.object_rows.Changes.{rows_changed}
+use Rattle.inventory_rows.specs.object_rows.Filespaces.{at_number, filespaces_with, filespaces_after}
+use Rattle.inventory_rows.specs.object_rows.Places.{listed}
+use Rattle.inventory_rows.specs.object_rows.Rows.{Rows}
 use Rattle.inventory_rows.specs.State.{Inv}
-use Rattle.inventory_rules.specs.Effects.{or_same}
+use Rattle.inventory_rules.specs.Common.{or_same}
 
 -- The policy, the day, and the nodes and filespaces with their versions. Of a version stand its object, size, time and digest, the day on which
 -- it was stored and the one since which it is inactive: none has a copy here.

@@ -7,20 +7,22 @@ use Rattle.std.specs.Option.{option_map_or}
 use Rattle.kinds.specs.declared.pool.Access.{Access}
 use Rattle.kinds.specs.declared.pool.Access.TheVariants.{ReadWrite, ReadOnly, Unavailable, Offsite, Destroyed}
 use Rattle.kinds.specs.declared.segment.Segment.{Segment}
-use Rattle.policy_domains.specs.Rows.{SetRow, active_set, row_of}
-use Rattle.version_groups.specs.declared.copies.CopyRow.{CopyRow}
-use Rattle.version_groups.specs.declared.group.Group.{Group}
-use Rattle.version_groups.specs.declared.versions.Version.{Version}
-use Rattle.version_groups.specs.Entries.{all_later, is_nil}
-use Rattle.version_groups.specs.Copies.{are_by_pool}
-use Rattle.version_groups.specs.Versions.{are_distinct, is_empty}
-use Rattle.volume_rows.specs.declared.volume.Volume.{Volume}
-use Rattle.object_rows.specs.Filespaces.{at_number}
-use Rattle.pool_rows.specs.PoolRows.{is_sequential, pool_capacity}
-use Rattle.pool_rows.specs.Hierarchy.{comes_to}
-use Rattle.pool_tables.specs.Rows.{named, row_at, is_same_name}
-use Rattle.pool_tables.specs.Scratch.{scratch_name, is_scratch_name}
-use Rattle.inventory_rows.specs.Items.{count_items, most_items, most_versions}
+use Rattle.inventory_rows.specs.policy_domains.Rows.{SetRow, active_set, row_of}
+use Rattle.inventory_rows.specs.version_groups.declared.copies.CopyRow.{CopyRow}
+use Rattle.inventory_rows.specs.version_groups.declared.group.Group.{Group}
+use Rattle.inventory_rows.specs.version_groups.declared.versions.Version.{Version}
+use Rattle.inventory_rows.specs.version_groups.Entries.{all_later, is_nil}
+use Rattle.inventory_rows.specs.version_groups.Copies.{are_by_pool}
+use Rattle.inventory_rows.specs.version_groups.Versions.{are_distinct, is_empty}
+use Rattle.inventory_rows.specs.volume_rows.declared.volume.Volume.{Volume}
+use Rattle.inventory_rows.specs.object_rows.Filespaces.{at_number}
+use Rattle.inventory_rows.specs.pool_rows.PoolRows.{is_sequential, pool_capacity}
+use Rattle.inventory_rows.specs.pool_rows.Hierarchy.{comes_to}
+use Rattle.kinds.specs.Names.{is_same_name}
+use Rattle.inventory_rows.specs.pool_tables.Rows.{named, row_at}
+use Rattle.inventory_rows.specs.pool_tables.Scratch.{scratch_name, is_scratch_name}
+use Rattle.inventory_rows.specs.object_rows.Rows.{most_versions}
+use Rattle.inventory_rows.specs.Items.{count_items, most_items}
 use Rattle.inventory_rows.specs.Search.{versions, copies, pool, rules, is_primary_kind, segments_on}
 use Rattle.inventory_rows.specs.State.{Inv}
 

@@ -3,16 +3,14 @@ ghost use Rattle.std.specs.Prelude.{◌≡◌, ℕ, ◌+◌, true, None};
 ghost use Rattle.kinds.specs.declared.change.ObjectChange.{ObjectChange};
 ghost use Rattle.kinds.specs.declared.change.PolicyChange.{PolicyChange};
 ghost use Rattle.kinds.specs.declared.change.PoolChange.{PoolChange};
-ghost use Rattle.changes.specs.declared.change.Change.{Change};
-ghost use Rattle.changes.specs.declared.change.Change.TheVariants.{Day, Policy, Object, Pool, DbBegin, DbEnd, DbDelete};
+ghost use Rattle.entries.specs.declared.change.Change.{Change};
+ghost use Rattle.entries.specs.declared.change.Change.TheVariants.{Day, Policy, Object, Pool, DbBegin, DbEnd, DbDelete};
 ghost use Rattle.inventory_rows.specs.Fresh.{fresh};
 ghost use Rattle.inventory_rows.specs.State.{Inv};
-ghost use Rattle.inventory_rules.specs.Effects.{effect};
+ghost use Rattle.inventory_rules.specs.Transactions.{effect, refused, is_of_data, OnlyData};
 ghost use Rattle.inventory_rules.specs.Held.{IsTied};
 ghost use Rattle.inventory_rules.specs.Journal.{Journal};
 ghost use Rattle.inventory_rules.specs.Kept.{kept, kept_after};
-ghost use Rattle.inventory_rules.specs.Refused.{refused};
-ghost use Rattle.inventory_rules.specs.Touched.{is_of_data, OnlyData};
 ghost use Rattle.inventory_rules.specs.Valid.{is_valid};
 
 /// The database of a server that was just formatted is valid, and the rows of its volumes hold the segments of its copies.
@@ -22,7 +20,7 @@ pub fn fresh_is_valid()
 {}
 
 /// A transaction that isn't refused leaves a valid database, whose number is one more.
-#[tactic(auto, unfolding(crate::specs::Refused::refused, crate::specs::Effects::effect))]
+#[tactic(auto, unfolding(crate::specs::Transactions::refused, crate::specs::Transactions::effect))]
 pub fn legal_leaves_valid()
     ensures valid { (j : Journal) (c : Change) (v : Inv) → refused j c v ≡ None → is_valid (effect c v) ≡ true }
     ensures number { (c : Change) (v : Inv) → (effect c v).number ≡ v.number + 1 }
@@ -32,7 +30,7 @@ pub fn legal_leaves_valid()
 /// nodes or filespaces only these and their numbers; one of device classes, pools or volumes only these, their numbers and the
 /// delays of the listed backups; one of versions and copies only those and the volumes; and one of a database backup only the
 /// list of them and the next file number.
-#[tactic(auto, unfolding(crate::specs::Effects::effect))]
+#[tactic(auto, unfolding(crate::specs::Transactions::effect))]
 pub fn others_stay()
     ensures day { (day : ℕ) (v : Inv) → effect (Day day) v ≡ record v { number = v.number + 1; today = day } }
     ensures policy { (c : PolicyChange) (v : Inv) → effect (Policy c) v ≡ record v { number = v.number + 1; domains = (effect (Policy c) v).domains } }

@@ -11,6 +11,9 @@
 //!   `content VOLUME`, `history`, `versions NODE FILESPACE`, `lookup KIND NAME` with `node`, `class`, `pool` or `volume`; and by
 //!   numbers `rules NODE`, `onpool POOL`, `onvolume FILE`, `missing PRIMARY COPY`, `eligible POOL THRESHOLD`, `unretained`, `emptied`
 //!   and `log`. A dash stands for a name that isn't given.
+//! - What a client's session looks up, by numbers: `place POOL SIZE`, where a file goes; `segments POOL SIZE`, how many segments it has; `readable
+//!   FILE`; `reads FILE..`, whether a copy with a segment on each of these volumes can be read; `default NODE`, its default class with its
+//!   destination; `active FILESPACE PATH`, the object of the active version. `none` where there is none.
 //! - A comment, which begins with `#`, is printed as it stands.
 //!
 //! The stored output was written from the forms of docs/FORMATS.md and the rules of transactions, and not by this program.
@@ -18,6 +21,7 @@
 
 mod client_rows;
 mod journal;
+mod places;
 mod policy_rows;
 mod questions;
 mod rows;
@@ -25,8 +29,7 @@ mod store_rows;
 mod words;
 mod work_rows;
 
-use database::Database;
-use entries::Entry;
+use entries::{Database, Entry};
 use inventory::Inventory;
 use inventory_answers::Query;
 use journal::{Told, told_by};
@@ -203,6 +206,13 @@ fn asked(alloc: Global, inventory: &Inventory, query: &Query) -> Result<String, 
     }
 }
 
+fn fault_text(alloc: Global, fault: Fault) -> Result<String, AllocError> {
+    match fault {
+        Fault::NoCommand => String::from_str(alloc, "no command"),
+        Fault::Refused(refusal) => number_text(alloc, Err(refusal)),
+    }
+}
+
 /// What the words of a query are answered.
 fn query_answer(
     alloc: Global,
@@ -215,8 +225,19 @@ fn query_answer(
             drop(query);
             text
         }
-        Err(Fault::NoCommand) => String::from_str(alloc, "no command"),
-        Err(Fault::Refused(refusal)) => number_text(alloc, Err(refusal)),
+        Err(fault) => fault_text(alloc, fault),
+    }
+}
+
+/// What a look-up by a client's session is answered.
+fn place_answer(
+    alloc: Global,
+    inventory: &Inventory,
+    words: &[&str],
+) -> Result<String, AllocError> {
+    match places::ask(alloc, inventory.tables(), words) {
+        Ok(text) => Ok(text),
+        Err(fault) => fault_text(alloc, fault),
     }
 }
 
@@ -250,6 +271,10 @@ fn words_answer(
         ["again"] => read_again(alloc, inventory),
         ["copy"] => copied(alloc, inventory),
         ["past", object, changed, removed] => tell(alloc, past, object, changed, removed),
+        [
+            "place" | "segments" | "readable" | "reads" | "default" | "active",
+            ..
+        ] => { place_answer(alloc, inventory, words) }
         words => query_answer(alloc, inventory, words),
     }
 }
@@ -264,7 +289,7 @@ fn answer(
     if line.starts_with('#') {
         return String::from_str(alloc, line);
     }
-    if line.starts_with('0') || line.starts_with("read") {
+    if line.starts_with('0') || line.starts_with("read ") {
         return bytes_answer(alloc, inventory, past, line);
     }
     let words: Vec<&str> = line.split_whitespace().collect(alloc)?;

@@ -2,7 +2,7 @@
 use inventory_answers::Query;
 use inventory_work::Named;
 use kinds::{FilespaceName, Name, NodeName, Refusal};
-use std::alloc::Global;
+use std::alloc::{AllocError, Global};
 
 /// Why words ask nothing.
 #[derive(Clone, Copy)]
@@ -16,6 +16,12 @@ pub enum Fault {
 impl From<Refusal> for Fault {
     fn from(refusal: Refusal) -> Fault {
         Fault::Refused(refusal)
+    }
+}
+
+impl From<AllocError> for Fault {
+    fn from(_error: AllocError) -> Fault {
+        Fault::Refused(Refusal::Memory)
     }
 }
 
@@ -43,7 +49,7 @@ fn name_or_none(alloc: Global, word: &str) -> Result<Option<Name>, Fault> {
     }
 }
 
-fn number(word: &str) -> Result<u32, Fault> {
+pub fn number(word: &str) -> Result<u32, Fault> {
     word.parse::<u32>().ok().ok_or(Fault::NoCommand)
 }
 

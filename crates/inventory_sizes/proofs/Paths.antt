@@ -3,12 +3,13 @@ use Rattle.std.proofs.Common.{◌≡◌, ℕ, ◌+◌, ◌<◌, Bool, true, fals
 use Rattle.std.specs.List.{fold, list_any}
 use Rattle.std.proofs.lemmas.List.{drop_more}
 use Rattle.std.proofs.lemmas.List.Sums.{fold_more}
-use Rattle.change_items.specs.declared.items.NewVersion.{NewVersion}
-use Rattle.policy_domains.specs.Rows.{is_same_name}
+use Rattle.entries.specs.change_items.declared.items.NewVersion.{NewVersion}
+use Rattle.kinds.specs.Names.{is_same_name}
 use Rattle.inventory_rows.specs.Search.{group}
 use Rattle.inventory_rows.specs.State.{Inv}
-use Rattle.item_counts.specs.Counts.{one_if, paths_added}
-use Rattle.object_rows.specs.Items.{left}
+use Rattle.inventory_rules.specs.Common.{one_if}
+use Rattle.inventory_rules.specs.Versions.{paths_added}
+use Rattle.inventory_rows.specs.object_rows.Items.{left}
 use Rattle.inventory_sizes.proofs.Rooms.{two_more, two_stop}
 
 -- the paths of items, the last one first

@@ -1,7 +1,7 @@
 -- Room for things that are counted in parts.
 use Rattle.std.proofs.Common.{◌≡◌, ℕ, ◌+◌, ◌-◌, ◌<◌, ◌≤◌, Bool, true, false, cond, min, nat_le, Some, None, refl, sym, ap, ◌∙◌, arith}
 use Rattle.std.proofs.lemmas.Bool.{leb-true, leb-false, le-leb, lt-leb}
-use Rattle.object_rows.specs.Items.{left}
+use Rattle.inventory_rows.specs.object_rows.Items.{left}
 use Rattle.inventory_sizes.specs.Room.{sum_within}
 
 left_when : (count room : ℕ) (b : Bool) → nat_le count room ≡ b → left count room ≡ cond b (Some (room - count)) None

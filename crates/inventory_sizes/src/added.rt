@@ -2,22 +2,26 @@
 
 ghost use Rattle.std.specs.Prelude.{◌≡◌, ◌+◌, ◌||◌, [], is_some, length, not};
 ghost use Rattle.std.specs.List.{list_any, sum_by};
-ghost use Rattle.policy_domains.specs.Rows.{is_same_name};
-ghost use Rattle.object_rows.specs.Items.{left};
+ghost use Rattle.kinds.specs.Names.{is_same_name};
+ghost use Rattle.inventory_rows.specs.object_rows.Items.{left};
 ghost use Rattle.inventory_rows.specs.Search.{group};
 ghost use Rattle.inventory_rows.specs.State.{inv_of};
-ghost use Rattle.inventory_rules.specs.Effects.{delays_now};
-ghost use Rattle.item_counts.specs.Counts.{is_new_client, is_new_store, items_added, items_of_new, paths_added, policy_added};
+ghost use Rattle.inventory_rules.specs.Backups.{delays_now};
+ghost use Rattle.inventory_rules.specs.Clients.{is_new_client};
+ghost use Rattle.inventory_rules.specs.Policy.{policy_added};
+ghost use Rattle.inventory_rules.specs.Stores.{is_new_store};
+ghost use Rattle.inventory_rules.specs.Transactions.{items_added};
+ghost use Rattle.inventory_rules.specs.Versions.{items_of_new, paths_added};
 
 use crate::delays::left_by_delays;
 use crate::gone::items_of_set;
 use crate::room::left_by_one;
-use change_items::{MovedCopies, MovedCopy, NewCopies, NewCopy, NewVersion, NewVersions};
-use changes::Change;
+use entries::Change;
+use entries::change_items::{MovedCopies, MovedCopy, NewCopies, NewCopy, NewVersion, NewVersions};
 use inventory_rows::Tables;
+use inventory_rows::object_rows::{left_by, left_by_many};
+use inventory_rows::policy_domains::PolicyDomain;
 use kinds::{DefineOrDelete, Name, ObjectChange, Path, PolicyChange, PoolChange, Verb};
-use object_rows::{left_by, left_by_many};
-use policy_domains::PolicyDomain;
 use std::collections::BTreeMap;
 
 /// A domain comes without sets, a set without classes; an activation copies a set with its classes.
@@ -29,33 +33,16 @@ fn policy_added(change: &PolicyChange, domains: &BTreeMap<Name, PolicyDomain>) -
             verb: Verb::Define,
             ..
         } => 1,
-        PolicyChange::Domain {
-            verb: Verb::Update,
-            ..
-        } => 0,
-        PolicyChange::Domain {
-            verb: Verb::Delete,
-            ..
-        } => 0,
         PolicyChange::Set {
             verb: DefineOrDelete::Define,
             ..
         } => 1,
-        PolicyChange::Set {
-            verb: DefineOrDelete::Delete,
-            ..
-        } => 0,
         PolicyChange::Class {
             verb: DefineOrDelete::Define,
             ..
         } => 1,
-        PolicyChange::Class {
-            verb: DefineOrDelete::Delete,
-            ..
-        } => 0,
-        PolicyChange::Group { .. } => 0,
-        PolicyChange::Assign { .. } => 0,
         PolicyChange::Activate { domain, set } => items_of_set(domains, domain, set),
+        _ => 0,
     }
 }
 
@@ -246,21 +233,13 @@ pub(crate) fn left_by_change(change: &Change, tables: &Tables, room: u128) -> Op
     ensures { result ≡ left (items_added change.now (inv_of tables.now)) room }
 {
     match change {
-        Change::Day { .. } => left_by(0, room),
         Change::Policy(policy) => left_by_many(policy_added(policy, tables.domains.rows()), room),
         Change::Object(client) => left_by_one(is_new_client(client), room),
         Change::Pool(store) => left_by_one(is_new_store(store), room),
         Change::Backup(versions) => left_by_backup(versions, tables, room),
-        Change::Rebind(_) => left_by(0, room),
-        Change::Gone(_) => left_by(0, room),
         Change::Move(copies) => left_by_move(copies, room),
         Change::Copy(copies) => left_by_copy(copies, room),
-        Change::DropCopies(_) => left_by(0, room),
-        Change::Expire(_) => left_by(0, room),
-        Change::Discard(_) => left_by(0, room),
-        Change::Reuse { .. } => left_by(0, room),
         Change::DbBegin { .. } => left_by_begin(tables, room),
-        Change::DbEnd { .. } => left_by(0, room),
-        Change::DbDelete { .. } => left_by(0, room),
+        _ => left_by(0, room),
     }
 }

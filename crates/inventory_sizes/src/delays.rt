@@ -1,11 +1,11 @@
 //! The delays that a database backup keeps which begins now.
 
 ghost use Rattle.std.specs.Prelude.{◌≡◌, ◌&&◌, length};
-ghost use Rattle.object_rows.specs.Items.{left};
+ghost use Rattle.inventory_rows.specs.object_rows.Items.{left};
 ghost use Rattle.inventory_rows.specs.Search.{holds_copy};
 ghost use Rattle.inventory_rows.specs.State.{inv_of};
-ghost use Rattle.inventory_rules.specs.Effects.{delays_now};
-ghost use Rattle.pool_rows.specs.PoolRows.{is_sequential};
+ghost use Rattle.inventory_rules.specs.Backups.{delays_now};
+ghost use Rattle.inventory_rows.specs.pool_rows.PoolRows.{is_sequential};
 
 use crate::room::left_by_one;
 use inventory_rows::Tables;

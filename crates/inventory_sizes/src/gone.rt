@@ -3,18 +3,21 @@
 ghost use Rattle.std.specs.Prelude.{◌≡◌, ◌+◌, ◌*◌, ◌^◌, ◌<◌, ◌≤◌, length};
 ghost use Rattle.std.specs.List.{sum_by};
 ghost use Rattle.std.specs.Option.{option_copied};
-ghost use Rattle.policy_domains.specs.Rows.{active_set, is_same_name, row_of};
+ghost use Rattle.kinds.specs.Names.{is_same_name};
+ghost use Rattle.inventory_rows.specs.policy_domains.Rows.{active_set, row_of};
 ghost use Rattle.inventory_rows.specs.Search.{copy_in};
 ghost use Rattle.inventory_rows.specs.State.{inv_of};
-ghost use Rattle.item_counts.specs.Counts.{items_gone, items_of_set, policy_gone, segments_left, set_in};
+ghost use Rattle.inventory_rules.specs.Copies.{segments_left};
+ghost use Rattle.inventory_rules.specs.Policy.{items_of_set, policy_gone, set_in};
+ghost use Rattle.inventory_rules.specs.Transactions.{items_gone};
 
-use change_items::MovedCopy;
-use changes::Change;
+use entries::Change;
+use entries::change_items::MovedCopy;
 use inventory_rows::Tables;
+use inventory_rows::policy_domains::{PolicyDomain, PolicySet};
+use inventory_rows::version_groups::{CopyRow, Version};
 use kinds::{Name, PolicyChange};
-use policy_domains::{PolicyDomain, PolicySet};
 use std::collections::BTreeMap;
-use version_groups::{CopyRow, Version};
 
 /// A set and its classes.
 fn items_with(set: &PolicySet) -> u128
@@ -86,12 +89,8 @@ fn policy_gone(change: &PolicyChange, domains: &BTreeMap<Name, PolicyDomain>) ->
     ensures few { result ≤ 2 ^ 64 }
 {
     match change {
-        PolicyChange::Domain { .. } => 0,
-        PolicyChange::Set { .. } => 0,
-        PolicyChange::Class { .. } => 0,
-        PolicyChange::Group { .. } => 0,
-        PolicyChange::Assign { .. } => 0,
         PolicyChange::Activate { domain, .. } => active_items(domains, domain),
+        _ => 0,
     }
 }
 
@@ -134,21 +133,8 @@ pub(crate) fn items_gone(change: &Change, tables: &Tables) -> u128
     ensures few { result ≤ 2 ^ 64 }
 {
     match change {
-        Change::Day { .. } => 0,
         Change::Policy(policy) => policy_gone(policy, tables.domains.rows()),
-        Change::Object(_) => 0,
-        Change::Pool(_) => 0,
-        Change::Backup(_) => 0,
-        Change::Rebind(_) => 0,
-        Change::Gone(_) => 0,
         Change::Move(copies) => copies_gone(tables, copies.items.as_slice()),
-        Change::Copy(_) => 0,
-        Change::DropCopies(_) => 0,
-        Change::Expire(_) => 0,
-        Change::Discard(_) => 0,
-        Change::Reuse { .. } => 0,
-        Change::DbBegin { .. } => 0,
-        Change::DbEnd { .. } => 0,
-        Change::DbDelete { .. } => 0,
+        _ => 0,
     }
 }

@@ -3,13 +3,13 @@
 ghost use Rattle.std.specs.Prelude.{◌≡◌, ◌≤◌, min};
 ghost use Rattle.inventory_rows.specs.Items.{count_items, most_items};
 ghost use Rattle.inventory_rows.specs.State.{inv_of};
-ghost use Rattle.item_counts.specs.Counts.{items_added};
+ghost use Rattle.inventory_rules.specs.Transactions.{items_added};
 ghost use Rattle.inventory_sizes.specs.Room.{sum_within};
 ghost use Rattle.inventory_sizes.specs.Sizes.{has_item_room};
 
 use crate::added::left_by_change;
 use crate::gone::items_gone;
-use changes::Change;
+use entries::Change;
 use inventory_rows::Tables;
 
 /// How many items the lists of a database may have together.

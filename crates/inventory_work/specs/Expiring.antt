@@ -2,10 +2,10 @@
 use Rattle.std.specs.Prelude.{ℕ, Bool, not, List, reverse, Option}
 use Rattle.std.specs.List.{flat_map}
 use Rattle.kinds.specs.declared.rule.RuleFound.{RuleFound}
-use Rattle.version_groups.specs.declared.group.Group.{Group}
-use Rattle.version_groups.specs.declared.groups.Filespace.{Filespace}
-use Rattle.version_groups.specs.declared.versions.Version.{Version}
-use Rattle.version_groups.specs.Versions.{has_active}
+use Rattle.inventory_rows.specs.version_groups.declared.group.Group.{Group}
+use Rattle.inventory_rows.specs.version_groups.declared.groups.Filespace.{Filespace}
+use Rattle.inventory_rows.specs.version_groups.declared.versions.Version.{Version}
+use Rattle.inventory_rows.specs.version_groups.Versions.{has_active}
 use Rattle.inventory_rows.specs.Search.{rule_in}
 use Rattle.inventory_rows.specs.State.{Inv}
 use Rattle.inventory_work.specs.declared.lines.UnretainedLine.{UnretainedLine}

@@ -1,10 +1,10 @@
 -- Things by their names.
 use Rattle.std.specs.Prelude.{ℕ, List, Option, Result, Ok}
 use Rattle.kinds.specs.declared.refusal.Refusal.{Refusal}
-use Rattle.version_groups.specs.Entries.{if_found}
-use Rattle.object_rows.specs.Names.{node_named}
-use Rattle.pool_tables.specs.Rows.{named}
-use Rattle.pool_rows.specs.PoolRows.{PoolRows, pool_named, volume_named}
+use Rattle.inventory_rows.specs.version_groups.Entries.{if_found}
+use Rattle.inventory_rows.specs.object_rows.Names.{node_named}
+use Rattle.inventory_rows.specs.pool_tables.Rows.{named}
+use Rattle.inventory_rows.specs.pool_rows.PoolRows.{PoolRows, pool_named, volume_named}
 use Rattle.inventory_rows.specs.State.{Inv}
 use Rattle.inventory_work.specs.declared.search.Found.{Found}
 use Rattle.inventory_work.specs.declared.search.Found.TheVariants as found

@@ -2,7 +2,7 @@
 use Rattle.std.specs.Prelude.{ℕ, Bool, true, Option, Some, None}
 use Rattle.kinds.specs.declared.rule.RuleFound.{RuleFound}
 use Rattle.copy_groups.specs.Retention.{retained}
-use Rattle.version_groups.specs.declared.versions.Version.{Version}
+use Rattle.inventory_rows.specs.version_groups.declared.versions.Version.{Version}
 
 -- the rule, where there is one, retains a version that is inactive since this day, or active: an active version always is
 abbrev pub retained_by : Option RuleFound → Bool → Option ℕ → ℕ → ℕ → Bool

@@ -3,9 +3,9 @@ use Rattle.std.specs.Prelude.{ℕ, List, [], ◌∷◌, Option, Some, None, opti
 use Rattle.std.specs.List.{flat_map}
 use Rattle.std.specs.Option.{option_map_or}
 use Rattle.kinds.specs.declared.refusal.Refusal.{Refusal}
-use Rattle.policy_domains.specs.Rows.{SetRow, DomainRow, active_set, row_of}
-use Rattle.policy_domains.specs.Rules.{rule_of}
-use Rattle.version_groups.specs.Entries.{if_found}
+use Rattle.inventory_rows.specs.policy_domains.Rows.{SetRow, DomainRow, active_set, row_of}
+use Rattle.inventory_rows.specs.policy_domains.Rules.{rule_of}
+use Rattle.inventory_rows.specs.version_groups.Entries.{if_found}
 use Rattle.inventory_rows.specs.Search.{domain_of_node}
 use Rattle.inventory_rows.specs.State.{Inv}
 use Rattle.inventory_work.specs.declared.lines.ClassRule.{ClassRule}

@@ -1,13 +1,13 @@
 -- Volumes that may be reclaimed or reused.
-use Rattle.std.specs.Prelude.{ℕ, ◌==◌, ◌&&◌, max, Bool, List, Option, Some, None, Result, Ok, Err, if◌then◌else◌}
+use Rattle.std.specs.Prelude.{ℕ, ◌==◌, ◌&&◌, Bool, List, Result, Ok, Err, if◌then◌else◌}
 use Rattle.std.specs.List.{flat_map}
 use Rattle.std.specs.Result.{is_ok}
 use Rattle.kinds.specs.declared.refusal.Refusal.{Refusal}
 use Rattle.kinds.specs.declared.refusal.Refusal.TheVariants.{NotFound}
-use Rattle.volume_rows.specs.declared.volume.Volume.{Volume}
-use Rattle.volume_rows.specs.Volumes.{is_reclaimable}
-use Rattle.pool_rows.specs.PoolRows.{PoolRows, is_sequential}
-use Rattle.pool_rows.specs.Segments.{may_reuse_at}
+use Rattle.inventory_rows.specs.volume_rows.declared.volume.Volume.{Volume}
+use Rattle.inventory_rows.specs.volume_rows.Volumes.{is_reclaimable}
+use Rattle.inventory_rows.specs.pool_rows.PoolRows.{PoolRows, is_sequential}
+use Rattle.inventory_rows.specs.pool_rows.Segments.{may_reuse_at}
 use Rattle.inventory_rows.specs.State.{Inv}
 use Rattle.inventory_work.specs.Copies.{has_pool}
 use Rattle.inventory_work.specs.Lists.{only}
@@ -26,15 +26,6 @@ eligible_in pool threshold s = flat_map (eligible_files pool threshold s) s.volu
 -- the volumes to be reclaimed of a pool, which has to be there
 abbrev pub eligible : ℕ → ℕ → Inv → Result (List ℕ) Refusal
 eligible pool threshold v = if has_pool pool v then Ok (eligible_in pool threshold v.stores) else Err NotFound
-
--- today, or the day of emptying where that is yet to come
-abbrev pub later : ℕ → Option ℕ → ℕ
-later today None = today
-later today (Some day) = max today day
-
-abbrev pub rested_by : ℕ → Option Volume → ℕ
-rested_by today None = today
-rested_by today (Some volume) = later today volume.emptied
 
 abbrev pub reusable_files : ℕ → PoolRows → ℕ → List ℕ
 reusable_files today s file = only (is_ok (may_reuse_at file today s)) file

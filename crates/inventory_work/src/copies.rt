@@ -9,9 +9,9 @@ ghost use Rattle.inventory_work.specs.Copies.{lies_there, copy_lines, copies_of_
 use crate::lines::{CopyLine, MissingLine};
 use crate::listed::Listed;
 use inventory_rows::Tables;
+use inventory_rows::version_groups::{CopyRow, Filespace, Version};
 use kinds::{Refusal, Segment};
 use std::alloc::Global;
-use version_groups::{CopyRow, Filespace, Version};
 
 /// Where a copy lies.
 #[derive(Clone, Copy)]

@@ -9,9 +9,9 @@ use crate::lines::UnretainedLine;
 use crate::listed::Listed;
 use crate::owed::{is_owed, place_of, rule_in};
 use inventory_rows::Tables;
+use inventory_rows::version_groups::{Filespace, Group, Version};
 use kinds::{Day, Path, Refusal, RuleFound};
 use std::alloc::Global;
-use version_groups::{Filespace, Group, Version};
 
 fn write_unretained(
     lines: &mut Vec<UnretainedLine>,

@@ -3,15 +3,15 @@ ghost use Rattle.std.specs.Prelude.{◌≡◌};
 ghost use Rattle.std.specs.Option.{option_copied};
 ghost use Rattle.kinds.specs.Answers.{AnswersBy};
 ghost use Rattle.copy_groups.specs.Retention.{retained};
-ghost use Rattle.policy_domains.specs.Rules.{rule_of};
+ghost use Rattle.inventory_rows.specs.policy_domains.Rules.{rule_of};
 ghost use Rattle.inventory_rows.specs.Search.{domain_of_node, domain_of, rule_in};
 ghost use Rattle.inventory_rows.specs.State.{inv_of};
 ghost use Rattle.inventory_work.specs.Owed.{is_owed};
 
 use inventory_rows::Tables;
+use inventory_rows::policy_domains::Domains;
+use inventory_rows::version_groups::Version;
 use kinds::{Day, Name, Refusal, RuleFound};
-use policy_domains::Domains;
-use version_groups::Version;
 
 pub(crate) fn domain_of_node(tables: &Tables, node: u32) -> Option<&Name>
     ensures { option_copied result ≡ domain_of_node node (inv_of tables.now) }

@@ -3,7 +3,7 @@ ghost use Rattle.std.specs.Prelude.{◌≡◌};
 ghost use Rattle.std.specs.List.{flat_map};
 ghost use Rattle.std.specs.Option.{option_copied};
 ghost use Rattle.kinds.specs.Answers.{Answers, AnswersBy};
-ghost use Rattle.policy_domains.specs.Rows.{active_set};
+ghost use Rattle.inventory_rows.specs.policy_domains.Rows.{active_set};
 ghost use Rattle.inventory_rows.specs.State.{inv_of};
 ghost use Rattle.inventory_work.specs.Lists.{Writes};
 ghost use Rattle.inventory_work.specs.Rules.{class_rules, rules_of_set, active_in, rules_in, rules_of};
@@ -12,8 +12,8 @@ use crate::lines::{ClassRule, Rules};
 use crate::listed::Listed;
 use crate::owed::{domain_of_node, rule_of};
 use inventory_rows::Tables;
+use inventory_rows::policy_domains::{Domains, PolicySet};
 use kinds::{Name, Refusal};
-use policy_domains::{Domains, PolicySet};
 use std::alloc::Global;
 
 fn active_name(alloc: Global) -> Result<Name, Refusal>

@@ -4,8 +4,8 @@ ghost use Rattle.inventory_work.specs.Found.{number_found, device_found, find_na
 ghost use Rattle.inventory_rows.specs.State.{inv_of};
 
 use inventory_rows::Tables;
+use inventory_rows::pool_rows::Pools;
 use kinds::{Capacity, Name, NodeName, Refusal};
-use pool_rows::Pools;
 
 /// A thing that is named.
 #[derive(Drop)]

@@ -2,19 +2,18 @@
 ghost use Rattle.std.specs.Prelude.{◌≡◌};
 ghost use Rattle.std.specs.Result.{is_ok};
 ghost use Rattle.kinds.specs.Answers.{Answers, AnswersBy};
-ghost use Rattle.pool_tables.specs.Rows.{row_at};
-ghost use Rattle.pool_rows.specs.Segments.{may_reuse_at};
+ghost use Rattle.inventory_rows.specs.pool_rows.Segments.{may_reuse_at};
 ghost use Rattle.inventory_rows.specs.State.{inv_of};
 ghost use Rattle.inventory_work.specs.Lists.{Writes};
-ghost use Rattle.inventory_work.specs.Volumes.{is_eligible, eligible_files, eligible_in, eligible, later, rested_by, reusable_files, emptied};
+ghost use Rattle.inventory_work.specs.Volumes.{is_eligible, eligible_files, eligible_in, eligible, reusable_files, emptied};
 
 use crate::copies::has_pool;
 use crate::listed::Listed;
 use inventory_rows::Tables;
+use inventory_rows::pool_rows::Pools;
+use inventory_rows::volume_rows::Volume;
 use kinds::{Day, Refusal};
-use pool_rows::Pools;
 use std::alloc::Global;
-use volume_rows::Volume;
 
 fn is_eligible(pools: &Pools, pool: u32, threshold: u8, volume: &Volume) -> bool
     ensures { result ≡ is_eligible pool threshold pools.now volume.now }
@@ -71,30 +70,10 @@ pub fn eligible(
     }
 }
 
-/// Today, or the day on which the volume was emptied where that is yet to come.
-fn rested_by(pools: &Pools, file: u32, today: Day) -> Day
-    ensures { result ≡ rested_by today (row_at file pools.now.volumes) }
-{
-    match pools.volumes().get(&file) {
-        Some(volume) => later(volume.emptied, today),
-        None => today,
-    }
-}
-
-fn later(emptied: Option<Day>, today: Day) -> Day
-    ensures { result ≡ later today emptied }
-{
-    match emptied {
-        Some(day) => { if today < day { day } else { today } }
-        None => today,
-    }
-}
-
 fn is_reusable(pools: &Pools, file: u32, today: Day) -> bool
     ensures { result ≡ is_ok (may_reuse_at file today pools.now) }
 {
-    let day = rested_by(pools, file, today);
-    pools.may_reuse(file, day).is_ok()
+    pools.may_reuse(file, today).is_ok()
 }
 
 fn write_reusable(files: &mut Vec<u32>, pools: &Pools, today: Day, file: u32) -> Result<(), Refusal>

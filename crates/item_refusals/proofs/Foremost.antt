@@ -4,9 +4,8 @@ use Rattle.std.specs.List.{flat_map}
 use Rattle.std.proofs.lemmas.Grind.{flat_map-append}
 use Rattle.std.proofs.lemmas.List.{take_more, take_all, append-nil}
 use Rattle.kinds.specs.declared.refusal.Refusal.{Refusal}
-use Rattle.kinds.specs.Refusals.{sooner_of, foremost}
+use Rattle.kinds.specs.Refusals.{sooner_of, foremost, unless, bad_value}
 use Rattle.kinds.proofs.Order.{sooner_of-assoc}
-use Rattle.inventory_rules.specs.RefusedData.{unless, bad_value}
 
 pub foremost_append : (xs ys : List Refusal) → foremost (xs ++ ys) ≡ sooner_of (foremost xs) (foremost ys)
 foremost_append [] ys = refl

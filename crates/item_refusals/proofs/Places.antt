@@ -3,9 +3,9 @@ use Rattle.std.proofs.Common.{◌≡◌, ℕ, ◌+◌, ◌<◌, ◌≤◌, cond,
 use Rattle.std.specs.Option.{option_map_or}
 use Rattle.std.proofs.lemmas.List.{drop_all}
 use Rattle.std.proofs.lemmas.Bool.{eq-eqb, ne_eqb}
-use Rattle.version_groups.specs.declared.versions.Version.{Version}
-use Rattle.version_groups.proofs.Lists.{drop_at}
-use Rattle.inventory_rules.specs.RefusedData.{place_among}
+use Rattle.inventory_rows.specs.version_groups.declared.versions.Version.{Version}
+use Rattle.inventory_rows.proofs.of_version_groups.Lists.{drop_at}
+use Rattle.inventory_rules.specs.Versions.{place_among}
 use Rattle.item_refusals.specs.Placing.{behind}
 
 pub place_first : (o : Option ℕ) → o ≡ behind 0 o

@@ -2,7 +2,7 @@
 use Rattle.std.specs.Prelude.{ℕ, ◌+◌, ◌^◌, max, nat_lt, List}
 use Rattle.kinds.specs.declared.refusal.Refusal.{Refusal}
 use Rattle.kinds.specs.declared.refusal.Refusal.TheVariants.{InventoryFull}
-use Rattle.inventory_rules.specs.RefusedData.{unless}
+use Rattle.kinds.specs.Refusals.{unless}
 use Rattle.inventory_rows.specs.State.{Inv}
 
 -- the next object number would reach its bound once this number is drawn

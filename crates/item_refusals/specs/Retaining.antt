@@ -3,8 +3,8 @@ use Rattle.std.specs.Prelude.{ℕ, Bool, true, List, Option, Some, None}
 use Rattle.std.specs.Option.{option_map_or}
 use Rattle.kinds.specs.declared.rule.RuleFound.{RuleFound}
 use Rattle.copy_groups.specs.Retention.{retained}
-use Rattle.version_groups.specs.declared.versions.Version.{Version}
-use Rattle.version_groups.specs.Versions.{has_active, version_of}
+use Rattle.inventory_rows.specs.version_groups.declared.versions.Version.{Version}
+use Rattle.inventory_rows.specs.version_groups.Versions.{has_active, version_of}
 
 -- the day from which a version is inactive
 abbrev pub since_of : Option Version → ℕ

@@ -1,10 +1,11 @@
 -- A pool in which a copy lies already.
 use Rattle.std.specs.Prelude.{ℕ, not, is_some, List}
 use Rattle.kinds.specs.declared.refusal.Refusal.{Refusal}
-use Rattle.version_groups.specs.declared.versions.Version.{Version}
+use Rattle.inventory_rows.specs.version_groups.declared.versions.Version.{Version}
 use Rattle.inventory_rows.specs.Search.{copy_in}
 use Rattle.inventory_rules.specs.Journal.{Journal}
-use Rattle.inventory_rules.specs.RefusedData.{unless, stale_copy}
+use Rattle.kinds.specs.Refusals.{unless}
+use Rattle.inventory_rules.specs.Copies.{stale_copy}
 
 -- a copy of the version lies in the pool
 abbrev pub taken_refused : Journal → ℕ → ℕ → Version → List Refusal

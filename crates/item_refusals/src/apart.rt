@@ -2,8 +2,8 @@
 
 ghost use Rattle.std.specs.Prelude.{◌≡◌, ◌==◌, Bool, not};
 ghost use Rattle.std.specs.List.{list_all};
-ghost use Rattle.version_groups.specs.Entries.{all_later};
-ghost use Rattle.policy_domains.specs.Rows.{is_same_name};
+ghost use Rattle.inventory_rows.specs.version_groups.Entries.{all_later};
+ghost use Rattle.kinds.specs.Names.{is_same_name};
 
 use change_items::{
     DiscardedVersion, DroppedCopy, MovedCopy, NamedVersion, NewCopy, NewVersion, Rebinding,

@@ -6,14 +6,14 @@ ghost use Rattle.std.specs.Option.{option_copied};
 ghost use Rattle.kinds.specs.Refusals.{foremost};
 ghost use Rattle.inventory_rows.specs.State.{inv_of};
 ghost use Rattle.inventory_rows.specs.Search.{copy_in};
-ghost use Rattle.inventory_rules.specs.RefusedData.{placed_by, stale_copy, copy_refused, moved_refused, move_refused, copied_refused, copy_list_refused};
+ghost use Rattle.inventory_rules.specs.Copies.{placed_by, stale_copy, copy_refused, moved_refused, move_refused, copied_refused, copy_list_refused};
 
 use crate::causes::{gone_or_unknown, once};
 use crate::past::Past;
 use change_items::{MovedCopy, NewCopy};
 use inventory_rows::Tables;
+use inventory_rows::version_groups::{CopyRow, Version};
 use kinds::{Refusal, sooner_of};
-use version_groups::{CopyRow, Version};
 
 /// The copy of a version in a pool.
 pub(crate) fn copy_in<'a>(pool: u32, version: &'a Version) -> Option<&'a CopyRow>

@@ -4,16 +4,16 @@ ghost use Rattle.std.specs.Prelude.{◌≡◌};
 ghost use Rattle.kinds.specs.Refusals.{foremost};
 ghost use Rattle.inventory_rows.specs.Search.{lies_on, place};
 ghost use Rattle.inventory_rows.specs.State.{inv_of};
-ghost use Rattle.inventory_rules.specs.RefusedData.{all_lie_on, primary_lies_on, in_use, is_in, discard_reason_refused, discarded_refused, discard_refused};
+ghost use Rattle.inventory_rules.specs.Versions.{all_lie_on, primary_lies_on, in_use, is_in, discard_reason_refused, discarded_refused, discard_refused};
 ghost use Rattle.item_refusals.specs.Standing.{is_number};
 
-use crate::causes::{bad_value, gone_or_unknown, once, unless};
+use crate::causes::{gone_or_unknown, once};
 use crate::past::Past;
 use crate::primary::is_primary;
 use change_items::{DiscardReason, DiscardedVersion};
 use inventory_rows::Tables;
-use kinds::{By, Digest, Refusal, sooner_of};
-use version_groups::{CopyRow, Version};
+use inventory_rows::version_groups::{CopyRow, Version};
+use kinds::{By, Digest, Refusal, bad_value, sooner_of, unless};
 
 /// Whether one of the copy's segments lies on the volume.
 pub(crate) fn lies_on(file: u32, copy: &CopyRow) -> bool

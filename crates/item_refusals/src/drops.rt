@@ -2,21 +2,22 @@
 
 ghost use Rattle.std.specs.Prelude.{◌≡◌, ◌++◌, length, nat_le};
 ghost use Rattle.std.specs.Option.{option_copied};
-ghost use Rattle.kinds.specs.Refusals.{foremost};
+ghost use Rattle.kinds.specs.Refusals.{foremost, unless};
 ghost use Rattle.kinds.specs.declared.refusal.Refusal.TheVariants.{NotFound};
 ghost use Rattle.inventory_rows.specs.Search.{copy_in};
 ghost use Rattle.inventory_rows.specs.State.{inv_of};
-ghost use Rattle.inventory_rules.specs.RefusedData.{unless, in_use, file_of, drop_reason_refused, lies_there, named_drop_refused, version_drop_refused, dropped_refused, drop_refused};
+ghost use Rattle.inventory_rules.specs.Copies.{file_of, drop_reason_refused, lies_there, named_drop_refused, version_drop_refused, dropped_refused, drop_refused};
+ghost use Rattle.inventory_rules.specs.Versions.{in_use};
 
-use crate::causes::{bad_value, gone_or_unknown, once, unless};
+use crate::causes::{gone_or_unknown, once};
 use crate::copies::{copy_in, placed_by, stale_copy};
 use crate::discards::{in_use, lies_on};
 use crate::past::Past;
 use crate::primary::is_primary;
 use change_items::{DropReason, DroppedCopy};
 use inventory_rows::Tables;
-use kinds::{Digest, Refusal, sooner_of};
-use version_groups::{CopyRow, Version};
+use inventory_rows::version_groups::{CopyRow, Version};
+use kinds::{Digest, Refusal, bad_value, sooner_of, unless};
 
 fn file_of(reason: DropReason) -> u32
     ensures { result ≡ file_of reason }

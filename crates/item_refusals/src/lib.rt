@@ -15,7 +15,6 @@ mod room;
 mod scratch;
 mod versions;
 
-pub use causes::{bad_value, unless};
 pub use copies::{copy_list_refused, move_refused};
 pub use discards::discard_refused;
 pub use drops::drop_refused;

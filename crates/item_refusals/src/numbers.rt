@@ -3,11 +3,10 @@
 ghost use Rattle.std.specs.Prelude.{◌≡◌, ◌+◌, ◌^◌, ◌<◌, ◌∷◌, [], nat_lt, max};
 ghost use Rattle.kinds.specs.Refusals.{foremost};
 ghost use Rattle.inventory_rows.specs.State.{inv_of};
-ghost use Rattle.inventory_rules.specs.Refused.{full_at, is_free_file, files_refused, file_bound};
+ghost use Rattle.inventory_rules.specs.Common.{full_at, is_free_file, files_refused, file_bound};
 
-use crate::causes::{bad_value, unless};
 use inventory_rows::Tables;
-use kinds::Refusal;
+use kinds::{Refusal, bad_value, unless};
 
 /// The next number would reach its bound.
 pub fn full_at(next: u32, bound: u32) -> Option<Refusal>

@@ -3,15 +3,15 @@
 ghost use Rattle.std.specs.Prelude.{◌≡◌, ◌-◌};
 ghost use Rattle.std.specs.Option.{option_copied};
 ghost use Rattle.copy_groups.specs.Retention.{is_below, is_kept, is_kept_by, retained};
-ghost use Rattle.version_groups.specs.Versions.{has_active, version_of};
+ghost use Rattle.inventory_rows.specs.version_groups.Versions.{has_active, version_of};
 ghost use Rattle.inventory_rows.specs.Search.{domain_of, rule_in};
 ghost use Rattle.inventory_rows.specs.State.{inv_of};
-ghost use Rattle.inventory_rules.specs.RefusedData.{place_among, is_retained};
+ghost use Rattle.inventory_rules.specs.Versions.{place_among, is_retained};
 ghost use Rattle.item_refusals.specs.Retaining.{since_of, retained_at, retained_in};
 
 use inventory_rows::Tables;
+use inventory_rows::version_groups::{Group, Version, Versions};
 use kinds::{BackupRule, Day, Limit, Name, Path, RuleFound};
-use version_groups::{Group, Version, Versions};
 
 /// The name of the domain of a filespace's node.
 fn domain_of<'a>(tables: &'a Tables, filespace: u32) -> Option<&'a Name>

@@ -1,7 +1,7 @@
 //! Room for more versions.
 
 ghost use Rattle.std.specs.Prelude.{◌≡◌, ◌+◌, length, nat_le};
-ghost use Rattle.inventory_rows.specs.Items.{most_versions};
+ghost use Rattle.inventory_rows.specs.object_rows.Rows.{most_versions};
 ghost use Rattle.inventory_rows.specs.Search.{versions};
 ghost use Rattle.inventory_rows.specs.State.{inv_of};
 

@@ -1,20 +1,20 @@
 //! Scratch volumes and objects that a transaction makes.
 
 ghost use Rattle.std.specs.Prelude.{◌≡◌, ◌==◌, ◌&&◌, not, map};
-ghost use Rattle.version_groups.specs.Entries.{all_later};
+ghost use Rattle.inventory_rows.specs.version_groups.Entries.{all_later};
 ghost use Rattle.std.specs.List.{list_all, flat_map};
-ghost use Rattle.kinds.specs.Refusals.{foremost};
+ghost use Rattle.kinds.specs.Refusals.{foremost, unless};
 ghost use Rattle.inventory_rows.specs.State.{inv_of};
-ghost use Rattle.inventory_rules.specs.RefusedData.{unless};
-ghost use Rattle.inventory_rules.specs.Refused.{is_free_file, files_refused, file_bound, scratch_refused, object_bounds};
+ghost use Rattle.inventory_rules.specs.Common.{is_free_file, files_refused, file_bound};
+ghost use Rattle.inventory_rules.specs.Segments.{scratch_refused};
+ghost use Rattle.inventory_rules.specs.Versions.{object_bounds};
 ghost use Rattle.item_refusals.specs.Drawn.{object_bound};
 
 use crate::apart::are_apart;
-use crate::causes::{bad_value, unless};
 use crate::numbers::{file_bound, is_free_file};
 use change_items::{NewVersion, ScratchVolume};
 use inventory_rows::Tables;
-use kinds::{Refusal, sooner_of};
+use kinds::{Refusal, bad_value, sooner_of, unless};
 
 /// Whether the file number of each scratch volume is free.
 fn are_free(tables: &Tables, scratch: &[ScratchVolume]) -> bool

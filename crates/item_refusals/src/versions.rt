@@ -3,15 +3,15 @@
 ghost use Rattle.std.specs.Prelude.{◌≡◌};
 ghost use Rattle.kinds.specs.Refusals.{foremost};
 ghost use Rattle.inventory_rows.specs.State.{inv_of};
-ghost use Rattle.inventory_rules.specs.RefusedData.{filespace_there, backup_refused, rebinding_refused, rebind_refused, stale_version, named_gone_refused, gone_refused, expired_refused, expire_refused};
+ghost use Rattle.inventory_rules.specs.Versions.{filespace_there, backup_refused, rebinding_refused, rebind_refused, stale_version, named_gone_refused, gone_refused, expired_refused, expire_refused};
 
-use crate::causes::{gone_or_unknown, once, unless};
+use crate::causes::{gone_or_unknown, once};
 use crate::past::Past;
 use crate::retained::is_retained;
 use crate::room::has_room;
 use change_items::{NamedVersion, NewVersion, Rebinding};
 use inventory_rows::Tables;
-use kinds::{By, Refusal, sooner_of};
+use kinds::{By, Refusal, sooner_of, unless};
 
 fn filespace_there(tables: &Tables, filespace: u32) -> Option<Refusal>
     ensures { result ≡ foremost (filespace_there filespace (inv_of tables.now)) }

@@ -12,3 +12,6 @@ pub eight : (old a b c d e f g h n1 n2 n3 n4 n5 n6 n7 n8 : List ℕ)
     → n8 ≡ old ++ (a ++ (b ++ (c ++ (d ++ (e ++ (f ++ (g ++ h)))))))
 eight old a b c d e f g h n1 n2 n3 n4 n5 n6 n7 n8 e1 e2 e3 e4 e5 e6 e7 e8 =
     rw (e8, e7, e6, e5, e4, e3, e2, e1) (simp append_assoc)
+
+pub three : (old a b c n1 n2 n3 : List ℕ) → n1 ≡ old ++ a → n2 ≡ n1 ++ b → n3 ≡ n2 ++ c → n3 ≡ old ++ (a ++ (b ++ c))
+three old a b c n1 n2 n3 e1 e2 e3 = rw (e3, e2, e1) (simp append_assoc)

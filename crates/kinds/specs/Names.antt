@@ -1,7 +1,8 @@
-use Rattle.std.specs.Prelude.{ℕ, Bool, ◌==◌, ◌&&◌, ◌||◌, nat_lt, nat_le, List, length, Result, Ok, Err, if◌then◌else◌}
+use Rattle.std.specs.Prelude.{ℕ, Bool, ◌==◌, ◌&&◌, ◌||◌, nat_lt, nat_le, List, length, Result, Ok, Err, if◌then◌else◌, nat_eq}
 use Rattle.std.specs.Char.{is_ascii_digit, is_ascii_uppercase}
 use Rattle.std.specs.List.{list_all}
 use Rattle.std.specs.Str.{byte, str_to_ascii_uppercase}
+use Rattle.std.specs.Cmp.Lexicographic.{pointwise}
 use Rattle.kinds.specs.declared.refusal.Refusal.{Refusal}
 use Rattle.kinds.specs.declared.refusal.Refusal.TheVariants.{BadValue}
 
@@ -21,3 +22,7 @@ is_name most bytes = is_within most bytes && list_all is_name_byte bytes
 abbrev pub read_name : ℕ → List ℕ → Result (List ℕ) Refusal
 read_name most bytes =
     if is_name most (str_to_ascii_uppercase bytes) then Ok (str_to_ascii_uppercase bytes) else Err (BadValue 0)
+
+-- two names are the same bytes
+abbrev pub is_same_name : List ℕ → List ℕ → Bool
+is_same_name a b = pointwise nat_eq a b

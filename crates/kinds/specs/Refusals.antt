@@ -1,4 +1,4 @@
-use Rattle.std.specs.Prelude.{ℕ, ◌+◌, nat_lt, if◌then◌else◌, List, [], ◌∷◌, Option, Some, None}
+use Rattle.std.specs.Prelude.{ℕ, ◌+◌, Bool, true, false, nat_lt, if◌then◌else◌, List, [], ◌∷◌, Option, Some, None, Result, Ok, Err}
 use Rattle.kinds.specs.declared.refusal.Refusal.{Refusal}
 use Rattle.kinds.specs.declared.refusal.Refusal.TheVariants.{Syntax, UnknownWord, Ambiguous, BadValue, NotFound, Exists, InUse, NoDefaultClass, BadHierarchy, DayBack, NoBackupGroup, NoSpace, Busy, Stale, Gone, Unavailable, WriteFault, TreeFault, Changed, DigestDiffers, TooLarge, RecordFull, InventoryFull, NotYet, LogFault, RunFull, Memory}
 
@@ -54,3 +54,22 @@ sooner_of (Some a) (Some b) = Some (sooner a b)
 abbrev pub foremost : List Refusal → Option Refusal
 foremost [] = None
 foremost (e ∷ es) = sooner_of (Some e) (foremost es)
+
+-- the refusal, unless the test holds
+abbrev pub unless : Bool → Refusal → List Refusal
+unless true e = []
+unless false e = e ∷ []
+
+-- a value that was given is not as it has to be, and no word of a line has it
+abbrev pub bad_value : Refusal
+bad_value = BadValue 0
+
+-- the refusal that a change of rows gives
+abbrev pub refusal_of : {S : Type 0} → Result S Refusal → List Refusal
+refusal_of (Ok _) = []
+refusal_of (Err e) = e ∷ []
+
+-- the refusal that names what uses a thing
+abbrev pub used_by : {X : Type 0} → (X → Refusal) → Option X → List Refusal
+used_by name None = []
+used_by name (Some x) = name x ∷ []

@@ -1,4 +1,4 @@
-ghost use Rattle.std.specs.Prelude.{◌≡◌};
+ghost use Rattle.std.specs.Prelude.{◌≡◌, IfOk};
 
 use crate::day::Days;
 use crate::name::{Name, NodeName};
@@ -23,7 +23,7 @@ pub enum DefineOrDelete {
 }
 
 /// A change of the policy domains.
-#[derive(Debug, Drop, PartialEq, Eq)]
+#[derive(Drop)]
 pub enum PolicyChange {
     /// Of a domain and its BACKRETENTION.
     Domain {
@@ -66,7 +66,7 @@ pub enum PolicyChange {
 }
 
 /// A change of the client nodes and their filespaces.
-#[derive(Debug, Drop, PartialEq, Eq)]
+#[derive(Drop)]
 pub enum ObjectChange {
     /// Of a node, in a domain.
     Node {
@@ -84,7 +84,7 @@ pub enum ObjectChange {
 }
 
 /// A change of the device classes, storage pools and volumes.
-#[derive(Debug, Drop, PartialEq, Eq)]
+#[derive(Drop)]
 pub enum PoolChange {
     /// Of a device class of sequential volumes, each with so many bytes.
     DevClass {
@@ -111,59 +111,83 @@ pub enum PoolChange {
     },
 }
 
+/// Copies of two names.
+fn copy_two(first: &Name, second: &Name) -> Result<(Name, Name), AllocError>
+    ensures { IfOk result (λ copies. copies ≡ (first.now, second.now)) }
+{
+    let first = first.clone()?;
+    Ok((first, second.clone()?))
+}
+
+/// Copies of three names.
+fn copy_three(first: &Name, second: &Name, third: &Name) -> Result<(Name, Name, Name), AllocError>
+    ensures { IfOk result (λ copies. copies ≡ (first.now, second.now, third.now)) }
+{
+    let (first, second) = copy_two(first, second)?;
+    Ok((first, second, third.clone()?))
+}
+
 impl Clone for PolicyChange {
     ghost is_clone = { λ change copy. copy ≡ change };
 
     fn clone(&self) -> Result<Self, AllocError> {
-        Ok(match self {
+        match self {
             PolicyChange::Domain {
                 verb,
                 domain,
                 back_retention,
-            } => PolicyChange::Domain {
+            } => Ok(PolicyChange::Domain {
                 verb: *verb,
                 domain: domain.clone()?,
                 back_retention: *back_retention,
-            },
-            PolicyChange::Set { verb, domain, set } => PolicyChange::Set {
-                verb: *verb,
-                domain: domain.clone()?,
-                set: set.clone()?,
-            },
+            }),
+            PolicyChange::Set { verb, domain, set } => {
+                let (domain, set) = copy_two(domain, set)?;
+                Ok(PolicyChange::Set {
+                    verb: *verb,
+                    domain,
+                    set,
+                })
+            }
             PolicyChange::Class {
                 verb,
                 domain,
                 set,
                 class,
-            } => PolicyChange::Class {
-                verb: *verb,
-                domain: domain.clone()?,
-                set: set.clone()?,
-                class: class.clone()?,
-            },
+            } => {
+                let (domain, set, class) = copy_three(domain, set, class)?;
+                Ok(PolicyChange::Class {
+                    verb: *verb,
+                    domain,
+                    set,
+                    class,
+                })
+            }
             PolicyChange::Group {
                 verb,
                 domain,
                 set,
                 class,
                 group,
-            } => PolicyChange::Group {
-                verb: *verb,
-                domain: domain.clone()?,
-                set: set.clone()?,
-                class: class.clone()?,
-                group: *group,
-            },
-            PolicyChange::Assign { domain, set, class } => PolicyChange::Assign {
-                domain: domain.clone()?,
-                set: set.clone()?,
-                class: class.clone()?,
-            },
-            PolicyChange::Activate { domain, set } => PolicyChange::Activate {
-                domain: domain.clone()?,
-                set: set.clone()?,
-            },
-        })
+            } => {
+                let (domain, set, class) = copy_three(domain, set, class)?;
+                Ok(PolicyChange::Group {
+                    verb: *verb,
+                    domain,
+                    set,
+                    class,
+                    group: *group,
+                })
+            }
+            PolicyChange::Assign { domain, set, class } => {
+                let (domain, set, class) = copy_three(domain, set, class)?;
+                Ok(PolicyChange::Assign { domain, set, class })
+            }
+            PolicyChange::Activate { domain, set } => {
+                let (domain, set) = copy_two(domain, set)?;
+                Ok(PolicyChange::Activate { domain, set })
+            }
+        }
     }
 }
 
@@ -196,29 +220,32 @@ impl Clone for PoolChange {
     ghost is_clone = { λ change copy. copy ≡ change };
 
     fn clone(&self) -> Result<Self, AllocError> {
-        Ok(match self {
+        match self {
             PoolChange::DevClass {
                 verb,
                 class,
                 capacity,
-            } => PoolChange::DevClass {
+            } => Ok(PoolChange::DevClass {
                 verb: *verb,
                 class: class.clone()?,
                 capacity: *capacity,
-            },
+            }),
             PoolChange::Pool {
                 verb,
                 pool,
                 class,
                 kind,
                 settings,
-            } => PoolChange::Pool {
-                verb: *verb,
-                pool: pool.clone()?,
-                class: class.clone()?,
-                kind: *kind,
-                settings: *settings,
-            },
+            } => {
+                let (pool, class) = copy_two(pool, class)?;
+                Ok(PoolChange::Pool {
+                    verb: *verb,
+                    pool,
+                    class,
+                    kind: *kind,
+                    settings: *settings,
+                })
+            }
             PoolChange::Volume {
                 verb,
                 volume,
@@ -226,14 +253,14 @@ impl Clone for PoolChange {
                 file,
                 capacity,
                 access,
-            } => PoolChange::Volume {
+            } => Ok(PoolChange::Volume {
                 verb: *verb,
                 volume: volume.clone()?,
                 pool: *pool,
                 file: *file,
                 capacity: *capacity,
                 access: *access,
-            },
-        })
+            }),
+        }
     }
 }

@@ -18,9 +18,6 @@ pub use forms::{Fitting, all_fit};
 pub use name::{Name, NameOf, NodeName};
 pub use path::{FilespaceName, Path, PathOf};
 pub use pool::{Access, Capacity, PoolKind, PoolRule, PoolSettings, SizeLimit};
-pub use refusal::{By, Holder, OpenRefused, Refusal, foremost, sooner_of};
+pub use refusal::{By, Holder, OpenRefused, Refusal, bad_value, foremost, sooner_of, unless};
 pub use rule::{BackupRule, CopyGroup, Limit, RuleFound, Still};
 pub use segment::{Digest, Segment, Segments};
-
-#[cfg(test)]
-mod tests;

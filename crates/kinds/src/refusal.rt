@@ -1,5 +1,5 @@
 ghost use Rattle.std.specs.Prelude.{◌≡◌, ◌≤◌, IfSome, Contains, All};
-ghost use Rattle.kinds.specs.Refusals.{number_of, place_of, sooner, sooner_of, foremost};
+ghost use Rattle.kinds.specs.Refusals.{number_of, place_of, sooner, sooner_of, foremost, unless, bad_value};
 
 use crate::segment::Digest;
 use fields::Memory;
@@ -179,6 +179,20 @@ pub fn foremost(held: &[Refusal]) -> Option<Refusal>
         found = sooner_of(found, Some(*refusal));
     }
     found
+}
+
+/// The refusal, unless the test holds.
+pub fn unless(holds: bool, refusal: Refusal) -> Option<Refusal>
+    ensures { result ≡ foremost (unless holds refusal) }
+{
+    if holds { None } else { Some(refusal) }
+}
+
+/// What is answered where a value is not as it has to be, and no word of a line has it.
+pub fn bad_value() -> Refusal
+    ensures { result ≡ bad_value }
+{
+    Refusal::BadValue(0)
 }
 
 impl From<AllocError> for Refusal {

@@ -2,7 +2,7 @@
 use Rattle.std.proofs.Common.{◌≡◌, ◌≢◌, inl, inr, cond, eqb, ℕ, zero, suc, ◌-◌, ◌≤◌, List, [], ◌∷◌, ◌++◌, length, get_or, take, drop, replicate, refl, sym, ◌∙◌, ap, subst, arith, length-append}
 use Rattle.std.proofs.lemmas.Bool.{cases_lt, cases_eq, eq-eqb, ne_eqb, cond-true, cond-false}
 use Rattle.std.proofs.lemmas.List.{length-take, length-drop, take_all, drop_all, take-append-le, drop-append-le, get_or_append_left, get_or-append_right}
-use Rattle.store_api.specs.Disk.{Standing, changed, settled, Call, on, idle, standing_after}
+use Rattle.store_api.specs.Disk.{Standing, changed, settled, Call, on, idle, standing_after, overwritten}
 use Rattle.mem_store.specs.declared.entry.Kind.{Kind}
 use Rattle.mem_store.specs.declared.entry.Kind.TheVariants.{Write, FailedWrite, Cut, Sync}
 use Rattle.mem_store.specs.declared.entry.Entry.{Entry}
@@ -10,7 +10,6 @@ use Rattle.mem_store.specs.declared.files.Files.{Files}
 use Rattle.mem_store.specs.Files.{content_of, room_of, reach}
 use Rattle.mem_store.specs.Entries.{change_of, applied, undo, undone, first_of, calls_onto, Agrees, HasRoom, IsEntryOf}
 use Rattle.mem_store.proofs.Undo.{undo_applied}
-use Rattle.store_api.specs.Disk.{overwritten}
 
 -- calls with no effect change no file
 pub standing_idles : (first : ℕ → List ℕ) (n : ℕ) (calls : List Call) (file : ℕ) → standing_after first (replicate n idle ++ calls) file ≡ standing_after first calls file

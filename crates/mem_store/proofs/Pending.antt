@@ -1,6 +1,5 @@
 -- Which calls are pending, as a list of calls grows at its end.
-use Rattle.std.proofs.Common.{◌≡◌, cond, eqb, not, Bool, true, false, ◌&&◌, ◌||◌, ℕ, zero, ◌+◌, ◌≤◌, List, [], ◌∷◌, ◌++◌, refl, sym, ◌∙◌, ap, arith}
-use Rattle.std.proofs.Common.{inl, inr}
+use Rattle.std.proofs.Common.{◌≡◌, cond, eqb, not, Bool, true, false, ◌&&◌, ◌||◌, ℕ, zero, ◌+◌, ◌≤◌, List, [], ◌∷◌, ◌++◌, refl, sym, ◌∙◌, ap, arith, inl, inr}
 use Rattle.std.proofs.lemmas.Bool.{cases_Bool, cond-true, cond-false, cond_both, and_from, and_left, and_right}
 use Rattle.mem_store.specs.declared.entry.Kind.{Kind}
 use Rattle.mem_store.specs.declared.entry.Kind.TheVariants.{Write, FailedWrite, Cut, Sync}

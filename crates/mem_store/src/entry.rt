@@ -7,7 +7,7 @@ ghost use Rattle.mem_store.specs.Entries.{change_of, applied, taken_of, first_of
 use crate::files::Files;
 use std::alloc::{AllocError, Global};
 
-#[derive(Clone, Copy, Debug, PartialEq, Eq)]
+#[derive(Clone, Copy)]
 pub(crate) enum Kind {
     Write,
     FailedWrite,

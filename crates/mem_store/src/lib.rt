@@ -8,6 +8,3 @@ mod mem;
 mod stops;
 
 pub use mem::MemStore;
-
-#[cfg(test)]
-mod tests;

@@ -8,6 +8,7 @@ pub mod HeldCopies
 pub mod IndexLaws
 pub mod Kept
 pub mod Least
+pub mod Made
 pub mod NamedSpaces
 pub mod NodeLaws
 pub mod OtherCopies

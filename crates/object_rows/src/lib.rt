@@ -12,6 +12,7 @@ mod nodes;
 mod objects;
 mod place;
 mod pool_counts;
+mod refusals;
 mod space_names;
 mod spaces;
 mod tally;

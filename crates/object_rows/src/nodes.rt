@@ -1,16 +1,15 @@
-ghost use Rattle.std.specs.Prelude.{◌≡◌, false, is_some, Some};
+ghost use Rattle.std.specs.Prelude.{◌≡◌, ℕ, false, is_some, List, Some, None, Ok};
 ghost use Rattle.std.specs.Map.{lookup, remove_entry};
-ghost use Rattle.kinds.specs.Answers.{Becomes, Makes};
+ghost use Rattle.std.specs.Result.{result_err};
+ghost use Rattle.kinds.specs.Answers.{Becomes};
+ghost use Rattle.version_groups.specs.declared.groups.Filespace.{Filespace};
 ghost use Rattle.object_rows.specs.Changes.{nodes_with, nodes_without};
 ghost use Rattle.object_rows.specs.Filespaces.{at_number};
-ghost use Rattle.object_rows.specs.Names.{node_named, NodesIndexed, SpacesIndexed};
+ghost use Rattle.object_rows.specs.Names.{node_named, NodesIndexed};
 
 use crate::place::Node;
-use crate::space_names::SpaceNames;
-use crate::spaces;
-use kinds::{By, Name, NodeName, Refusal};
+use kinds::{Name, NodeName, Refusal};
 use std::collections::BTreeMap;
-use version_groups::Filespace;
 
 /// The number of the node with this name.
 pub(crate) fn named(
@@ -24,7 +23,8 @@ pub(crate) fn named(
     names.get(name).copied()
 }
 
-/// Defines a node; a name that is taken is `Exists`.
+/// Defines a node that is not refused.
+#[tactic(auto, using(crate::proofs::Made::node_comes))]
 pub(crate) fn define(
     names: &mut BTreeMap<NodeName, u32>,
     nodes: &mut BTreeMap<u32, Node>,
@@ -34,12 +34,10 @@ pub(crate) fn define(
 ) -> Result<(), Refusal>
     requires indexed { NodesIndexed names.old.entries nodes.old.entries }
     requires free { is_some (lookup (at_number number) nodes.old.entries) ≡ false }
+    requires fine { result_err (nodes_with name.now domain.now number nodes.old.entries) ≡ None }
     ensures value { Becomes result nodes.old.entries nodes.new.entries (nodes_with name.now domain.now number nodes.old.entries) }
     ensures indexed { NodesIndexed names.new.entries nodes.new.entries }
 {
-    if names.contains_key(name) {
-        return Err(Refusal::Exists);
-    }
     let key = name.clone()?;
     let node = Node {
         name: name.clone()?,
@@ -71,27 +69,20 @@ fn remove(
     nodes.remove(&number);
 }
 
-/// Takes the node with this name away. One that is not there is `NotFound`, one with filespaces is in use by the first of them.
+/// Takes the node with this name away, which is not refused.
+#[tactic(auto, using(crate::proofs::Made::node_goes))]
 pub(crate) fn delete(
     names: &mut BTreeMap<NodeName, u32>,
     nodes: &mut BTreeMap<u32, Node>,
-    spaces: &BTreeMap<u32, SpaceNames>,
-    filespaces: &BTreeMap<u32, Filespace>,
     name: &NodeName,
-) -> Result<(), Refusal>
-    requires indexed { NodesIndexed names.old.entries nodes.old.entries }
-    requires named { SpacesIndexed spaces.now.entries filespaces.now.entries }
-    ensures value { Makes result nodes.old.entries nodes.new.entries (nodes_without name.now filespaces.now.entries nodes.old.entries) }
+)
+    requires { NodesIndexed names.old.entries nodes.old.entries }
+    ensures value { (filespaces : List (ℕ × Filespace)) → result_err (nodes_without name.now filespaces nodes.old.entries) ≡ None
+        → nodes_without name.now filespaces nodes.old.entries ≡ Ok nodes.new.entries }
     ensures indexed { NodesIndexed names.new.entries nodes.new.entries }
 {
     match named(names, nodes, name) {
-        None => Err(Refusal::NotFound),
-        Some(number) => match spaces::of_node(spaces, filespaces, number) {
-            Some(filespace) => Err(Refusal::InUse(By::Filespace(filespace))),
-            None => {
-                remove(names, nodes, name, number);
-                Ok(())
-            }
-        },
+        None => (),
+        Some(number) => remove(names, nodes, name, number),
     }
 }

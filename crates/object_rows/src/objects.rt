@@ -1,9 +1,10 @@
-ghost use Rattle.std.specs.Prelude.{◌≡◌, ◌<◌, MatchResult, ◌∷◌, true, IsTrue, Ok, Err, OnOk, Some, None, [], length};
+ghost use Rattle.std.specs.Prelude.{◌≡◌, ◌<◌, ℕ, MatchResult, ◌∷◌, true, IsTrue, Ok, Err, OnOk, Some, None, [], length};
 ghost use Rattle.std.specs.Bool.{OnTrue};
 ghost use Rattle.std.specs.List.Sorted.{IsStrictlySortedBy};
 ghost use Rattle.std.specs.Map.{keys_of};
 ghost use Rattle.std.specs.Option.{option_copied};
 ghost use Rattle.std.specs.Ordering.{nat_cmp};
+ghost use Rattle.std.specs.Result.{result_err};
 ghost use Rattle.kinds.specs.Answers.{Becomes, Makes};
 ghost use Rattle.kinds.specs.declared.refusal.Refusal.TheVariants.{Memory};
 ghost use Rattle.version_groups.specs.Versions.{copies_of, has_object, is_active, are_distinct, superseded, version_of};
@@ -21,7 +22,7 @@ ghost use Rattle.object_rows.specs.Rows.{IsNew, FreePool, IsMadeOf, IsSound, row
 use crate::place::{Node, Place};
 use crate::space_names::SpaceNames;
 use crate::tally::Tally;
-use crate::{build, indexed, items, nodes, spaces};
+use crate::{build, indexed, items, nodes, refusals, spaces};
 use kinds::{Day, DefineOrDelete, FilespaceName, Name, NodeName, ObjectChange, Path, Refusal};
 use std::alloc::{AllocError, Global};
 use std::collections::BTreeMap;
@@ -263,12 +264,18 @@ impl Objects {
         }
     }
 
-    /// Defines or deletes a node or a filespace. A node that is defined gets this number, which no node has. What is not there
-    /// is `NotFound`: the node of a filespace that is defined, and the node or filespace that is deleted; a name that is taken is
-    /// `Exists`; a node with filespaces, or a filespace with versions, that is deleted is in use by the least of them. A
-    /// filespace is deleted by its number, and its node and name are not looked at, nor is the domain of a node that is deleted.
-    pub fn change(&mut self, change: &ObjectChange, number: u32) -> Result<(), Refusal>
-        requires { HasFreeNumber change.now number self.old }
+    /// How a change would be refused, where it would. It takes no memory.
+    pub fn refusal(&self, change: &ObjectChange) -> Option<Refusal>
+        ensures { (number : ℕ) → result ≡ result_err (rows_changed change.now number self.now) }
+    {
+        refusals::refusal(self, change)
+    }
+
+    /// Makes a change that is not refused.
+    #[tactic(auto, using(crate::proofs::Made::error_on_ok, crate::proofs::Made::node_is_new, crate::proofs::Made::space_is_new))]
+    fn make(&mut self, change: &ObjectChange, number: u32) -> Result<(), Refusal>
+        requires free { HasFreeNumber change.now number self.old }
+        requires fine { result_err (rows_changed change.now number self.old) ≡ None }
         ensures { Changes change.now result self.old self.new (rows_changed change.now number self.old) }
     {
         match change {
@@ -281,13 +288,10 @@ impl Objects {
                 verb: DefineOrDelete::Delete,
                 node,
                 ..
-            } => nodes::delete(
-                &mut self.names,
-                &mut self.nodes,
-                &self.spaces,
-                &self.filespaces,
-                node,
-            ),
+            } => {
+                nodes::delete(&mut self.names, &mut self.nodes, node);
+                Ok(())
+            }
             ObjectChange::Filespace {
                 verb: DefineOrDelete::Define,
                 node,
@@ -295,7 +299,6 @@ impl Objects {
                 filespace,
             } => spaces::define(
                 self.alloc,
-                &self.nodes,
                 &self.places,
                 &mut self.spaces,
                 &mut self.filespaces,
@@ -307,12 +310,29 @@ impl Objects {
                 verb: DefineOrDelete::Delete,
                 filespace,
                 ..
-            } => spaces::delete(
-                &self.places,
-                &mut self.spaces,
-                &mut self.filespaces,
-                *filespace,
-            ),
+            } => {
+                spaces::delete(
+                    &self.places,
+                    &mut self.spaces,
+                    &mut self.filespaces,
+                    *filespace,
+                );
+                Ok(())
+            }
+        }
+    }
+
+    /// Defines or deletes a node or a filespace. A node that is defined gets this number, which no node has. What is not there
+    /// is `NotFound`: the node of a filespace that is defined, and the node or filespace that is deleted; a name that is taken is
+    /// `Exists`; a node with filespaces, or a filespace with versions, that is deleted is in use by the least of them. A
+    /// filespace is deleted by its number, and its node and name are not looked at, nor is the domain of a node that is deleted.
+    pub fn change(&mut self, change: &ObjectChange, number: u32) -> Result<(), Refusal>
+        requires { HasFreeNumber change.now number self.old }
+        ensures { Changes change.now result self.old self.new (rows_changed change.now number self.old) }
+    {
+        match self.refusal(change) {
+            Some(refusal) => Err(refusal),
+            None => self.make(change, number),
         }
     }
 

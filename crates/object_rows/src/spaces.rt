@@ -1,17 +1,19 @@
-ghost use Rattle.std.specs.Prelude.{◌≡◌, false, is_some, ◌∷◌, ◌==◌, Some, None, map, length, Ok};
+ghost use Rattle.std.specs.Prelude.{◌≡◌, ℕ, false, is_some, ◌∷◌, ◌==◌, List, Some, None, map, length, Ok};
 ghost use Rattle.std.specs.Map.{lookup, remove_entry};
-ghost use Rattle.kinds.specs.Answers.{Becomes, Makes};
+ghost use Rattle.std.specs.Result.{result_err};
+ghost use Rattle.kinds.specs.Answers.{Becomes};
 ghost use Rattle.object_rows.specs.Changes.{lesser, least, least_object, filespaces_defined, filespaces_without};
+ghost use Rattle.object_rows.specs.declared.place.Node.{Node};
 ghost use Rattle.object_rows.specs.Filespaces.{at_number, filespace_at};
 ghost use Rattle.object_rows.specs.Names.{filespace_named, filespace_of, SpacesIndexed};
 ghost use Rattle.object_rows.specs.Places.{Indexed};
 ghost use Rattle.object_rows.specs.declared.tally.Tally.{Tally};
 ghost use Rattle.object_rows.specs.Tally.{IsCounted};
 
-use crate::place::{Node, Place};
+use crate::place::Place;
 use crate::space_names;
 use crate::space_names::SpaceNames;
-use kinds::{By, FilespaceName, Path, Refusal};
+use kinds::{FilespaceName, Path, Refusal};
 use std::alloc::Global;
 use std::collections::BTreeMap;
 use version_groups::{Filespace, Group, Groups, Version};
@@ -79,7 +81,7 @@ fn least_of(versions: &[Version]) -> Option<u64>
 }
 
 /// The least object that has a version in the groups.
-fn least_object(groups: &BTreeMap<Path, Group>) -> Option<u64>
+pub(crate) fn least_object(groups: &BTreeMap<Path, Group>) -> Option<u64>
     ensures { result ≡ least_object groups.now.entries }
 {
     let mut found = None;
@@ -89,10 +91,10 @@ fn least_object(groups: &BTreeMap<Path, Group>) -> Option<u64>
     found
 }
 
-/// Defines a filespace without groups. A node that is not there is `NotFound`, a name that the node has given is `Exists`.
+/// Defines a filespace without groups, which is not refused.
+#[tactic(auto, using(crate::proofs::Made::space_comes))]
 pub(crate) fn define(
     alloc: Global,
-    nodes: &BTreeMap<u32, Node>,
     places: &BTreeMap<u64, Place>,
     spaces: &mut BTreeMap<u32, SpaceNames>,
     filespaces: &mut BTreeMap<u32, Filespace>,
@@ -103,17 +105,13 @@ pub(crate) fn define(
     requires indexed { Indexed places.now.entries filespaces.old.entries }
     requires named { SpacesIndexed spaces.old.entries filespaces.old.entries }
     requires free { is_some (filespace_at number filespaces.old.entries) ≡ false }
-    ensures value { Becomes result filespaces.old.entries filespaces.new.entries (filespaces_defined node name.now number nodes.now.entries filespaces.old.entries) }
+    requires new { filespace_named node name.now filespaces.old.entries ≡ None }
+    ensures value { (nodes : List (ℕ × Node)) → result_err (filespaces_defined node name.now number nodes filespaces.old.entries) ≡ None
+        → Becomes result filespaces.old.entries filespaces.new.entries (filespaces_defined node name.now number nodes filespaces.old.entries) }
     ensures indexed { Indexed places.now.entries filespaces.new.entries }
     ensures named { SpacesIndexed spaces.new.entries filespaces.new.entries }
     ensures counted { (tally : Tally) → IsCounted tally filespaces.old.entries → IsCounted tally filespaces.new.entries }
 {
-    if !nodes.contains_key(&node) {
-        return Err(Refusal::NotFound);
-    }
-    if named(spaces, filespaces, node, name).is_some() {
-        return Err(Refusal::Exists);
-    }
     let filespace = Filespace {
         node,
         name: name.clone()?,
@@ -129,30 +127,25 @@ pub(crate) fn define(
     }
 }
 
-/// Takes a filespace away that has no version. One that is not there is `NotFound`, one with versions is in use by the least
-/// of their objects.
+/// Takes a filespace away, which is not refused.
+#[tactic(auto, using(crate::proofs::Made::space_goes))]
 pub(crate) fn delete(
     places: &BTreeMap<u64, Place>,
     spaces: &mut BTreeMap<u32, SpaceNames>,
     filespaces: &mut BTreeMap<u32, Filespace>,
     number: u32,
-) -> Result<(), Refusal>
+)
     requires indexed { Indexed places.now.entries filespaces.old.entries }
     requires named { SpacesIndexed spaces.old.entries filespaces.old.entries }
-    ensures value { Makes result filespaces.old.entries filespaces.new.entries (filespaces_without number filespaces.old.entries) }
+    requires fine { result_err (filespaces_without number filespaces.old.entries) ≡ None }
+    ensures value { filespaces_without number filespaces.old.entries ≡ Ok filespaces.new.entries }
     ensures indexed { Indexed places.now.entries filespaces.new.entries }
     ensures named { SpacesIndexed spaces.new.entries filespaces.new.entries }
     ensures counted { (tally : Tally) → IsCounted tally filespaces.old.entries → IsCounted tally filespaces.new.entries }
 {
     match filespaces.get(&number) {
-        None => return Err(Refusal::NotFound),
-        Some(filespace) => {
-            if let Some(object) = least_object(filespace.groups.as_map()) {
-                return Err(Refusal::InUse(By::Object(object)));
-            }
-            space_names::take(spaces, filespace.node, &filespace.name);
-        }
+        None => return,
+        Some(filespace) => space_names::take(spaces, filespace.node, &filespace.name),
     }
     filespaces.remove(&number);
-    Ok(())
 }

@@ -13,6 +13,3 @@ mod part;
 mod pattern;
 
 pub use pattern::Pattern;
-
-#[cfg(test)]
-mod tests;

@@ -1,8 +1,8 @@
 -- Numbers of bytes that are those of whole blocks.
 use Rattle.std.proofs.Common.{ℕ, ◌+◌, ◌/◌, List, Option, Some, None, refl, arith}
 use Rattle.std.specs.Option.{option_map_or}
-use Rattle.volume_rows.specs.declared.held.HeldSegment.{HeldSegment}
-use Rattle.volume_rows.specs.Held.{end_of}
+use Rattle.inventory_rows.specs.volume_rows.declared.held.HeldSegment.{HeldSegment}
+use Rattle.inventory_rows.specs.volume_rows.Held.{end_of}
 use Rattle.placing.specs.Laws.{HasRoomForFrame, IsWhole}
 use Rattle.placing.specs.Placing.{whole_blocks, block_bytes, blocks_end, last_of}
 

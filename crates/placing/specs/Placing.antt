@@ -6,15 +6,15 @@ use Rattle.kinds.specs.declared.pool.Access.{Access}
 use Rattle.kinds.specs.declared.pool.Access.TheVariants.{ReadWrite, ReadOnly, Unavailable, Offsite, Destroyed}
 use Rattle.kinds.specs.declared.rule.BackupRule.{BackupRule}
 use Rattle.kinds.specs.declared.segment.Segment.{Segment}
-use Rattle.policy_domains.specs.Rows.{SetRow, DomainRow}
-use Rattle.policy_domains.specs.Rules.{group_of}
-use Rattle.version_groups.specs.declared.copies.CopyRow.{CopyRow}
-use Rattle.version_groups.specs.declared.versions.Version.{Version}
-use Rattle.volume_rows.specs.declared.held.HeldSegment.{HeldSegment}
-use Rattle.volume_rows.specs.declared.volume.Volume.{Volume}
-use Rattle.volume_rows.specs.Held.{end_of}
-use Rattle.pool_tables.specs.Rows.{row_at}
-use Rattle.pool_rows.specs.PoolRows.{is_sequential}
+use Rattle.inventory_rows.specs.policy_domains.Rows.{SetRow, DomainRow}
+use Rattle.inventory_rows.specs.policy_domains.Rules.{group_of}
+use Rattle.inventory_rows.specs.version_groups.declared.copies.CopyRow.{CopyRow}
+use Rattle.inventory_rows.specs.version_groups.declared.versions.Version.{Version}
+use Rattle.inventory_rows.specs.volume_rows.declared.held.HeldSegment.{HeldSegment}
+use Rattle.inventory_rows.specs.volume_rows.declared.volume.Volume.{Volume}
+use Rattle.inventory_rows.specs.volume_rows.Held.{end_of}
+use Rattle.inventory_rows.specs.pool_tables.Rows.{row_at}
+use Rattle.inventory_rows.specs.pool_rows.PoolRows.{is_sequential}
 use Rattle.inventory_rows.specs.Search.{domain_of_node, group}
 use Rattle.inventory_rows.specs.State.{Inv}
 use Rattle.inventory_work.specs.Rules.{active_in}

@@ -1,6 +1,6 @@
 // What the places of files come to. Each law stands on a function that does nothing.
 ghost use Rattle.std.specs.Prelude.{◌≡◌, ℕ, List};
-ghost use Rattle.volume_rows.specs.declared.held.HeldSegment.{HeldSegment};
+ghost use Rattle.inventory_rows.specs.volume_rows.declared.held.HeldSegment.{HeldSegment};
 ghost use Rattle.placing.specs.Laws.{HasRoomForFrame, IsWhole};
 ghost use Rattle.placing.specs.Placing.{block_bytes, blocks_end};
 

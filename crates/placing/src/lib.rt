@@ -13,6 +13,3 @@ pub use places::{place, segments_for};
 pub use reading::{can_read, is_readable};
 pub use rules::default_rule;
 pub use versions::active_version;
-
-#[cfg(test)]
-mod tests;

@@ -2,14 +2,14 @@
 ghost use Rattle.std.specs.Prelude.{◌≡◌, ◌<◌, ◌^◌, ◌∷◌, [], Some, None, if◌then◌else◌};
 ghost use Rattle.kinds.specs.Answers.{AnswersBy};
 ghost use Rattle.inventory_rows.specs.State.{inv_of};
-ghost use Rattle.volume_rows.specs.Held.{end_of};
+ghost use Rattle.inventory_rows.specs.volume_rows.Held.{end_of};
 ghost use Rattle.placing.specs.Placing.{whole_blocks, block_bytes, blocks_end, is_writable, has_room, place_among, place, segments_for};
 
 use inventory_rows::Tables;
+use inventory_rows::pool_rows::Pools;
+use inventory_rows::volume_rows::{HeldSegment, Holdings, Volume};
 use kinds::{Access, Refusal, Segment, Segments};
-use pool_rows::Pools;
 use std::alloc::Global;
-use volume_rows::{HeldSegment, Holdings, Volume};
 
 /// So many bytes, rounded up to whole blocks.
 fn whole_blocks(bytes: u128) -> u128

@@ -5,8 +5,8 @@ ghost use Rattle.inventory_rows.specs.State.{inv_of};
 ghost use Rattle.placing.specs.Placing.{may_be_read, is_readable, can_read};
 
 use inventory_rows::Tables;
+use inventory_rows::version_groups::CopyRow;
 use kinds::{Access, Segment};
-use version_groups::CopyRow;
 
 fn may_be_read(access: &Access) -> bool
     ensures { result ≡ may_be_read access.now }

@@ -4,16 +4,16 @@ ghost use Rattle.std.specs.BTreeMap.{is_at};
 ghost use Rattle.std.specs.Cmp.Lexicographic.{slice_cmp};
 ghost use Rattle.std.specs.Ordering.{nat_cmp};
 ghost use Rattle.std.specs.Option.{option_copied, option_map};
-ghost use Rattle.policy_domains.specs.Rows.{active_set, row_of};
-ghost use Rattle.policy_domains.specs.Rules.{group_of};
+ghost use Rattle.inventory_rows.specs.policy_domains.Rows.{active_set, row_of};
+ghost use Rattle.inventory_rows.specs.policy_domains.Rules.{group_of};
 ghost use Rattle.inventory_rows.specs.Search.{domain_of_node};
 ghost use Rattle.inventory_rows.specs.State.{inv_of};
 ghost use Rattle.inventory_work.specs.Rules.{active_in};
 ghost use Rattle.placing.specs.Placing.{class_with_rule, default_of_set, default_in, default_rule};
 
 use inventory_rows::Tables;
+use inventory_rows::policy_domains::{Domains, PolicySet};
 use kinds::{BackupRule, Name};
-use policy_domains::{Domains, PolicySet};
 use std::collections::BTreeMap;
 
 fn is_active_name(name: &Name) -> bool

@@ -5,8 +5,8 @@ ghost use Rattle.inventory_rows.specs.State.{inv_of};
 ghost use Rattle.placing.specs.Placing.{active_of, active_version};
 
 use inventory_rows::Tables;
+use inventory_rows::version_groups::Version;
 use kinds::Path;
-use version_groups::Version;
 
 fn active_of(versions: &[Version]) -> Option<&Version>
     ensures { option_copied result ≡ active_of versions.now }

@@ -12,16 +12,17 @@ use Rattle.std.specs.declared.cmp.Ordering.TheVariants.{Less, Equal, Greater}
 use Rattle.kinds.specs.declared.change.DefineOrDelete.{DefineOrDelete}
 use Rattle.kinds.specs.declared.change.DefineOrDelete.TheVariants.{Define, Delete}
 use Rattle.kinds.specs.declared.change.PolicyChange.{PolicyChange}
-use Rattle.kinds.specs.declared.change.PolicyChange.TheVariants.{Domain, Set, Class, Group, Assign, Activate}
+use Rattle.kinds.specs.declared.change.PolicyChange.TheVariants.{Domain, Set, Activate}
 use Rattle.kinds.specs.declared.change.Verb.{Verb}
 use Rattle.kinds.specs.declared.change.Verb.TheVariants as verbs
 use Rattle.kinds.specs.declared.refusal.Refusal.{Refusal}
 use Rattle.kinds.specs.declared.refusal.Refusal.TheVariants.{NotFound, Exists}
 use Rattle.kinds.specs.Answers.{Becomes}
 use Rattle.policy_domains.specs.Ascending.{AreByName, SetsAscend}
-use Rattle.policy_domains.specs.Changes.{after, domain_changed, in_group}
+use Rattle.policy_domains.specs.Changes.{after, domain_changed, domain_of, set_after, set_within}
 use Rattle.policy_domains.specs.Rows.{DomainRow, SetRow, active_set, row_of, with_row, with_value, without_row, within, defined, deleted, changed_row, changed}
-use Rattle.policy_domains.specs.Sets.{empty_domain, empty_set, in_sets, set_changed, class_changed, assigned, to_activate, activated}
+use Rattle.policy_domains.specs.Sets.{empty_domain, empty_set, in_sets, set_changed, to_activate, activated}
+use Rattle.policy_domains.proofs.Places.{name_of}
 use Rattle.policy_domains.proofs.Unbound.{within_keeps}
 
 -- ---- rows by name
@@ -164,16 +165,14 @@ domain_ascends verbs.Delete domain days rows a =
       | false ↦ tt
     ]
 
+within_ascends : (domain set : List ℕ) (step : SetRow → Result SetRow Refusal) (rows : List (List ℕ × DomainRow)) → SetsAscend rows → IfOk (changed domain (in_sets (changed set step)) rows) SetsAscend
+within_ascends domain set step rows a = domain_step domain (in_sets (changed set step)) (set_step_by_name set step) rows a
+
 after_ascends : (change : PolicyChange) (rows : List (List ℕ × DomainRow)) → SetsAscend rows → IfOk (after change rows) SetsAscend
 after_ascends (Domain verb domain days) rows a = domain_ascends verb domain days rows a
 after_ascends (Set verb domain set) rows a = domain_step domain (in_sets (set_changed verb set)) (in_sets_by_name (set_changed verb set) (set_by_name verb set)) rows a
-after_ascends (Class verb domain set class) rows a =
-    domain_step domain (in_sets (changed set (class_changed verb class))) (set_step_by_name set (class_changed verb class)) rows a
-after_ascends (Group verb domain set class rule) rows a =
-    domain_step domain (in_sets (changed set (in_group verb class rule))) (set_step_by_name set (in_group verb class rule)) rows a
-after_ascends (Assign domain set class) rows a =
-    domain_step domain (in_sets (changed set (assigned class))) (set_step_by_name set (assigned class)) rows a
 after_ascends (Activate domain set) rows a = domain_step domain (activated set) (activated_by_name set) rows a
+after_ascends change rows a = within_ascends (domain_of change) (name_of (set_within change)) (set_after change) rows a
 
 kept : {A : Type 0} (result : Result A Refusal) (old new : List (List ℕ × DomainRow)) (said : Result (List (List ℕ × DomainRow)) Refusal)
     → Becomes result old new said → IfOk said SetsAscend → SetsAscend old → SetsAscend new

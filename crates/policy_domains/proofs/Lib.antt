@@ -1,3 +1,5 @@
 pub mod Ascends
+pub mod Errors
 pub mod Parts
+pub mod Places
 pub mod Unbound

@@ -12,15 +12,17 @@ use Rattle.std.proofs.lemmas.Map.Lookups.{exact_bytes}
 use Rattle.kinds.specs.declared.change.DefineOrDelete.{DefineOrDelete}
 use Rattle.kinds.specs.declared.change.DefineOrDelete.TheVariants.{Define, Delete}
 use Rattle.kinds.specs.declared.change.PolicyChange.{PolicyChange}
-use Rattle.kinds.specs.declared.change.PolicyChange.TheVariants.{Domain, Set, Class, Group, Assign, Activate}
+use Rattle.kinds.specs.declared.change.PolicyChange.TheVariants.{Domain, Set, Activate}
 use Rattle.kinds.specs.declared.refusal.Refusal.{Refusal}
 use Rattle.kinds.specs.declared.refusal.Refusal.TheVariants.{NotFound, Exists}
 use Rattle.kinds.specs.Answers.{Becomes}
-use Rattle.policy_domains.specs.Rows.{SetRow, DomainRow, active_set, is_same_name, row_of, with_row, with_value, without_row, within, defined, deleted, changed_row, changed}
-use Rattle.policy_domains.specs.Sets.{empty_set, in_sets, set_changed, class_changed, assigned}
-use Rattle.policy_domains.specs.Changes.{in_group, after, names_active}
+use Rattle.kinds.specs.Names.{is_same_name}
+use Rattle.policy_domains.specs.Rows.{SetRow, DomainRow, active_set, row_of, with_row, with_value, without_row, within, defined, deleted, changed_row, changed}
+use Rattle.policy_domains.specs.Sets.{empty_set, in_sets, set_changed}
+use Rattle.policy_domains.specs.Changes.{after, domain_of, names_active, set_after, set_within}
 use Rattle.policy_domains.specs.Rules.{group_of, default_group, first_found, rule_in, rule_of}
 use Rattle.policy_domains.specs.Laws.{IsOfSets}
+use Rattle.policy_domains.proofs.Places.{name_of}
 
 -- rows that u finds, where t is a test that no row found by u passes
 module _ {V : Type 0} (t u : List ℕ → Bool) (apart : (k : List ℕ) → t k ≡ true → u k ≡ false) where
@@ -162,20 +164,17 @@ domain_keeps domain step keeps rows =
           (step v) (keeps v)
     ] refl
 
+set_keeps : (domain set : List ℕ) → is_same_name set active_set ≡ false → (step : SetRow → Result SetRow Refusal) (rows : List (List ℕ × DomainRow))
+    → IfOk (changed domain (in_sets (changed set step)) rows) (KeepsAll rows)
+set_keeps domain set other step rows =
+    domain_keeps domain (in_sets (changed set step)) (λ row. in_sets_keeps (changed set step) row (row_keeps set other step row.sets (row_of set row.sets))) rows
+
 after_keeps : (change : PolicyChange) → names_active change ≡ false → IsOfSets change → (rows : List (List ℕ × DomainRow)) → IfOk (after change rows) (KeepsAll rows)
 after_keeps (Domain verb domain days) other of_sets rows = absurd of_sets
 after_keeps (Set verb domain set) other of_sets rows =
     domain_keeps domain (in_sets (set_changed verb set)) (λ row. in_sets_keeps (set_changed verb set) row (set_changed_keeps set other verb row.sets)) rows
-after_keeps (Class verb domain set class) other of_sets rows =
-    domain_keeps domain (in_sets (changed set (class_changed verb class)))
-    (λ row. in_sets_keeps (changed set (class_changed verb class)) row (row_keeps set other (class_changed verb class) row.sets (row_of set row.sets))) rows
-after_keeps (Group verb domain set class rule) other of_sets rows =
-    domain_keeps domain (in_sets (changed set (in_group verb class rule)))
-    (λ row. in_sets_keeps (changed set (in_group verb class rule)) row (row_keeps set other (in_group verb class rule) row.sets (row_of set row.sets))) rows
-after_keeps (Assign domain set class) other of_sets rows =
-    domain_keeps domain (in_sets (changed set (assigned class)))
-    (λ row. in_sets_keeps (changed set (assigned class)) row (row_keeps set other (assigned class) row.sets (row_of set row.sets))) rows
 after_keeps (Activate domain set) other of_sets rows = absurd of_sets
+after_keeps change other of_sets rows = set_keeps (domain_of change) (name_of (set_within change)) other (set_after change) rows
 
 kept : {A : Type 0} (result : Result A Refusal) (old new : List (List ℕ × DomainRow)) (said : Result (List (List ℕ × DomainRow)) Refusal)
     → Becomes result old new said → IfOk said (KeepsAll old) → KeepsAll old new

@@ -8,7 +8,8 @@ use Rattle.kinds.specs.declared.change.PolicyChange.{PolicyChange}
 use Rattle.kinds.specs.declared.change.PolicyChange.TheVariants.{Domain, Set, Class, Group, Assign, Activate}
 use Rattle.kinds.specs.declared.refusal.Refusal.{Refusal}
 use Rattle.kinds.specs.declared.refusal.Refusal.TheVariants.{NotFound, Exists}
-use Rattle.policy_domains.specs.Rows.{SetRow, DomainRow, active_set, is_same_name, within, defined, deleted, changed}
+use Rattle.kinds.specs.Names.{is_same_name}
+use Rattle.policy_domains.specs.Rows.{SetRow, DomainRow, active_set, within, defined, deleted, changed}
 use Rattle.policy_domains.specs.Sets.{empty_domain, in_sets, set_changed, class_changed, assigned, activated}
 
 -- a domain is defined without sets, gets another BACKRETENTION, or is deleted
@@ -39,6 +40,38 @@ after (Class verb domain set class) = changed domain (in_sets (changed set (clas
 after (Group verb domain set class rule) = changed domain (in_sets (changed set (in_group verb class rule)))
 after (Assign domain set class) = changed domain (in_sets (changed set (assigned class)))
 after (Activate domain set) = changed domain (activated set)
+
+-- the domain that a change names
+abbrev pub domain_of : PolicyChange → List ℕ
+domain_of (Domain verb domain days) = domain
+domain_of (Set verb domain set) = domain
+domain_of (Class verb domain set class) = domain
+domain_of (Group verb domain set class rule) = domain
+domain_of (Assign domain set class) = domain
+domain_of (Activate domain set) = domain
+
+-- the set within which a change is made, where it is made within one
+abbrev pub set_within : PolicyChange → Option (List ℕ)
+set_within (Domain verb domain days) = None
+set_within (Set verb domain set) = None
+set_within (Class verb domain set class) = Some set
+set_within (Group verb domain set class rule) = Some set
+set_within (Assign domain set class) = Some set
+set_within (Activate domain set) = None
+
+-- a set after a change within it, or its refusal
+abbrev pub set_after : PolicyChange → SetRow → Result SetRow Refusal
+set_after (Class verb domain set class) row = class_changed verb class row
+set_after (Group verb domain set class rule) row = in_group verb class rule row
+set_after (Assign domain set class) row = assigned class row
+set_after _ row = Ok row
+
+-- the domains after a change that is made within no set, or its refusal
+abbrev pub domains_after : PolicyChange → List (List ℕ × DomainRow) → Result (List (List ℕ × DomainRow)) Refusal
+domains_after (Domain verb domain days) rows = domain_changed verb domain days rows
+domains_after (Set verb domain set) rows = changed domain (in_sets (set_changed verb set)) rows
+domains_after (Activate domain set) rows = changed domain (activated set) rows
+domains_after _ rows = Ok rows
 
 -- a change of the set ACTIVE, or an activation of it: these are refused before the domains are looked at
 abbrev pub names_active : PolicyChange → Bool

@@ -1,7 +1,9 @@
 pub mod Ascending
 pub mod Changes
+pub mod Errors
 pub mod Fresh
 pub mod Laws
+pub mod Makings
 pub mod Rows
 pub mod Rules
 pub mod Seen

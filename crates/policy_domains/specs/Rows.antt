@@ -4,6 +4,7 @@ use Rattle.std.specs.Ordering.{nat_cmp}
 use Rattle.std.specs.Cmp.Lexicographic.{slice_cmp, pointwise}
 use Rattle.std.specs.Map.{lookup, set_value, remove_entry}
 use Rattle.std.specs.BTreeMap.{insert_entry, is_at}
+use Rattle.kinds.specs.Names.{is_same_name}
 use Rattle.kinds.specs.declared.rule.BackupRule.{BackupRule}
 use Rattle.kinds.specs.declared.refusal.Refusal.{Refusal}
 use Rattle.kinds.specs.declared.refusal.Refusal.TheVariants.{NotFound, Exists}
@@ -22,10 +23,6 @@ pub record DomainRow : Type 0 where
 -- the policy set that binds clients
 abbrev pub active_set : List ℕ
 active_set = codes "ACTIVE"
-
--- two names are the same
-abbrev pub is_same_name : List ℕ → List ℕ → Bool
-is_same_name a b = pointwise nat_eq a b
 
 module _ {V : Type 0} where
   -- the row with this name, where there is one

@@ -4,7 +4,8 @@ use Rattle.kinds.specs.declared.change.DefineOrDelete.{DefineOrDelete}
 use Rattle.kinds.specs.declared.change.DefineOrDelete.TheVariants.{Define, Delete}
 use Rattle.kinds.specs.declared.refusal.Refusal.{Refusal}
 use Rattle.kinds.specs.declared.refusal.Refusal.TheVariants.{NotFound, NoDefaultClass}
-use Rattle.policy_domains.specs.Rows.{SetRow, DomainRow, active_set, is_same_name, row_of, with_row, within, defined, deleted}
+use Rattle.kinds.specs.Names.{is_same_name}
+use Rattle.policy_domains.specs.Rows.{SetRow, DomainRow, active_set, row_of, with_row, within, defined, deleted}
 
 -- a set without classes
 abbrev pub empty_set : SetRow

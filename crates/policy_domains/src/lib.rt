@@ -2,15 +2,16 @@
 //! of a file are kept.
 #![tactic(auto)]
 
+mod changes;
 mod initial;
+mod makings;
 mod named;
 mod policy;
+mod refusals;
 mod sets;
 mod table;
 
+pub use changes::names_active;
 pub use policy::PolicyDomain;
 pub use sets::PolicySet;
-pub use table::{Domains, names_active};
-
-#[cfg(test)]
-mod tests;
+pub use table::Domains;

@@ -1,14 +1,14 @@
 ghost use Rattle.std.specs.Prelude.{◌≡◌};
-ghost use Rattle.kinds.specs.Answers.{Becomes};
-ghost use Rattle.policy_domains.specs.Rows.{active_set, changed, row_of};
-ghost use Rattle.policy_domains.specs.Sets.{empty_domain, in_sets, set_changed, class_changed, assigned, to_activate, activated};
-ghost use Rattle.policy_domains.specs.Changes.{in_group, IsRefusedLike};
+ghost use Rattle.policy_domains.specs.Makings.{Brings};
+ghost use Rattle.policy_domains.specs.Rows.{active_set, changed};
+ghost use Rattle.policy_domains.specs.Sets.{empty_domain, in_sets, set_changed, activated};
+ghost use Rattle.policy_domains.specs.Changes.{set_after};
 ghost use Rattle.policy_domains.specs.Rules.{rule_in};
-ghost use Rattle.policy_domains.specs.Seen.{seen};
 
+use crate::changes::make_in;
 use crate::named::{define_row, delete_row};
 use crate::sets::PolicySet;
-use kinds::{CopyGroup, Days, DefineOrDelete, Name, Refusal, RuleFound, Verb};
+use kinds::{Days, DefineOrDelete, Name, PolicyChange, Refusal, RuleFound};
 use std::alloc::{AllocError, Global};
 use std::collections::BTreeMap;
 use std::marker::Model;
@@ -34,68 +34,27 @@ fn change_set(
     verb: DefineOrDelete,
     set: &Name,
 ) -> Result<(), Refusal>
-    ensures { Becomes result sets.old.entries sets.new.entries (set_changed verb set.now sets.old.entries) }
+    ensures { Brings result sets.old.entries sets.new.entries (set_changed verb set.now sets.old.entries) }
 {
     match verb {
         DefineOrDelete::Define => define_row(sets, set, PolicySet::empty(alloc)),
-        DefineOrDelete::Delete => delete_row(sets, set),
-    }
-}
-
-fn change_class(
-    sets: &mut BTreeMap<Name, PolicySet>,
-    verb: DefineOrDelete,
-    set: &Name,
-    class: &Name,
-) -> Result<(), Refusal>
-    ensures { Becomes result sets.old.entries sets.new.entries (changed set.now (class_changed verb class.now) sets.old.entries) }
-{
-    match sets.get_mut(set) {
-        Some(row) => row.change_class(verb, class),
-        None => Err(Refusal::NotFound),
-    }
-}
-
-fn change_group(
-    sets: &mut BTreeMap<Name, PolicySet>,
-    verb: Verb,
-    set: &Name,
-    class: &Name,
-    group: CopyGroup,
-) -> Result<(), Refusal>
-    ensures { Becomes result sets.old.entries sets.new.entries (changed set.now (in_group verb class.now group) sets.old.entries) }
-{
-    match sets.get_mut(set) {
-        Some(row) => row.change_group(verb, class, group),
-        None => Err(Refusal::NotFound),
-    }
-}
-
-fn assign(sets: &mut BTreeMap<Name, PolicySet>, set: &Name, class: &Name) -> Result<(), Refusal>
-    ensures { Becomes result sets.old.entries sets.new.entries (changed set.now (assigned class.now) sets.old.entries) }
-{
-    match sets.get_mut(set) {
-        Some(row) => row.assign(class),
-        None => Err(Refusal::NotFound),
-    }
-}
-
-/// The set that is to be activated; it takes no memory.
-fn found_to_activate<'a>(
-    sets: &'a BTreeMap<Name, PolicySet>,
-    set: &Name,
-) -> Result<&'a PolicySet, Refusal>
-    ensures { seen result ≡ to_activate (row_of set.now sets.now.entries) }
-{
-    match sets.get(set) {
-        None => Err(Refusal::NotFound),
-        Some(row) => {
-            if row.default_class().is_none() {
-                Err(Refusal::NoDefaultClass)
-            } else {
-                Ok(row)
-            }
+        DefineOrDelete::Delete => {
+            delete_row(sets, set);
+            Ok(())
         }
+    }
+}
+
+fn change_within(
+    sets: &mut BTreeMap<Name, PolicySet>,
+    set: &Name,
+    change: &PolicyChange,
+) -> Result<(), Refusal>
+    ensures { Brings result sets.old.entries sets.new.entries (changed set.now (set_after change.now) sets.old.entries) }
+{
+    match sets.get_mut(set) {
+        Some(row) => make_in(row, change),
+        None => Ok(()),
     }
 }
 
@@ -145,57 +104,29 @@ impl PolicyDomain {
         verb: DefineOrDelete,
         set: &Name,
     ) -> Result<(), Refusal>
-        ensures { Becomes result self.old self.new (in_sets (set_changed verb set.now) self.old) }
+        ensures { Brings result self.old self.new (in_sets (set_changed verb set.now) self.old) }
     {
         change_set(alloc, &mut self.sets, verb, set)
     }
 
-    pub(crate) fn change_class(
-        &mut self,
-        verb: DefineOrDelete,
-        set: &Name,
-        class: &Name,
-    ) -> Result<(), Refusal>
-        ensures { Becomes result self.old self.new (in_sets (changed set.now (class_changed verb class.now)) self.old) }
+    pub(crate) fn change_within(&mut self, set: &Name, change: &PolicyChange) -> Result<(), Refusal>
+        ensures { Brings result self.old self.new (in_sets (changed set.now (set_after change.now)) self.old) }
     {
-        change_class(&mut self.sets, verb, set, class)
-    }
-
-    pub(crate) fn change_group(
-        &mut self,
-        verb: Verb,
-        set: &Name,
-        class: &Name,
-        group: CopyGroup,
-    ) -> Result<(), Refusal>
-        ensures { Becomes result self.old self.new (in_sets (changed set.now (in_group verb class.now group)) self.old) }
-    {
-        change_group(&mut self.sets, verb, set, class, group)
-    }
-
-    pub(crate) fn assign(&mut self, set: &Name, class: &Name) -> Result<(), Refusal>
-        ensures { Becomes result self.old self.new (in_sets (changed set.now (assigned class.now)) self.old) }
-    {
-        assign(&mut self.sets, set, class)
+        change_within(&mut self.sets, set, change)
     }
 
     pub(crate) fn activate(&mut self, active: &Name, set: &Name) -> Result<(), Refusal>
         requires { active.now ≡ active_set }
-        ensures { Becomes result self.old self.new (activated set.now self.old) }
+        ensures { Brings result self.old self.new (activated set.now self.old) }
     {
-        let copy = found_to_activate(&self.sets, set)?.clone()?;
-        let name = active.clone()?;
-        self.sets.insert(name, copy)?;
-        Ok(())
-    }
-
-    /// Whether a set may be activated; it takes no memory.
-    pub(crate) fn validate(&self, set: &Name) -> Result<(), Refusal>
-        ensures { IsRefusedLike result (activated set.now self.now) }
-    {
-        match found_to_activate(&self.sets, set) {
-            Ok(_) => Ok(()),
-            Err(refusal) => Err(refusal),
+        match self.sets.get(set) {
+            None => Ok(()),
+            Some(row) => {
+                let copy = row.clone()?;
+                let name = active.clone()?;
+                self.sets.insert(name, copy)?;
+                Ok(())
+            }
         }
     }
 

@@ -1,8 +1,8 @@
-ghost use Rattle.std.specs.Prelude.{◌≡◌};
+ghost use Rattle.std.specs.Prelude.{◌≡◌, Some};
 ghost use Rattle.std.specs.Option.{option_copied};
-ghost use Rattle.kinds.specs.Answers.{Becomes};
+ghost use Rattle.policy_domains.specs.Makings.{IsAsSaid, Brings};
 ghost use Rattle.policy_domains.specs.Rows.{changed};
-ghost use Rattle.policy_domains.specs.Sets.{empty_set, other_default, class_changed, assigned};
+ghost use Rattle.policy_domains.specs.Sets.{empty_set, other_default, class_changed};
 ghost use Rattle.policy_domains.specs.Changes.{group_changed, in_group};
 ghost use Rattle.policy_domains.specs.Rules.{group_of, default_group};
 
@@ -32,29 +32,23 @@ fn change_group(
     verb: Verb,
     class: &Name,
     group: CopyGroup,
-) -> Result<(), Refusal>
-    ensures { Becomes result classes.old.entries classes.new.entries (changed class.now (group_changed verb group) classes.old.entries) }
+)
+    ensures { IsAsSaid classes.new.entries (changed class.now (group_changed verb group) classes.old.entries) }
 {
     match classes.get_mut(class) {
         Some(place) => replace_group(place, verb, group),
-        None => Err(Refusal::NotFound),
+        None => (),
     }
 }
 
-fn replace_group(place: &mut Option<CopyGroup>, verb: Verb, group: CopyGroup) -> Result<(), Refusal>
-    ensures { Becomes result place.old place.new (group_changed verb group place.old) }
+#[tactic(auto, using(crate::proofs::Parts::group_put, crate::proofs::Parts::group_replaced, crate::proofs::Parts::group_deleted))]
+fn replace_group(place: &mut Option<CopyGroup>, verb: Verb, group: CopyGroup)
+    ensures { IsAsSaid place.new (group_changed verb group place.old) }
 {
-    match (verb, place.is_some()) {
-        (Verb::Define, true) => Err(Refusal::Exists),
-        (Verb::Define, false) | (Verb::Update, true) => {
-            *place = Some(group);
-            Ok(())
-        }
-        (Verb::Delete, true) => {
-            *place = None;
-            Ok(())
-        }
-        (Verb::Update, false) | (Verb::Delete, false) => Err(Refusal::NotFound),
+    match verb {
+        Verb::Define => *place = Some(group),
+        Verb::Update => *place = Some(group),
+        Verb::Delete => *place = None,
     }
 }
 
@@ -126,38 +120,28 @@ impl PolicySet {
     }
 
     pub(crate) fn change_class(&mut self, verb: DefineOrDelete, class: &Name) -> Result<(), Refusal>
-        ensures { Becomes result self.old self.new (class_changed verb class.now self.old) }
+        ensures { Brings result self.old self.new (class_changed verb class.now self.old) }
     {
         match verb {
             DefineOrDelete::Define => define_row(&mut self.classes, class, None),
             DefineOrDelete::Delete => {
-                delete_row(&mut self.classes, class)?;
+                delete_row(&mut self.classes, class);
                 self.default_class = other_default(self.default_class.take(), class);
                 Ok(())
             }
         }
     }
 
-    pub(crate) fn change_group(
-        &mut self,
-        verb: Verb,
-        class: &Name,
-        group: CopyGroup,
-    ) -> Result<(), Refusal>
-        ensures { Becomes result self.old self.new (in_group verb class.now group self.old) }
+    pub(crate) fn change_group(&mut self, verb: Verb, class: &Name, group: CopyGroup)
+        ensures { IsAsSaid self.new (in_group verb class.now group self.old) }
     {
         change_group(&mut self.classes, verb, class, group)
     }
 
-    pub(crate) fn assign(&mut self, class: &Name) -> Result<(), Refusal>
-        ensures { Becomes result self.old self.new (assigned class.now self.old) }
+    pub(crate) fn set_default(&mut self, class: Name)
+        ensures { self.new ≡ record { default_class = Some class; classes = self.old.classes } }
     {
-        if self.classes.contains_key(class) {
-            self.default_class = Some(class.clone()?);
-            Ok(())
-        } else {
-            Err(Refusal::NotFound)
-        }
+        self.default_class = Some(class);
     }
 }
 

@@ -1,17 +1,17 @@
 ghost use Rattle.std.specs.Prelude.{◌≡◌, Some, IsSome, false, List, ℕ};
+ghost use Rattle.std.specs.Result.{result_err};
 ghost use Rattle.kinds.specs.Answers.{Becomes, AnswersBy};
-ghost use Rattle.policy_domains.specs.Rows.{active_set, is_same_name, changed, row_of};
-ghost use Rattle.policy_domains.specs.Sets.{in_sets, set_changed, class_changed, assigned, activated};
-ghost use Rattle.policy_domains.specs.Changes.{domain_changed, in_group, names_active, after, IsRefusedLike};
+ghost use Rattle.policy_domains.specs.Rows.{active_set, row_of};
+ghost use Rattle.policy_domains.specs.Changes.{names_active, after, IsRefusedLike};
 ghost use Rattle.policy_domains.specs.Rules.{rule_of};
 ghost use Rattle.policy_domains.specs.Fresh.{fresh};
 ghost use Rattle.policy_domains.specs.Laws.{IsOfSets};
 ghost use Rattle.policy_domains.specs.Ascending.{SetsAscend};
 
 use crate::initial::{active_name, standard_domain, standard_name};
-use crate::named::{define_row, delete_row};
 use crate::policy::PolicyDomain;
-use kinds::{CopyGroup, Days, DefineOrDelete, Name, PolicyChange, Refusal, RuleFound, Verb};
+use crate::{changes, refusals};
+use kinds::{Name, PolicyChange, Refusal, RuleFound};
 use std::alloc::{AllocError, Global};
 use std::collections::BTreeMap;
 use std::marker::Model;
@@ -36,118 +36,9 @@ impl Model for Domains {
     ghost invariant = { λ d. (d.active ≡ active_set) × SetsAscend d.rows.entries };
 }
 
-fn update_domain(
-    rows: &mut BTreeMap<Name, PolicyDomain>,
-    domain: &Name,
-    back_retention: Days,
-) -> Result<(), Refusal>
-    ensures { Becomes result rows.old.entries rows.new.entries (domain_changed Verb.Update domain.now back_retention rows.old.entries) }
-{
-    match rows.get_mut(domain) {
-        Some(row) => {
-            row.set_back_retention(back_retention);
-            Ok(())
-        }
-        None => Err(Refusal::NotFound),
-    }
-}
-
-fn change_domain(
-    alloc: Global,
-    rows: &mut BTreeMap<Name, PolicyDomain>,
-    verb: Verb,
-    domain: &Name,
-    back_retention: Days,
-) -> Result<(), Refusal>
-    ensures { Becomes result rows.old.entries rows.new.entries (domain_changed verb domain.now back_retention rows.old.entries) }
-{
-    match verb {
-        Verb::Define => define_row(rows, domain, PolicyDomain::empty(alloc, back_retention)),
-        Verb::Update => update_domain(rows, domain, back_retention),
-        Verb::Delete => delete_row(rows, domain),
-    }
-}
-
-fn change_set(
-    alloc: Global,
-    rows: &mut BTreeMap<Name, PolicyDomain>,
-    verb: DefineOrDelete,
-    domain: &Name,
-    set: &Name,
-) -> Result<(), Refusal>
-    ensures { Becomes result rows.old.entries rows.new.entries (changed domain.now (in_sets (set_changed verb set.now)) rows.old.entries) }
-{
-    match rows.get_mut(domain) {
-        Some(row) => row.change_set(alloc, verb, set),
-        None => Err(Refusal::NotFound),
-    }
-}
-
-fn change_class(
-    rows: &mut BTreeMap<Name, PolicyDomain>,
-    verb: DefineOrDelete,
-    domain: &Name,
-    set: &Name,
-    class: &Name,
-) -> Result<(), Refusal>
-    ensures { Becomes result rows.old.entries rows.new.entries
-        (changed domain.now (in_sets (changed set.now (class_changed verb class.now))) rows.old.entries) }
-{
-    match rows.get_mut(domain) {
-        Some(row) => row.change_class(verb, set, class),
-        None => Err(Refusal::NotFound),
-    }
-}
-
-fn change_group(
-    rows: &mut BTreeMap<Name, PolicyDomain>,
-    verb: Verb,
-    domain: &Name,
-    set: &Name,
-    class: &Name,
-    group: CopyGroup,
-) -> Result<(), Refusal>
-    ensures { Becomes result rows.old.entries rows.new.entries
-        (changed domain.now (in_sets (changed set.now (in_group verb class.now group))) rows.old.entries) }
-{
-    match rows.get_mut(domain) {
-        Some(row) => row.change_group(verb, set, class, group),
-        None => Err(Refusal::NotFound),
-    }
-}
-
-fn assign(
-    rows: &mut BTreeMap<Name, PolicyDomain>,
-    domain: &Name,
-    set: &Name,
-    class: &Name,
-) -> Result<(), Refusal>
-    ensures { Becomes result rows.old.entries rows.new.entries
-        (changed domain.now (in_sets (changed set.now (assigned class.now))) rows.old.entries) }
-{
-    match rows.get_mut(domain) {
-        Some(row) => row.assign(set, class),
-        None => Err(Refusal::NotFound),
-    }
-}
-
-fn activate(
-    rows: &mut BTreeMap<Name, PolicyDomain>,
-    active: &Name,
-    domain: &Name,
-    set: &Name,
-) -> Result<(), Refusal>
-    requires { active.now ≡ active_set }
-    ensures { Becomes result rows.old.entries rows.new.entries (changed domain.now (activated set.now) rows.old.entries) }
-{
-    match rows.get_mut(domain) {
-        Some(row) => row.activate(active, set),
-        None => Err(Refusal::NotFound),
-    }
-}
-
-/// Makes a change of the rows; `active` is the name of the set that binds clients.
-fn make(
+/// Makes a change of the rows, or refuses it; `active` is the name of the set that binds clients.
+#[tactic(auto, using(crate::proofs::Parts::refused, crate::proofs::Parts::made))]
+fn change_rows(
     alloc: Global,
     active: &Name,
     rows: &mut BTreeMap<Name, PolicyDomain>,
@@ -156,28 +47,9 @@ fn make(
     requires { active.now ≡ active_set }
     ensures { Becomes result rows.old.entries rows.new.entries (after change.now rows.old.entries) }
 {
-    match change {
-        PolicyChange::Domain {
-            verb,
-            domain,
-            back_retention,
-        } => change_domain(alloc, rows, *verb, domain, *back_retention),
-        PolicyChange::Set { verb, domain, set } => change_set(alloc, rows, *verb, domain, set),
-        PolicyChange::Class {
-            verb,
-            domain,
-            set,
-            class,
-        } => change_class(rows, *verb, domain, set, class),
-        PolicyChange::Group {
-            verb,
-            domain,
-            set,
-            class,
-            group,
-        } => change_group(rows, *verb, domain, set, class, *group),
-        PolicyChange::Assign { domain, set, class } => assign(rows, domain, set, class),
-        PolicyChange::Activate { domain, set } => activate(rows, active, domain, set),
+    match changes::refusal(rows, change) {
+        Some(refusal) => Err(refusal),
+        None => changes::make(alloc, active, rows, change),
     }
 }
 
@@ -187,27 +59,6 @@ fn sets_ascend(domains: &BTreeMap<Name, PolicyDomain>)
 {
     'domains: for (_, domain) in domains.iter() {
         let _sets = domain.sets().len();
-    }
-}
-
-fn is_active(set: &Name) -> bool
-    ensures { result ≡ is_same_name set.now active_set }
-{
-    set.as_bytes() == b"ACTIVE".as_slice()
-}
-
-/// Whether a change is of the set ACTIVE, or would activate that set itself. Such a change is refused as a bad value before the domains are
-/// looked at: ACTIVE is only ever made as the copy of another set.
-pub fn names_active(change: &PolicyChange) -> bool
-    ensures { result ≡ names_active change.now }
-{
-    match change {
-        PolicyChange::Domain { .. } => false,
-        PolicyChange::Set { set, .. } => is_active(set),
-        PolicyChange::Class { set, .. } => is_active(set),
-        PolicyChange::Group { set, .. } => is_active(set),
-        PolicyChange::Assign { set, .. } => is_active(set),
-        PolicyChange::Activate { set, .. } => is_active(set),
     }
 }
 
@@ -262,16 +113,24 @@ impl Domains {
         ensures unbound { IsOfSets change.now → (domain class : List ℕ)
             → rule_of self.new domain class ≡ rule_of self.old domain class }
     {
-        make(self.alloc, &self.active, &mut self.rows, change)
+        change_rows(self.alloc, &self.active, &mut self.rows, change)
+    }
+
+    /// How a change would be refused, where it would. It takes no memory.
+    pub fn refusal(&self, change: &PolicyChange) -> Option<Refusal>
+        ensures { result ≡ result_err (after change.now self.now) }
+    {
+        changes::refusal(&self.rows, change)
     }
 
     /// Whether a set may be activated: it is refused exactly as its activation would be. It takes no memory.
+    #[tactic(auto, using(crate::proofs::Parts::refused, crate::proofs::Parts::not_refused_like))]
     pub fn validate(&self, domain: &Name, set: &Name) -> Result<(), Refusal>
         ensures { IsRefusedLike result (after (PolicyChange.Activate domain.now set.now) self.now) }
     {
-        match self.rows.get(domain) {
-            Some(row) => row.validate(set),
-            None => Err(Refusal::NotFound),
+        match refusals::of_activation(&self.rows, domain, set) {
+            Some(refusal) => Err(refusal),
+            None => Ok(()),
         }
     }
 

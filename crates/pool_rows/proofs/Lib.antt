@@ -1,3 +1,4 @@
-pub mod Changing
-pub mod Refused
 pub mod Chains
+pub mod Changing
+pub mod Made
+pub mod Reusing

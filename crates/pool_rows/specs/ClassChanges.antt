@@ -8,7 +8,8 @@ use Rattle.kinds.specs.declared.change.DefineOrDelete.{DefineOrDelete}
 use Rattle.kinds.specs.declared.change.DefineOrDelete.TheVariants.{Define, Delete}
 use Rattle.kinds.specs.declared.refusal.Refusal.{Refusal}
 use Rattle.kinds.specs.declared.refusal.Refusal.TheVariants.{NotFound, Exists}
-use Rattle.pool_tables.specs.Rows.{is_same_name, named, number_where}
+use Rattle.kinds.specs.Names.{is_same_name}
+use Rattle.pool_tables.specs.Rows.{named, number_where}
 use Rattle.pool_rows.specs.PoolRows.{PoolRows, class_capacity}
 use Rattle.pool_rows.specs.Users.{used_by_pool}
 

@@ -1,7 +1,8 @@
 //! Searches for the first row that has some property.
 
 ghost use Rattle.std.specs.Prelude.{◌≡◌, ◌==◌};
-ghost use Rattle.pool_tables.specs.Rows.{is_same_name, number_where};
+ghost use Rattle.kinds.specs.Names.{is_same_name};
+ghost use Rattle.pool_tables.specs.Rows.{number_where};
 ghost use Rattle.pool_rows.specs.Changes.{is_pool};
 
 use kinds::Name;

@@ -6,6 +6,7 @@ mod find;
 mod fresh;
 mod hierarchy;
 mod pools;
+mod refusals;
 mod segments;
 mod shares;
 

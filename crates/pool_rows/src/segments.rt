@@ -1,7 +1,6 @@
 //! Segments that come and go, the reuse of volumes, and scratch volumes.
 
-ghost use Rattle.std.specs.Prelude.{◌≡◌, ◌≤◌, IsTrue, None, OnOk, Ok};
-ghost use Rattle.std.specs.Option.{ForSome};
+ghost use Rattle.std.specs.Prelude.{◌≡◌, IsTrue, None, OnOk, Ok};
 ghost use Rattle.kinds.specs.Answers.{Becomes, Makes};
 ghost use Rattle.volume_rows.specs.Held.{held_of, end_of};
 ghost use Rattle.pool_tables.specs.Rows.{row_at, without_row};
@@ -98,7 +97,6 @@ impl Pools {
     /// Whether the volume with this file number may be reused today. `NotFound` where it is not there, not sequential, or
     /// nothing was written on it; `InUse` by the least object on it; `NotYet` before its pool's REUSEDELAY is over.
     pub fn may_reuse(&self, file: u32, today: Day) -> Result<(), Refusal>
-        requires { ForSome (row_at file self.now.volumes) (λ v. ForSome v.emptied (λ day. day ≤ today)) }
         ensures { result ≡ may_reuse_at file today self.now }
     {
         let sequential = self.is_sequential_at(file);
@@ -113,7 +111,6 @@ impl Pools {
     /// Reuses the volume with this file number, where it may be: the row of a scratch volume goes, and a defined volume is
     /// written from its beginning again.
     pub fn reuse(&mut self, file: u32, today: Day) -> Result<(), Refusal>
-        requires { ForSome (row_at file self.old.volumes) (λ v. ForSome v.emptied (λ day. day ≤ today)) }
         ensures { Makes result self.old self.new (reuse file today self.old) }
     {
         self.may_reuse(file, today)?;

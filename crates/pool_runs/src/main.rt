@@ -1,4 +1,4 @@
-//! Reads a script of small commands, each a call on one value of `Pools`, and prints a line for each: what the call answers, or
+//! Reads a script of small commands, each a call on one value of `Pools` or of `Extents`, and prints a line for each: what the call answers, or
 //! its refusal, and `changed` where the rows of classes, pools and volumes are no longer those of before. `unmet` says that what
 //! the call requires doesn't hold, and that it was not made. A comment, which begins with `#`, is printed as it stands.
 //!
@@ -13,15 +13,20 @@
 //! - `status FILE` and `reclaimable FILE THRESHOLD`, where the volume is there.
 //! - `atleast POOL PERCENT` and `atmost POOL PERCENT`; `named pool NAME`, `named volume NAME`; `capacity class CLASS`,
 //!   `capacity pool NUMBER`; `sequential pool NUMBER`, `sequential volume FILE`.
-//! - `parts ROW..` with rows as `pool=2:A`, `scratch=7:SCR00000007` and `volume=8:T1`, and `again` with the rows that are there:
-//!   `from_parts`; `none` where it makes no value of them, and then the old one stays.
+//! - `parts ROW..` with rows as `pool=2:A`, `scratch=7:SCR00000007`, `volume=8:T1` and `written=9:T2`, a volume that was written to its
+//!   end and emptied on day 3, and `again` with the rows that are there: `from_parts`; `none` where it makes no value of them, and then
+//!   the old one stays.
+//! - `blocks LEN` and `bytes LEN`: of the frame of a segment of so many bytes.
+//! - `extents new BLOCKS`: a random-access volume of so many blocks; `extents room`: `room`; `extents take BYTES`: the runs that `take` takes, as
+//!   `3+2` for the blocks 3 and 4, or `none`; `extents used FIRST BLOCKS`: `are_used`; `extents give FIRST BLOCKS`: `give`, where they are used.
 //! - `classes`, `pools`, `volumes`, and `show FILE`: the rows. A segment is shown as its object, offset and length, as `1@0+100`.
 //!
-//! The stored output was written by hand, from the rules of pools and volumes.
+//! The stored output was written by hand, from the rules of pools, volumes and blocks.
 #![tactic(auto)]
 
 mod answer;
 mod changes;
+mod extents;
 mod parts;
 mod questions;
 mod rows;

@@ -2,7 +2,7 @@
 use crate::answer::Fault;
 use crate::changes::settings;
 use crate::words::{name, number};
-use kinds::{Access, Capacity, Name, PoolKind, Refusal};
+use kinds::{Access, Capacity, Day, Name, PoolKind, Refusal};
 use pool_rows::{Pool, Pools};
 use std::alloc::Global;
 use std::collections::BTreeMap;
@@ -30,7 +30,7 @@ fn pool(alloc: Global, text: &str) -> Result<Pool, Fault> {
     })
 }
 
-/// A volume of 65,536 bytes in the pool 2.
+/// An empty volume of 65,536 bytes in the pool 2.
 fn volume(alloc: Global, text: &str, scratch: bool) -> Result<Volume, Fault> {
     Ok(Volume {
         name: name(alloc, text)?,
@@ -41,6 +41,15 @@ fn volume(alloc: Global, text: &str, scratch: bool) -> Result<Volume, Fault> {
         end: 0,
         emptied: None,
         segments: Holdings::new(alloc),
+    })
+}
+
+/// Such a volume that was written to its end, and emptied on day 3.
+fn written(alloc: Global, text: &str) -> Result<Volume, Fault> {
+    Ok(Volume {
+        end: 65536,
+        emptied: Day::new(3),
+        ..volume(alloc, text, false)?
     })
 }
 
@@ -69,7 +78,7 @@ impl Parts {
         Ok(())
     }
 
-    /// Adds the row that the word has: `pool=2:A`, `scratch=7:SCR00000007` or `volume=8:T1`.
+    /// Adds the row that the word has: `pool=2:A`, `scratch=7:SCR00000007`, `volume=8:T1` or `written=9:T2`.
     fn add(&mut self, alloc: Global, word: &str) -> Result<(), Fault> {
         let (kind, row) = word.split_once('=').ok_or(Fault::NoCommand)?;
         let (place, text) = row.split_once(':').ok_or(Fault::NoCommand)?;
@@ -78,6 +87,7 @@ impl Parts {
             "pool" => self.add_pool(place, pool(alloc, text)?)?,
             "scratch" => self.add_volume(place, volume(alloc, text, true)?)?,
             "volume" => self.add_volume(place, volume(alloc, text, false)?)?,
+            "written" => self.add_volume(place, written(alloc, text)?)?,
             _ => return Err(Fault::NoCommand),
         }
         Ok(())

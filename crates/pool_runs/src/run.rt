@@ -1,18 +1,20 @@
 //! A run over a script.
 use crate::answer::{Answer, Fault, text};
 use crate::words::{number, words_of};
-use crate::{changes, parts, questions, rows, segments, volumes};
+use crate::{changes, extents, parts, questions, rows, segments, volumes};
+use extent_map::Extents;
 use kinds::Refusal;
 use pool_rows::Pools;
 use std::alloc::{AllocError, Global};
 use std::mem;
 
-/// What the commands are about: the value of `Pools`, and another one that was put aside.
+/// What the commands are about: the value of `Pools`, another one that was put aside, and the blocks of a volume.
 #[derive(Drop)]
 pub struct Run {
     alloc: Global,
     pools: Pools,
     aside: Pools,
+    extents: Extents,
 }
 
 /// The file number that is the only word.
@@ -24,12 +26,13 @@ fn file(words: &[&str]) -> Result<u32, Fault> {
 }
 
 impl Run {
-    /// What a new server has, twice.
+    /// What a new server has, twice, and no blocks.
     pub fn new(alloc: Global) -> Result<Self, Refusal> {
         Ok(Run {
             alloc,
             pools: Pools::fresh(alloc)?,
             aside: Pools::fresh(alloc)?,
+            extents: Extents::new(alloc, 0)?,
         })
     }
 
@@ -115,6 +118,8 @@ impl Run {
             "put" => segments::put(&mut self.pools, words),
             "take" => segments::take(&mut self.pools, words),
             "undo" => segments::undo(&mut self.pools, words),
+            "blocks" => segments::blocks(words),
+            "bytes" => segments::bytes(words),
             _ => self.on_volume(command, words),
         }
     }
@@ -156,6 +161,7 @@ impl Run {
             ["pools"] => rows::pools(self.alloc, &self.pools),
             ["volumes"] => rows::volumes(self.alloc, &self.pools),
             ["show", word] => self.show(word),
+            ["extents", words @ ..] => extents::say(self.alloc, &mut self.extents, words),
             [command, words @ ..] => self.answer_text(command, words),
         }
     }

@@ -3,6 +3,7 @@ use crate::answer::{Answer, Fault};
 use crate::words::{day, day_or_none, large, number};
 use kinds::Segment;
 use pool_rows::Pools;
+use volume_rows::HeldSegment;
 
 /// A segment, and the object to which it belongs.
 struct Piece {
@@ -24,6 +25,29 @@ fn read_piece(words: &[&str]) -> Result<Piece, Fault> {
         object: large(object)?,
         segment,
     })
+}
+
+/// A segment of so many bytes.
+fn of_length(words: &[&str]) -> Result<HeldSegment, Fault> {
+    let [len] = words else {
+        return Err(Fault::NoCommand);
+    };
+    let segment = Segment {
+        file: 4,
+        offset: 0,
+        len: number(len)?,
+    };
+    Ok(HeldSegment::new(1, &segment))
+}
+
+/// How many blocks the frame of a segment of so many bytes uses.
+pub fn blocks(words: &[&str]) -> Result<Answer, Fault> {
+    Ok(Answer::Number(of_length(words)?.blocks()))
+}
+
+/// How many bytes the frame of a segment of so many bytes has.
+pub fn bytes(words: &[&str]) -> Result<Answer, Fault> {
+    Ok(Answer::Number(of_length(words)?.frame_bytes()))
 }
 
 /// Whether the segment ends within its volume's capacity.

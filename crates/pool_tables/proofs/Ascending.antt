@@ -9,7 +9,8 @@ use Rattle.std.specs.Ordering.{nat_cmp, is_eq, match_ordering}
 use Rattle.std.specs.declared.cmp.Ordering.TheVariants.{Less, Greater}
 use Rattle.kinds.specs.declared.refusal.Refusal.{Refusal}
 use Rattle.volume_rows.specs.declared.volume.Volume.{Volume}
-use Rattle.pool_tables.specs.Rows.{is_same_name, row_at, with_row, number_where}
+use Rattle.kinds.specs.Names.{is_same_name}
+use Rattle.pool_tables.specs.Rows.{row_at, with_row, number_where}
 use Rattle.pool_tables.specs.Names.{row_named, are_apart}
 use Rattle.pool_tables.specs.Scratch.{is_rightly_named, are_rightly_named}
 use Rattle.pool_tables.specs.Counted.{IsSound}

@@ -13,7 +13,8 @@ use Rattle.volume_rows.specs.declared.held.HeldSegment.{HeldSegment}
 use Rattle.volume_rows.specs.Holdings.{is_held}
 use Rattle.volume_rows.specs.Volumes.{put_on, take_from, undo_on}
 use Rattle.pool_tables.specs.declared.totals.Totals.{Totals}
-use Rattle.pool_tables.specs.Rows.{is_same_name, named, row_at, with_row, without_row, set_row, edit_row, edited, row_set, changed, change_row}
+use Rattle.kinds.specs.Names.{is_same_name}
+use Rattle.pool_tables.specs.Rows.{named, row_at, with_row, without_row, set_row, edit_row, edited, row_set, changed, change_row}
 use Rattle.pool_tables.specs.Names.{row_named}
 use Rattle.pool_tables.specs.Scratch.{volume_name, scratch_name, is_scratch_name, is_rightly_named}
 use Rattle.pool_tables.specs.Sums.{used_blocks_on, blocks_of_volume, live_bytes_on, defined_one, scratch_one, total_of}

@@ -1,7 +1,8 @@
 -- Names of rows: each row's is its own, and an index leads from it to the row's number.
 use Rattle.std.specs.Prelude.{◌≡◌, ℕ, Bool, true, is_none, ◌&&◌, Option, List, [], ◌∷◌}
 use Rattle.pool_tables.specs.declared.pool.Pool.{Pool}
-use Rattle.pool_tables.specs.Rows.{is_same_name, named, number_where}
+use Rattle.kinds.specs.Names.{is_same_name}
+use Rattle.pool_tables.specs.Rows.{named, number_where}
 
 abbrev pub pool_name : Pool → List ℕ
 pool_name pool = pool.name

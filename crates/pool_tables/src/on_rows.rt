@@ -6,8 +6,7 @@ ghost use Rattle.kinds.specs.Answers.{Becomes, Makes};
 ghost use Rattle.volume_rows.specs.Held.{end_of};
 ghost use Rattle.volume_rows.specs.Volumes.{undo_on, reset};
 ghost use Rattle.pool_tables.specs.Rows.{row_at, edit_row, change_row};
-ghost use Rattle.pool_tables.specs.RowChanges.{put, take, end_of_row, emptied_of_row};
-ghost use Rattle.pool_tables.specs.RowChanges.{with_access, with_settings};
+ghost use Rattle.pool_tables.specs.RowChanges.{put, take, end_of_row, emptied_of_row, with_access, with_settings};
 
 use crate::pool::Pool;
 use kinds::{Access, Day, PoolSettings, Refusal};

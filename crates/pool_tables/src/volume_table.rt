@@ -10,8 +10,7 @@ ghost use Rattle.pool_tables.specs.Rows.{row_at, with_row, without_row, edit_row
 ghost use Rattle.pool_tables.specs.Names.{row_named};
 ghost use Rattle.pool_tables.specs.Scratch.{volume_name, is_rightly_named};
 ghost use Rattle.pool_tables.specs.Counted.{totals_at, totals_of_row, totals_of, moved, are_sound, AreWithin, AreAtMost};
-ghost use Rattle.pool_tables.specs.RowChanges.{put, take, end_of_row, emptied_of_row, is_scratch_row, reuse_volume, scratch_volume};
-ghost use Rattle.pool_tables.specs.RowChanges.{with_access};
+ghost use Rattle.pool_tables.specs.RowChanges.{put, take, end_of_row, emptied_of_row, is_scratch_row, reuse_volume, scratch_volume, with_access};
 
 use crate::on_rows;
 use crate::scratch::{is_rightly_named, scratch_volume};

@@ -11,6 +11,3 @@ mod streams;
 
 pub use store::FolderStore;
 pub use streams::{StdSink, StdSource};
-
-#[cfg(test)]
-mod tests;

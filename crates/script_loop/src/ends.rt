@@ -10,7 +10,7 @@ use itoa::Buffer;
 use tree_api::{Sink, put_all};
 
 /// Why the run can't go on, as whoever answers its lines says.
-#[derive(Clone, Copy, Debug, PartialEq, Eq)]
+#[derive(Clone, Copy)]
 pub enum Halt {
     /// A call on this log or image file failed.
     LogFault(u32),
@@ -21,7 +21,7 @@ pub enum Halt {
 }
 
 /// How a run over a script ended.
-#[derive(Clone, Copy, Debug, PartialEq, Eq)]
+#[derive(Clone, Copy)]
 pub enum End {
     /// The script was read to its end.
     Done(Tally),

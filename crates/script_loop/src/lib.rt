@@ -8,8 +8,6 @@ mod reader;
 mod reply;
 mod script;
 mod tally;
-#[cfg(test)]
-mod tests;
 
 pub use answerer::Answerer;
 pub use ends::{End, Halt, number_line, put_last};

@@ -16,7 +16,7 @@ const LINE_LIMIT: usize = 4096;
 const ROOM: usize = 16384;
 
 /// What a call of the reader gave.
-#[derive(Clone, Copy, Debug, PartialEq, Eq)]
+#[derive(Clone, Copy)]
 pub enum Next {
     /// A line.
     Line,

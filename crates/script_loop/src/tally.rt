@@ -2,7 +2,7 @@
 
 /// How many command lines were answered, how many of them were refused, and how many files failed in them. A count that
 /// has reached 2^64 - 1 stays there.
-#[derive(Clone, Copy, Debug, PartialEq, Eq)]
+#[derive(Clone, Copy)]
 pub struct Tally {
     pub commands: u64,
     pub refused: u64,

@@ -1,7 +1,8 @@
 //! Reads a script of small commands on one store in memory, and prints what the calls of the server over it put. A comment, which begins
 //! with `#`, is printed as it stands.
 //!
-//! - `| TEXT`: a line of the server's script, with its LF; `% TEXT`: the same without one; `long N`: a line of N letters; `days N`: N lines `DAY 1`.
+//! - `| TEXT`: a line of the server's script, with its LF; `% TEXT`: the same without one; `text HEX`: the bytes that the digits spell; `long N`: a
+//!   line of N letters; `letters N`: the same without LF; `empty N`: N lines without a byte; `days N`: N lines `DAY 1`.
 //! - `do WORD..`: the server is called with these words and that script, which is empty again then. Printed are what it put, its status, how
 //!   many transactions it made, of how many it says when they were durable, and the newest image's generation; or, where it opened no
 //!   database, how many bytes of the script it didn't read. `last WORD..`: the same with the last line alone of what it put.
@@ -14,13 +15,18 @@
 //!   that it stored, and how many the last one shows with their bytes, `-` where the store isn't formatted. Each file of the script has a path of its own.
 //! - `again CHOICE`: the second row, where the machine stops once more, at each call of the opening that follows; `!` where that changes it.
 //! - `faults`: the script is run by `fresh`, once for each moment at which the one call fails. Two rows: the status, and the file whose call failed.
+//! - `echo`: the script is run over an answerer that gives each line back; of the line `two` it gives two, it refuses `no`, of `bad` it counts a
+//!   failed file, with `full` it ends the run, and an empty line is a comment. Printed are what was put, with `\r` for CR, and the status. `pieces`:
+//!   the same, where the streams move 1, 2, 5 and 100,000 bytes at a time, if it is the same for each. `sinks`: the status for each call of a sink
+//!   that fails, where it takes a byte at a time and took all bytes before that call.
 //!
-//! The stored output was written by hand, from the order of the device calls.
+//! The stored output was written by hand, from the order of the device calls and the rules of scripts.
 #![tactic(auto)]
 
 mod answer;
 mod blank;
 mod call;
+mod echo;
 mod files;
 mod run;
 mod sweeps;

@@ -2,7 +2,7 @@
 use crate::answer::{Fault, large, number, numbers, text};
 use crate::blank::BlankStore;
 use crate::call::{Said, call, last_line, text_of, words_of};
-use crate::{files, sweeps};
+use crate::{echo, files, sweeps};
 use hex::{decode, encode};
 use mem_store::MemStore;
 use std::alloc::{AllocError, Global};
@@ -174,12 +174,68 @@ impl Run {
         self.done()
     }
 
-    fn long(&mut self, count: &str) -> Result<String, Fault> {
+    fn letters(&mut self, count: &str) -> Result<String, Fault> {
         let count = number(count)?.min(65536) as usize;
         let letters = "x".repeat(self.alloc, count)?;
         self.script.push_str(&letters)?;
-        self.script.push('\n')?;
         self.done()
+    }
+
+    fn long(&mut self, count: &str) -> Result<String, Fault> {
+        let done = self.letters(count)?;
+        self.script.push('\n')?;
+        Ok(done)
+    }
+
+    fn empty(&mut self, count: &str) -> Result<String, Fault> {
+        for _ in 0..number(count)?.min(1 << 20) {
+            self.script.push('\n')?;
+        }
+        self.done()
+    }
+
+    fn add_text(&mut self, digits: &str) -> Result<String, Fault> {
+        let bytes = self.bytes(digits)?;
+        match str::from_utf8(&bytes) {
+            Ok(text) => self.script.push_str(text)?,
+            Err(_) => return Err(Fault::NoCommand),
+        }
+        self.done()
+    }
+
+    /// Runs the script over an answerer that gives each line back.
+    fn echo(&mut self) -> Result<String, Fault> {
+        let alloc = self.alloc;
+        let script = self.take_script();
+        let from = mem::replace(&mut self.source, plain(alloc));
+        let to = mem::replace(&mut self.sink, plain(alloc));
+        let from = source(alloc, &script, from)?;
+        Ok(echo::answer(alloc, from, sink(alloc, to))?)
+    }
+
+    fn pieces(&mut self) -> Result<String, Fault> {
+        let script = self.take_script();
+        Ok(echo::pieces(self.alloc, &script)?)
+    }
+
+    fn sink_faults(&mut self) -> Result<String, Fault> {
+        let script = self.take_script();
+        Ok(echo::sink_faults(self.alloc, &script)?)
+    }
+
+    /// What a command on the script is answered.
+    fn on_script(&mut self, words: &[&str]) -> Result<String, Fault> {
+        match words {
+            ["days", count] => self.days(count),
+            ["long", count] => self.long(count),
+            ["letters", count] => self.letters(count),
+            ["empty", count] => self.empty(count),
+            ["text", digits] => self.add_text(digits),
+            ["echo"] => self.echo(),
+            ["pieces"] => self.pieces(),
+            ["sinks"] => self.sink_faults(),
+            _ => Err(Fault::NoCommand),
+        }
     }
 
     fn days(&mut self, count: &str) -> Result<String, Fault> {
@@ -210,7 +266,7 @@ impl Run {
             ["stops", choice] => self.stops(choice),
             ["again", choice] => self.again(choice),
             ["faults"] => self.all_faults(),
-            _ => Err(Fault::NoCommand),
+            _ => self.on_script(words),
         }
     }
 
@@ -233,11 +289,9 @@ impl Run {
         match words {
             ["do", words @ ..] => self.call(words),
             ["last", words @ ..] => self.call_long(words),
-            ["days", count] => self.days(count),
             ["blank", moment, bytes, words @ ..] => self.call_blank(moment, bytes, words),
             ["source", most, calls @ ..] => self.set_source(most, calls),
             ["sink", most, calls @ ..] => self.set_sink(most, calls),
-            ["long", count] => self.long(count),
             _ => self.on_store(words),
         }
     }

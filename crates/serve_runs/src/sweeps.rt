@@ -18,7 +18,7 @@ const REST: u64 = 64;
 const FILES: u32 = 10;
 
 /// The sign of a number below ten.
-fn digit(number: usize) -> char {
+pub fn digit(number: usize) -> char {
     match char::from_digit((number % 10) as u32, 10) {
         Some(sign) => sign,
         None => '!',

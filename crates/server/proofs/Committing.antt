@@ -13,9 +13,9 @@ use Rattle.entries.specs.EntryForm.{entry}
 use Rattle.entries.specs.declared.entry.Entry.{Entry}
 use Rattle.inventory.specs.Meant.{meaning}
 use Rattle.inventory_rows.specs.State.{Inv}
-use Rattle.inventory_rules.specs.Effects.{effect}
+use Rattle.inventory_rules.specs.Transactions.{effect}
 use Rattle.inventory_rules.specs.Valid.{is_valid}
-use Rattle.log_file.specs.Safety.{acknowledged, Timely, Safe}
+use Rattle.vault.specs.log_file.Safety.{acknowledged, Timely, Safe}
 use Rattle.vault.specs.Recovery.{RecoversWithin}
 use Rattle.vault.specs.Vaults.{State, with_entry, Doubts, RefusesCommit}
 use Rattle.vault.specs.Vaults as vault

@@ -8,22 +8,22 @@ use Rattle.std.specs.Map.{lookup}
 use Rattle.std.proofs.lemmas.Bool.{eqb-true}
 use Rattle.std.proofs.lemmas.List.Sums.{sum_by-cons}
 use Rattle.kinds.specs.declared.segment.Segment.{Segment}
-use Rattle.version_groups.specs.Copies.{are_by_pool}
-use Rattle.version_groups.specs.Entries.{is_nil}
+use Rattle.inventory_rows.specs.version_groups.Copies.{are_by_pool}
+use Rattle.inventory_rows.specs.version_groups.Entries.{is_nil}
 use Rattle.std.proofs.lemmas.Option.{same_Some}
-use Rattle.version_groups.specs.declared.copies.CopyRow.{CopyRow}
-use Rattle.version_groups.specs.declared.group.Group.{Group}
-use Rattle.version_groups.specs.declared.groups.Filespace.{Filespace}
-use Rattle.version_groups.specs.declared.versions.Version.{Version}
-use Rattle.version_groups.specs.Groups.{at_path}
-use Rattle.version_groups.specs.Groups as group
+use Rattle.inventory_rows.specs.version_groups.declared.copies.CopyRow.{CopyRow}
+use Rattle.inventory_rows.specs.version_groups.declared.group.Group.{Group}
+use Rattle.inventory_rows.specs.version_groups.declared.groups.Filespace.{Filespace}
+use Rattle.inventory_rows.specs.version_groups.declared.versions.Version.{Version}
+use Rattle.inventory_rows.specs.version_groups.Groups.{at_path}
+use Rattle.inventory_rows.specs.version_groups.Groups as group
 use Rattle.volume_frames.specs.Frames.{bytes_len}
-use Rattle.object_rows.specs.Filespaces.{at_number, filespace_at, groups_in, versions_in}
-use Rattle.object_rows.specs.Names.{filespace_named, node_named}
+use Rattle.inventory_rows.specs.object_rows.Filespaces.{at_number, filespace_at, groups_in, versions_in}
+use Rattle.inventory_rows.specs.object_rows.Names.{filespace_named, node_named}
 use Rattle.inventory_rows.specs.Search.{versions}
 use Rattle.inventory_rows.specs.State.{Inv}
 use Rattle.inventory_rules.specs.Valid.{is_copied, is_valid, primary_copies}
-use Rattle.inventory_facts.proofs.Facts.{facts_of, rest}
+use Rattle.inventory_laws.proofs.Facts.{facts_of, rest}
 use Rattle.contents.proofs.Segments.{all_weaker, each_passes}
 use Rattle.placing.specs.Placing.{active_of, active_version}
 use Rattle.server.specs.declared.get.Shown.{Shown}

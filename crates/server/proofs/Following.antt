@@ -5,8 +5,8 @@ use Rattle.store_api.proofs.Runs.{goes_then}
 use Rattle.contents.specs.Contents.{Holds, IsKept}
 use Rattle.inventory.specs.Meant.{meaning}
 use Rattle.inventory_rows.specs.State.{Inv}
-use Rattle.inventory_rules.specs.Effects.{effect}
-use Rattle.log_file.specs.Safety.{acknowledged, Timely, Safe}
+use Rattle.inventory_rules.specs.Transactions.{effect}
+use Rattle.vault.specs.log_file.Safety.{acknowledged, Timely, Safe}
 use Rattle.vault.specs.Recovery.{RecoversWithin}
 use Rattle.vault.specs.Vaults.{State}
 use Rattle.server.specs.Running.{IsGood}

@@ -7,19 +7,20 @@ use Rattle.store_api.specs.Disk.{History}
 use Rattle.store_api.specs.Runs.{WroteSynced, WroteWithin}
 use Rattle.store_api.specs.declared.store.Failed.{Failed}
 use Rattle.kinds.specs.declared.segment.Segment.{Segment}
-use Rattle.change_items.specs.declared.items.NewVersion.{NewVersion}
-use Rattle.pool_rows.specs.PoolRows.{is_sequential}
+use Rattle.entries.specs.change_items.declared.items.NewVersion.{NewVersion}
+use Rattle.inventory_rows.specs.pool_rows.PoolRows.{is_sequential}
 use Rattle.inventory_rows.specs.Search.{segments_on}
 use Rattle.inventory_rows.specs.State.{Inv}
-use Rattle.inventory_rules.specs.Effects.{new_version}
+use Rattle.inventory_rules.specs.Versions.{new_version}
 use Rattle.inventory_rules.specs.Valid.{is_valid}
-use Rattle.inventory_facts.specs.Parts.{are_clear, parts_fit}
-use Rattle.row_order.specs.Ascending.{AreAscending}
+use Rattle.inventory_rules.specs.Segments.{are_clear}
+use Rattle.inventory_rules.specs.Transactions.{parts_fit}
+use Rattle.inventory_rows.specs.Ascending.{AreAscending}
 use Rattle.contents.specs.Contents.{FramesHave, HasVersion, InStore, IsKept, frame}
 use Rattle.contents.proofs.Kept.{beside_kept, written_since}
 use Rattle.contents.proofs.Segments.{length-frame}
-use Rattle.content_changes.proofs.Arrived.{have_more}
-use Rattle.content_changes.proofs.Came.{Fits, all_clear, from_four, one_fits}
+use Rattle.contents.proofs.Arrived.{have_more}
+use Rattle.contents.proofs.Came.{Fits, all_clear, from_four, one_fits}
 use Rattle.vault.specs.Vaults.{State}
 use Rattle.server.specs.Putting.{IsAsLong, PutsFrame, frame_in, listed}
 use Rattle.server.specs.Requests.{File, backed_up, item_of, kept}

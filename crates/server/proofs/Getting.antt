@@ -5,7 +5,7 @@ use Rattle.store_api.specs.Disk.{History, reads}
 use Rattle.store_api.specs.Runs.{GoesOn}
 use Rattle.store_api.specs.Told.{Told}
 use Rattle.store_api.proofs.Runs.{told_map}
-use Rattle.version_groups.specs.declared.versions.Version.{Version}
+use Rattle.inventory_rows.specs.version_groups.declared.versions.Version.{Version}
 use Rattle.inventory_rows.specs.State.{Inv}
 use Rattle.contents.specs.Contents.{HasVersion, InImage}
 use Rattle.contents.proofs.Kept.{kept_reads}

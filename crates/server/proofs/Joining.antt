@@ -8,7 +8,7 @@ use Rattle.store_api.specs.Told.{Told}
 use Rattle.store_api.proofs.Runs.{told_map}
 use Rattle.entries.specs.declared.entry.Entry.{Entry}
 use Rattle.inventory_rows.specs.State.{Inv}
-use Rattle.log_file.specs.Safety.{Timely}
+use Rattle.vault.specs.log_file.Safety.{Timely}
 use Rattle.server.specs.declared.stop.Stop.{Stop}
 use Rattle.server.specs.declared.stop.Stop.TheVariants.{Refused, LogFault, RunFull, Memory}
 use Rattle.server.specs.Outcomes.{Leaves}

@@ -14,7 +14,7 @@ use Rattle.inventory.specs.Meant.{meaning}
 use Rattle.inventory.specs.Meaningful.{is_meaning}
 use Rattle.inventory_rows.specs.Search.{versions}
 use Rattle.inventory_rows.specs.State.{Inv}
-use Rattle.log_file.specs.Safety.{acknowledged, AllSafe}
+use Rattle.vault.specs.log_file.Safety.{acknowledged, AllSafe}
 use Rattle.vault.specs.Openings.{Calm}
 use Rattle.vault.specs.Vaults.{State}
 use Rattle.vault.proofs.Unique.{one_database}

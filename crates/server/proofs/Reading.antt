@@ -10,9 +10,9 @@ use Rattle.store_api.specs.Runs.{GoesOn, Stands}
 use Rattle.store_api.specs.Told.{Told}
 use Rattle.store_api.proofs.Runs.{goes_none, goes_then, told_map, told_then}
 use Rattle.kinds.specs.declared.segment.Segment.{Segment}
-use Rattle.log_file.proofs.Told.{told_same}
-use Rattle.version_groups.specs.declared.copies.CopyRow.{CopyRow}
-use Rattle.version_groups.specs.declared.versions.Version.{Version}
+use Rattle.vault.proofs.of_log_file.Told.{told_same}
+use Rattle.inventory_rows.specs.version_groups.declared.copies.CopyRow.{CopyRow}
+use Rattle.inventory_rows.specs.version_groups.declared.versions.Version.{Version}
 use Rattle.inventory_rows.specs.State.{Inv}
 use Rattle.contents.specs.Contents.{FramesHave, InImage}
 use Rattle.contents.specs.Reading.{MayLack, ReadCopy, lies_in_file}

@@ -5,7 +5,7 @@ use Rattle.std.proofs.lemmas.List.{append_assoc, length-append}
 use Rattle.store_api.specs.Disk.{History, now}
 use Rattle.store_api.specs.Runs.{GoesOn}
 use Rattle.store_api.proofs.Runs.{goes_image_before}
-use Rattle.log_file.specs.Safety.{acknowledged, Timely, Safe, AllSafe}
+use Rattle.vault.specs.log_file.Safety.{acknowledged, Timely, Safe, AllSafe}
 
 one_or_none : (b : Bool) → (if b then 1 else 0) ≤ 1
 one_or_none true = omega arith

@@ -7,19 +7,19 @@ use Rattle.store_api.specs.Disk.{History}
 use Rattle.store_api.proofs.Runs.{told_map}
 use Rattle.kinds.specs.declared.refusal.Refusal.{Refusal}
 use Rattle.kinds.specs.declared.refusal.Refusal.TheVariants.{RecordFull}
-use Rattle.changes.specs.declared.change.Change.{Change}
-use Rattle.changes.specs.declared.change.Change.TheVariants as change
+use Rattle.entries.specs.declared.change.Change.{Change}
+use Rattle.entries.specs.declared.change.Change.TheVariants as change
 use Rattle.entries.specs.EntryForm.{entry as entry_form}
-use Rattle.version_groups.specs.declared.versions.Version.{Version}
+use Rattle.inventory_rows.specs.version_groups.declared.versions.Version.{Version}
 use Rattle.contents.specs.Contents.{HaveAll, InStore, IsKept}
 use Rattle.inventory_rows.specs.Search.{versions}
 use Rattle.inventory_rows.specs.State.{Inv}
-use Rattle.inventory_rules.specs.Effects.{effect}
+use Rattle.inventory_rules.specs.Transactions.{effect}
 use Rattle.inventory_rules.specs.Journal.{no_journal}
 use Rattle.inventory_rules.specs.Valid.{is_valid}
-use Rattle.transactions.specs.Legal.{refused}
-use Rattle.transactions.proofs.Nothing.{is_free}
-use Rattle.content_changes.proofs.Stayed.{day_same, policy_same, caused_same, stores_same}
+use Rattle.inventory.specs.Legal.{refused}
+use Rattle.inventory.proofs.Nothing.{is_free}
+use Rattle.contents.proofs.Stayed.{day_same, policy_same, caused_same, stores_same}
 use Rattle.server.specs.declared.stop.Stop.{Stop}
 use Rattle.server.specs.declared.stop.Stop.TheVariants.{Refused, LogFault, RunFull, Memory}
 use Rattle.server.specs.Outcomes.{Leaves, LeavesVersions}
@@ -37,36 +37,14 @@ versions_same (change.Day day) v rows valid legal = day_same day v
 versions_same (change.Policy c) v rows valid legal = policy_same c v
 versions_same (change.Object c) v rows valid legal = caused_same no_journal c v valid (is_free no_journal (change.Object c) v legal).causes
 versions_same (change.Pool c) v rows valid legal = stores_same c v
-versions_same (change.Backup c) v rows valid legal = absurd rows
-versions_same (change.Rebind c) v rows valid legal = absurd rows
-versions_same (change.Gone c) v rows valid legal = absurd rows
-versions_same (change.Move c) v rows valid legal = absurd rows
-versions_same (change.Copy c) v rows valid legal = absurd rows
-versions_same (change.DropCopies c) v rows valid legal = absurd rows
-versions_same (change.Expire c) v rows valid legal = absurd rows
-versions_same (change.Discard c) v rows valid legal = absurd rows
-versions_same (change.Reuse file) v rows valid legal = absurd rows
-versions_same (change.DbBegin file) v rows valid legal = absurd rows
-versions_same (change.DbEnd file) v rows valid legal = absurd rows
-versions_same (change.DbDelete file) v rows valid legal = absurd rows
+versions_same _ v rows valid legal = absurd rows
 
 contents_same : (c : Change) (contents : ℕ → List ℕ) → LeavesVersions c → contents_after contents (kept c [] ∷ []) ≡ contents
 contents_same (change.Day day) contents rows = refl
 contents_same (change.Policy c) contents rows = refl
 contents_same (change.Object c) contents rows = refl
 contents_same (change.Pool c) contents rows = refl
-contents_same (change.Backup c) contents rows = absurd rows
-contents_same (change.Rebind c) contents rows = absurd rows
-contents_same (change.Gone c) contents rows = absurd rows
-contents_same (change.Move c) contents rows = absurd rows
-contents_same (change.Copy c) contents rows = absurd rows
-contents_same (change.DropCopies c) contents rows = absurd rows
-contents_same (change.Expire c) contents rows = absurd rows
-contents_same (change.Discard c) contents rows = absurd rows
-contents_same (change.Reuse file) contents rows = absurd rows
-contents_same (change.DbBegin file) contents rows = absurd rows
-contents_same (change.DbEnd file) contents rows = absurd rows
-contents_same (change.DbDelete file) contents rows = absurd rows
+contents_same _ contents rows = absurd rows
 
 pub kept_stays : (c : Change) (contents : ℕ → List ℕ) (h : History) (v : Inv) → LeavesVersions c → is_valid v ≡ true → refused no_journal c v ≡ None → IsKept contents h v → IsKept (contents_after contents (kept c [] ∷ [])) h (effect c v)
 kept_stays c contents h v rows valid legal is =

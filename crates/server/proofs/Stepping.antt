@@ -9,7 +9,7 @@ use Rattle.contents.proofs.Kept.{others_kept, others_since, looked_kept, looked_
 use Rattle.inventory.specs.Meant.{meaning}
 use Rattle.inventory_rows.specs.State.{Inv}
 use Rattle.inventory_rules.specs.Valid.{is_valid}
-use Rattle.log_file.specs.Safety.{acknowledged, Safe}
+use Rattle.vault.specs.log_file.Safety.{acknowledged, Safe}
 use Rattle.vault.specs.Files.{IsOurs}
 use Rattle.vault.specs.Recovery.{RecoversWithin}
 use Rattle.vault.specs.Vaults.{State}

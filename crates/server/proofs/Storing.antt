@@ -11,17 +11,18 @@ use Rattle.kinds.specs.declared.refusal.Refusal.{Refusal}
 use Rattle.kinds.specs.declared.refusal.Refusal.TheVariants.{NotFound, NoBackupGroup, NoSpace, WriteFault, RecordFull}
 use Rattle.kinds.specs.declared.rule.BackupRule.{BackupRule}
 use Rattle.kinds.specs.declared.segment.Segment.{Segment}
-use Rattle.changes.specs.declared.change.Change.{Change}
+use Rattle.entries.specs.declared.change.Change.{Change}
 use Rattle.entries.specs.declared.entry.Entry.{Entry}
 use Rattle.entries.specs.EntryForm.{entry as entry_form}
-use Rattle.object_rows.specs.Names.{filespace_named, node_named}
+use Rattle.inventory_rows.specs.object_rows.Names.{filespace_named, node_named}
 use Rattle.inventory_rows.specs.State.{Inv}
-use Rattle.inventory_rules.specs.Effects.{effect, new_version}
+use Rattle.inventory_rules.specs.Transactions.{effect}
+use Rattle.inventory_rules.specs.Versions.{new_version}
 use Rattle.inventory_rules.specs.Journal.{no_journal}
 use Rattle.inventory_rules.specs.Valid.{is_valid}
-use Rattle.row_order.specs.Ascending.{AreAscending}
-use Rattle.transactions.specs.Legal.{refused}
-use Rattle.transactions.proofs.Nothing.{is_free}
+use Rattle.inventory_rows.specs.Ascending.{AreAscending}
+use Rattle.inventory.specs.Legal.{refused}
+use Rattle.inventory.proofs.Nothing.{is_free}
 use Rattle.contents.specs.Contents.{HasVersion, InStore, IsKept}
 use Rattle.placing.specs.Placing.{default_rule, segments_for}
 use Rattle.server.specs.declared.stop.Stop.{Stop}

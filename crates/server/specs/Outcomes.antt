@@ -1,8 +1,8 @@
 -- What a call of the server leaves, by how it ended.
 use Rattle.std.specs.Prelude.{ℕ, List, Option, Result, Ok, Err}
 use Rattle.store_api.specs.Disk.{History}
-use Rattle.changes.specs.declared.change.Change.{Change}
-use Rattle.changes.specs.declared.change.Change.TheVariants as change
+use Rattle.entries.specs.declared.change.Change.{Change}
+use Rattle.entries.specs.declared.change.Change.TheVariants as change
 use Rattle.server.specs.declared.stop.Stop.{Stop}
 use Rattle.server.specs.declared.stop.Stop.TheVariants.{Refused, LogFault, RunFull, Memory}
 use Rattle.server.specs.Running.{Running}

@@ -5,7 +5,7 @@ use Rattle.store_api.specs.Disk.{History}
 use Rattle.store_api.specs.Runs.{WroteSynced, WroteWithin}
 use Rattle.kinds.specs.declared.refusal.Refusal.TheVariants.{WriteFault}
 use Rattle.kinds.specs.declared.segment.Segment.{Segment}
-use Rattle.changes.specs.declared.change.Change.{Change}
+use Rattle.entries.specs.declared.change.Change.{Change}
 use Rattle.contents.specs.Contents.{frame}
 use Rattle.inventory_rows.specs.State.{Inv}
 use Rattle.server.specs.declared.put.NewFile.{NewFile}

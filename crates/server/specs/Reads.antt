@@ -7,9 +7,9 @@ use Rattle.store_api.specs.Runs.{GoesOn}
 use Rattle.store_api.specs.Told.{Told}
 use Rattle.kinds.specs.declared.refusal.Refusal.TheVariants.{Unavailable}
 use Rattle.volume_frames.specs.Frames.{bytes_len}
-use Rattle.version_groups.specs.declared.copies.CopyRow.{CopyRow}
-use Rattle.version_groups.specs.declared.versions.Version.{Version}
-use Rattle.object_rows.specs.Names.{node_named, filespace_named}
+use Rattle.inventory_rows.specs.version_groups.declared.copies.CopyRow.{CopyRow}
+use Rattle.inventory_rows.specs.version_groups.declared.versions.Version.{Version}
+use Rattle.inventory_rows.specs.object_rows.Names.{node_named, filespace_named}
 use Rattle.inventory_rows.specs.State.{Inv}
 use Rattle.contents.specs.Contents.{FramesHave, InImage}
 use Rattle.placing.specs.Placing.{active_version, can_read}

@@ -13,20 +13,20 @@ use Rattle.kinds.specs.declared.refusal.Refusal.TheVariants.{NotFound, NoBackupG
 use Rattle.kinds.specs.declared.rule.BackupRule.{BackupRule}
 use Rattle.kinds.specs.declared.segment.Segment.{Segment}
 use Rattle.kinds.specs.ValueForms.{digest_with}
-use Rattle.change_items.specs.declared.items.NewVersion.{NewVersion}
-use Rattle.changes.specs.declared.change.Change.{Change}
-use Rattle.changes.specs.declared.change.Change.TheVariants as change
+use Rattle.entries.specs.change_items.declared.items.NewVersion.{NewVersion}
+use Rattle.entries.specs.declared.change.Change.{Change}
+use Rattle.entries.specs.declared.change.Change.TheVariants as change
 use Rattle.entries.specs.declared.entry.Entry.{Entry}
 use Rattle.entries.specs.EntryForm.{entry as entry_form}
-use Rattle.version_groups.specs.declared.copies.CopyRow.{CopyRow}
-use Rattle.version_groups.specs.declared.versions.Version.{Version}
-use Rattle.object_rows.specs.Names.{node_named, filespace_named}
-use Rattle.pool_rows.specs.PoolRows.{pool_named}
+use Rattle.inventory_rows.specs.version_groups.declared.copies.CopyRow.{CopyRow}
+use Rattle.inventory_rows.specs.version_groups.declared.versions.Version.{Version}
+use Rattle.inventory_rows.specs.object_rows.Names.{node_named, filespace_named}
+use Rattle.inventory_rows.specs.pool_rows.PoolRows.{pool_named}
 use Rattle.inventory_rows.specs.State.{Inv}
-use Rattle.inventory_rules.specs.Effects.{effect}
+use Rattle.inventory_rules.specs.Transactions.{effect}
 use Rattle.inventory_rules.specs.Journal.{no_journal}
 use Rattle.placing.specs.Placing.{segments_for, default_rule, active_version, is_readable, can_read}
-use Rattle.transactions.specs.Legal.{refused}
+use Rattle.inventory.specs.Legal.{refused}
 use Rattle.server.specs.declared.get.Shown.{Shown}
 use Rattle.server.specs.declared.stop.Stop.{Stop}
 use Rattle.server.specs.declared.stop.Stop.TheVariants.{Refused, LogFault, RunFull, Memory}

@@ -1,6 +1,6 @@
 -- What a step of the server makes of its database, its stamps and its files.
 use Rattle.std.specs.Prelude.{◌≡◌, ◌⊎◌, ℕ, ◌+◌, ◌<◌, ◌≤◌, ◌^◌, List, [], ◌∷◌, ◌++◌, length, reverse, Option, None, Result, Ok, Err}
-use Rattle.store_api.specs.Cause.{NoneFell}
+use Rattle.store_api.specs.Cause.{NoneFell, Rose}
 use Rattle.store_api.specs.Disk.{History, now, ImageAt}
 use Rattle.store_api.specs.Runs.{GoesOn}
 use Rattle.store_api.specs.Told.{Told}
@@ -8,8 +8,7 @@ use Rattle.kinds.specs.declared.refusal.Refusal.TheVariants as refusal
 use Rattle.entries.specs.EntryForm.{entry}
 use Rattle.contents.specs.Contents.{IsKept}
 use Rattle.inventory_rows.specs.State.{Inv}
-use Rattle.store_api.specs.Cause.{Rose}
-use Rattle.log_file.specs.Safety.{Timely, acknowledged, Safe, AllSafe}
+use Rattle.vault.specs.log_file.Safety.{Timely, acknowledged, Safe, AllSafe}
 use Rattle.vault.specs.Vaults.{State}
 use Rattle.server.specs.declared.stop.Stop.{Stop}
 use Rattle.server.specs.declared.stop.Stop.TheVariants.{Refused, LogFault, RunFull, Memory}

@@ -1,14 +1,14 @@
 -- What a server has made of its database, and which bytes the objects have. Lists of transactions stand newest first.
 use Rattle.std.specs.Prelude.{ℕ, Option, Some, None, List, [], ◌∷◌, map}
-use Rattle.change_items.specs.declared.items.NewVersion.{NewVersion}
-use Rattle.changes.specs.declared.change.Change.{Change}
-use Rattle.changes.specs.declared.change.Change.TheVariants.{Backup}
+use Rattle.entries.specs.change_items.declared.items.NewVersion.{NewVersion}
+use Rattle.entries.specs.declared.change.Change.{Change}
+use Rattle.entries.specs.declared.change.Change.TheVariants.{Backup}
 use Rattle.entries.specs.declared.entry.Entry.{Entry}
 use Rattle.store_api.specs.Disk.{History}
 use Rattle.contents.specs.Contents.{with_content, Holds, IsKept}
 use Rattle.inventory.specs.Meant.{meaning}
 use Rattle.inventory_rows.specs.State.{Inv}
-use Rattle.inventory_rules.specs.Effects.{effect}
+use Rattle.inventory_rules.specs.Transactions.{effect}
 use Rattle.vault.specs.Recovery.{RecoversWithin}
 
 -- a transaction, and the bytes of the object that it brings, where it brings one

@@ -2,7 +2,7 @@
 ghost use Rattle.std.specs.Prelude.{◌≡◌, ◌⊎◌, ◌+◌, ◌-◌, ◌<◌, ◌≤◌, ◌^◌, ◌∷◌, [], List, ℕ, length, drop, reverse, None, Ok, OnOk, IfErr};
 ghost use Rattle.store_api.specs.Cause.{Rose};
 ghost use Rattle.inventory_rules.specs.Journal.{no_journal};
-ghost use Rattle.transactions.specs.Legal.{refused};
+ghost use Rattle.inventory.specs.Legal.{refused};
 ghost use Rattle.server.specs.declared.stop.Stop.TheVariants.{RunFull};
 ghost use Rattle.server.specs.World.{Kept};
 ghost use Rattle.server.specs.Stops.{stop_of, refuses, OnlyFaults};
@@ -12,9 +12,7 @@ ghost use Rattle.server.specs.Outcomes.{Leaves, LeavesVersions};
 
 use crate::server::Server;
 use crate::stop::Stop;
-use changes::Change;
-use database::Database;
-use entries::Entry;
+use entries::{Change, Database, Entry};
 use kinds::Refusal;
 use std::alloc::Global;
 use store_api::Store;

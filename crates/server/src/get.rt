@@ -5,10 +5,10 @@ ghost use Rattle.volume_frames.specs.Frames.{bytes_len};
 ghost use Rattle.std.specs.Option.{option_copied};
 ghost use Rattle.store_api.specs.Cause.{Rose};
 ghost use Rattle.store_api.specs.Told.{Told};
-ghost use Rattle.log_file.specs.Cursor.{Looked};
+ghost use Rattle.vault.specs.log_file.Cursor.{Looked};
 ghost use Rattle.inventory_rows.specs.State.{inv_of};
 ghost use Rattle.inventory_rules.specs.Valid.{is_valid};
-ghost use Rattle.version_groups.specs.declared.versions.Version.{Version};
+ghost use Rattle.inventory_rows.specs.version_groups.declared.versions.Version.{Version};
 ghost use Rattle.server.specs.Reads.{ReadsAny, ReadsVersion, version_found, CanBeRead};
 ghost use Rattle.server.specs.Steps.{Later};
 ghost use Rattle.server.specs.Outcomes.{Leaves};
@@ -19,11 +19,11 @@ use crate::server::Server;
 use crate::stop::Stop;
 use contents::{Unread, read_copy};
 use inventory_rows::Tables;
+use inventory_rows::version_groups::{CopyRow, Version};
 use kinds::{FilespaceName, NodeName, Path, Refusal, Segment};
 use placing::{active_version, can_read};
 use std::alloc::Global;
 use store_api::Store;
-use version_groups::{CopyRow, Version};
 
 /// What is shown of a stored file.
 #[derive(Drop)]

@@ -6,7 +6,7 @@ ghost use Rattle.store_api.specs.Told.{StopsAs};
 ghost use Rattle.inventory.specs.Meant.{meaning};
 ghost use Rattle.inventory_rows.specs.Fresh.{fresh};
 ghost use Rattle.inventory_rows.specs.State.{Inv};
-ghost use Rattle.log_file.specs.Safety.{acknowledged, AllSafe};
+ghost use Rattle.vault.specs.log_file.Safety.{acknowledged, AllSafe};
 ghost use Rattle.vault.specs.Openings.{Calm};
 ghost use Rattle.vault.specs.Recovery.{RecoversWithin};
 ghost use Rattle.vault.specs.Vaults.{State};

@@ -10,7 +10,7 @@ ghost use Rattle.kinds.specs.declared.change.DefineOrDelete.TheVariants as two;
 ghost use Rattle.kinds.specs.declared.change.ObjectChange.TheVariants as client;
 ghost use Rattle.kinds.specs.declared.refusal.Refusal.TheVariants.{WriteFault};
 ghost use Rattle.kinds.specs.declared.segment.Segment.{Segment};
-ghost use Rattle.changes.specs.declared.change.Change.TheVariants as change;
+ghost use Rattle.entries.specs.declared.change.Change.TheVariants as change;
 ghost use Rattle.placing.specs.Placing.{segments_for};
 ghost use Rattle.server.specs.declared.stop.Stop.TheVariants.{Refused};
 ghost use Rattle.server.specs.World.{Kept};
@@ -21,18 +21,16 @@ ghost use Rattle.server.specs.Steps.{Later};
 
 use crate::server::Server;
 use crate::stop::Stop;
-use change_items::{NewVersion, NewVersions};
-use changes::Change;
 use contents::framed;
-use entries::Entry;
+use entries::change_items::{NewVersion, NewVersions};
+use entries::{Change, Entry};
 use fields::Items;
-use inventory_rows::Tables;
+use inventory_rows::{Tables, are_ascending};
 use kinds::{
     DefineOrDelete, Digest, FilespaceName, Name, NodeName, ObjectChange, Path, Refusal, Segment,
     Segments,
 };
 use placing::{default_rule, place};
-use row_order::are_ascending;
 use sha2::{Digest as _, Sha256};
 use std::alloc::{AllocError, Global};
 use store_api::{Store, write_synced};

@@ -4,7 +4,7 @@ ghost use Rattle.store_api.specs.Cause.{Rose, NoneFell};
 ghost use Rattle.store_api.specs.Disk.{History, idle, now, reads, standing, Leaves};
 
 /// The call failed: the file's count of faults rose in it.
-#[derive(Clone, Copy, Debug, PartialEq, Eq)]
+#[derive(Clone, Copy)]
 pub struct Failed;
 
 /// Numbered files of bytes. A file that was never written has length 0. Each call that takes `&mut self` is a device

@@ -3,8 +3,8 @@ use Rattle.std.proofs.Common.{◌≡◌, inl, inr, ℕ, ◌-◌, ◌<◌, ◌≤
 use Rattle.store_api.specs.Cause.{Rose}
 use Rattle.store_api.specs.Disk.{History, now}
 use Rattle.kinds.specs.declared.refusal.Refusal.TheVariants.{NotFound, UnknownWord}
-use Rattle.changes.specs.declared.change.Change.TheVariants as change
-use Rattle.pool_rows.specs.PoolRows.{pool_named}
+use Rattle.entries.specs.declared.change.Change.TheVariants as change
+use Rattle.inventory_rows.specs.pool_rows.PoolRows.{pool_named}
 use Rattle.inventory_rows.specs.State.{Inv}
 use Rattle.line_forms.specs.Line.{Request, day, put, get, register, define_volume, checkpoint, asked}
 use Rattle.script_loop.specs.Reply.{Answer}

@@ -12,7 +12,7 @@ use Rattle.script_loop.specs.declared.ends.Halt.TheVariants.{LogFault, RunFull, 
 use Rattle.script_loop.specs.declared.ends.End.{End}
 use Rattle.script_loop.specs.declared.ends.End.TheVariants.{Done, SourceFault, SinkFault, Halted, TooLong}
 use Rattle.vault.specs.Vaults.{State}
-use Rattle.log_file.specs.Safety.{acknowledged}
+use Rattle.vault.specs.log_file.Safety.{acknowledged}
 use Rattle.server.specs.Left.{HasFirst}
 use Rattle.server.specs.Running.{Running, IsSure}
 use Rattle.server.specs.Steps.{Later, Adds, Went, Stepped, Does, Breaks}

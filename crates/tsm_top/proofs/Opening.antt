@@ -10,7 +10,7 @@ use Rattle.kinds.specs.declared.refusal.OpenRefused.TheVariants as refused
 use Rattle.entries.specs.declared.entry.Entry.{Entry}
 use Rattle.inventory.specs.Meant.{meaning}
 use Rattle.inventory_rows.specs.State.{Inv}
-use Rattle.log_file.specs.Safety.{Timely}
+use Rattle.vault.specs.log_file.Safety.{Timely}
 use Rattle.script_loop.specs.Runs.{Says}
 use Rattle.script_loop.specs.Ends.{DoneAtEnd, status_of}
 use Rattle.script_loop.specs.declared.ends.End.{End}

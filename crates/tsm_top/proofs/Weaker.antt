@@ -3,12 +3,12 @@ use Rattle.std.proofs.Common.{⊎_elim, inl, inr, ℕ, Option, None, Some, List,
 use Rattle.std.specs.List.{AllByRecursion}
 use Rattle.kinds.specs.declared.rule.BackupRule.{BackupRule}
 use Rattle.kinds.specs.declared.segment.Segment.{Segment}
-use Rattle.changes.specs.declared.change.Change.{Change}
-use Rattle.version_groups.specs.declared.copies.CopyRow.{CopyRow}
-use Rattle.version_groups.specs.declared.versions.Version.{Version}
-use Rattle.object_rows.specs.Names.{node_named, filespace_named}
+use Rattle.entries.specs.declared.change.Change.{Change}
+use Rattle.inventory_rows.specs.version_groups.declared.copies.CopyRow.{CopyRow}
+use Rattle.inventory_rows.specs.version_groups.declared.versions.Version.{Version}
+use Rattle.inventory_rows.specs.object_rows.Names.{node_named, filespace_named}
 use Rattle.inventory_rows.specs.State.{Inv}
-use Rattle.inventory_rules.specs.Effects.{effect}
+use Rattle.inventory_rules.specs.Transactions.{effect}
 use Rattle.placing.specs.Placing.{segments_for, default_rule, active_version}
 use Rattle.line_forms.specs.Line.{Request, day, put, get, register, define_volume, checkpoint, asked}
 use Rattle.script_loop.specs.Reply.{Answer}

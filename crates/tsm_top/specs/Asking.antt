@@ -1,7 +1,7 @@
 -- What a line of the script makes of the database, and what it is answered by. Nothing here speaks of a file or a log.
 use Rattle.std.specs.Prelude.{◌≡◌, ◌⊎◌, ℕ, ◌+◌, Option, Some, None, List, [], codes, Result, Err}
 use Rattle.kinds.specs.declared.refusal.Refusal.TheVariants.{UnknownWord}
-use Rattle.changes.specs.declared.change.Change.TheVariants as change
+use Rattle.entries.specs.declared.change.Change.TheVariants as change
 use Rattle.inventory_rows.specs.State.{Inv}
 use Rattle.line_forms.specs.Line.{Request, day, put, get, register, define_volume, checkpoint, asked}
 use Rattle.line_forms.specs.declared.forms.PutAsked.{PutAsked}

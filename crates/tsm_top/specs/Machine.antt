@@ -6,7 +6,7 @@ use Rattle.inventory_rows.specs.State.{Inv}
 use Rattle.script_loop.specs.Reply.{Answer}
 use Rattle.script_loop.specs.declared.ends.Halt.{Halt}
 use Rattle.script_loop.specs.declared.ends.Halt.TheVariants.{LogFault, RunFull, Memory}
-use Rattle.log_file.specs.Safety as durable
+use Rattle.vault.specs.log_file.Safety as durable
 use Rattle.server.specs.World.{Kept, database_after, contents_after, GivesBack}
 use Rattle.tsm_top.specs.Asking.{Replies, Stops}
 

@@ -12,8 +12,8 @@ use Rattle.entries.specs.declared.entry.Entry.{Entry}
 use Rattle.inventory.specs.Meant.{meaning}
 use Rattle.inventory_rows.specs.Fresh.{fresh}
 use Rattle.inventory_rows.specs.State.{Inv}
-use Rattle.log_file.specs.Cursor.{Looked}
-use Rattle.log_file.specs.Safety.{Timely, acknowledged}
+use Rattle.vault.specs.log_file.Cursor.{Looked}
+use Rattle.vault.specs.log_file.Safety.{Timely, acknowledged}
 use Rattle.script_loop.specs.Ends.{told_number, status_of, DoneAtEnd}
 use Rattle.script_loop.specs.Runs.{Says, IsFront}
 use Rattle.script_loop.specs.declared.ends.End.{End}

@@ -8,7 +8,7 @@ ghost use Rattle.tsm_top.specs.Asking.{standard, backup_pool, put_view};
 ghost use Rattle.tsm_top.specs.Session.{Made};
 
 use crate::reply::{fixed, shown, stored, unknown};
-use changes::Change;
+use entries::Change;
 use kinds::{
     Access, Capacity, DefineOrDelete, Name, NodeName, ObjectChange, PoolChange, Refusal, Verb,
 };

@@ -8,14 +8,13 @@ ghost use Rattle.store_api.specs.Told.{Told};
 ghost use Rattle.kinds.specs.declared.refusal.OpenRefused.{OpenRefused};
 ghost use Rattle.script_loop.specs.declared.ends.End.{End};
 ghost use Rattle.script_loop.specs.Ends.{SourceCause, SinkCause};
-ghost use Rattle.log_file.specs.Cursor.{Looked};
+ghost use Rattle.vault.specs.log_file.Cursor.{Looked};
 ghost use Rattle.vault.specs.Openings.{Calm};
 ghost use Rattle.server.specs.Steps.{Later};
 ghost use Rattle.tsm_top.specs.Serve.{IsOnly, Asks, Command, format, run, fresh_run, Closing, no_command, formatted, exists, refused_opening, closing_line, closing_status, HasCauseOf, HasCause, Shuts, OpensNot, PutsLine, RoseBetween, IsOurFile, IsOurClosing, closing_of, HasImage, Spares, IsNew, MakesNot, RanScript, RanFrom};
 
 use crate::session::Session;
-use database::Database;
-use entries::Entry;
+use entries::{Database, Entry};
 use inventory::Inventory;
 use kinds::OpenRefused;
 use script_loop::{number_line, run};

@@ -10,7 +10,7 @@ use Rattle.log_file.proofs.Logs.{sure_since, sure_left}
 use Rattle.db_image.specs.declared.mark.Mark.TheVariants.{Server}
 use Rattle.db_image.specs.Images.{HasImage}
 use Rattle.entries.specs.declared.entry.Entry.{Entry}
-use Rattle.database.specs.Meaning.{Meaning}
+use Rattle.entries.specs.Meaning.{Meaning}
 use Rattle.vault.specs.Files.{image_file, log_file, IsOurs, IsOf}
 use Rattle.vault.specs.Recovery.{Older, Newest, records_of, after_all, RecoversWithin}
 use Rattle.vault.specs.Images.{IsImage, StaysOlder, Replaced}

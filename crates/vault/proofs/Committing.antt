@@ -10,7 +10,7 @@ use Rattle.log_file.specs.Steps.{Appended}
 use Rattle.log_file.specs.Sure.{IsSure}
 use Rattle.entries.specs.declared.entry.Entry.{Entry}
 use Rattle.entries.specs.EntryForm.{entry}
-use Rattle.database.specs.Meaning.{Meaning, IsLegal}
+use Rattle.entries.specs.Meaning.{Meaning, IsLegal}
 use Rattle.vault.specs.Files.{image_file, log_file, IsOurs}
 use Rattle.vault.specs.Recovery.{Newest, records_of, after_all, AllLegal, RecoversWithin}
 use Rattle.vault.specs.Vaults.{State, IsGood, with_entry, RecoversToEither, IsLeft, Committed}

@@ -15,7 +15,7 @@ use Rattle.db_image.specs.declared.head.Head.{Head}
 use Rattle.db_image.specs.Images.{HasImage}
 use Rattle.db_image.specs.Reads.{FindsHead, SaysDamage}
 use Rattle.db_image.proofs.One.{one, opened, not_damaged, head_image}
-use Rattle.database.specs.Meaning.{Meaning}
+use Rattle.entries.specs.Meaning.{Meaning}
 use Rattle.vault.specs.Files.{image_file}
 use Rattle.vault.specs.Recovery.{Older, Newest, Headed}
 use Rattle.vault.specs.Openings.{greater, FindsNewest, HeadsRefused, BaseRefused}

@@ -11,7 +11,7 @@ use Rattle.db_image.specs.Images.{image_bytes, HasImage}
 use Rattle.db_image.specs.Steps.{FirmShut}
 use Rattle.db_image.proofs.One.{stands_image}
 use Rattle.entries.specs.declared.entry.Entry.{Entry}
-use Rattle.database.specs.Meaning.{Meaning}
+use Rattle.entries.specs.Meaning.{Meaning}
 use Rattle.vault.specs.Files.{image_file, log_file, IsOurs}
 use Rattle.vault.specs.Recovery.{Older, Newest, records_of, after_all, RecoversWithin}
 use Rattle.vault.specs.Images.{IsImage, StaysOlder}

@@ -13,7 +13,7 @@ use Rattle.db_image.specs.declared.mark.Mark.TheVariants.{Server}
 use Rattle.db_image.specs.Images.{image_bytes}
 use Rattle.db_image.specs.Steps.{CanShut}
 use Rattle.db_image.proofs.One.{can_shut, image_settled}
-use Rattle.database.specs.Meaning.{Meaning, IsMeaning}
+use Rattle.entries.specs.Meaning.{Meaning, IsMeaning}
 use Rattle.vault.specs.Files.{image_file, log_file, IsOurs, IsOf}
 use Rattle.vault.specs.Recovery.{records_of, Recovers, RecoversWithin, IsBase, IsNext, IsInstalledAs}
 use Rattle.vault.specs.Images.{IsImage, StaysOlder, Replaced}

@@ -8,7 +8,7 @@ use Rattle.store_api.proofs.Pieces.{leaves_reads, left_beside, left_since}
 use Rattle.log_file.specs.Blocks.{LogEnds}
 use Rattle.db_image.specs.declared.mark.Mark.TheVariants.{Server}
 use Rattle.db_image.specs.Images.{HasImage}
-use Rattle.database.specs.Meaning.{Meaning}
+use Rattle.entries.specs.Meaning.{Meaning}
 use Rattle.vault.specs.Files.{image_file, log_file, IsOurs}
 use Rattle.vault.specs.Recovery.{Older, records_of, RecoversWithin}
 use Rattle.vault.specs.Vaults.{State, IsGood, IsLeft, RecoversToEither}

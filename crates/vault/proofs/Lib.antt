@@ -1,3 +1,4 @@
+pub use Rattle.log_file.proofs as of_log_file
 mod Calming
 mod Checkpointing
 mod Committing

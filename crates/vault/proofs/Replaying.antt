@@ -13,7 +13,7 @@ use Rattle.log_file.proofs.Opening.{left_looked}
 use Rattle.log_file.proofs.Starting.{Underway, under_sure, goes_further, found_at, found_end, found_refusal}
 use Rattle.entries.specs.declared.entry.Entry.{Entry}
 use Rattle.entries.specs.EntryForm.{entry, entry_form, Spells}
-use Rattle.database.specs.Meaning.{Meaning, IsLegal}
+use Rattle.entries.specs.Meaning.{Meaning, IsLegal}
 use Rattle.vault.specs.Recovery.{records_of, after_all, AllLegal, IsRefused}
 use Rattle.vault.specs.Openings.{AppliesEntry, Applies, LogRefused, Replayed}
 

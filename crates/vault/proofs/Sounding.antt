@@ -19,7 +19,7 @@ use Rattle.db_image.specs.declared.mark.Mark.TheVariants.{Server}
 use Rattle.db_image.specs.Images.{image_bytes, HasImage}
 use Rattle.db_image.specs.Steps.{FirmShut}
 use Rattle.db_image.proofs.One.{one, opened, image_settled, stays_shut}
-use Rattle.database.specs.Meaning.{Meaning}
+use Rattle.entries.specs.Meaning.{Meaning}
 use Rattle.vault.specs.Files.{image_file, log_file, IsOurs}
 use Rattle.vault.specs.Recovery.{Older, Newest, Headed, LogDamaged, records_of}
 use Rattle.vault.specs.Images.{IsImage, StaysOlder}

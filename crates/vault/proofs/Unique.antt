@@ -9,7 +9,7 @@ use Rattle.db_image.specs.Images.{DamagedAt}
 use Rattle.db_image.proofs.One.{opened, not_damaged, damaged_open}
 use Rattle.entries.specs.declared.entry.Entry.{Entry}
 use Rattle.entries.specs.EntryForm.{entry}
-use Rattle.database.specs.Meaning.{Meaning, IsMeaning, IsLegal}
+use Rattle.entries.specs.Meaning.{Meaning, IsMeaning, IsLegal}
 use Rattle.vault.specs.Files.{image_file, log_file}
 use Rattle.vault.specs.Recovery.{NotFormatted, IsDamaged, IsRefused, DamagedBehind, records_of, after_all, AllLegal, Recovers}
 use Rattle.vault.proofs.Replaying.{one_entry}

@@ -5,10 +5,9 @@ use Rattle.store_api.specs.Runs.{Firm, GoesOn, EachImage}
 use Rattle.log_file.specs.Blocks.{LogEnds}
 use Rattle.log_file.specs.Sure.{IsSure}
 use Rattle.db_image.specs.declared.mark.Mark.TheVariants.{Server}
-use Rattle.db_image.specs.declared.phase.Phase.TheVariants.{Durable}
+use Rattle.db_image.specs.declared.phase.Phase.TheVariants.{Durable, Begun, Written, Open, Failed}
 use Rattle.db_image.specs.Images.{image_bytes, IsNumber, HasImage}
 use Rattle.db_image.specs.declared.phase.Phase.{Phase}
-use Rattle.db_image.specs.declared.phase.Phase.TheVariants.{Begun, Written, Open, Failed}
 use Rattle.db_image.specs.Steps.{Job, FirmShut, CanShut, Underway, UnderwayAs, KeepsShut}
 use Rattle.vault.specs.Files.{image_file, log_file, IsOf}
 use Rattle.vault.specs.Recovery.{Older}

@@ -1,3 +1,4 @@
+pub use Rattle.log_file.specs as log_file
 pub mod Files
 pub mod Recovery
 pub mod Images

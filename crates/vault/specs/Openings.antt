@@ -14,7 +14,7 @@ use Rattle.db_image.specs.Images as image
 use Rattle.db_image.specs.Steps.{FirmShut}
 use Rattle.entries.specs.declared.entry.Entry.{Entry}
 use Rattle.entries.specs.EntryForm as entry
-use Rattle.database.specs.Meaning.{Meaning, IsLegal, Spells}
+use Rattle.entries.specs.Meaning.{Meaning, IsLegal, Spells}
 use Rattle.vault.specs.Files.{image_file, IsOurs}
 use Rattle.vault.specs.Recovery.{Newest, Headed, NotFormatted, IsDamaged, IsForeign, IsRefused, LogDamaged, Recovers, RecoversWithin, IsBase, IsNext, IsInstalledAs, records_of, after_all, AllLegal}
 use Rattle.vault.specs.Vaults.{State, IsGood}

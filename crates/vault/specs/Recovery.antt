@@ -8,8 +8,8 @@ use Rattle.db_image.specs.declared.mark.Mark.TheVariants.{Server}
 use Rattle.db_image.specs.Images.{HasImage}
 use Rattle.entries.specs.declared.entry.Entry.{Entry}
 use Rattle.entries.specs.EntryForm.{entry, Spells}
-use Rattle.database.specs.Meaning.{Meaning, IsLegal}
-use Rattle.database.specs.Meaning as database
+use Rattle.entries.specs.Meaning.{Meaning, IsLegal}
+use Rattle.entries.specs.Meaning as database
 use Rattle.vault.specs.Files.{image_file, log_file}
 
 -- No image with an open gate is in the file, or one of an older generation.

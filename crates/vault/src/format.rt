@@ -9,8 +9,8 @@ ghost use Rattle.vault.specs.Openings.{Cleared, Formatted, PutBehind, Installed,
 use crate::open::settle_all;
 use crate::vault::Vault;
 use crate::write::put_generation;
-use database::Database;
 use db_image::shut_gate;
+use entries::Database;
 use kinds::OpenRefused;
 use log_file::Log;
 use std::alloc::Global;

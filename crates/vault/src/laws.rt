@@ -5,7 +5,7 @@ ghost use Rattle.store_api.specs.Runs.{GoesOn, EachImage};
 ghost use Rattle.vault.specs.Recovery.{NotFormatted, IsDamaged, Recovers, RecoversWithin};
 ghost use Rattle.vault.specs.Vaults.{State, IsGood, IsLeft, RecoversToEither};
 
-use database::Database;
+use entries::Database;
 
 /// Whatever a stop right now leaves of a good vault's files recovers to its database.
 pub fn good_is_left<D: Database>()

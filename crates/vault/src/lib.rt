@@ -13,5 +13,6 @@ mod record;
 mod vault;
 mod write;
 
+pub use log_file;
 pub use open::is_formatted;
 pub use vault::Vault;

@@ -7,16 +7,15 @@ ghost use Rattle.store_api.specs.Told.{Told};
 ghost use Rattle.kinds.specs.declared.refusal.OpenRefused.TheVariants.{Memory};
 ghost use Rattle.log_file.specs.Cursor.{MayRefuse, Looked};
 ghost use Rattle.log_file.specs.Windows.{Onward, IfReads, NoDamage};
-ghost use Rattle.database.specs.Meaning.{IsLegal};
+ghost use Rattle.entries.specs.Meaning.{IsLegal};
 ghost use Rattle.vault.specs.Files.{image_file, log_file};
 ghost use Rattle.vault.specs.Recovery.{Newest};
 ghost use Rattle.vault.specs.Openings.{SettledAll, SaysNothing, has_open_gate, is_formatted, MayRefuseLooking, greater, FindsNewest, FindsBase, AppliesEntry, Applies, Replayed, Opened, MayRefuseOpening};
 
 use crate::files::{image_file, log_file};
 use crate::vault::Vault;
-use database::Database;
 use db_image::{Head, Image, Mark};
-use entries::Entry;
+use entries::{Database, Entry};
 use kinds::OpenRefused;
 use log_file::{Log, Records, read_piece, settle};
 use std::alloc::Global;
@@ -164,7 +163,11 @@ fn apply_record<D: Database>(
     ensures memory { IfErr result (λ refusal. refusal ≡ Memory) }
 {
     match Entry::decode(alloc, payload) {
-        Ok(Some(entry)) => apply_legal(alloc, database, &entry),
+        Ok(Some(entry)) => {
+            let applied = apply_legal(alloc, database, &entry);
+            drop(entry);
+            applied
+        }
         Ok(None) => Ok(false),
         Err(_) => Err(OpenRefused::Memory),
     }

@@ -2,10 +2,9 @@
 ghost use Rattle.std.specs.Prelude.{◌≡◌, ◌⊎◌, ◌<◌, ◌≤◌, ◌^◌, ◌++◌, ◌∷◌, [], length, IfOk, OnOk, IfErr};
 ghost use Rattle.kinds.specs.declared.refusal.Refusal.TheVariants.{RecordFull, Memory};
 ghost use Rattle.entries.specs.EntryForm.{entry as entry_form};
-ghost use Rattle.database.specs.Meaning.{IsLegal};
+ghost use Rattle.entries.specs.Meaning.{IsLegal};
 
-use database::Database;
-use entries::Entry;
+use entries::{Database, Entry};
 use kinds::Refusal;
 use log_file::{Framed, Log};
 use std::alloc::Global;
@@ -37,13 +36,16 @@ pub(crate) fn add_entry<D: Database>(
 {
     match journal.push(entry) {
         Ok(()) => {}
-        Err(_) => return Err(Refusal::Memory),
+        Err(failed) => {
+            drop(failed);
+            return Err(Refusal::Memory);
+        }
     }
     let last = journal.len() - 1;
     match database.apply(alloc, &journal[last]) {
         Ok(()) => Ok(()),
         Err(_) => {
-            let _ = journal.pop();
+            drop(journal.pop());
             Err(Refusal::Memory)
         }
     }

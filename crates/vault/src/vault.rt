@@ -4,15 +4,14 @@ ghost use Rattle.kinds.specs.declared.refusal.Refusal.TheVariants.{LogFault};
 ghost use Rattle.entries.specs.EntryForm.{entry as entry_form};
 ghost use Rattle.store_api.specs.Cause.{NoneFell};
 ghost use Rattle.store_api.specs.Told.{Told};
-ghost use Rattle.database.specs.Meaning.{IsLegal};
+ghost use Rattle.entries.specs.Meaning.{IsLegal};
 ghost use Rattle.vault.specs.Files.{log_file};
 ghost use Rattle.vault.specs.Vaults.{Committed, Checkpointed, with_entry, at_next, RefusesCommit, RefusesCheckpoint};
 
 use crate::files::log_file;
 use crate::record::{add_entry, frame_entry};
 use crate::write::put_generation;
-use database::Database;
-use entries::Entry;
+use entries::{Database, Entry};
 use kinds::Refusal;
 use log_file::Log;
 use std::alloc::Global;
@@ -121,11 +120,15 @@ impl<D: Database> Vault<D> {
         ensures counts { NoneFell (S.faults_of store.old) (S.faults_of store.new) }
     {
         if let Some((file, count)) = self.fault {
+            drop(entry);
             return Err(Refusal::LogFault { file, count });
         }
         let framed = match frame_entry(alloc, &entry) {
             Ok(framed) => framed,
-            Err(refusal) => return Err(refusal),
+            Err(refusal) => {
+                drop(entry);
+                return Err(refusal);
+            }
         };
         match add_entry(alloc, &mut self.database, &mut self.journal, entry) {
             Ok(()) => {}

@@ -1,8 +1,7 @@
 //! Steps on a vault over a store in memory.
 use crate::answer::Fault;
 use calendar::Calendar;
-use database::Database;
-use entries::{Change, Entry};
+use entries::{Change, Database, Entry};
 use kinds::{Day, OpenRefused, Refusal};
 use mem_store::MemStore;
 use std::alloc::{AllocError, Global};

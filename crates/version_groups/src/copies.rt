@@ -33,7 +33,7 @@ impl Clone for CopyRow {
 }
 
 /// A change of the copies of one version.
-#[derive(Debug, Drop)]
+#[derive(Drop)]
 pub enum CopyChange {
     /// One copy more.
     Add(CopyRow),

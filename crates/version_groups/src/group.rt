@@ -19,7 +19,7 @@ pub struct Group {
 }
 
 /// A change of a group that takes no memory.
-#[derive(Debug, Drop)]
+#[derive(Drop)]
 pub enum GroupChange {
     /// The newest version, which is the object's, is inactive from this day on.
     Gone { object: u64, today: Day },

@@ -11,6 +11,3 @@ pub use copies::{Copies, CopyChange, CopyRow};
 pub use group::{Group, GroupChange};
 pub use groups::{Filespace, Groups};
 pub use versions::{Version, Versions};
-
-#[cfg(test)]
-mod tests;

@@ -9,6 +9,3 @@ mod frame;
 pub mod laws;
 
 pub use frame::{HEADER_LEN, data_place, frame_header, is_framed_at, read_header};
-
-#[cfg(test)]
-mod tests;

@@ -3,7 +3,7 @@ ghost use Rattle.std.specs.Prelude.{◌≡◌, ◌+◌, ◌^◌, ◌<◌};
 use kinds::Segment;
 
 /// A segment on a volume, with the object to which it belongs.
-#[derive(Clone, Copy, Debug, PartialEq, Eq, PartialOrd, Ord)]
+#[derive(Clone, Copy, PartialEq, Eq, PartialOrd, Ord)]
 pub struct HeldSegment {
     /// Where the segment's frame begins on the volume, in bytes.
     pub offset: u64,

@@ -12,6 +12,3 @@ pub use held::HeldSegment;
 pub use holdings::Holdings;
 pub use status::Status;
 pub use volume::Volume;
-
-#[cfg(test)]
-mod tests;

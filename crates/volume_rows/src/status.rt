@@ -1,5 +1,5 @@
 /// How a volume is used.
-#[derive(Clone, Copy, Debug, PartialEq, Eq)]
+#[derive(Clone, Copy, Debug)]
 pub enum Status {
     /// A volume of random access.
     Online,

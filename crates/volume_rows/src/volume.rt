@@ -1,5 +1,4 @@
 ghost use Rattle.std.specs.Prelude.{◌≡◌, ◌≤◌, OnOk, Ok, if◌then◌else◌, Err};
-ghost use Rattle.std.specs.Option.{ForSome};
 ghost use Rattle.kinds.specs.Answers.{Becomes, Makes};
 ghost use Rattle.kinds.specs.declared.refusal.Refusal.TheVariants.{NotFound};
 
@@ -79,7 +78,6 @@ impl Volume {
         delay: Days,
         today: Day,
     ) -> Result<(), Refusal>
-        requires { ForSome self.now.emptied (λ day. day ≤ today) }
         ensures { result ≡ may_reuse sequential file delay today self.now }
     {
         if !sequential || self.end == 0 {

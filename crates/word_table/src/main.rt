@@ -1,118 +1,116 @@
-//! Reads lines of the command language and prints what each says: its command with its fields, or the refusal with the
-//! column of the word that it is about. A line that begins with `>` is read as one of a block, without that sign.
+//! Reads lines in sections and prints what each comes to. A line `= NAME` begins a section and is printed as it stands.
+//!
+//! - `commands`: a line of the command language, and what it says: its command with its fields, or the refusal with the column
+//!   of the word that it is about. A line that begins with `>` is read as one of a block, without that sign.
+//! - `lines`: a line of the script, and what it asks: its form, its number where it has one, and the names and the text that
+//!   stand in it. A line that has none of the forms asks nothing.
+//! - `table`: no lines; the manual's table of commands is printed.
+//! - `words`: a line, and its words, each behind its column and with a bar behind it, one with wrong quotes with a `!`.
+//! - `choices`: a word at column 7, and which of VOLUME, VOLHISTORY, DOMAIN and NODE it stands for.
+//! - `values`: a kind, a space and a text at column 3, and whether the text is a value of this kind, of those in reading.rt.
+//! - `row`: words for the places and keywords of the row in reading.rt, and what is given for them by number, the places before
+//!   a slash.
+//! - `fields`: a reader of fields, a space and a text, and what it reads.
+//! - `patterns`: a pattern, a space and a path, and whether the pattern matches the path.
+//! - `rules`: `file TEXT`, the text of a rule file, and its rules; `path TEXT`, and how the rules of the last file bind this path
+//!   and to which class, where BIG is the one class of the set and STANDARD the default class.
+//!
+//! In values and rules `\n` is a line feed, `\r` a carriage return, `\t` a tab, and `\xHH` the byte with these digits.
 #![tactic(auto)]
 
-ghost use Rattle.std.specs.Prelude.{◌≤◌, length};
+mod asked;
+mod commands;
+mod paths;
+mod reading;
+mod table;
+mod text;
 
-use admin_words::{Command, is_comment, read_line};
-use kinds::Refusal;
 use std::alloc::{AllocError, Global};
 use std::io;
 use std::io::{BufWriter, Write};
 
-/// How many bytes stand in the debug form between the name of a text's struct and its bytes.
-const FIELD: usize = b" { bytes: ".len();
+/// What the lines of a section are.
+#[derive(Clone, Copy)]
+enum Section {
+    Commands,
+    Lines,
+    Table,
+    Words,
+    Choices,
+    Values,
+    Row,
+    Fields,
+    Patterns,
+    Rules,
+}
 
-/// How many bytes stand in the debug form behind the bytes of a text.
-const END: u8 = 2;
-
-/// Where the name begins that ends this text.
-fn name_start(text: &[u8]) -> usize {
-    let mut start = 0;
-    for (at, byte) in text.iter().enumerate() {
-        if !byte.is_ascii_alphanumeric() {
-            start = at + 1;
-        }
+fn section_of(name: &[u8]) -> Option<Section> {
+    match name {
+        b"commands" => Some(Section::Commands),
+        b"lines" => Some(Section::Lines),
+        b"table" => Some(Section::Table),
+        b"words" => Some(Section::Words),
+        b"choices" => Some(Section::Choices),
+        b"values" => Some(Section::Values),
+        b"row" => Some(Section::Row),
+        b"fields" => Some(Section::Fields),
+        b"patterns" => Some(Section::Patterns),
+        b"rules" => Some(Section::Rules),
+        _ => None,
     }
-    start
 }
 
-/// Takes away the name of a text's struct and of its field.
-fn without_name(out: &mut Vec<u8>) {
-    out.truncate(out.len().saturating_sub(FIELD));
-    out.truncate(name_start(out.as_slice()));
+/// The section that a line begins.
+fn begun(line: &[u8]) -> Option<Section> {
+    match line {
+        [b'=', b' ', name @ ..] => section_of(name),
+        _ => None,
+    }
 }
 
-/// The number that this digit continues.
-fn with_digit(number: Option<u8>, digit: u8) -> Option<u8> {
-    let first = number.unwrap_or(0).wrapping_mul(10);
-    Some(first.wrapping_add(digit.wrapping_sub(b'0')))
+/// What a line of a section comes to; in `file` stands the text of the last rule file.
+fn answer(
+    alloc: Global,
+    section: Section,
+    file: &mut Vec<u8>,
+    line: &[u8],
+) -> Result<Vec<u8>, AllocError> {
+    match section {
+        Section::Commands => commands::line(alloc, line),
+        Section::Lines => asked::line(alloc, line),
+        Section::Table => Vec::from_slice(alloc, line),
+        Section::Words => reading::words(alloc, line),
+        Section::Choices => reading::choice(alloc, line),
+        Section::Values => reading::value(alloc, line),
+        Section::Row => reading::row(alloc, line),
+        Section::Fields => reading::field(alloc, line),
+        Section::Patterns => paths::pattern(alloc, line),
+        Section::Rules => paths::rules(alloc, file, line),
+    }
 }
 
-/// The debug form of a command with its texts in quotes, where that has their bytes as numbers in a struct.
-fn with_texts(alloc: Global, debug: &[u8]) -> Result<Vec<u8>, AllocError> {
-    let mut out = Vec::new(alloc);
-    let mut number = None;
-    let mut in_text = false;
-    let mut left_out = 0;
-    for byte in debug {
-        if left_out > 0 {
-            left_out -= 1;
-        } else if !in_text {
-            if *byte == b'[' {
-                without_name(&mut out);
-                out.push(b'"')?;
-                in_text = true;
-            } else {
-                out.push(*byte)?;
-            }
-        } else if byte.is_ascii_digit() {
-            number = with_digit(number, *byte);
-        } else {
-            if let Some(n) = number {
-                out.push(n)?;
-                number = None;
-            }
-            if *byte == b']' {
-                out.push(b'"')?;
-                in_text = false;
-                left_out = END;
-            }
-        }
+/// The line that begins a section, and all of the section that has no lines.
+fn heading(alloc: Global, section: Section, line: &[u8]) -> Result<Vec<u8>, AllocError> {
+    let mut out = Vec::from_slice(alloc, line)?;
+    if matches!(section, Section::Table) {
+        out.extend_from_slice(table::lines(alloc)?.as_bytes())?;
     }
     Ok(out)
-}
-
-/// The debug form of a command.
-fn command_text(alloc: Global, command: &Command) -> Result<String, AllocError> {
-    format!(in alloc; "{command:?}")
-}
-
-/// The debug form of a refusal.
-fn refusal_text(alloc: Global, refusal: &Refusal) -> Result<String, AllocError> {
-    format!(in alloc; "{refusal:?}")
-}
-
-/// The debug form of what a line is read as.
-fn line_text(alloc: Global, line: &[u8], in_block: bool) -> Result<String, AllocError>
-    requires { length line.now ≤ 4096 }
-{
-    match read_line(alloc, line, in_block) {
-        Ok(command) => command_text(alloc, &command),
-        Err(refusal) => refusal_text(alloc, &refusal),
-    }
-}
-
-/// What a line says.
-fn said(alloc: Global, line: &[u8], in_block: bool) -> Result<Vec<u8>, AllocError> {
-    if is_comment(line) {
-        return Vec::from_slice(alloc, b"a comment");
-    }
-    if line.len() > 4096 {
-        return Vec::from_slice(alloc, b"too long");
-    }
-    let text = line_text(alloc, line, in_block)?;
-    with_texts(alloc, text.as_bytes())
 }
 
 fn main(rt: HostRuntime) -> io::Result<()> {
     let alloc = rt.alloc();
     let mut out = BufWriter::new(alloc, io::writer(&rt))?;
+    let mut section = Section::Commands;
+    let mut file = Vec::new(alloc);
     for line in rt.lines(alloc) {
         let line = line?;
-        let text = match line.as_bytes() {
-            [b'>', rest @ ..] => said(alloc, rest, true)?,
-            whole => said(alloc, whole, false)?,
+        let text = match begun(line.as_bytes()) {
+            Some(next) => {
+                section = next;
+                heading(alloc, next, line.as_bytes())?
+            }
+            None => answer(alloc, section, &mut file, line.as_bytes())?,
         };
         out.write_all(text.as_slice())?;
         out.write_all(b"\n")?;

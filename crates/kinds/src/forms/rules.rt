@@ -1,13 +1,13 @@
 //! Limits, backup copy groups and the settings of storage pools.
 ghost use Rattle.std.specs.Prelude.{◌≡◌};
 ghost use Rattle.kinds.specs.PoolForms.{size_limit, size_limit_form, pool_rule, pool_rule_form, settings, settings_form};
-ghost use Rattle.kinds.specs.RuleForms.{rule_limit, rule_limit_form, rule, rule_form, group, group_form};
+ghost use Rattle.kinds.specs.RuleForms.{rule_limit, rule_limit_form, rule_fields, rule, rule_form, group, group_form};
 ghost use Rattle.kinds.specs.ValueForms.{unless_zero};
 
 use crate::day::Days;
 use crate::pool::{PoolRule, PoolSettings, SizeLimit};
 use crate::rule::{BackupRule, CopyGroup, Limit, Still};
-use fields::{Fault, Formed, Memory, Reader, put_u8, put_u16, put_u32, put_u64};
+use fields::{Fault, Formed, Memory, Reader, put_u32, put_u64};
 use std::alloc::Global;
 
 /// A number in four bytes, all ones for NOLIMIT.
@@ -56,31 +56,33 @@ impl Formed for SizeLimit {
     ghost is_form = { size_limit_form };
 }
 
+/// The parameters of a backup copy group, in the order of their bytes.
+type RuleFields = (
+    u32,
+    (u16, (Limit, (Limit, (Limit, (Limit, (bool, Still)))))),
+);
+
+fn rule_fields(rule: &BackupRule) -> RuleFields
+    ensures { result ≡ rule_fields rule.now }
+{
+    let ret = (rule.ret_extra, (rule.ret_only, (rule.absolute, rule.still)));
+    let ver = (rule.ver_exists, (rule.ver_deleted, ret));
+    (rule.destination, (rule.frequency, ver))
+}
+
 /// The parameters one after the other.
 impl Formed for BackupRule {
     ghost form = { rule };
 
     fn write_to(&self, out: &mut Vec<u8>) -> Result<(), Memory> {
-        put_u32(out, self.destination)?;
-        put_u16(out, self.frequency)?;
-        self.ver_exists.write_to(out)?;
-        self.ver_deleted.write_to(out)?;
-        self.ret_extra.write_to(out)?;
-        self.ret_only.write_to(out)?;
-        self.absolute.write_to(out)?;
-        self.still.write_to(out)?;
-        Ok(())
+        rule_fields(self).write_to(out)
     }
 
     fn read_from(alloc: Global, reader: &mut Reader<'_>) -> Result<Self, Fault> {
-        let destination = reader.u32()?;
-        let frequency = reader.u16()?;
-        let ver_exists = Limit::read_from(alloc, reader)?;
-        let ver_deleted = Limit::read_from(alloc, reader)?;
-        let ret_extra = Limit::read_from(alloc, reader)?;
-        let ret_only = Limit::read_from(alloc, reader)?;
-        let absolute = bool::read_from(alloc, reader)?;
-        let still = Still::read_from(alloc, reader)?;
+        let (destination, (frequency, (ver_exists, (ver_deleted, ret)))) = RuleFields::read_from(
+            alloc, reader,
+        )?;
+        let (ret_extra, (ret_only, (absolute, still))) = ret;
         Ok(BackupRule {
             destination,
             frequency,
@@ -121,6 +123,9 @@ fn next_of(number: u32) -> Option<u32>
     if number == 0 { None } else { Some(number) }
 }
 
+/// HIGHMIG, LOWMIG, RECLAIM, REUSEDELAY and MAXSCRATCH, in the order of their bytes.
+type PoolNumbers = (u8, (u8, (u8, (Days, u16))));
+
 /// The parameters one after the other, with 0 where there is no next pool.
 impl Formed for PoolRule {
     ghost form = { pool_rule };
@@ -128,22 +133,17 @@ impl Formed for PoolRule {
     fn write_to(&self, out: &mut Vec<u8>) -> Result<(), Memory> {
         self.max_size.write_to(out)?;
         put_u32(out, self.next.unwrap_or(0))?;
-        put_u8(out, self.high)?;
-        put_u8(out, self.low)?;
-        put_u8(out, self.reclaim)?;
-        self.reuse_delay.write_to(out)?;
-        put_u16(out, self.max_scratch)?;
+        let kept = (self.reclaim, (self.reuse_delay, self.max_scratch));
+        (self.high, (self.low, kept)).write_to(out)?;
         Ok(())
     }
 
     fn read_from(alloc: Global, reader: &mut Reader<'_>) -> Result<Self, Fault> {
         let max_size = SizeLimit::read_from(alloc, reader)?;
         let next = next_of(reader.u32()?);
-        let high = reader.u8()?;
-        let low = reader.u8()?;
-        let reclaim = reader.u8()?;
-        let reuse_delay = Days::read_from(alloc, reader)?;
-        let max_scratch = reader.u16()?;
+        let (high, (low, (reclaim, (reuse_delay, max_scratch)))) = PoolNumbers::read_from(
+            alloc, reader,
+        )?;
         Ok(PoolRule {
             max_size,
             next,

@@ -2,7 +2,7 @@
 ghost use Rattle.kinds.specs.ValueForms.{digest, digest_form, segment, segment_form, segments, segments_form};
 
 use crate::segment::{Digest, Segment, Segments};
-use fields::{Fault, Formed, Memory, Reader, put_digest, put_items, put_u32, put_u64, take_items};
+use fields::{Fault, Formed, Memory, Own, Reader, put_digest, put_list, take_list};
 use std::alloc::Global;
 
 /// The 32 bytes.
@@ -26,16 +26,11 @@ impl Formed for Segment {
     ghost form = { segment };
 
     fn write_to(&self, out: &mut Vec<u8>) -> Result<(), Memory> {
-        put_u32(out, self.file)?;
-        put_u64(out, self.offset)?;
-        put_u32(out, self.len)?;
-        Ok(())
+        (self.file, (self.offset, self.len)).write_to(out)
     }
 
-    fn read_from(_alloc: Global, reader: &mut Reader<'_>) -> Result<Self, Fault> {
-        let file = reader.u32()?;
-        let offset = reader.u64()?;
-        let len = reader.u32()?;
+    fn read_from(alloc: Global, reader: &mut Reader<'_>) -> Result<Self, Fault> {
+        let (file, (offset, len)) = <(u32, (u64, u32))>::read_from(alloc, reader)?;
         Ok(Segment { file, offset, len })
     }
 
@@ -47,11 +42,11 @@ impl Formed for Segments {
     ghost form = { segments };
 
     fn write_to(&self, out: &mut Vec<u8>) -> Result<(), Memory> {
-        put_items(out, self.as_slice())
+        put_list::<Segment, Own>(out, self.as_slice())
     }
 
     fn read_from(alloc: Global, reader: &mut Reader<'_>) -> Result<Self, Fault> {
-        let items = take_items(alloc, reader, u32::MAX)?;
+        let items = take_list::<Segment, Own>(alloc, reader, u32::MAX)?;
         Ok(Segments::new(items))
     }
 

@@ -1,7 +1,7 @@
 use Rattle.std.proofs.Common.{◌≡◌, is_some}
 use Rattle.std.specs.List.{list_all}
 use Rattle.std.specs.Map.{lookup}
-use Rattle.object_rows.specs.Filespaces.{at_number}
+use Rattle.inventory_rows.specs.object_rows.Filespaces.{at_number}
 use Rattle.inventory_rows.specs.State.{inv_of}
 use Rattle.inventory_rules.specs.Valid.{filespaces_cite}
 use Rattle.inventory_check.proofs.clients.filespaces_cite.Given as goal

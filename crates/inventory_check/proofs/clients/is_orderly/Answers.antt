@@ -1,7 +1,7 @@
 use Rattle.std.proofs.Common.{◌≡◌, ◌-◌, ◌≤◌, Bool, true, ◌&&◌, List, [], ◌∷◌, length, get_or, take, drop, sym, ap, ◌∙◌, arith}
 use Rattle.std.proofs.lemmas.List.{take_all}
-use Rattle.version_groups.specs.declared.group.Group.{Group}
-use Rattle.version_groups.specs.declared.versions.Version.{Version}
+use Rattle.inventory_rows.specs.version_groups.declared.group.Group.{Group}
+use Rattle.inventory_rows.specs.version_groups.declared.versions.Version.{Version}
 use Rattle.inventory_rules.specs.Valid.{are_all_inactive, is_orderly}
 use Rattle.inventory_check.specs.Rows.{days_fall}
 use Rattle.inventory_check.proofs.Orderly.{orderly_by_neighbours}

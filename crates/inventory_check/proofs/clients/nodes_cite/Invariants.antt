@@ -1,6 +1,6 @@
 use Rattle.std.proofs.Common.{◌≡◌, is_some}
 use Rattle.std.specs.List.{list_all}
-use Rattle.policy_domains.specs.Rows.{row_of}
+use Rattle.inventory_rows.specs.policy_domains.Rows.{row_of}
 use Rattle.inventory_rows.specs.State.{inv_of}
 use Rattle.inventory_rules.specs.Valid.{nodes_cite}
 use Rattle.inventory_check.proofs.clients.nodes_cite.Given as goal

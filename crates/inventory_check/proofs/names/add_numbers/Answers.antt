@@ -2,9 +2,9 @@ use Rattle.std.proofs.Common.{ℕ, List, subst, sym, ◌∙◌}
 use Rattle.std.specs.Cmp.{nat_cmp_total}
 use Rattle.std.specs.Map.{lookup}
 use Rattle.std.specs.Ordering.{nat_cmp}
-use Rattle.object_rows.specs.Filespaces.{at_number}
-use Rattle.object_rows.proofs.Builds.{Progress, step_one, stop_one}
-use Rattle.object_rows.proofs.Kept.{none_from}
+use Rattle.inventory_rows.specs.object_rows.Filespaces.{at_number}
+use Rattle.inventory_rows.proofs.of_object_rows.Builds.{Progress, step_one, stop_one}
+use Rattle.inventory_rows.proofs.of_object_rows.Kept.{none_from}
 use Rattle.inventory_rows.specs.declared.backup.Backup.{Backup}
 use Rattle.inventory_check.specs.Rows.{numbered}
 use Rattle.inventory_check.proofs.names.add_numbers.Goals as goal

@@ -1,5 +1,5 @@
 use Rattle.std.specs.Ordering.{nat_cmp}
-use Rattle.object_rows.proofs.Builds.{Progress}
+use Rattle.inventory_rows.proofs.of_object_rows.Builds.{Progress}
 use Rattle.inventory_check.specs.Rows.{numbered}
 use Rattle.inventory_check.proofs.names.add_numbers.Given as goal
 

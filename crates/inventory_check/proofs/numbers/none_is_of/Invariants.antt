@@ -1,7 +1,7 @@
 use Rattle.std.proofs.Common.{◌≡◌, not, is_some}
 use Rattle.std.specs.List.{list_all}
 use Rattle.std.specs.Map.{keys_of}
-use Rattle.pool_tables.specs.Rows.{row_at}
+use Rattle.inventory_rows.specs.pool_tables.Rows.{row_at}
 use Rattle.inventory_check.proofs.numbers.none_is_of.Given as goal
 
 abbrev pub invariant-volumes : goal.invariant-volumes

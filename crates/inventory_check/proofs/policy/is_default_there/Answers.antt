@@ -1,5 +1,5 @@
 use Rattle.std.proofs.Common.{◌≡◌, ℕ, List, Option, Some, is_some, ap, ◌∙◌}
-use Rattle.policy_domains.specs.Rows.{SetRow, row_of}
+use Rattle.inventory_rows.specs.policy_domains.Rows.{SetRow, row_of}
 use Rattle.inventory_rules.specs.Valid.{is_default_there}
 use Rattle.inventory_check.proofs.policy.is_default_there.Goals as goal
 

@@ -1,6 +1,6 @@
 use Rattle.std.proofs.Common.{◌≡◌, not}
 use Rattle.std.specs.List.{list_all}
-use Rattle.pool_rows.specs.Hierarchy.{comes_to}
+use Rattle.inventory_rows.specs.pool_rows.Hierarchy.{comes_to}
 use Rattle.inventory_rows.specs.State.{inv_of}
 use Rattle.inventory_rules.specs.Valid.{no_ring}
 use Rattle.inventory_check.proofs.stores.no_ring.Given as goal

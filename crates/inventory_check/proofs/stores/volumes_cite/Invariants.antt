@@ -1,6 +1,6 @@
 use Rattle.std.proofs.Common.{◌≡◌, is_some}
 use Rattle.std.specs.List.{list_all}
-use Rattle.pool_tables.specs.Rows.{row_at}
+use Rattle.inventory_rows.specs.pool_tables.Rows.{row_at}
 use Rattle.inventory_rows.specs.State.{inv_of}
 use Rattle.inventory_rules.specs.Valid.{volumes_cite}
 use Rattle.inventory_check.proofs.stores.volumes_cite.Given as goal

@@ -1,5 +1,5 @@
 use Rattle.std.proofs.Common.{nat_le, sym, ◌∙◌}
-use Rattle.version_groups.specs.declared.copies.CopyRow.{CopyRow}
+use Rattle.inventory_rows.specs.version_groups.declared.copies.CopyRow.{CopyRow}
 use Rattle.inventory_rows.specs.State.{inv_of}
 use Rattle.inventory_check.proofs.Walking.{all_of_copies}
 use Rattle.inventory_check.proofs.versions.copies_are_past.Goals as goal

@@ -1,7 +1,7 @@
 use Rattle.std.proofs.Common.{nat_le, ℕ, ◌&&◌, sym, ◌∙◌}
 use Rattle.std.specs.Prelude.{nat_lt}
 use Rattle.std.proofs.lemmas.List.Folds.{list_all-map}
-use Rattle.version_groups.specs.declared.versions.Version.{Version}
+use Rattle.inventory_rows.specs.version_groups.declared.versions.Version.{Version}
 use Rattle.inventory_rows.specs.Search.{versions}
 use Rattle.inventory_rows.specs.State.{inv_of}
 use Rattle.inventory_check.proofs.versions.objects_drawn.Goals as goal

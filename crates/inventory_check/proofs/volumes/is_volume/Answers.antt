@@ -1,8 +1,8 @@
 use Rattle.std.proofs.Common.{ℕ, List, subst, ap, ◌∙◌}
 use Rattle.std.specs.List.Sorted.{IsStrictlySortedBy}
 use Rattle.std.specs.Map.{keys_of}
-use Rattle.volume_rows.specs.declared.held.HeldSegment.{HeldSegment}
-use Rattle.volume_rows.specs.Held.{held_cmp}
+use Rattle.inventory_rows.specs.volume_rows.declared.held.HeldSegment.{HeldSegment}
+use Rattle.inventory_rows.specs.volume_rows.Held.{held_cmp}
 use Rattle.inventory_rows.specs.State.{inv_of}
 use Rattle.inventory_check.specs.Laid.{row_agrees}
 use Rattle.inventory_check.proofs.Lying.{volume_of_row}

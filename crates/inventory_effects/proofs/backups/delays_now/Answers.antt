@@ -2,9 +2,9 @@ use Rattle.std.proofs.Common.{◌≡◌, ◌++◌, ℕ, List, sym, ap, subst, �
 use Rattle.std.specs.List.Sorted.{IsStrictlySortedBy}
 use Rattle.std.specs.Map.{keys_of}
 use Rattle.std.specs.Ordering.{nat_cmp}
-use Rattle.pool_tables.specs.declared.pool.Pool.{Pool}
+use Rattle.inventory_rows.specs.pool_tables.declared.pool.Pool.{Pool}
 use Rattle.inventory_rows.specs.State.{inv_of}
-use Rattle.inventory_steps.proofs.Ways.{same_Ok}
+use Rattle.inventory_effects.proofs.Ways.{same_Ok}
 use Rattle.inventory_effects.specs.Delaying.{delay_kept}
 use Rattle.inventory_effects.proofs.Delays.{delays_of, kept_next}
 use Rattle.inventory_effects.proofs.backups.delays_now.Goals as goal

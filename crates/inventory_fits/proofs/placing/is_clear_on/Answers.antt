@@ -1,5 +1,5 @@
 use Rattle.std.proofs.Common.{rules, ap, ◌∙◌}
-use Rattle.pool_rows.specs.PoolRows.{is_sequential}
+use Rattle.inventory_rows.specs.pool_rows.PoolRows.{is_sequential}
 use Rattle.inventory_rows.specs.State.{inv_of}
 use Rattle.inventory_fits.specs.Frames.{is_clear, are_held_apart}
 use Rattle.inventory_fits.proofs.Lie.{apart_on_row, clear_on_row}

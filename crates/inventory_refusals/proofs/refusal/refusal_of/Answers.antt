@@ -1,7 +1,7 @@
 use Rattle.std.proofs.Common.{sym, ap, ◌∙◌}
 use Rattle.kinds.specs.Refusals.{foremost}
 use Rattle.inventory_rows.specs.State.{inv_of}
-use Rattle.inventory_rules.specs.Refused.{causes}
+use Rattle.inventory_rules.specs.Transactions.{causes}
 use Rattle.inventory_refusals.proofs.refusal.refusal_of.Goals as goal
 
 pub returns-in-Day : goal.returns-in-Day

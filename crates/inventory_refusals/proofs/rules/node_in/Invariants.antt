@@ -1,6 +1,6 @@
 use Rattle.std.proofs.Common.{◌≡◌}
-use Rattle.policy_domains.specs.Rows.{is_same_name}
-use Rattle.pool_tables.specs.Rows.{number_where}
+use Rattle.kinds.specs.Names.{is_same_name}
+use Rattle.inventory_rows.specs.pool_tables.Rows.{number_where}
 use Rattle.inventory_refusals.proofs.rules.node_in.Given as goal
 
 abbrev pub invariant-nodes : goal.invariant-nodes

@@ -1,9 +1,7 @@
-use Rattle.std.proofs.Common.{◌≡◌, Bool, true, false, Option, Some, None, refl}
+use Rattle.std.proofs.Common.{◌≡◌, Bool, true, false, Option, Some, None, refl, ◌++◌}
 use Rattle.kinds.specs.declared.refusal.Refusal.{Refusal}
 use Rattle.kinds.specs.Refusals.{foremost}
-use Rattle.std.proofs.Common.{◌++◌}
-use Rattle.inventory_rules.specs.Effects.{effect}
-use Rattle.inventory_rules.specs.Refused.{causes, refused, sizes_refused, then_valid}
+use Rattle.inventory_rules.specs.Transactions.{effect, causes, refused, sizes_refused, then_valid}
 use Rattle.inventory_rules.specs.Valid.{is_valid}
 use Rattle.inventory_rules.proofs.laws.legal_leaves_valid.Goals as goal
 

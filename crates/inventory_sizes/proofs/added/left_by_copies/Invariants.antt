@@ -1,7 +1,7 @@
 use Rattle.std.proofs.Common.{◌≡◌, ◌+◌, length, drop}
 use Rattle.std.specs.List.{sum_by}
-use Rattle.change_items.specs.declared.items.NewCopy.{NewCopy}
-use Rattle.object_rows.specs.Items.{left}
+use Rattle.entries.specs.change_items.declared.items.NewCopy.{NewCopy}
+use Rattle.inventory_rows.specs.object_rows.Items.{left}
 use Rattle.inventory_sizes.proofs.added.left_by_copies.Given as goal
 
 abbrev pub invariant-items : goal.invariant-items

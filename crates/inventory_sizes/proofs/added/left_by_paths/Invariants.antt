@@ -1,7 +1,7 @@
 use Rattle.std.proofs.Common.{◌≡◌, [], take, drop}
 use Rattle.inventory_rows.specs.State.{inv_of}
-use Rattle.item_counts.specs.Counts.{paths_added}
-use Rattle.object_rows.specs.Items.{left}
+use Rattle.inventory_rules.specs.Versions.{paths_added}
+use Rattle.inventory_rows.specs.object_rows.Items.{left}
 use Rattle.inventory_sizes.proofs.Paths.{paths_of}
 use Rattle.inventory_sizes.proofs.added.left_by_paths.Given as goal
 

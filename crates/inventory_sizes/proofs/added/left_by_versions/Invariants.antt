@@ -1,7 +1,7 @@
 use Rattle.std.proofs.Common.{◌≡◌, drop}
 use Rattle.std.specs.List.{sum_by}
-use Rattle.item_counts.specs.Counts.{items_of_new}
-use Rattle.object_rows.specs.Items.{left}
+use Rattle.inventory_rules.specs.Versions.{items_of_new}
+use Rattle.inventory_rows.specs.object_rows.Items.{left}
 use Rattle.inventory_sizes.proofs.added.left_by_versions.Given as goal
 
 abbrev pub invariant-items : goal.invariant-items

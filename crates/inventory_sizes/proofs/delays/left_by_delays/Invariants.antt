@@ -1,6 +1,6 @@
 use Rattle.std.proofs.Common.{◌≡◌, length}
 use Rattle.inventory_rows.specs.State.{inv_of}
-use Rattle.object_rows.specs.Items.{left}
+use Rattle.inventory_rows.specs.object_rows.Items.{left}
 use Rattle.inventory_sizes.proofs.KeptDelays.{delays_of}
 use Rattle.inventory_sizes.proofs.delays.left_by_delays.Given as goal
 

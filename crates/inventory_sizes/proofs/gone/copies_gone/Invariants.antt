@@ -1,7 +1,7 @@
 use Rattle.std.proofs.Common.{◌≡◌, ◌*◌, ◌^◌, ◌≤◌, take}
 use Rattle.std.specs.List.{sum_by}
 use Rattle.inventory_rows.specs.State.{inv_of}
-use Rattle.item_counts.specs.Counts.{segments_left}
+use Rattle.inventory_rules.specs.Copies.{segments_left}
 use Rattle.inventory_sizes.proofs.gone.copies_gone.Given as goal
 
 abbrev pub invariant-items : goal.invariant-items

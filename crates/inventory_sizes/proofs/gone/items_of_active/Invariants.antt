@@ -1,5 +1,5 @@
 use Rattle.std.proofs.Common.{◌≡◌}
-use Rattle.policy_domains.specs.Rows.{active_set, row_of}
+use Rattle.inventory_rows.specs.policy_domains.Rows.{active_set, row_of}
 use Rattle.inventory_sizes.proofs.gone.items_of_active.Given as goal
 
 abbrev pub invariant-sets : goal.invariant-sets

@@ -1,10 +1,11 @@
 use Rattle.std.proofs.Common.{not, map, ap, ◌∙◌}
 use Rattle.std.specs.Prelude.{◌==◌}
-use Rattle.kinds.specs.Refusals.{sooner_of}
+use Rattle.kinds.specs.Refusals.{sooner_of, unless, bad_value}
 use Rattle.change_items.specs.declared.items.MovedCopy.{MovedCopy}
-use Rattle.version_groups.specs.Entries.{all_later}
+use Rattle.inventory_rows.specs.version_groups.Entries.{all_later}
 use Rattle.inventory_rows.specs.State.{inv_of}
-use Rattle.inventory_rules.specs.RefusedData.{unless, bad_value, name_once, moved_refused}
+use Rattle.inventory_rules.specs.Copies.{moved_refused}
+use Rattle.inventory_rules.specs.Versions.{name_once}
 use Rattle.item_refusals.proofs.Foremost.{foremost_first, foremost_next, foremost_done}
 use Rattle.item_refusals.proofs.Lists.{all_later_map}
 use Rattle.item_refusals.proofs.copies.move_refused.Goals as goal

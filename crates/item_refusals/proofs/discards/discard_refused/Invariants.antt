@@ -1,9 +1,9 @@
 use Rattle.std.proofs.Common.{◌≡◌, ◌++◌, map, take}
 use Rattle.std.specs.List.{flat_map}
-use Rattle.kinds.specs.Refusals.{foremost}
+use Rattle.kinds.specs.Refusals.{foremost, unless, bad_value}
 use Rattle.change_items.specs.declared.items.DiscardedVersion.{DiscardedVersion}
 use Rattle.inventory_rows.specs.State.{inv_of}
-use Rattle.inventory_rules.specs.RefusedData.{unless, bad_value, name_once, discarded_refused}
+use Rattle.inventory_rules.specs.Versions.{name_once, discarded_refused}
 use Rattle.item_refusals.proofs.discards.discard_refused.Given as goal
 
 abbrev pub invariant-items : goal.invariant-items

@@ -1,5 +1,5 @@
 use Rattle.std.proofs.Common.{◌≡◌, drop}
-use Rattle.inventory_rules.specs.RefusedData.{place_among}
+use Rattle.inventory_rules.specs.Versions.{place_among}
 use Rattle.item_refusals.specs.Placing.{behind}
 use Rattle.item_refusals.proofs.retained.place_among.Given as goal
 

@@ -3,7 +3,7 @@ use Rattle.std.specs.List.{flat_map}
 use Rattle.kinds.specs.Refusals.{foremost}
 use Rattle.change_items.specs.declared.items.ScratchVolume.{ScratchVolume}
 use Rattle.inventory_rows.specs.State.{inv_of}
-use Rattle.inventory_rules.specs.Refused.{file_bound}
+use Rattle.inventory_rules.specs.Common.{file_bound}
 use Rattle.item_refusals.proofs.scratch.file_bounds.Given as goal
 
 abbrev pub invariant-scratch : goal.invariant-scratch

@@ -2,13 +2,13 @@ use Rattle.std.proofs.Common.{◌≡◌, ◌+◌, Bool, not, List, ◌++◌, nat
 use Rattle.std.specs.Prelude.{◌==◌}
 use Rattle.kinds.specs.declared.refusal.Refusal.{Refusal}
 use Rattle.kinds.specs.declared.refusal.Refusal.TheVariants.{InventoryFull}
-use Rattle.kinds.specs.Refusals.{foremost, sooner_of}
+use Rattle.kinds.specs.Refusals.{foremost, sooner_of, unless, bad_value}
 use Rattle.change_items.specs.declared.items.NewVersion.{NewVersion}
-use Rattle.version_groups.specs.Entries.{all_later}
-use Rattle.inventory_rows.specs.Items.{most_versions}
+use Rattle.inventory_rows.specs.version_groups.Entries.{all_later}
+use Rattle.inventory_rows.specs.object_rows.Rows.{most_versions}
 use Rattle.inventory_rows.specs.Search.{versions}
 use Rattle.inventory_rows.specs.State.{inv_of}
-use Rattle.inventory_rules.specs.RefusedData.{unless, bad_value, name_once, filespace_there}
+use Rattle.inventory_rules.specs.Versions.{name_once, filespace_there}
 use Rattle.item_refusals.proofs.Foremost.{foremost_append, foremost_joined}
 use Rattle.item_refusals.proofs.Lists.{all_later_map}
 use Rattle.item_refusals.proofs.versions.backup_refused.Goals as goal

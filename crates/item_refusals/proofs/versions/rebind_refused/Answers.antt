@@ -1,10 +1,10 @@
 use Rattle.std.proofs.Common.{not, map, ap, ◌∙◌}
-use Rattle.policy_domains.specs.Rows.{is_same_name}
-use Rattle.kinds.specs.Refusals.{sooner_of}
+use Rattle.kinds.specs.Names.{is_same_name}
+use Rattle.kinds.specs.Refusals.{sooner_of, unless, bad_value}
 use Rattle.change_items.specs.declared.items.Rebinding.{Rebinding}
-use Rattle.version_groups.specs.Entries.{all_later}
+use Rattle.inventory_rows.specs.version_groups.Entries.{all_later}
 use Rattle.inventory_rows.specs.State.{inv_of}
-use Rattle.inventory_rules.specs.RefusedData.{unless, bad_value, paths_once, rebinding_refused}
+use Rattle.inventory_rules.specs.Versions.{paths_once, rebinding_refused}
 use Rattle.item_refusals.proofs.Foremost.{foremost_first, foremost_next, foremost_done}
 use Rattle.item_refusals.proofs.Lists.{all_later_map}
 use Rattle.item_refusals.proofs.versions.rebind_refused.Goals as goal

@@ -1,6 +1,5 @@
 use Rattle.std.proofs.Common.{◌≡◌, ℕ, List, None, sym, ap, subst, ◌∙◌}
 use Rattle.std.specs.Map.{lookup}
-use Rattle.std.specs.Option.{is_some}
 use Rattle.object_rows.specs.Filespaces.{filespace_at}
 use Rattle.object_rows.specs.Names.{SpacesIndexed, at_name, named_of}
 use Rattle.object_rows.specs.SpaceNames.{Puts}
@@ -22,7 +21,7 @@ returns-in-Ok-clause-named c =
     let key : c.in_ok-clone-2.field-0 ≡ c.in_ok-clone.field-0 = c.in_ok-clone-2.ensures.cases ∙ sym name in
     let unnamed : lookup (at_name c.in_ok-clone.field-0) (named_of c.args.node c.args.filespaces.now.entries) ≡ None =
     ap (λ (t : List ℕ). lookup (at_name t) (named_of c.args.node c.args.filespaces.now.entries)) name
-    ∙ none_from (lookup (at_name c.args.name.now) (named_of c.args.node c.args.filespaces.now.entries)) (ap is_some (sym c.named.ensures) ∙ sym c.is_some.ensures ∙ c.if-is_some.false) in
+    ∙ c.requires.new in
     spaces_put c.args.spaces.now.entries c.put.new.spaces.entries c.args.filespaces.now.entries c.insert.new.self.entries c.args.number (record { node = c.args.node; name = c.in_ok-clone.field-0; groups = c.new.result }) c.requires.named unnamed
     (none_from (filespace_at c.args.number c.args.filespaces.now.entries) c.requires.free) c.in-Ok.ensures.entries
     (subst (λ (t : List ℕ). Puts c.args.node t c.args.number c.args.spaces.now.entries c.put.new.spaces.entries) key c.in_ok-put.ensures.put)
@@ -37,6 +36,6 @@ pub returns-clause-named : goal.returns-clause-named
 returns-clause-named c =
     subst (SpacesIndexed c.take.new.spaces.entries) (sym c.in-Err.ensures.err)
     (spaces_back c.args.spaces.now.entries c.put.new.spaces.entries c.take.new.spaces.entries c.args.filespaces.now.entries c.args.node c.args.name.now c.args.number c.requires.named
-    (none_from (lookup (at_name c.args.name.now) (named_of c.args.node c.args.filespaces.now.entries)) (ap is_some (sym c.named.ensures) ∙ sym c.is_some.ensures ∙ c.if-is_some.false))
+    (c.requires.new)
     (subst (λ (t : List ℕ). Puts c.args.node t c.args.number c.args.spaces.now.entries c.put.new.spaces.entries) c.in_ok-clone-2.ensures.cases c.in_ok-put.ensures.put)
     c.take.ensures)

@@ -1,5 +1,6 @@
 use Rattle.std.proofs.Common.{◌≡◌}
-use Rattle.pool_tables.specs.Rows.{is_same_name, number_where}
+use Rattle.kinds.specs.Names.{is_same_name}
+use Rattle.pool_tables.specs.Rows.{number_where}
 use Rattle.pool_rows.proofs.find.pool_of_class.Given as goal
 
 abbrev pub invariant-pools : goal.invariant-pools

@@ -6,4 +6,4 @@ use Rattle.vault.proofs.open.apply_record.Goals as goal
 
 pub returns-in-Ok-Some-clause-applies : goal.returns-in-Ok-Some-clause-applies
 returns-in-Ok-Some-clause-applies g c =
-    applied g.D.Database.meaning c.args.payload.now c.in-Ok-Some.entry c.args.database.now c.apply_legal.new.database c.apply_legal.result (subst (λ (o : Option Entry). IfSome o (λ e. Spells c.args.payload.now e)) c.in-Ok-Some.field-0-is c.in-Ok-Some.ensures.found) c.apply_legal.ensures.applies
+    applied g.D.Database.meaning c.args.payload.now c.in-Ok-Some.entry c.args.database.now c.apply_legal-applied.new.database c.apply_legal-applied.result (subst (λ (o : Option Entry). IfSome o (λ e. Spells c.args.payload.now e)) c.in-Ok-Some.field-0-is c.in-Ok-Some.ensures.found) c.apply_legal-applied.ensures.applies

@@ -4,7 +4,7 @@ use Rattle.db_image.specs.declared.mark.Mark.TheVariants.{Server}
 use Rattle.log_file.specs.Windows.{IfReads}
 use Rattle.db_image.specs.Images.{HasImage}
 use Rattle.db_image.specs.Reads.{FindsImage, SaysDamage}
-use Rattle.database.specs.Meaning.{Spells}
+use Rattle.entries.specs.Meaning.{Spells}
 use Rattle.vault.specs.Recovery.{IsForeign}
 use Rattle.vault.proofs.Finding.{reads_some, image_refused, payload_is}
 use Rattle.vault.proofs.open.read_base.Goals as goal

@@ -8,7 +8,7 @@ use Rattle.log_file.specs.Starts.{Advanced, KeepsLeft}
 use Rattle.log_file.specs.Sure.{State}
 use Rattle.log_file.proofs.Starting.{Underway}
 use Rattle.entries.specs.EntryForm.{Spells}
-use Rattle.database.specs.Meaning.{IsLegal}
+use Rattle.entries.specs.Meaning.{IsLegal}
 use Rattle.vault.specs.Recovery.{records_of, IsRefused}
 use Rattle.vault.specs.Openings.{Applies, Replayed}
 use Rattle.vault.proofs.Replaying.{told_both, applied_more, refused_there, no_memory, all_applied, not_read}

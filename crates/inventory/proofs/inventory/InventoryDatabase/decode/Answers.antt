@@ -1,7 +1,7 @@
 use Rattle.std.proofs.Common.{◌≡◌, true, Option, None, IfNone, subst}
-use Rattle.inventory_facts.proofs.Facts.{facts_of}
-use Rattle.inventory_payload.specs.Payload.{AreSound, payload, unheld}
-use Rattle.inventory_payload.specs.Segments.{all_lie}
+use Rattle.inventory_laws.proofs.Facts.{facts_of}
+use Rattle.inventory_bytes.specs.Payload.{AreSound, payload, unheld}
+use Rattle.inventory_bytes.specs.Segments.{all_lie}
 use Rattle.inventory_rows.specs.State.{Inv}
 use Rattle.inventory_rows.specs.declared.tables.Tables.{Tables}
 use Rattle.inventory.proofs.Sound.{lie_there, sound}

@@ -1,7 +1,7 @@
 use Rattle.std.proofs.Common.{◌≡◌, ◌≤◌, arith}
 use Rattle.std.proofs.lemmas.Bool.{leb-true}
-use Rattle.inventory_facts.specs.Facts.{Facts}
-use Rattle.inventory_facts.proofs.Facts.{facts_of}
+use Rattle.inventory_rules.specs.Facts.{Facts}
+use Rattle.inventory_laws.proofs.Facts.{facts_of}
 use Rattle.inventory_rows.specs.Items.{count_items, most_items}
 use Rattle.inventory_rows.specs.State.{inv_of}
 use Rattle.inventory.proofs.inventory.InventoryDatabase.encode.Goals as goal

@@ -8,8 +8,8 @@ use Rattle.policy_domains.proofs.table.Domains.change.Goals as goal
 
 pub returns-clause-unbound : goal.returns-clause-unbound
 returns-clause-unbound c =
-    subst (λ (old : List (List ℕ × DomainRow)). IsOfSets c.args.change.now → (domain class : List ℕ) → rule_of c.make.new.rows.entries domain class ≡ rule_of old domain class) c.self.view_is
-    (unbound c.args.change.now c.make.result c.self.inside.rows.entries c.make.new.rows.entries c.requires c.make.ensures)
+    subst (λ (old : List (List ℕ × DomainRow)). IsOfSets c.args.change.now → (domain class : List ℕ) → rule_of c.change_rows.new.rows.entries domain class ≡ rule_of old domain class) c.self.view_is
+    (unbound c.args.change.now c.change_rows.result c.self.inside.rows.entries c.change_rows.new.rows.entries c.requires c.change_rows.ensures)
 
 pub invariant_of-self : goal.invariant_of-self
-invariant_of-self c = (c.self.invariant.0, ascends c.args.change.now c.make.result c.self.inside.rows.entries c.make.new.rows.entries c.make.ensures c.self.invariant.1)
+invariant_of-self c = (c.self.invariant.0, ascends c.args.change.now c.change_rows.result c.self.inside.rows.entries c.change_rows.new.rows.entries c.change_rows.ensures c.self.invariant.1)

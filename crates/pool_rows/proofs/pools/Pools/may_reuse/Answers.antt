@@ -1,7 +1,7 @@
 use Rattle.std.proofs.Common.{ap, ◌∙◌}
 use Rattle.pool_tables.specs.Rows.{row_at}
 use Rattle.pool_rows.specs.PoolRows.{PoolRows}
-use Rattle.pool_rows.proofs.Refused.{reuse_found}
+use Rattle.pool_rows.proofs.Reusing.{reuse_found}
 use Rattle.pool_rows.proofs.pools.Pools.may_reuse.Goals as goal
 
 pub returns-in-Some : goal.returns-in-Some

@@ -1,12 +1,12 @@
 use Rattle.std.proofs.Common.{◌≡◌, ◌∙◌, List, ℕ, true, None, Ok, Err, Result, reverse, subst, sym}
 use Rattle.store_api.specs.Told.{Told}
-use Rattle.changes.specs.declared.change.Change.{Change}
+use Rattle.entries.specs.declared.change.Change.{Change}
 use Rattle.entries.specs.declared.entry.Entry.{Entry}
 use Rattle.inventory_rows.specs.State.{Inv, inv_of}
 use Rattle.inventory_rules.specs.Journal.{no_journal}
 use Rattle.inventory_rules.specs.Valid.{is_valid}
-use Rattle.row_order.specs.Ascending.{AreAscending}
-use Rattle.transactions.specs.Legal.{refused}
+use Rattle.inventory_rows.specs.Ascending.{AreAscending}
+use Rattle.inventory.specs.Legal.{refused}
 use Rattle.server.specs.declared.stop.Stop.{Stop}
 use Rattle.server.specs.Putting.{PutsFrame, listed}
 use Rattle.server.specs.Requests.{backed_up, item_of, kept}

@@ -1,5 +1,5 @@
 use Rattle.std.proofs.Common.{◌≡◌, ◌∙◌, ℕ, Ok, Result, ap, subst}
-use Rattle.changes.specs.declared.change.Change.{Change}
+use Rattle.entries.specs.declared.change.Change.{Change}
 use Rattle.inventory_rows.specs.State.{Inv, inv_of}
 use Rattle.server.specs.declared.stop.Stop.{Stop}
 use Rattle.server.specs.Putting.{file_of}

@@ -2,8 +2,8 @@ use Rattle.std.proofs.Common.{◌≡◌, ◌∙◌, ◌-◌, ◌≤◌, ◌^◌,
 use Rattle.store_api.specs.Cause.{Rose}
 use Rattle.store_api.specs.Told.{Told}
 use Rattle.store_api.proofs.Runs.{told_map}
-use Rattle.log_file.specs.Cursor.{Looked}
-use Rattle.log_file.proofs.Told.{looked_same}
+use Rattle.vault.specs.log_file.Cursor.{Looked}
+use Rattle.vault.proofs.of_log_file.Told.{looked_same}
 use Rattle.inventory_rows.specs.State.{Inv, inv_of}
 use Rattle.server.specs.Outcomes.{Leaves}
 use Rattle.server.specs.Reads.{ReadsVersion, version_found}

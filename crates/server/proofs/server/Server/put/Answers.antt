@@ -1,5 +1,5 @@
 use Rattle.std.proofs.Common.{◌≡◌, ◌∙◌, ℕ, List, None, Some, Result, ap, subst, sym}
-use Rattle.object_rows.specs.Names.{filespace_named, node_named}
+use Rattle.inventory_rows.specs.object_rows.Names.{filespace_named, node_named}
 use Rattle.inventory_rows.specs.State.{Inv, inv_of}
 use Rattle.placing.specs.Placing.{default_rule}
 use Rattle.server.specs.declared.stop.Stop.{Stop}

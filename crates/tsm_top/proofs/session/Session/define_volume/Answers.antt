@@ -1,5 +1,5 @@
 use Rattle.std.proofs.Common.{List, ℕ, sym, ◌∙◌, ap}
-use Rattle.pool_rows.specs.PoolRows.{pool_named}
+use Rattle.inventory_rows.specs.pool_rows.PoolRows.{pool_named}
 use Rattle.inventory_rows.specs.State.{Inv}
 use Rattle.tsm_top.specs.Asking.{backup_pool}
 use Rattle.tsm_top.proofs.Answering.{volume_memory, volume_none}

@@ -1,3 +1,0 @@
-pub mod Arrived
-pub mod Came
-pub mod Stayed

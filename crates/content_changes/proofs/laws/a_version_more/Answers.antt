@@ -1,9 +1,0 @@
-use Rattle.contents.specs.Contents.{InImage, InStore}
-use Rattle.content_changes.proofs.Arrived.{have_more}
-use Rattle.content_changes.proofs.laws.a_version_more.Goals as goal
-
-pub returns-clause-kept : goal.returns-clause-kept
-returns-clause-kept c contents bytes h change item v order fit none one kept new = have_more (InStore h) contents bytes change item v order fit none one kept new
-
-pub returns-clause-held : goal.returns-clause-held
-returns-clause-held c contents image bytes change item v order fit none one held new = have_more (InImage image) contents bytes change item v order fit none one held new

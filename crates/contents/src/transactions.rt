@@ -1,0 +1,56 @@
+// What transactions do to the contents of a database, as laws. Each stands on a function that does nothing.
+ghost use Rattle.std.specs.Prelude.{◌≡◌, ◌≤◌, ℕ, true, List, [], ◌∷◌};
+ghost use Rattle.std.specs.List.{AllByRecursion, list_all};
+ghost use Rattle.kinds.specs.declared.change.ObjectChange.{ObjectChange};
+ghost use Rattle.kinds.specs.declared.change.PolicyChange.{PolicyChange};
+ghost use Rattle.kinds.specs.declared.change.PoolChange.{PoolChange};
+ghost use Rattle.store_api.specs.Disk.{History};
+ghost use Rattle.entries.specs.change_items.declared.items.NewVersion.{NewVersion};
+ghost use Rattle.entries.specs.change_items.declared.lists.NewVersions.{NewVersions};
+ghost use Rattle.entries.specs.declared.change.Change.TheVariants as change;
+ghost use Rattle.inventory_rows.specs.pool_rows.PoolRows.{is_sequential};
+ghost use Rattle.inventory_rows.specs.Search.{segments_on, versions};
+ghost use Rattle.inventory_rows.specs.State.{Inv};
+ghost use Rattle.inventory_rules.specs.Transactions.{effect, causes, parts_fit};
+ghost use Rattle.inventory_rules.specs.Versions.{new_version};
+ghost use Rattle.inventory_rules.specs.Journal.{Journal};
+ghost use Rattle.inventory_rules.specs.Valid.{is_valid};
+ghost use Rattle.inventory_rules.specs.Segments.{are_all_clear, are_clear};
+ghost use Rattle.inventory_rows.specs.Ascending.{AreAscending};
+ghost use Rattle.contents.specs.Contents.{HasVersion, InImage, InStore, Holds, IsKept, with_content};
+
+/// A transaction on days, policy, clients, or device classes, pools and volumes leaves the versions as they are. A filespace
+/// that is defined has no versions, and takes the place of none that has.
+pub fn versions_stay()
+    ensures day { (day : ℕ) (v : Inv) → versions (effect (change.Day day) v) ≡ versions v }
+    ensures policy { (c : PolicyChange) (v : Inv) → versions (effect (change.Policy c) v) ≡ versions v }
+    ensures clients { (j : Journal) (c : ObjectChange) (v : Inv) → is_valid v ≡ true → causes j (change.Object c) v ≡ [] → versions (effect (change.Object c) v) ≡ versions v }
+    ensures stores { (c : PoolChange) (v : Inv) → versions (effect (change.Pool c) v) ≡ versions v }
+{}
+
+/// Where the versions are the same, so is what is kept of them.
+pub fn same_versions()
+    ensures kept { (contents : ℕ → List ℕ) (h : History) (v w : Inv) → versions w ≡ versions v → IsKept contents h v → IsKept contents h w }
+    ensures held { (contents image : ℕ → List ℕ) (v w : Inv) → versions w ≡ versions v → Holds contents image v → Holds contents image w }
+{}
+
+/// A transaction that brings one version which fits, with no scratch volume: where the version has its bytes, the database
+/// afterwards is kept, or held by an image, with the contents of one object more. The former active version of its path stays with its bytes.
+pub fn a_version_more()
+    ensures kept { (contents : ℕ → List ℕ) (bytes : List ℕ) (h : History) (c : NewVersions) (item : NewVersion) (v : Inv) →
+        AreAscending v → parts_fit (change.Backup c) v ≡ true → c.scratch ≡ [] → c.items ≡ item ∷ [] →
+        IsKept contents h v → HasVersion (InStore h) bytes (new_version v item) → IsKept (with_content item.object bytes contents) h (effect (change.Backup c) v) }
+    ensures held { (contents image : ℕ → List ℕ) (bytes : List ℕ) (c : NewVersions) (item : NewVersion) (v : Inv) →
+        AreAscending v → parts_fit (change.Backup c) v ≡ true → c.scratch ≡ [] → c.items ≡ item ∷ [] →
+        Holds contents image v → HasVersion (InImage image) bytes (new_version v item) → Holds (with_content item.object bytes contents) image (effect (change.Backup c) v) }
+{}
+
+/// Of such a transaction the segments lie on volumes, overlap no segment that lies there, and don't overlap one another.
+pub fn where_it_comes()
+    ensures volumes { (c : NewVersions) (item : NewVersion) (v : Inv) → is_valid v ≡ true → parts_fit (change.Backup c) v ≡ true → c.scratch ≡ [] → c.items ≡ item ∷ [] →
+        AllByRecursion (λ s. 4 ≤ s.file) item.segments }
+    ensures clear { (c : NewVersions) (item : NewVersion) (v : Inv) → parts_fit (change.Backup c) v ≡ true → c.scratch ≡ [] → c.items ≡ item ∷ [] →
+        AllByRecursion (λ s. list_all (λ e. are_clear (is_sequential item.pool v.stores) s e.1) (segments_on s.file v) ≡ true) item.segments }
+    ensures apart { (c : NewVersions) (item : NewVersion) (v : Inv) → parts_fit (change.Backup c) v ≡ true → c.scratch ≡ [] → c.items ≡ item ∷ [] →
+        are_all_clear v item.segments ≡ true }
+{}

@@ -1,0 +1,65 @@
+//! A run over a script.
+use crate::answer::{Fault, text};
+use crate::folder::Folder;
+use crate::memory::Memory;
+use crate::streams::Streams;
+use crate::words::words_of;
+use crate::{ends, frame, system};
+use std::alloc::AllocError;
+
+/// What the lines are about: a store in memory, two in folders of the system, and a source and a sink in memory.
+#[derive(Drop)]
+pub struct Run {
+    rt: HostRuntime,
+    memory: Memory,
+    first: Folder,
+    second: Folder,
+    streams: Streams,
+}
+
+impl Run {
+    /// An empty store in memory, and none in a folder.
+    pub fn new(rt: HostRuntime) -> Run {
+        let alloc = rt.alloc();
+        Run {
+            rt,
+            memory: Memory::new(alloc),
+            first: Folder::new(),
+            second: Folder::new(),
+            streams: Streams::new(alloc),
+        }
+    }
+
+    /// What a line about streams is answered.
+    fn on_streams(&mut self, words: &[&str]) -> Result<String, Fault> {
+        match words {
+            ["source", words @ ..] => self.streams.on_source(self.rt.alloc(), words),
+            ["sink", words @ ..] => self.streams.on_sink(self.rt.alloc(), words),
+            ["stream", words @ ..] => ends::answer(&self.rt, words),
+            _ => self.memory.answer(self.rt.alloc(), words),
+        }
+    }
+
+    /// What a line is answered.
+    fn answer(&mut self, words: &[&str]) -> Result<String, Fault> {
+        match words {
+            [] => Ok(String::new(self.rt.alloc())),
+            ["first", words @ ..] => self.first.answer(&self.rt, words),
+            ["second", words @ ..] => self.second.answer(&self.rt, words),
+            ["system", words @ ..] => system::answer(&self.rt, words),
+            ["frame", words @ ..] => frame::answer(self.rt.alloc(), words),
+            _ => self.on_streams(words),
+        }
+    }
+
+    /// What the line is answered. A line that begins with `#` is a comment, and is given back.
+    pub fn line(&mut self, line: &str) -> Result<String, AllocError> {
+        let alloc = self.rt.alloc();
+        if line.starts_with('#') {
+            return String::from_str(alloc, line);
+        }
+        let words = words_of(alloc, line)?;
+        let answered = self.answer(words.as_slice());
+        text(alloc, answered)
+    }
+}

@@ -1,0 +1,8 @@
+use Rattle.std.specs.Int.{w32}
+use Rattle.fields.specs.Forms.{number}
+use Rattle.inventory_bytes.specs.StoreForms.{volume_row}
+use Rattle.inventory_bytes.proofs.Volumes.{table_unheld}
+use Rattle.inventory_bytes.proofs.table_fits.volumes_fit.Goals as goal
+
+pub returns : goal.returns
+returns c = table_unheld (number w32).Fits volume_row.Fits c.args.map.now.entries c.table_fits.ensures

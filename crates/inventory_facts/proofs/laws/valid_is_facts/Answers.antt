@@ -1,8 +1,0 @@
-use Rattle.inventory_facts.proofs.Facts.{facts_of, valid_of}
-use Rattle.inventory_facts.proofs.laws.valid_is_facts.Goals as goal
-
-pub returns-clause-facts : goal.returns-clause-facts
-returns-clause-facts c v h = facts_of v h
-
-pub returns-clause-valid : goal.returns-clause-valid
-returns-clause-valid c v f = valid_of v f

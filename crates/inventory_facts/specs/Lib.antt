@@ -1,4 +1,0 @@
-pub mod Facts
-pub mod Halfway
-pub mod Parts
-pub mod Reordered

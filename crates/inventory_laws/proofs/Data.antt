@@ -1,0 +1,171 @@
+-- Transactions on versions and copies.
+use Rattle.std.proofs.Common.{◌≡◌, ℕ, ◌+◌, ◌^◌, ◌<◌, ◌≤◌, Bool, true, false, cond, not, List, [], ◌∷◌, ◌++◌, length, map, Option, Some, None, refl, sym, ap, subst, ◌∙◌, arith}
+use Rattle.std.specs.Prelude.{is_some, max, nat_le, nat_lt, ◌&&◌, ◌||◌, ◌==◌}
+use Rattle.std.specs.List.{find, flat_map, list_all, list_any}
+use Rattle.std.specs.Option.{option_map_or}
+use Rattle.std.proofs.lemmas.Bool.{leb-true, lt-ltb, ltb-true}
+use Rattle.kinds.specs.declared.refusal.Refusal.{Refusal}
+use Rattle.kinds.specs.declared.refusal.Refusal.TheVariants as refusal
+use Rattle.entries.specs.change_items.declared.items.MovedCopy.{MovedCopy}
+use Rattle.entries.specs.change_items.declared.items.NewCopy.{NewCopy}
+use Rattle.entries.specs.change_items.declared.items.NewVersion.{NewVersion}
+use Rattle.entries.specs.change_items.declared.lists.MovedCopies.{MovedCopies}
+use Rattle.entries.specs.change_items.declared.lists.NamedVersions.{NamedVersions}
+use Rattle.entries.specs.change_items.declared.lists.NewCopies.{NewCopies}
+use Rattle.entries.specs.change_items.declared.lists.NewVersions.{NewVersions}
+use Rattle.entries.specs.declared.change.Change.TheVariants as change
+use Rattle.inventory_rows.specs.version_groups.declared.groups.Filespace.{Filespace}
+use Rattle.inventory_rows.specs.version_groups.declared.versions.Version.{Version}
+use Rattle.inventory_rows.specs.version_groups.Copies.{has_copy, without_copy}
+use Rattle.inventory_rows.specs.version_groups.Entries.{is_nil}
+use Rattle.inventory_rows.specs.version_groups.Versions.{has_object, is_active}
+use Rattle.inventory_rows.specs.object_rows.Filespaces.{filespace_at, versions_at, versions_of}
+use Rattle.inventory_rows.specs.object_rows.Places.{AreAllOrderly}
+use Rattle.inventory_rows.specs.object_rows.Rows.{Rows}
+use Rattle.inventory_rows.specs.Search.{copy_in, is_primary, version, versions}
+use Rattle.inventory_rows.specs.State.{Inv}
+use Rattle.inventory_rules.specs.Transactions.{CanChange, parts_fit}
+use Rattle.inventory_rules.specs.Facts.{Facts}
+use Rattle.inventory_rules.specs.Copies.{added_fits, moved_copy_fits, new_copy_fits, replaced_fits, put_moved, copied_refused, copy_list_refused, move_refused, moved_refused, stale_copy}
+use Rattle.inventory_rules.specs.Segments.{are_all_clear, copy_fits, items_fit, scratch_fits, make_scratch, scratch_refused}
+use Rattle.inventory_rules.specs.Versions.{is_new_object, new_version_fits, object_bounds, backup_refused, filespace_there, gone_refused, name_once, named_gone_refused, of_version, stale_version}
+use Rattle.inventory_laws.proofs.Facts.{first, rest}
+use Rattle.inventory_rules.specs.Common.{each}
+use Rattle.inventory_rules.specs.Journal.{Journal}
+use Rattle.kinds.specs.Refusals.{bad_value, unless}
+use Rattle.inventory_rules.specs.Valid.{primary_copies}
+use Rattle.inventory_laws.proofs.MadeBackups.{can_back_up_all}
+use Rattle.inventory_laws.proofs.Causes.{back_nil, front_nil, holds}
+use Rattle.inventory_laws.proofs.MadeCopies.{all_versions, can_copy_all, can_move_all, can_put_moved_all, only_moved, takes_copy, takes_moved}
+use Rattle.inventory_laws.proofs.Gone.{can_be_gone_all}
+use Rattle.inventory_laws.proofs.MadeItems.{all_so, items_apart, none_refused}
+use Rattle.inventory_laws.proofs.MadeVersions.{OnlyVolumes, only_scratch}
+use Rattle.inventory_laws.proofs.MadeVolumes.{all_roomy, can_scratch_all, roomy_copy, scratch_new}
+
+-- there is room for the number behind the transaction's
+pub next_number : (v : Inv) → Facts v → v.number + 1 < 2 ^ 64
+next_number v f = let less : v.number < 2 ^ 62 = ltb-true v.number (2 ^ 62) f.number_bounded in omega (arith, less)
+
+-- ---- new versions
+
+next_object : (next object : ℕ) → unless (nat_lt (max next (object + 1)) (2 ^ 62)) refusal.InventoryFull ≡ [] → nat_lt (object + 1) (2 ^ 64) ≡ true
+next_object next object h =
+    let less : max next (object + 1) < 2 ^ 62 = ltb-true (max next (object + 1)) (2 ^ 62) (holds (nat_lt (max next (object + 1)) (2 ^ 62)) refusal.InventoryFull h) in
+    lt-ltb (object + 1) (2 ^ 64) (omega (arith, less))
+
+is_new : (v : Inv) (i : NewVersion) → new_version_fits v i ≡ true → not (has_object i.object (versions_of v.clients.filespaces)) ≡ true
+is_new v i h = rest (nat_le 1 i.object) (not (has_object i.object (versions v))) (first (is_new_object v i.object) (copy_fits v i.pool i.size i.segments) h)
+
+new_roomy : (v : Inv) (i : NewVersion) → new_version_fits v i ≡ true → all_roomy i.object i.segments v ≡ true
+new_roomy v i h = roomy_copy v i.pool i.size i.object i.segments (rest (is_new_object v i.object) (copy_fits v i.pool i.size i.segments) h)
+
+pub can_backup : (c : NewVersions) (v : Inv) → Facts v → AreAllOrderly v.clients.filespaces → backup_refused c.filespace c.items v ++ (scratch_refused c.scratch v ++ object_bounds c.items v) ≡ [] → parts_fit (change.Backup c) v ≡ true → CanChange (change.Backup c) v
+unfolding parts_fit
+can_backup c v f orderly h fit =
+    let w : Inv = each make_scratch c.scratch v in
+    let only : OnlyVolumes v w = only_scratch c.scratch v in
+    let is : w.clients.filespaces ≡ v.clients.filespaces = ap (λ (r : Rows). r.filespaces) only.clients in
+    let drawn : scratch_refused c.scratch v ++ object_bounds c.items v ≡ [] = back_nil (backup_refused c.filespace c.items v) (scratch_refused c.scratch v ++ object_bounds c.items v) h in
+    let asked : backup_refused c.filespace c.items v ≡ [] = front_nil (backup_refused c.filespace c.items v) (scratch_refused c.scratch v ++ object_bounds c.items v) h in
+    let once : List Refusal = unless (name_once (map (λ i. i.object) c.items)) bad_value in
+    let full : List Refusal = unless (nat_le (length (versions v) + length c.items) (2 ^ 20)) refusal.InventoryFull in
+    let listed : once ++ full ≡ [] = back_nil (filespace_there c.filespace v) (once ++ full) asked in
+    let few : length (versions v) + length c.items ≤ 2 ^ 20 = leb-true (length (versions v) + length c.items) (2 ^ 20) (holds (nat_le (length (versions v) + length c.items) (2 ^ 20)) refusal.InventoryFull (back_nil once full listed)) in
+    let scratch_fit : scratch_fits v c.scratch ≡ true = first (scratch_fits v c.scratch) (items_fit new_version_fits (λ i. i.segments) c.items w) fit in
+    let fits : list_all (new_version_fits w) c.items ≡ true =
+    first (list_all (new_version_fits w) c.items) (are_all_clear w (flat_map (λ i. i.segments) c.items)) (rest (scratch_fits v c.scratch) (items_fit new_version_fits (λ i. i.segments) c.items w) fit) in (
+      can_scratch_all c.scratch v (scratch_new c.scratch v (front_nil (scratch_refused c.scratch v) (object_bounds c.items v) drawn) scratch_fit),
+      can_back_up_all c.filespace c.items w (record {
+        new = all_so (new_version_fits w) (λ i. not (has_object i.object (versions_of w.clients.filespaces))) (is_new w) c.items fits;
+        apart = items_apart (λ i. i.object) c.items (holds (name_once (map (λ i. i.object) c.items)) bad_value (front_nil once full listed));
+        there = ap (λ (fs : List (ℕ × Filespace)). is_some (filespace_at c.filespace fs)) is
+            ∙ holds (is_some (filespace_at c.filespace v.clients.filespaces)) refusal.NotFound (front_nil (filespace_there c.filespace v) (once ++ full) asked);
+        room = subst (λ (fs : List (ℕ × Filespace)). length (versions_of fs) + length c.items ≤ 2 ^ 20) (sym is) few;
+        next = none_refused (λ i. unless (nat_lt (max v.next_object (i.object + 1)) (2 ^ 62)) refusal.InventoryFull) (λ i. nat_lt (i.object + 1) (2 ^ 64)) (λ i t. next_object v.next_object i.object t) c.items
+            (back_nil (scratch_refused c.scratch v) (object_bounds c.items v) drawn);
+        number = subst (λ (n : ℕ). n + 1 < 2 ^ 64) (sym only.number) (next_number v f);
+        orderly = subst AreAllOrderly (sym is) orderly;
+        roomy = all_so (new_version_fits w) (λ i. all_roomy i.object i.segments w) (new_roomy w) c.items fits;
+      }),
+    )
+
+-- ---- files that are gone
+
+pub can_gone : (j : Journal) (c : NamedVersions) (v : Inv) → gone_refused j c.filespace c.items v ≡ [] → CanChange (change.Gone c) v
+can_gone j c v h =
+    let once : List Refusal = unless (name_once (map (λ i. i.object) c.items)) bad_value in
+    can_be_gone_all c.filespace c.items v (items_apart (λ i. i.object) c.items (holds (name_once (map (λ i. i.object) c.items)) bad_value (front_nil once (flat_map (named_gone_refused j c.filespace v) c.items) h)))
+    (none_refused (named_gone_refused j c.filespace v) (λ i. is_active i.object (versions_at c.filespace i.path v.clients.filespaces))
+    (λ i t. holds (is_active i.object (versions_at c.filespace i.path v.clients.filespaces)) (stale_version (j.removed i.object) (j.changed i.object)) t) c.items (back_nil once (flat_map (named_gone_refused j c.filespace v) c.items) h))
+
+-- ---- copies that move
+
+moved_free : (v : Inv) (i : MovedCopy) (o : Option Version) → option_map_or (λ w. replaced_fits v i w) o false ≡ true → takes_moved i o ≡ true
+moved_free v i None h = absurd cc
+moved_free v i (Some w) h =
+    let free : Bool = not (has_copy i.pool (without_copy i.from w.copies)) in
+    let one : Bool = not (is_primary i.pool v) || list_all (λ c. c.pool == i.from) (primary_copies v w) in
+    first free one (rest (copy_fits v i.pool w.size i.segments) (free && one) h)
+
+moved_roomy : (v : Inv) (i : MovedCopy) (o : Option Version) → option_map_or (λ w. replaced_fits v i w) o false ≡ true → all_roomy i.object i.segments v ≡ true
+moved_roomy v i None h = absurd cc
+moved_roomy v i (Some w) h =
+    roomy_copy v i.pool w.size i.object i.segments
+    (first (copy_fits v i.pool w.size i.segments) (not (has_copy i.pool (without_copy i.from w.copies)) && (not (is_primary i.pool v) || list_all (λ c. c.pool == i.from) (primary_copies v w))) h)
+
+pub can_move : (j : Journal) (c : MovedCopies) (v : Inv) → Facts v → move_refused j c.items v ++ scratch_refused c.scratch v ≡ [] → parts_fit (change.Move c) v ≡ true → CanChange (change.Move c) v
+unfolding parts_fit
+can_move j c v f h fit =
+    let w : Inv = each make_scratch c.scratch v in
+    let only : OnlyVolumes v w = only_scratch c.scratch v in
+    let once : List Refusal = unless (name_once (map (λ i. i.object) c.items)) bad_value in
+    let asked : move_refused j c.items v ≡ [] = front_nil (move_refused j c.items v) (scratch_refused c.scratch v) h in
+    let apart = items_apart (λ (i : MovedCopy). i.object) c.items (holds (name_once (map (λ i. i.object) c.items)) bad_value (front_nil once (flat_map (moved_refused j v) c.items) asked)) in
+    let scratch_fit : scratch_fits v c.scratch ≡ true = first (scratch_fits v c.scratch) (items_fit moved_copy_fits (λ i. i.segments) c.items w) fit in
+    let fits : list_all (moved_copy_fits w) c.items ≡ true =
+    first (list_all (moved_copy_fits w) c.items) (are_all_clear w (flat_map (λ i. i.segments) c.items)) (rest (scratch_fits v c.scratch) (items_fit moved_copy_fits (λ i. i.segments) c.items w) fit) in (
+      can_scratch_all c.scratch v (scratch_new c.scratch v (back_nil (move_refused j c.items v) (scratch_refused c.scratch v) h) scratch_fit),
+      record {
+        puts = can_put_moved_all c.items w (all_so (moved_copy_fits w) (λ i. all_roomy i.object i.segments w) (λ i t. moved_roomy w i (version i.object w) t) c.items fits);
+        moves = can_move_all c.items (each put_moved c.items w) apart
+            (ap (λ (r : Rows). all_versions (λ (i : MovedCopy). i.object) takes_moved c.items r.filespaces) (only_moved c.items w).clients
+            ∙ all_so (moved_copy_fits w) (λ i. takes_moved i (version i.object w)) (λ i t. moved_free w i (version i.object w) t) c.items fits);
+        number = subst (λ (n : ℕ). n + 1 < 2 ^ 64) (sym only.number) (next_number v f);
+      },
+    )
+
+-- ---- copies that are made
+
+found_any : {X : Type 0} (p : X → Bool) (xs : List X) → is_some (find p xs) ≡ list_any p xs
+found_any p [] = refl
+found_any p (x ∷ xs) = elim (p x) as (λ b. is_some (cond b (Some x) (find p xs)) ≡ (b || list_any p xs)) [ true ↦ refl | false ↦ found_any p xs ]
+
+copy_taken : (j : Journal) (i : NewCopy) (o : Option Version) → of_version j i.object (λ w. unless (not (is_some (copy_in i.pool w))) (stale_copy (j.copy_changed i.object i.pool) (copy_in i.pool w))) o ≡ [] → takes_copy i o ≡ true
+copy_taken j i None h = absurd cc
+copy_taken j i (Some w) h =
+    ap not (sym (found_any (λ c. c.pool == i.pool) w.copies)) ∙ holds (not (is_some (copy_in i.pool w))) (stale_copy (j.copy_changed i.object i.pool) (copy_in i.pool w)) h
+
+copy_roomy : (v : Inv) (i : NewCopy) (o : Option Version) → option_map_or (λ w. added_fits v i w) o false ≡ true → all_roomy i.object i.segments v ≡ true
+copy_roomy v i None h = absurd cc
+copy_roomy v i (Some w) h =
+    roomy_copy v i.pool w.size i.object i.segments (first (copy_fits v i.pool w.size i.segments) (not (is_primary i.pool v) || is_nil (primary_copies v w)) h)
+
+pub can_copy : (j : Journal) (c : NewCopies) (v : Inv) → Facts v → copy_list_refused j c.items v ++ scratch_refused c.scratch v ≡ [] → parts_fit (change.Copy c) v ≡ true → CanChange (change.Copy c) v
+unfolding parts_fit
+can_copy j c v f h fit =
+    let w : Inv = each make_scratch c.scratch v in
+    let only : OnlyVolumes v w = only_scratch c.scratch v in
+    let once : List Refusal = unless (name_once (map (λ i. i.object) c.items)) bad_value in
+    let asked : copy_list_refused j c.items v ≡ [] = front_nil (copy_list_refused j c.items v) (scratch_refused c.scratch v) h in
+    let scratch_fit : scratch_fits v c.scratch ≡ true = first (scratch_fits v c.scratch) (items_fit new_copy_fits (λ i. i.segments) c.items w) fit in
+    let fits : list_all (new_copy_fits w) c.items ≡ true =
+    first (list_all (new_copy_fits w) c.items) (are_all_clear w (flat_map (λ i. i.segments) c.items)) (rest (scratch_fits v c.scratch) (items_fit new_copy_fits (λ i. i.segments) c.items w) fit) in (
+      can_scratch_all c.scratch v (scratch_new c.scratch v (back_nil (copy_list_refused j c.items v) (scratch_refused c.scratch v) h) scratch_fit),
+      can_copy_all c.items w (record {
+        take = ap (λ (r : Rows). all_versions (λ (i : NewCopy). i.object) takes_copy c.items r.filespaces) only.clients
+            ∙ none_refused (copied_refused j v) (λ i. takes_copy i (version i.object v)) (λ i t. copy_taken j i (version i.object v) t) c.items (back_nil once (flat_map (copied_refused j v) c.items) asked);
+        apart = items_apart (λ i. i.object) c.items (holds (name_once (map (λ i. i.object) c.items)) bad_value (front_nil once (flat_map (copied_refused j v) c.items) asked));
+        number = subst (λ (n : ℕ). n + 1 < 2 ^ 64) (sym only.number) (next_number v f);
+        roomy = all_so (new_copy_fits w) (λ i. all_roomy i.object i.segments w) (λ i t. copy_roomy w i (version i.object w) t) c.items fits;
+      }),
+    )

@@ -1,0 +1,152 @@
+-- The rows of the filespaces stay in the order of their keys.
+use Rattle.std.proofs.Common.{◌≡◌, ℕ, Bool, true, false, cond, List, [], ◌∷◌, Some, None, Ordering, Ok, Err, Result, refl, sym, ap, subst, ◌∙◌}
+use Rattle.std.proofs.lemmas.Map.{keys-set_value}
+use Rattle.std.specs.BTreeMap.{insert_entry}
+use Rattle.std.specs.Cmp.{IsTotalOrder}
+use Rattle.std.specs.Cmp.Lexicographic.{slice_cmp, nat_list_cmp_total}
+use Rattle.std.specs.List.{AllByRecursion}
+use Rattle.std.specs.List.Sorted.{IsStrictlySortedBy}
+use Rattle.std.specs.Map.{keys_of, remove_entry, set_value}
+use Rattle.std.specs.Ordering.{match_ordering, nat_cmp, ordering_reverse}
+use Rattle.std.specs.declared.cmp.Ordering.TheVariants.{Less, Equal, Greater}
+use Rattle.kinds.specs.declared.refusal.Refusal.{Refusal}
+use Rattle.entries.specs.change_items.declared.items.NewVersion.{NewVersion}
+use Rattle.inventory_rows.specs.version_groups.declared.copies.CopyChange.{CopyChange}
+use Rattle.inventory_rows.specs.version_groups.declared.copies.CopyRow.{CopyRow}
+use Rattle.inventory_rows.specs.version_groups.declared.group.Group.{Group}
+use Rattle.inventory_rows.specs.version_groups.declared.group.GroupChange.{GroupChange}
+use Rattle.inventory_rows.specs.version_groups.declared.groups.Filespace.{Filespace}
+use Rattle.inventory_rows.specs.version_groups.declared.versions.Version.{Version}
+use Rattle.inventory_rows.specs.version_groups.Copies.{copies_after}
+use Rattle.inventory_rows.specs.version_groups.Entries.{on_ok, if_found}
+use Rattle.inventory_rows.specs.version_groups.Groups as grouped
+use Rattle.inventory_rows.specs.version_groups.Groups.{AreByPath, at_path, class_after, group_with, groups_after, groups_with, versions_after}
+use Rattle.inventory_rows.specs.version_groups.Versions.{is_empty}
+use Rattle.inventory_rows.proofs.of_version_groups.Laws.{AfterIs, after-is}
+use Rattle.inventory_rows.specs.object_rows.Filespaces.{at_number, filespaces_copied, filespaces_with, groups_copied}
+use Rattle.inventory_rows.proofs.of_object_rows.Steps.{Within, within}
+use Rattle.inventory_rows.specs.Search.{version}
+use Rattle.inventory_rows.specs.State.{Inv}
+use Rattle.inventory_rules.specs.Common.{or_same, with_filespaces}
+use Rattle.inventory_rules.specs.Copies.{change_copy}
+use Rattle.inventory_rules.specs.Versions.{change_group, new_version}
+use Rattle.inventory_rules.specs.Ordered.{IsOrdered}
+use Rattle.inventory_laws.specs.Stored.{stored}
+use Rattle.inventory_laws.proofs.Frames.{frames, frames-copied, same_keys}
+use Rattle.inventory_laws.proofs.GroupSteps.{either_way}
+use Rattle.inventory_laws.proofs.Grouped.{frames_changed, frames_put, ordered_at}
+
+-- ---- entries by key
+all-remove : {K X : Type 0} (P : K → Type 0) (test : K → Bool) (es : List (K × X)) → AllByRecursion P (keys_of es) → AllByRecursion P (keys_of (remove_entry test es))
+all-remove P test [] h = h
+all-remove P test (e ∷ es) h = elim (test e.0) as (λ b. AllByRecursion P (keys_of (cond b es (e ∷ remove_entry test es)))) [ true ↦ h.1 | false ↦ (h.0, all-remove P test es h.1) ]
+
+all-insert : {K X : Type 0} (P : K → Type 0) (R : K → K → Ordering) (k : K) (v : X) (es : List (K × X)) → P k → AllByRecursion P (keys_of es) → AllByRecursion P (keys_of (insert_entry R es k v))
+all-insert P R k v [] p h = (p, tt)
+all-insert P R k v (e ∷ es) p h =
+    elim (R k e.0) as (λ r. AllByRecursion P (keys_of (match_ordering r ((k, v) ∷ e ∷ es) ((e.0, v) ∷ es) (e ∷ insert_entry R es k v)))) [
+      | Less ↦ (p, h)
+      | Equal ↦ h
+      | Greater ↦ (h.0, all-insert P R k v es p h.1)
+    ]
+
+all_above : {K : Type 0} {R : K → K → Ordering} (o : IsTotalOrder R) (k e : K) (ks : List K) → R k e ≡ Less → AllByRecursion (λ y. R e y ≡ Less) ks → AllByRecursion (λ y. R k y ≡ Less) ks
+all_above o k e [] l h = tt
+all_above o k e (y ∷ ks) l h = (o.trans k e y l h.0, all_above o k e ks l h.1)
+
+sorted-remove : {K X : Type 0} (R : K → K → Ordering) (test : K → Bool) (es : List (K × X)) → IsStrictlySortedBy R (keys_of es) → IsStrictlySortedBy R (keys_of (remove_entry test es))
+unfolding IsStrictlySortedBy
+sorted-remove R test [] h = h
+sorted-remove R test (e ∷ es) h =
+    elim (test e.0) as (λ b. IsStrictlySortedBy R (keys_of (cond b es (e ∷ remove_entry test es)))) [
+      | true ↦ h.1
+      | false ↦ (all-remove (λ y. R e.0 y ≡ Less) test es h.0, sorted-remove R test es h.1)
+    ]
+
+sorted-insert : {K X : Type 0} {R : K → K → Ordering} (o : IsTotalOrder R) (k : K) (v : X) (es : List (K × X)) → IsStrictlySortedBy R (keys_of es) → IsStrictlySortedBy R (keys_of (insert_entry R es k v))
+unfolding IsStrictlySortedBy
+sorted-insert o k v [] h = (tt, tt)
+sorted-insert {K} {X} {R} o k v (e ∷ es) h =
+    elim (R k e.0) as (λ r. R k e.0 ≡ r → IsStrictlySortedBy R (keys_of (match_ordering r ((k, v) ∷ e ∷ es) ((e.0, v) ∷ es) (e ∷ insert_entry R es k v)))) [
+      | Less ↦ λ below. ((below, all_above o k e.0 (keys_of es) below h.0), h)
+      | Equal ↦ λ _. h
+      | Greater ↦ λ above. (all-insert (λ y. R e.0 y ≡ Less) R k v es (o.antisymm e.0 k ∙ ap ordering_reverse above) h.0, sorted-insert o k v es h.1)
+    ] refl
+
+-- ---- one filespace
+abbrev Paths : List (ℕ × Filespace) → Type 0
+Paths fs = AllByRecursion (λ f. AreByPath f.1.groups) fs
+
+settled : (path : List ℕ) (es : List (List ℕ × Group)) (b : Bool) → AreByPath es → AreByPath (cond b (remove_entry (at_path path) es) es)
+settled path es true h = sorted-remove (slice_cmp nat_cmp) (at_path path) es h
+settled path es false h = h
+
+paths_after : (path : List ℕ) (change : GroupChange) (groups new : List (List ℕ × Group)) → groups_after path change groups ≡ Ok new → AreByPath groups → AreByPath new
+paths_after path change groups new h s =
+    let w : AfterIs path change groups new = after-is path change groups new h in
+    let g : Group = record { class = class_after change w.0.class; versions = versions_after change w.0.versions } in
+    let es : List (List ℕ × Group) = set_value (at_path path) groups g in
+    let in_order : AreByPath es = subst (IsStrictlySortedBy (slice_cmp nat_cmp)) (sym (keys-set_value (at_path path) groups g)) s in
+    subst AreByPath w.3 (settled path es (is_empty (grouped.versions_at path es)) in_order)
+
+paths-set : (n : ℕ) (fs : List (ℕ × Filespace)) (f : Filespace) → Paths fs → AreByPath f.groups → Paths (set_value (at_number n) fs f)
+paths-set n [] f a h = a
+paths-set n (e ∷ fs) f a h = elim (at_number n e.0) as (λ b. Paths (cond b ((e.0, f) ∷ fs) (e ∷ set_value (at_number n) fs f))) [ true ↦ (h, a.1) | false ↦ (a.0, paths-set n fs f a.1 h) ]
+
+paths_within : (n : ℕ) (by : List (List ℕ × Group) → Result (List (List ℕ × Group)) Refusal) (fs new : List (ℕ × Filespace)) (w : Within n by fs new) → Paths fs → (AreByPath w.filespace.groups → AreByPath w.groups) → Paths new
+paths_within n by fs new w a keeps = subst Paths w.becomes (paths-set n fs (record w.filespace { groups = w.groups }) a (keeps (ordered_at n fs w.filespace a w.there)))
+
+-- ---- all filespaces
+ordered_from : (v : Inv) (fs : List (ℕ × Filespace)) → IsOrdered v → frames fs ≡ frames v.clients.filespaces → Paths fs → IsOrdered (with_filespaces fs v)
+ordered_from v fs o same paths = record { by_number = subst (IsStrictlySortedBy nat_cmp) (sym (same_keys v.clients.filespaces fs same)) o.by_number; by_path = paths }
+
+pub ordered_change : (n : ℕ) (path : List ℕ) (change : GroupChange) (v : Inv) → IsOrdered v → IsOrdered (change_group n path change v)
+ordered_change n path change v o =
+    let fs : List (ℕ × Filespace) = v.clients.filespaces in
+    either_way IsOrdered n path change v o
+    (λ new said.
+    let w : Within n (groups_after path change) fs new = within n (groups_after path change) fs new said in
+    ordered_from v new o (frames_changed n path change fs new said) (paths_within n (groups_after path change) fs new w o.by_path (paths_after path change w.filespace.groups w.groups w.after)))
+
+keys-copied : (k : ℕ) (cs : List CopyRow) (groups : List (List ℕ × Group)) → keys_of (groups_copied k cs groups) ≡ keys_of groups
+keys-copied k cs [] = refl
+keys-copied k cs (g ∷ groups) = ap (λ z. g.0 ∷ z) (keys-copied k cs groups)
+
+paths-copied : (k : ℕ) (cs : List CopyRow) (fs : List (ℕ × Filespace)) → Paths fs → Paths (filespaces_copied k cs fs)
+paths-copied k cs [] a = tt
+paths-copied k cs (f ∷ fs) a = (subst (IsStrictlySortedBy (slice_cmp nat_cmp)) (sym (keys-copied k cs f.1.groups)) a.0, paths-copied k cs fs a.1)
+
+-- what a change of copies makes of the filespaces, or that it is refused
+pub copied_or_same : (P : Inv → Type 0) (k : ℕ) (step : CopyChange) (v : Inv) → P v → ((cs : List CopyRow) → P (with_filespaces (filespaces_copied k cs v.clients.filespaces) v)) → P (change_copy k step v)
+copied_or_same P k step v same made =
+    elim (version k v) as (λ o. P (with_filespaces (or_same v.clients.filespaces (if_found o (λ (x : Version). on_ok (λ c. filespaces_copied k c v.clients.filespaces) (copies_after step x.copies)))) v)) [
+      | None ↦ same
+      | Some w ↦ elim (copies_after step w.copies) as (λ r. P (with_filespaces (or_same v.clients.filespaces (on_ok (λ c. filespaces_copied k c v.clients.filespaces) r)) v)) [
+        | Ok cs ↦ made cs
+        | Err e ↦ same
+      ]
+    ]
+
+pub ordered_copy : (k : ℕ) (step : CopyChange) (v : Inv) → IsOrdered v → IsOrdered (change_copy k step v)
+ordered_copy k step v o =
+    let fs : List (ℕ × Filespace) = v.clients.filespaces in
+    copied_or_same IsOrdered k step v o (λ cs. ordered_from v (filespaces_copied k cs fs) o (frames-copied k cs fs) (paths-copied k cs fs o.by_path))
+
+-- ---- a new version
+pub ordered_stored : (n : ℕ) (item : NewVersion) (v : Inv) → IsOrdered v → IsOrdered (stored n item v)
+ordered_stored n item v o =
+    let fs : List (ℕ × Filespace) = v.clients.filespaces in
+    let x : Version = new_version v item in
+    let by : List (List ℕ × Group) → Result (List (List ℕ × Group)) Refusal = λ groups. Ok (groups_with item.path item.class x groups) in
+    elim (filespaces_with n item.path item.class x fs) as (λ r. filespaces_with n item.path item.class x fs ≡ r → IsOrdered (record (with_filespaces (or_same fs r) v) { next_object = (stored n item v).next_object })) [
+      | Ok new ↦ λ said.
+          let w : Within n by fs new = within n by fs new said in
+          let after : by w.filespace.groups ≡ Ok w.groups = w.after in
+          let same : groups_with item.path item.class x w.filespace.groups ≡ w.groups = cc in
+          let paths : Paths new =
+          paths_within n by fs new w o.by_path
+          (λ s. subst AreByPath same (sorted-insert nat_list_cmp_total item.path (group_with item.class x (grouped.group_at item.path w.filespace.groups)) w.filespace.groups s)) in
+          let a : IsOrdered (with_filespaces new v) = ordered_from v new o (frames_put n item.path item.class x fs new said) paths in
+          record { by_number = a.by_number; by_path = a.by_path }
+      | Err e ↦ λ _. record { by_number = o.by_number; by_path = o.by_path }
+    ] refl

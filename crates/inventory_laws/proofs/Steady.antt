@@ -1,0 +1,118 @@
+-- What holds within a transaction on data is kept by the step of each item.
+use Rattle.std.proofs.Common.{◌≡◌, ℕ, true, List, [], ◌∷◌, ◌++◌, map, Some, is_some, refl, ◌∙◌}
+use Rattle.std.proofs.lemmas.Bool.{and_from}
+use Rattle.kinds.specs.declared.segment.Segment.{Segment}
+use Rattle.entries.specs.change_items.declared.items.DroppedCopy.{DroppedCopy}
+use Rattle.entries.specs.change_items.declared.items.MovedCopy.{MovedCopy}
+use Rattle.entries.specs.change_items.declared.items.NewCopy.{NewCopy}
+use Rattle.entries.specs.change_items.declared.items.NewVersion.{NewVersion}
+use Rattle.entries.specs.change_items.declared.items.ScratchVolume.{ScratchVolume}
+use Rattle.inventory_rows.specs.version_groups.declared.copies.CopyRow.{CopyRow}
+use Rattle.inventory_rows.specs.version_groups.declared.group.GroupChange.TheVariants as group
+use Rattle.inventory_rows.specs.version_groups.declared.versions.Version.{Version}
+use Rattle.inventory_rows.specs.object_rows.Filespaces.{filespaces_with}
+use Rattle.inventory_rows.specs.Search.{copies, copy_in, pool, version}
+use Rattle.inventory_rows.specs.State.{Inv}
+use Rattle.inventory_rules.specs.Common.{each, or_same}
+use Rattle.inventory_rules.specs.Copies.{added, add_copy, change_copy, drop_copy, dropped, move_copy, moved, placed_now}
+use Rattle.inventory_rules.specs.Segments.{make_scratch, scratch_refused, scratch_fits}
+use Rattle.inventory_rules.specs.Versions.{after_object, back_up, change_group, new_version, remove}
+use Rattle.inventory_rules.specs.Valid.{copies_cite}
+use Rattle.inventory_rules.specs.Halfway.{VersionFacts, VolumeFacts}
+use Rattle.inventory_rules.specs.Reordered.{IsReordered}
+use Rattle.inventory_laws.specs.Coming.{Came, in_pool, in_rows, MayCome, of_object}
+use Rattle.inventory_laws.specs.Kept.{is_cited, OnlyVolumes}
+use Rattle.inventory_laws.specs.Steady.{IsSteady}
+use Rattle.inventory_laws.proofs.Cited.{cite_kept, cite_swapped, cited_kept, cited_new}
+use Rattle.inventory_laws.proofs.Coming.{lie_first}
+use Rattle.inventory_laws.proofs.VolumeItems.{adds, copy_comes, copy_drops, drops_kept, moves, moves_kept, removes, removes_kept, versions_kept}
+use Rattle.inventory_laws.proofs.Keeping.{put_kept}
+use Rattle.inventory_laws.proofs.ScratchList.{scratch_come, versions_come}
+
+-- ---- copies go
+
+pub drop_steady : (n : ℕ) (p : List (ℕ × Segment)) (item : DroppedCopy) (v : Inv) (w : Version) (old : CopyRow) → version item.object v ≡ Some w → copy_in item.pool w ≡ Some old
+    → VersionFacts n (change_copy item.object (dropped item) v) → IsReordered (copies v) ((item.object, old) ∷ copies (change_copy item.object (dropped item) v)) → VolumeFacts p v → copies_cite v ≡ true → IsSteady n p (drop_copy item v)
+drop_steady n p item v w old found there versions r f cite =
+    let u : Inv = change_copy item.object (dropped item) v in
+    let k : OnlyVolumes u (drop_copy item v) = drops_kept item v in
+    record {
+      versions = versions_kept n u (drop_copy item v) k versions;
+      volumes = copy_drops p item v w old found there r f;
+      cite = cite_kept u (drop_copy item v) k ∙ (cite_swapped [] ((item.object, old) ∷ []) v u refl r refl cite).1;
+    }
+
+pub remove_steady : (n : ℕ) (p : List (ℕ × Segment)) (filespace : ℕ) (path : List ℕ) (object : ℕ) (v : Inv) (w : Version) → version object v ≡ Some w
+    → VersionFacts n (change_group filespace path (group.Remove object) v) → IsReordered (copies v) (map (λ c. (object, c)) w.copies ++ copies (change_group filespace path (group.Remove object) v)) → VolumeFacts p v → copies_cite v ≡ true
+    → IsSteady n p (remove filespace path object v)
+remove_steady n p filespace path object v w found versions r f cite =
+    let u : Inv = change_group filespace path (group.Remove object) v in
+    let k : OnlyVolumes u (remove filespace path object v) = removes_kept filespace path object v in
+    record {
+      versions = versions_kept n u (remove filespace path object v) k versions;
+      volumes = removes p filespace path object v w found r f;
+      cite = cite_kept u (remove filespace path object v) k ∙ (cite_swapped [] (map (λ c. (object, c)) w.copies) v u refl r refl cite).1;
+    }
+
+-- ---- copies come
+
+pub add_steady : (n : ℕ) (p : List (ℕ × Segment)) (item : NewCopy) (v : Inv) (rest : List (ℕ × Segment)) → MayCome p v (in_pool item.pool item.segments ++ rest) → is_some (pool item.pool v) ≡ true
+    → VersionFacts n (change_copy item.object (added item v) v) → IsReordered ((item.object, placed_now item.pool item.segments v) ∷ copies v) (copies (change_copy item.object (added item v) v)) → VolumeFacts p v → copies_cite v ≡ true
+    → IsSteady n p (add_copy item v) × MayCome p (add_copy item v) rest
+add_steady n p item v rest m there versions r f cite =
+    let u : Inv = change_copy item.object (added item v) v in
+    let k : OnlyVolumes u (add_copy item v) = put_kept item.object item.segments u in
+    let came : Came p (add_copy item v) rest = adds p item v rest f m r in
+    let new : is_cited v (item.object, placed_now item.pool item.segments v) ≡ true = cited_new v item.object (placed_now item.pool item.segments v) there (lie_first p v item.pool item.segments rest m) in (
+      record {
+        versions = versions_kept n u (add_copy item v) k versions;
+        volumes = came.facts;
+        cite = cite_kept u (add_copy item v) k ∙ (cite_swapped ((item.object, placed_now item.pool item.segments v) ∷ []) [] v u refl r (and_from (is_cited v (item.object, placed_now item.pool item.segments v)) true new refl) cite).1;
+      },
+      came.rest,
+    )
+
+pub back_up_steady : (n : ℕ) (p : List (ℕ × Segment)) (filespace : ℕ) (item : NewVersion) (v : Inv) (rest : List (ℕ × Segment)) → MayCome p v (in_pool item.pool item.segments ++ rest) → is_some (pool item.pool v) ≡ true
+    → VersionFacts n (in_rows filespace item v) → IsReordered ((item.object, placed_now item.pool item.segments v) ∷ copies v) (copies (in_rows filespace item v)) → VolumeFacts p v → copies_cite v ≡ true
+    → IsSteady n p (back_up filespace item v) × MayCome p (back_up filespace item v) rest
+back_up_steady n p filespace item v rest m there versions r f cite =
+    let row : CopyRow = placed_now item.pool item.segments v in
+    let u : Inv = in_rows filespace item v in
+    let k : OnlyVolumes u (back_up filespace item v) = put_kept item.object item.segments u in
+    let came : Came p (back_up filespace item v) rest =
+    copy_comes p item.object item.pool row (or_same v.clients.filespaces (filespaces_with filespace item.path item.class (new_version v item) v.clients.filespaces)) (after_object item v) v rest f m r in
+    let new : is_cited v (item.object, row) ≡ true = cited_new v item.object row there (lie_first p v item.pool item.segments rest m) in (
+      record {
+        versions = versions_kept n u (back_up filespace item v) k versions;
+        volumes = came.facts;
+        cite = cite_kept u (back_up filespace item v) k ∙ (cite_swapped ((item.object, row) ∷ []) [] v u refl r (and_from (is_cited v (item.object, row)) true new refl) cite).1;
+      },
+      came.rest,
+    )
+
+-- ---- a copy moves, whose new segments have come
+
+pub move_steady : (n : ℕ) (p : List (ℕ × Segment)) (item : MovedCopy) (v : Inv) (w : Version) (old : CopyRow) → version item.object v ≡ Some w → copy_in item.from w ≡ Some old
+    → is_cited v (item.object, placed_now item.pool item.segments v) ≡ true → VersionFacts n (change_copy item.object (moved item v) v)
+    → IsReordered ((item.object, placed_now item.pool item.segments v) ∷ copies v) ((item.object, old) ∷ copies (change_copy item.object (moved item v) v)) → VolumeFacts (of_object item.object item.segments ++ p) v → copies_cite v ≡ true
+    → IsSteady n p (move_copy item v)
+move_steady n p item v w old found there new versions r f cite =
+    let row : CopyRow = placed_now item.pool item.segments v in
+    let u : Inv = change_copy item.object (moved item v) v in
+    let k : OnlyVolumes u (move_copy item v) = moves_kept item v in
+    record {
+      versions = versions_kept n u (move_copy item v) k versions;
+      volumes = moves p item v w old found there r f;
+      cite = cite_kept u (move_copy item v) k ∙ (cite_swapped ((item.object, row) ∷ []) ((item.object, old) ∷ []) v u refl r (and_from (is_cited v (item.object, row)) true new refl) cite).1;
+    }
+
+-- what else lies on volumes of its pool does so still
+pub move_cited : (item : MovedCopy) (v : Inv) (e : ℕ × CopyRow) → is_cited (move_copy item v) e ≡ is_cited v e
+move_cited item v e = cited_kept (change_copy item.object (moved item v) v) (move_copy item v) (moves_kept item v) e
+
+-- ---- scratch volumes
+
+pub scratch_steady : (n : ℕ) (scratch : List ScratchVolume) (v : Inv) → scratch_refused scratch v ≡ [] → scratch_fits v scratch ≡ true → IsSteady n [] v → IsSteady n [] (each make_scratch scratch v)
+scratch_steady n scratch v h fit s =
+    let came = scratch_come scratch v s.volumes s.cite h fit in
+    record { versions = versions_come n scratch v s.versions; volumes = came.0; cite = came.1 }

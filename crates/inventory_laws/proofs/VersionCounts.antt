@@ -1,0 +1,230 @@
+-- New versions: each brings itself, its copy and the copy's segments, and a group where its path had none.
+use Rattle.std.proofs.Common.{◌≡◌, ℕ, ◌+◌, Bool, true, false, cond, ◌||◌, is_some, List, [], ◌∷◌, ◌++◌, length, map, Option, Some, None, Ok, refl, sym, ap, ◌∙◌, arith}
+use Rattle.std.specs.Prelude.{nat_le}
+use Rattle.std.specs.BTreeMap.{insert_entry}
+use Rattle.std.specs.Cmp.{IsTotalOrder}
+use Rattle.std.specs.Cmp.Lexicographic.{slice_cmp, nat_list_cmp_total}
+use Rattle.std.specs.List.{AllByRecursion, list_any, sum_by}
+use Rattle.std.specs.List.Sorted.{IsStrictlySortedBy}
+use Rattle.std.specs.Map.{keys_of, lookup, set_value}
+use Rattle.std.specs.Ordering.{match_ordering, nat_cmp, ordering_reverse}
+use Rattle.std.specs.declared.cmp.Ordering.{Ordering}
+use Rattle.std.specs.declared.cmp.Ordering.TheVariants.{Less, Equal, Greater}
+use Rattle.std.proofs.lemmas.List.Sums.{sum_by-cons}
+use Rattle.std.proofs.lemmas.Map.Lookups.{exact_bytes}
+use Rattle.kinds.specs.declared.refusal.Refusal.TheVariants as refusal
+use Rattle.entries.specs.change_items.declared.items.NewVersion.{NewVersion}
+use Rattle.entries.specs.change_items.declared.lists.NewVersions.{NewVersions}
+use Rattle.entries.specs.declared.change.Change.TheVariants as change
+use Rattle.kinds.specs.Names.{is_same_name}
+use Rattle.inventory_rows.specs.version_groups.declared.copies.CopyRow.{CopyRow}
+use Rattle.inventory_rows.specs.version_groups.declared.group.Group.{Group}
+use Rattle.inventory_rows.specs.version_groups.declared.groups.Filespace.{Filespace}
+use Rattle.inventory_rows.specs.version_groups.declared.versions.Version.{Version}
+use Rattle.inventory_rows.specs.version_groups.Entries.{if_found, on_ok}
+use Rattle.inventory_rows.specs.version_groups.Groups.{AreByPath, at_path, group_at, group_with, groups_with}
+use Rattle.inventory_rows.specs.version_groups.Versions.{has_active, retired, superseded}
+use Rattle.inventory_rows.proofs.of_version_groups.Maps.{insert_present, lookup-set}
+use Rattle.inventory_rows.specs.object_rows.Filespaces.{at_number, filespace_after, filespace_at, filespaces_with, groups_in}
+use Rattle.inventory_rows.proofs.of_pool_tables.Names.{at_name}
+use Rattle.inventory_rows.specs.object_rows.Rows.{most_versions}
+use Rattle.inventory_rows.specs.Items.{count_items, items_of_filespace, items_of_group, items_of_version}
+use Rattle.inventory_rows.specs.Search as search
+use Rattle.inventory_rows.specs.State.{Inv}
+use Rattle.inventory_rules.specs.Common.{each, or_same, this, with_filespaces}
+use Rattle.inventory_rules.specs.Segments.{make_scratch, scratch_refused}
+use Rattle.inventory_rules.specs.Transactions.{effect}
+use Rattle.inventory_rules.specs.Versions.{after_object, back_up, new_version, object_bounds, backup_refused, filespace_there, name_once, items_of_new, paths_added, AreGroupsOrdered}
+use Rattle.kinds.specs.Refusals.{bad_value, unless}
+use Rattle.inventory_rules.proofs.Touched.{effect-data}
+use Rattle.inventory_laws.proofs.Absent.{unless_holds}
+use Rattle.inventory_laws.proofs.CopyCounts.{is_found, spaces}
+use Rattle.inventory_laws.proofs.CountedParts.{nothing_first, nothing_then}
+use Rattle.inventory_laws.proofs.PolicyCounts.{found_in}
+use Rattle.inventory_laws.proofs.Stays.{Scratched, Stays, data_more, put_stays, scratched}
+use Rattle.inventory_laws.proofs.Weights.{rows, rows-inserted, rows-set, weigh, weigh-cons}
+
+-- ---- an entry that comes into its place
+
+module _ {K X : Type 0} {R : K → K → Ordering} (o : IsTotalOrder R) (k : K) (v : X) where
+  all_above : (x : K) (es : List (K × X)) → R x k ≡ Less → AllByRecursion (λ y. R x y ≡ Less) (keys_of es) → AllByRecursion (λ y. R x y ≡ Less) (keys_of (insert_entry R es k v))
+  all_above x [] p a = (p, tt)
+  all_above x (e ∷ es) p a =
+      elim (R k e.0) as (λ r. AllByRecursion (λ y. R x y ≡ Less) (keys_of (match_ordering r ((k, v) ∷ e ∷ es) ((e.0, v) ∷ es) (e ∷ insert_entry R es k v)))) [
+        | Less ↦ (p, a)
+        | Equal ↦ a
+        | Greater ↦ (a.0, all_above x es p a.1)
+      ]
+
+  all_below : (x : K) (ks : List K) → R k x ≡ Less → AllByRecursion (λ y. R x y ≡ Less) ks → AllByRecursion (λ y. R k y ≡ Less) ks
+  all_below x [] p a = tt
+  all_below x (y ∷ ks) p a = (o.trans k x y p a.0, all_below x ks p a.1)
+
+  pub sorted-inserted : (es : List (K × X)) → IsStrictlySortedBy R (keys_of es) → IsStrictlySortedBy R (keys_of (insert_entry R es k v))
+  unfolding IsStrictlySortedBy
+  sorted-inserted [] s = (tt, tt)
+  sorted-inserted (e ∷ es) s =
+      elim (R k e.0) as (λ r. R k e.0 ≡ r → IsStrictlySortedBy R (keys_of (match_ordering r ((k, v) ∷ e ∷ es) ((e.0, v) ∷ es) (e ∷ insert_entry R es k v)))) [
+        | Less ↦ λ p. ((p, all_below e.0 (keys_of es) p s.0), s)
+        | Equal ↦ λ p. s
+        | Greater ↦ λ p. (all_above e.0 es (o.antisymm e.0 k ∙ ap ordering_reverse p) s.0, sorted-inserted es s.1)
+      ] refl
+
+or_again : (b r : Bool) → (b || r) ≡ (b || (b || r))
+or_again true r = refl
+or_again false r = refl
+
+or_swap : (c b r : Bool) → (c || (b || r)) ≡ (b || (c || r))
+or_swap true true r = refl
+or_swap true false r = refl
+or_swap false b r = refl
+
+here_or : {X : Type 0} (b : Bool) (x : X) (o : Option X) → is_some (cond b (Some x) o) ≡ (b || is_some o)
+here_or true x o = refl
+here_or false x o = refl
+
+-- under which paths something stands then
+there-inserted : {X : Type 0} (path q : List ℕ) (x : X) (es : List (List ℕ × X)) → is_some (lookup (at_path q) (insert_entry (slice_cmp nat_cmp) es path x)) ≡ (at_path q path || is_some (lookup (at_path q) es))
+there-inserted path q x [] = here_or (at_path q path) x None
+there-inserted {X} path q x (e ∷ es) =
+    elim (slice_cmp nat_cmp path e.0) as (λ r. slice_cmp nat_cmp path e.0 ≡ r → is_some (lookup (at_path q) (match_ordering r ((path, x) ∷ e ∷ es) ((e.0, x) ∷ es) (e ∷ insert_entry (slice_cmp nat_cmp) es path x))) ≡ (at_path q path || is_some (lookup (at_path q) (e ∷ es)))) [
+      | Less ↦ λ _. here_or (at_path q path) x (lookup (at_path q) (e ∷ es))
+      | Equal ↦ λ p.
+          let same : path ≡ e.0 = exact_bytes path e.0 p in
+          here_or (at_path q e.0) x (lookup (at_path q) es) ∙ or_again (at_path q e.0) (is_some (lookup (at_path q) es))
+          ∙ ap (λ b. b || (at_path q e.0 || is_some (lookup (at_path q) es))) (ap (at_path q) (sym same))
+          ∙ ap (λ b. at_path q path || b) (sym (here_or (at_path q e.0) e.1 (lookup (at_path q) es)))
+      | Greater ↦ λ _.
+          here_or (at_path q e.0) e.1 (lookup (at_path q) (insert_entry (slice_cmp nat_cmp) es path x)) ∙ ap (λ b. at_path q e.0 || b) (there-inserted path q x es)
+          ∙ or_swap (at_path q e.0) (at_path q path) (is_some (lookup (at_path q) es))
+          ∙ ap (λ b. at_path q path || b) (sym (here_or (at_path q e.0) e.1 (lookup (at_path q) es)))
+    ] refl
+
+-- ---- the groups of a filespace
+
+retired_same : (day : ℕ) (vs : List Version) → weigh items_of_version (retired day vs) ≡ weigh items_of_version vs
+retired_same day [] = refl
+retired_same day (v ∷ vs) = weigh-cons items_of_version (record v { since = Some day }) vs ∙ sym (weigh-cons items_of_version v vs)
+
+superseded_same : (day : ℕ) (vs : List Version) → weigh items_of_version (superseded day vs) ≡ weigh items_of_version vs
+superseded_same day vs = go (has_active vs) where
+  go : (b : Bool) → weigh items_of_version (cond b (retired day vs) vs) ≡ weigh items_of_version vs
+  go true = retired_same day vs
+  go false = refl
+
+abbrev one_unless : Bool → ℕ
+one_unless b = cond b 0 1
+
+first_of_path : (a g i z : ℕ) → a ≡ 1 + (g + i) → g ≡ 1 + (z + 0) → a ≡ i + (1 + z) + 1
+first_of_path a g i z h e = omega (arith, h, e)
+
+next_of_path : (a g i n z s : ℕ) → a + g ≡ i + n → n ≡ 1 + (z + s) → s ≡ g → a ≡ i + (1 + z) + 0
+next_of_path a g i n z s h e r = omega (arith, h, e, r)
+
+groups_more : (path class : List ℕ) (w : Version) (gs : List (List ℕ × Group)) → AreByPath gs → rows items_of_group (groups_with path class w gs) ≡ rows items_of_group gs + (1 + items_of_version w) + one_unless (is_some (group_at path gs))
+groups_more path class w gs sorted = go (group_at path gs) refl where
+  go : (o : Option Group) → group_at path gs ≡ o → rows items_of_group (insert_entry (slice_cmp nat_cmp) gs path (group_with class w o)) ≡ rows items_of_group gs + (1 + items_of_version w) + one_unless (is_some o)
+  go None e =
+      first_of_path (rows items_of_group (insert_entry (slice_cmp nat_cmp) gs path (group_with class w None))) (weigh items_of_version (w ∷ [])) (rows items_of_group gs) (items_of_version w)
+      (rows-inserted items_of_group (slice_cmp nat_cmp) gs path (group_with class w None) e) (weigh-cons items_of_version w [])
+  go (Some g) e =
+      next_of_path (rows items_of_group (insert_entry (slice_cmp nat_cmp) gs path (group_with class w (Some g)))) (items_of_group g) (rows items_of_group gs) (weigh items_of_version (w ∷ superseded w.stored g.versions)) (items_of_version w) (weigh items_of_version (superseded w.stored g.versions))
+      (ap (λ (t : List (List ℕ × Group)). rows items_of_group t + items_of_group g) (insert_present nat_list_cmp_total path (group_with class w (Some g)) g gs sorted e) ∙ rows-set items_of_group (at_path path) gs g (group_with class w (Some g)) e)
+      (weigh-cons items_of_version w (superseded w.stored g.versions))
+      (superseded_same w.stored g.versions)
+
+-- ---- one version more
+
+with_more : (a x f y z : ℕ) → a + x ≡ f + y → y ≡ x + z → a ≡ f + z
+with_more a x f y z h e = omega (arith, h, e)
+
+added_up : (y i z s u : ℕ) → y ≡ i + (1 + z) + u → z ≡ 1 + (s + 0) → y ≡ i + (1 + (1 + s) + u)
+added_up y i z s u h e = omega (arith, h, e)
+
+-- what stands once a version came into the filespace
+record CameIn (n : ℕ) (f : Filespace) (item : NewVersion) (v w : Inv) : Type 0 where
+  pub filespace : Filespace
+  pub there : filespace_at n (spaces w) ≡ Some filespace
+  pub by_path : AreByPath filespace.groups
+  pub paths : (q : List ℕ) → is_some (group_at q filespace.groups) ≡ (at_path q item.path || is_some (group_at q f.groups))
+  pub adds : rows items_of_filespace (spaces w) ≡ rows items_of_filespace (spaces v) + (items_of_new item + one_unless (is_some (group_at item.path f.groups)))
+  pub volumes : length w.stores.volumes ≡ length v.stores.volumes
+
+came_in : (n : ℕ) (f : Filespace) (item : NewVersion) (v : Inv) → filespace_at n (spaces v) ≡ Some f → AreByPath f.groups → CameIn n f item v (back_up n item v)
+came_in n f item v found sorted =
+    let w : Version = new_version v item in
+    let gs : List (List ℕ × Group) = groups_with item.path item.class w f.groups in
+    let g : Filespace = record f { groups = gs } in
+    let mid : Inv = record (with_filespaces (or_same v.clients.filespaces (filespaces_with n item.path item.class w v.clients.filespaces)) v) { next_object = after_object item v } in
+    let s : Stays mid (back_up n item v) = put_stays item.object item.segments mid in
+    let is : spaces mid ≡ set_value (at_number n) (spaces v) g =
+    ap (λ o. or_same (spaces v) (if_found o (λ x. on_ok (set_value (at_number n) (spaces v)) (filespace_after (λ groups. Ok (groups_with item.path item.class w groups)) x)))) found in
+    let now : spaces (back_up n item v) ≡ set_value (at_number n) (spaces v) g = ap (λ c. c.filespaces) s.clients ∙ is in
+    let more : rows items_of_group gs ≡ rows items_of_group f.groups + (items_of_new item + one_unless (is_some (group_at item.path f.groups))) =
+    added_up (rows items_of_group gs) (rows items_of_group f.groups) (items_of_version w) (length item.segments) (one_unless (is_some (group_at item.path f.groups)))
+    (groups_more item.path item.class w f.groups sorted) (weigh-cons (λ (c : CopyRow). length c.segments) (record { pool = item.pool; placed = this v; segments = item.segments }) []) in
+    record {
+      filespace = g;
+      there = ap (filespace_at n) now ∙ lookup-set (at_number n) f g (spaces v) found;
+      by_path = sorted-inserted nat_list_cmp_total item.path (group_with item.class w (group_at item.path f.groups)) f.groups sorted;
+      paths = λ q. there-inserted item.path q (group_with item.class w (group_at item.path f.groups)) f.groups;
+      adds = ap (λ fs. rows items_of_filespace fs) now
+          ∙ with_more (rows items_of_filespace (set_value (at_number n) (spaces v) g)) (items_of_filespace f) (rows items_of_filespace (spaces v)) (items_of_filespace g) (items_of_new item + one_unless (is_some (group_at item.path f.groups)))
+          (rows-set items_of_filespace (at_number n) (spaces v) f g found) more;
+      volumes = s.volumes;
+    }
+
+-- ---- versions one after the other
+
+summed : (a b f n u s p r : ℕ) → a ≡ b + (s + p) → b ≡ f + (n + u) → r ≡ n + s → a ≡ f + (r + (u + p))
+summed a b f n u s p r h e i = omega (arith, h, e, i)
+
+record AllCameIn (n : ℕ) (was : Inv) (seen : List (List ℕ)) (items : List NewVersion) (v w : Inv) : Type 0 where
+  pub adds : rows items_of_filespace (spaces w) ≡ rows items_of_filespace (spaces v) + (sum_by items_of_new items + paths_added n seen items was)
+  pub volumes : length w.stores.volumes ≡ length v.stores.volumes
+
+all_came_in : (n : ℕ) (was : Inv) (items : List NewVersion) (seen : List (List ℕ)) (f : Filespace) (v : Inv) → filespace_at n (spaces v) ≡ Some f → AreByPath f.groups
+    → ((q : List ℕ) → is_some (group_at q f.groups) ≡ (is_some (search.group n q was) || list_any (is_same_name q) seen)) → AllCameIn n was seen items v (each (back_up n) items v)
+all_came_in n was [] seen f v found sorted paths = record { adds = omega arith; volumes = refl }
+all_came_in n was (i ∷ items) seen f v found sorted paths =
+    let c : CameIn n f i v (back_up n i v) = came_in n f i v found sorted in
+    let after : (q : List ℕ) → is_some (group_at q c.filespace.groups) ≡ (is_some (search.group n q was) || list_any (is_same_name q) (i.path ∷ seen)) =
+    λ q. c.paths q ∙ ap (λ b. b || is_some (group_at q f.groups)) (at_name q i.path) ∙ ap (λ b. is_same_name q i.path || b) (paths q) ∙ or_swap (is_same_name q i.path) (is_some (search.group n q was)) (list_any (is_same_name q) seen) in
+    let r : AllCameIn n was (i.path ∷ seen) items (back_up n i v) (each (back_up n) items (back_up n i v)) = all_came_in n was items (i.path ∷ seen) c.filespace (back_up n i v) c.there c.by_path after in
+    let one : one_unless (is_some (group_at i.path f.groups)) ≡ one_unless (is_some (search.group n i.path was) || list_any (is_same_name i.path) seen) = ap one_unless (paths i.path) in
+    let adds : rows items_of_filespace (spaces (back_up n i v)) ≡ rows items_of_filespace (spaces v) + (items_of_new i + one_unless (is_some (search.group n i.path was) || list_any (is_same_name i.path) seen)) =
+    c.adds ∙ ap (λ k. rows items_of_filespace (spaces v) + (items_of_new i + k)) one in
+    record {
+      adds = summed (rows items_of_filespace (spaces (each (back_up n) items (back_up n i v)))) (rows items_of_filespace (spaces (back_up n i v))) (rows items_of_filespace (spaces v)) (items_of_new i)
+          (one_unless (is_some (search.group n i.path was) || list_any (is_same_name i.path) seen)) (sum_by items_of_new items) (paths_added n (i.path ∷ seen) items was) (sum_by items_of_new (i ∷ items))
+          r.adds adds (sum_by-cons items_of_new i items);
+      volumes = r.volumes ∙ c.volumes;
+    }
+
+or_none : (b : Bool) → b ≡ (b || false)
+or_none true = refl
+or_none false = refl
+
+all_versions : (a f s w u v n : ℕ) → a ≡ f + s → w ≡ u → u ≡ n + v → a + w + 0 ≡ f + v + (n + s)
+all_versions a f s w u v n h g e = omega (arith, h, g, e)
+
+pub versions_counted : (c : NewVersions) (v : Inv) → AreGroupsOrdered v.clients.filespaces → backup_refused c.filespace c.items v ++ (scratch_refused c.scratch v ++ object_bounds c.items v) ≡ []
+    → count_items (effect (change.Backup c) v) + 0 ≡ count_items v + (length c.scratch + (sum_by items_of_new c.items + paths_added c.filespace [] c.items v))
+unfolding effect
+versions_counted c v o h =
+    let n : ℕ = c.filespace in
+    let u : Inv = each make_scratch c.scratch v in
+    let backup : backup_refused n c.items v ≡ [] = nothing_first (backup_refused n c.items v) (scratch_refused c.scratch v ++ object_bounds c.items v) h in
+    let made : scratch_refused c.scratch v ≡ [] = nothing_first (scratch_refused c.scratch v) (object_bounds c.items v) (nothing_then (backup_refused n c.items v) (scratch_refused c.scratch v ++ object_bounds c.items v) h) in
+    let s : Scratched (length c.scratch) v u = scratched c.scratch v made in
+    let space : filespace_there n v ≡ [] =
+    nothing_first (filespace_there n v) (unless (name_once (map (λ i. i.object) c.items)) bad_value ++ unless (nat_le (length (search.versions v) + length c.items) most_versions) refusal.InventoryFull) backup in
+    let f : (x : Filespace) × (filespace_at n (spaces v) ≡ Some x) = is_found (filespace_at n (spaces v)) (unless_holds (is_some (filespace_at n (spaces v))) refusal.NotFound space) in
+    let there : filespace_at n (spaces u) ≡ Some f.0 = ap (λ cl. filespace_at n cl.filespaces) s.clients ∙ f.1 in
+    let sorted : AreByPath f.0.groups = found_in (λ (x : Filespace). AreByPath x.groups) (at_number n) (spaces v) f.0 f.1 o in
+    let paths : (q : List ℕ) → is_some (group_at q f.0.groups) ≡ (is_some (search.group n q v) || false) =
+    λ q. ap (λ x. is_some (group_at q (groups_in x))) (sym f.1) ∙ or_none (is_some (search.group n q v)) in
+    let m : AllCameIn n v [] c.items u (each (back_up n) c.items u) = all_came_in n v c.items [] f.0 u there sorted paths in
+    data_more v (effect (change.Backup c) v) 0 (length c.scratch + (sum_by items_of_new c.items + paths_added n [] c.items v)) (effect-data (change.Backup c) v refl)
+    (all_versions (rows items_of_filespace (spaces (each (back_up n) c.items u))) (rows items_of_filespace (spaces v)) (sum_by items_of_new c.items + paths_added n [] c.items v) (length (each (back_up n) c.items u).stores.volumes) (length u.stores.volumes) (length v.stores.volumes) (length c.scratch)
+    (m.adds ∙ ap (λ cl. rows items_of_filespace cl.filespaces + (sum_by items_of_new c.items + paths_added n [] c.items v)) s.clients) m.volumes s.volumes)

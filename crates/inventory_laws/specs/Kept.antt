@@ -1,0 +1,24 @@
+-- What stays where segments come on volumes and go from them.
+use Rattle.std.specs.Prelude.{◌≡◌, ℕ, Bool, is_some, ◌&&◌, Option}
+use Rattle.std.specs.List.{list_all}
+use Rattle.std.specs.Option.{option_map}
+use Rattle.inventory_rows.specs.version_groups.declared.copies.CopyRow.{CopyRow}
+use Rattle.inventory_rows.specs.volume_rows.declared.volume.Volume.{Volume}
+use Rattle.inventory_rows.specs.pool_tables.Rows.{row_at}
+use Rattle.inventory_rows.specs.Search.{pool}
+use Rattle.inventory_rows.specs.State.{Inv}
+use Rattle.inventory_rules.specs.Common.{with_stores}
+use Rattle.inventory_rules.specs.Valid.{is_of_pool}
+
+-- the pool and the capacity of a volume that is there
+abbrev pub shape_of : Option Volume → Option (ℕ × ℕ)
+shape_of volume = option_map (λ w. (w.pool, w.capacity)) volume
+
+-- all but the rows of the volumes is as it was, and each row is there that was, with its pool and its capacity, and no other
+pub record OnlyVolumes (v w : Inv) : Type 0 where
+  pub only : w ≡ with_stores (record v.stores { volumes = w.stores.volumes }) v
+  pub shapes : (file : ℕ) → shape_of (row_at file w.stores.volumes) ≡ shape_of (row_at file v.stores.volumes)
+
+-- a copy lies in a pool that is there, and each of its segments on a volume of that pool
+abbrev pub is_cited : Inv → ℕ × CopyRow → Bool
+is_cited v e = is_some (pool e.1.pool v) && list_all (λ s. is_of_pool e.1.pool (row_at s.file v.stores.volumes)) e.1.segments

@@ -1,0 +1,5 @@
+pub mod Coming
+pub mod Kept
+pub mod Steady
+pub mod Stored
+pub mod Volumes

@@ -1,9 +1,0 @@
-pub mod Decoded
-pub mod Filling
-pub mod Holding
-pub mod Joins
-pub mod Listed
-pub mod Same
-pub mod Spelled
-pub mod Tables
-pub mod Turns

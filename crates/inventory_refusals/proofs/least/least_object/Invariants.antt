@@ -1,6 +1,0 @@
-use Rattle.std.proofs.Common.{◌≡◌}
-use Rattle.object_rows.specs.Changes.{least_object, lesser}
-use Rattle.inventory_refusals.proofs.least.least_object.Given as goal
-
-abbrev pub invariant-groups : goal.invariant-groups
-invariant-groups l = lesser l.found (least_object l.group-iterator) ≡ least_object l.groups.entries

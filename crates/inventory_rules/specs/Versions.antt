@@ -1,0 +1,274 @@
+-- Transactions that bring versions, bind paths to classes, or take versions away. Each item is judged on the database before the transaction.
+use Rattle.std.specs.Bool.{OnTrue}
+use Rattle.std.specs.List.{flat_map, find, list_all, list_any, AllByRecursion}
+use Rattle.std.specs.Option.{option_map_or}
+use Rattle.std.specs.Prelude.{ℕ, Option, Some, None, Bool, not, ◌==◌, List, is_some, ◌+◌, nat_le, ◌++◌, length, map, ◌^◌, max, nat_lt, if◌then◌else◌, [], ◌∷◌, true, ◌&&◌, false, ◌||◌, ◌≡◌, ◌<◌, IsTrue}
+use Rattle.kinds.specs.Refusals.{unless, bad_value}
+use Rattle.kinds.specs.declared.refusal.By.TheVariants as by
+use Rattle.kinds.specs.declared.refusal.Refusal.{Refusal}
+use Rattle.kinds.specs.declared.refusal.Refusal.TheVariants as refusal
+use Rattle.kinds.specs.declared.rule.RuleFound.{RuleFound}
+use Rattle.kinds.specs.declared.segment.Digest.{Digest}
+use Rattle.copy_groups.specs.Retention.{retained}
+use Rattle.entries.specs.change_items.declared.items.DiscardedVersion.{DiscardedVersion}
+use Rattle.entries.specs.change_items.declared.items.NamedVersion.{NamedVersion}
+use Rattle.entries.specs.change_items.declared.items.NewVersion.{NewVersion}
+use Rattle.entries.specs.change_items.declared.items.Rebinding.{Rebinding}
+use Rattle.entries.specs.change_items.declared.reasons.DiscardReason.{DiscardReason}
+use Rattle.entries.specs.change_items.declared.reasons.DiscardReason.TheVariants as because
+use Rattle.kinds.specs.Names.{is_same_name}
+use Rattle.inventory_rows.specs.version_groups.Entries.{all_later}
+use Rattle.inventory_rows.specs.version_groups.Groups.{AreByPath}
+use Rattle.inventory_rows.specs.version_groups.Versions.{is_active, has_active, has_object}
+use Rattle.inventory_rows.specs.version_groups.declared.copies.CopyRow.{CopyRow}
+use Rattle.inventory_rows.specs.version_groups.declared.group.Group.{Group}
+use Rattle.inventory_rows.specs.version_groups.declared.group.GroupChange.{GroupChange}
+use Rattle.inventory_rows.specs.version_groups.declared.group.GroupChange.TheVariants as group
+use Rattle.inventory_rows.specs.version_groups.declared.groups.Filespace.{Filespace}
+use Rattle.inventory_rows.specs.version_groups.declared.versions.Version.{Version}
+use Rattle.inventory_rows.specs.object_rows.Filespaces.{filespace_at, versions_at, filespaces_with, filespaces_after, versions_of}
+use Rattle.inventory_rows.specs.object_rows.Rows.{IsNew, most_versions}
+use Rattle.inventory_rows.specs.object_rows.declared.place.Place.{Place}
+use Rattle.inventory_rows.specs.Search.{versions, group, rule_in, version, lies_on, is_primary, place, pool}
+use Rattle.inventory_rows.specs.State.{Inv}
+use Rattle.inventory_rules.specs.Common.{this, or_same, with_filespaces, CanEach}
+use Rattle.inventory_rules.specs.Journal.{Journal}
+use Rattle.inventory_rules.specs.Segments.{put, take_all, copy_fits, CanPut, put_step}
+
+-- ---- what isn't as it was named
+
+-- a version isn't there: this transaction removed it, or none of this run did
+abbrev pub gone_or_unknown : Option ℕ → Refusal
+gone_or_unknown (Some n) = refusal.Gone n
+gone_or_unknown None = refusal.NotFound
+
+-- a version is not as it was named: it was removed, or this transaction changed it, or it was never so
+abbrev pub stale_version : Option ℕ → Option ℕ → Refusal
+stale_version (Some n) changed = refusal.Gone n
+stale_version None (Some n) = refusal.Stale n
+stale_version None None = refusal.NotFound
+
+-- ---- lists
+
+-- no object is named twice
+abbrev pub name_once : List ℕ → Bool
+name_once objects = all_later (λ a b. not (a == b)) objects
+
+-- no path is named twice
+abbrev pub paths_once : List (List ℕ) → Bool
+paths_once paths = all_later (λ a b. not (is_same_name a b)) paths
+
+-- ---- refused
+
+abbrev pub filespace_there : ℕ → Inv → List Refusal
+filespace_there filespace v = unless (is_some (filespace_at filespace v.clients.filespaces)) refusal.NotFound
+
+-- new versions: their filespace has to be there, and room for them
+abbrev pub backup_refused : ℕ → List NewVersion → Inv → List Refusal
+backup_refused filespace items v =
+    filespace_there filespace v
+    ++ (unless (name_once (map (λ i. i.object) items)) bad_value
+    ++ unless (nat_le (length (versions v) + length items) most_versions) refusal.InventoryFull)
+
+abbrev pub object_bounds : List NewVersion → Inv → List Refusal
+object_bounds items v = flat_map (λ i. unless (nat_lt (max v.next_object (i.object + 1)) (2 ^ 62)) refusal.InventoryFull) items
+
+-- a path that is bound to a class has a group
+abbrev pub rebinding_refused : Journal → ℕ → Inv → Rebinding → List Refusal
+rebinding_refused j filespace v item = unless (is_some (group filespace item.path v)) (gone_or_unknown (j.path_emptied filespace item.path))
+
+abbrev pub rebind_refused : Journal → ℕ → List Rebinding → Inv → List Refusal
+rebind_refused j filespace items v =
+    unless (paths_once (map (λ i. i.path) items)) bad_value ++ flat_map (rebinding_refused j filespace v) items
+
+-- an object that is gone is the active version of its path
+abbrev pub named_gone_refused : Journal → ℕ → Inv → NamedVersion → List Refusal
+named_gone_refused j filespace v item =
+    unless (is_active item.object (versions_at filespace item.path v.clients.filespaces)) (stale_version (j.removed item.object) (j.changed item.object))
+
+abbrev pub gone_refused : Journal → ℕ → List NamedVersion → Inv → List Refusal
+gone_refused j filespace items v =
+    unless (name_once (map (λ i. i.object) items)) bad_value ++ flat_map (named_gone_refused j filespace v) items
+
+-- where the object's version stands among those of its path, counted from 0
+abbrev pub place_among : ℕ → List Version → Option ℕ
+place_among object [] = None
+place_among object (w ∷ older) = if w.object == object then Some 0 else option_map_or (λ n. Some (n + 1)) (place_among object older) None
+
+-- a version that isn't retained today
+abbrev pub is_retained : ℕ → List ℕ → ℕ → Inv → Bool
+is_retained filespace path object v =
+    retained_in (rule_of_group (group filespace path v)) (versions_at filespace path v.clients.filespaces) (place_among object (versions_at filespace path v.clients.filespaces))
+  where
+    rule_of_group : Option Group → Option RuleFound
+    rule_of_group None = None
+    rule_of_group (Some g) = rule_in filespace g.class v
+
+    since_of : ℕ → Option Version → ℕ
+    since_of object None = 0
+    since_of object (Some w) = option_map_or (λ day. day) w.since 0
+
+    retained_in : Option RuleFound → List Version → Option ℕ → Bool
+    retained_in None ws at = true
+    retained_in (Some rule) ws None = true
+    retained_in (Some rule) ws (Some at) = retained rule (has_active ws) (since_of object (find (λ w. w.object == object) ws)) v.today at
+
+abbrev pub expired_refused : Journal → ℕ → Inv → NamedVersion → List Refusal
+expired_refused j filespace v item =
+    if has_object item.object (versions_at filespace item.path v.clients.filespaces)
+    then unless (not (is_retained filespace item.path item.object v)) (refusal.InUse (by.Object item.object))
+    else gone_or_unknown (j.removed item.object) ∷ []
+
+abbrev pub expire_refused : Journal → ℕ → List NamedVersion → Inv → List Refusal
+expire_refused j filespace items v =
+    unless (name_once (map (λ i. i.object) items)) bad_value ++ flat_map (expired_refused j filespace v) items
+
+-- of a version that has to be there
+abbrev pub of_version : Journal → ℕ → (Version → List Refusal) → Option Version → List Refusal
+of_version j object rule None = gone_or_unknown (j.removed object) ∷ []
+of_version j object rule (Some version) = rule version
+
+-- each copy of a version has a segment on the volume
+abbrev pub all_lie_on : ℕ → Version → Bool
+all_lie_on file version = list_all (lies_on file) version.copies
+
+-- the version's copy in a primary pool has a segment on the volume
+abbrev pub primary_lies_on : ℕ → Version → Inv → Bool
+primary_lies_on file version v = list_any (λ c. is_primary c.pool v && lies_on file c) version.copies
+
+abbrev pub in_use : ℕ → Refusal
+in_use object = refusal.InUse (by.Object object)
+
+abbrev pub is_in : ℕ → Option Place → Bool
+is_in filespace None = false
+is_in filespace (Some place) = place.filespace == filespace
+
+-- a version goes: each copy lies on a volume whose audit found other bytes; or its primary copy, or each of its copies, lies on a volume that is
+-- deleted; or its filespace is deleted
+abbrev pub discard_reason_refused : DiscardReason → ℕ → Digest → Version → Inv → List Refusal
+discard_reason_refused (because.Audit file) object found version v = unless (all_lie_on file version) (in_use object) ++ unless (not (is_same_name version.digest.0 found.0)) bad_value
+discard_reason_refused (because.Volume file) object found version v = unless (primary_lies_on file version v || all_lie_on file version) (in_use object)
+discard_reason_refused (because.Filespace filespace) object found version v = unless (is_in filespace (place object v)) refusal.NotFound
+
+abbrev pub discarded_refused : Journal → DiscardReason → Inv → DiscardedVersion → List Refusal
+discarded_refused j reason v item = of_version j item.object (λ w. discard_reason_refused reason item.object item.found w v) (version item.object v)
+
+abbrev pub discard_refused : Journal → DiscardReason → List DiscardedVersion → Inv → List Refusal
+discard_refused j reason items v = unless (name_once (map (λ i. i.object) items)) bad_value ++ flat_map (discarded_refused j reason v) items
+
+-- ---- effect
+
+-- a client's file becomes the newest version of its path, stored today, with one copy
+abbrev pub new_version : Inv → NewVersion → Version
+new_version v item = record {
+  object = item.object;
+  size = item.size;
+  mtime = item.mtime;
+  digest = item.digest;
+  stored = v.today;
+  since = None;
+  copies = record { pool = item.pool; placed = this v; segments = item.segments } ∷ [];
+}
+
+-- the next object number lies behind a number that was drawn
+abbrev pub after_object : NewVersion → Inv → ℕ
+after_object item v = max v.next_object (item.object + 1)
+
+abbrev pub back_up : ℕ → NewVersion → Inv → Inv
+back_up filespace item v =
+    put item.object item.segments
+    (record (with_filespaces (or_same v.clients.filespaces (filespaces_with filespace item.path item.class (new_version v item) v.clients.filespaces)) v) { next_object = after_object item v })
+
+-- the versions of a path change
+abbrev pub change_group : ℕ → List ℕ → GroupChange → Inv → Inv
+change_group filespace path step v = with_filespaces (or_same v.clients.filespaces (filespaces_after filespace path step v.clients.filespaces)) v
+
+-- a path is bound to another class
+abbrev pub rebind : ℕ → Rebinding → Inv → Inv
+rebind filespace item v = change_group filespace item.path (group.Rebind item.class) v
+
+-- the active version of a path becomes inactive today
+abbrev pub mark_gone : ℕ → NamedVersion → Inv → Inv
+mark_gone filespace item v = change_group filespace item.path (group.Gone item.object v.today) v
+
+abbrev pub copies_of : Option Version → List CopyRow
+copies_of None = []
+copies_of (Some version) = version.copies
+
+-- the copies of an object's version
+abbrev pub copies_at : ℕ → Inv → List CopyRow
+copies_at object v = copies_of (version object v)
+
+-- their segments go from their volumes
+abbrev pub take_versions : ℕ → Inv → Inv
+take_versions object v = take_all object (copies_at object v) v
+
+-- a version goes, and its copies with it
+abbrev pub remove : ℕ → List ℕ → ℕ → Inv → Inv
+remove filespace path object v = change_group filespace path (group.Remove object) (take_versions object v)
+
+abbrev pub expire : ℕ → NamedVersion → Inv → Inv
+expire filespace item v = remove filespace item.path item.object v
+
+abbrev pub discard_at : ℕ → Option Place → Inv → Inv
+discard_at object None v = v
+discard_at object (Some place) v = remove place.filespace place.path object v
+
+abbrev pub discard : DiscardedVersion → Inv → Inv
+discard item v = discard_at item.object (place item.object v) v
+
+-- ---- fits
+
+-- a new version has an object number from 1 on that no version has
+abbrev pub is_new_object : Inv → ℕ → Bool
+is_new_object v object = nat_le 1 object && not (has_object object (versions v))
+
+abbrev pub new_version_fits : Inv → NewVersion → Bool
+new_version_fits v item = is_new_object v item.object && copy_fits v item.pool item.size item.segments
+
+-- ---- items
+
+-- one for each path among the items that has no group and isn't one of those that were seen, or the path of an earlier item
+abbrev pub paths_added : ℕ → List (List ℕ) → List NewVersion → Inv → ℕ
+paths_added filespace seen [] v = 0
+paths_added filespace seen (i ∷ items) v =
+    (if is_some (group filespace i.path v) || list_any (is_same_name i.path) seen then 0 else 1) + paths_added filespace (i.path ∷ seen) items v
+
+-- a version, its copy and the copy's segments
+abbrev pub items_of_new : NewVersion → ℕ
+items_of_new i = 1 + (1 + length i.segments)
+
+-- ---- order
+
+-- the groups of each filespace stand by path
+abbrev pub AreGroupsOrdered : List (ℕ × Filespace) → Type 0
+AreGroupsOrdered filespaces = AllByRecursion (λ f. AreByPath f.1.groups) filespaces
+
+-- ---- made
+
+-- a client's file becomes the newest version of its path
+abbrev pub inserted : ℕ → NewVersion → Inv → Inv
+inserted filespace item v =
+    record (with_filespaces (or_same v.clients.filespaces (filespaces_with filespace item.path item.class (new_version v item) v.clients.filespaces)) v) { next_object = after_object item v }
+
+-- the object is new, its filespace is there, and there is room for one version more and for the numbers behind its own and the transaction's
+pub record CanInsert (filespace : ℕ) (item : NewVersion) (v : Inv) : Type 0 where
+  pub new : IsNew item.object v.clients
+  pub there : is_some (filespace_at filespace v.clients.filespaces) ≡ true
+  pub room : nat_le most_versions (length (versions_of v.clients.filespaces)) ≡ false
+  pub next : item.object + 1 < 2 ^ 64
+  pub number : v.number + 1 < 2 ^ 64
+
+-- so it is, and its segments can come
+pub record CanBackUp (filespace : ℕ) (item : NewVersion) (v : Inv) : Type 0 where
+  pub insert : CanInsert filespace item v
+  pub segments : CanEach (CanPut item.object) (put_step item.object) item.segments (inserted filespace item v)
+
+-- an object that is at its path is the active version there
+abbrev pub CanBeGone : ℕ → NamedVersion → Inv → Type 0
+CanBeGone filespace item v =
+    OnTrue (has_object item.object (versions_at filespace item.path v.clients.filespaces)) (IsTrue (is_active item.object (versions_at filespace item.path v.clients.filespaces)))
+
+-- the class that a path is bound to
+abbrev pub class_of : Rebinding → List ℕ
+class_of item = item.class

@@ -1,7 +1,0 @@
-pub mod CopyLaws
-pub mod Discards
-pub mod InsertLaws
-pub mod Loops
-pub mod PutLaws
-pub mod Taken
-pub mod Ways

@@ -1,6 +1,0 @@
-use Rattle.std.proofs.Common.{◌≡◌, ◌++◌, map, drop}
-use Rattle.inventory_steps.specs.Steps.{placed_as}
-use Rattle.inventory_steps.proofs.moves.place_each.Given as goal
-
-abbrev pub invariant-items : goal.invariant-items
-invariant-items l = l.rows.items ++ map (placed_as l.tables.number) (drop l.item-index l.items) ≡ map (placed_as l.tables.number) l.items

@@ -1,7 +1,0 @@
-use Rattle.std.proofs.Common.{◌≡◌, drop}
-use Rattle.inventory_rows.specs.State.{inv_of}
-use Rattle.inventory_rules.specs.Effects.{each, expire}
-use Rattle.inventory_steps.proofs.versions.expire_all.Given as goal
-
-abbrev pub invariant-items : goal.invariant-items
-invariant-items l = each (expire l.filespace) (drop l.item-index l.items) (inv_of l.tables) ≡ each (expire l.filespace) l.fn.items (inv_of l.fn.tables)

@@ -1,4 +1,0 @@
-//! How a transaction changes the number of items that the lists of the server's database have together.
-#![tactic(auto)]
-
-pub mod laws;

@@ -1,3 +1,0 @@
-mod Groups
-mod Lists
-mod Volumes

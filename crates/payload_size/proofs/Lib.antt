@@ -1,5 +1,0 @@
-pub mod ClientRows
-pub mod PolicyRows
-pub mod Spellings
-pub mod StoreRows
-pub mod Whole

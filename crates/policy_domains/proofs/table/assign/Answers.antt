@@ -1,8 +1,0 @@
-use Rattle.policy_domains.proofs.Parts.{becomes_changed}
-use Rattle.policy_domains.specs.Sets.{in_sets, assigned}
-use Rattle.policy_domains.specs.Rows.{changed}
-use Rattle.policy_domains.proofs.table.assign.Goals as goal
-
-pub returns-in-Some : goal.returns-in-Some
-returns-in-Some c =
-    becomes_changed c.args.domain.now (in_sets (changed c.args.set.now (assigned c.args.class.now))) c.args.rows.now.entries (c.get_mut.follows.lender c.assign.new.self).entries c.in-Some.row.now c.assign.new.self c.assign.result c.in-Some.ensures.value (c.get_mut.follows.holds c.assign.new.self).0 c.assign.ensures

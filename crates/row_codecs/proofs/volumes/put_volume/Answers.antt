@@ -1,6 +1,0 @@
-use Rattle.kinds.proofs.Joins.{seven}
-use Rattle.row_codecs.proofs.volumes.put_volume.Goals as goal
-
-pub returns : goal.returns
-returns c =
-    seven _ _ _ _ _ _ _ _ _ _ _ _ _ _ _ c.in_ok-write_to.ensures c.in_ok-put_u32.ensures.ok c.in_ok-write_to-2.ensures c.in_ok-write_to-3.ensures c.in_ok-write_to-4.ensures c.in_ok-put_u64.ensures.ok c.in_ok-write_to-5.ensures

@@ -1,4 +1,0 @@
-pub mod ClientForms
-pub mod PolicyForms
-pub mod StoreForms
-pub mod VersionForms

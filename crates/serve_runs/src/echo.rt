@@ -1,0 +1,126 @@
+//! Runs over an answerer that gives each line back.
+use crate::sweeps::digit;
+use script_loop::{Answerer, Halt, Reply, run};
+use std::alloc::{AllocError, Global};
+use tree_api::{MemSink, MemSource, Sink};
+
+/// Prints each line; `two` gives two lines, `no` is refused, `bad` counts a failed file, `full` ends the run, and an empty
+/// line is a comment.
+#[derive(Drop)]
+struct Echo;
+
+impl Answerer for Echo {
+    ghost serves = { λ _ _ _ _. Unit {0} };
+
+    ghost halts = { λ _ _ _ _. Unit {0} };
+
+    ghost can_take = { λ _ _. Unit {0} };
+
+    fn answer(&mut self, alloc: Global, line: &[u8], _left: u32) -> Result<Reply, Halt> {
+        if line == b"full".as_slice() {
+            return Err(Halt::RunFull);
+        }
+        match echoed(alloc, line) {
+            Ok(reply) => Ok(reply),
+            Err(_) => Err(Halt::Memory),
+        }
+    }
+}
+
+fn echoed(alloc: Global, line: &[u8]) -> Result<Reply, AllocError> {
+    if line.is_empty() {
+        return Ok(Reply::nothing(alloc));
+    }
+    if line == b"no".as_slice() {
+        return Reply::refused(alloc, line.to_vec(alloc)?);
+    }
+    let mut reply = Reply::command(alloc);
+    reply.say(line.to_vec(alloc)?)?;
+    if line == b"two".as_slice() {
+        reply.say(b"more".to_vec(alloc)?)?;
+    }
+    if line == b"bad".as_slice() {
+        reply.count_failed(1);
+    }
+    Ok(reply)
+}
+
+/// The status of a run, and its sink.
+fn ran(alloc: Global, source: MemSource, sink: MemSink) -> (u8, MemSink) {
+    let mut source = source;
+    let mut sink = sink;
+    let end = run(alloc, &mut Echo, &mut source, &mut sink);
+    (end.status(), sink)
+}
+
+/// The bytes as text, with `\r` for each CR.
+fn shown(alloc: Global, bytes: &[u8]) -> Result<String, AllocError> {
+    let mut text = String::new(alloc);
+    for byte in bytes {
+        if *byte == b'\r' {
+            text.push_str("\\r")?;
+        } else {
+            text.push(char::from(*byte))?;
+        }
+    }
+    Ok(text)
+}
+
+/// What a run puts, and its status.
+pub fn answer(alloc: Global, source: MemSource, sink: MemSink) -> Result<String, AllocError> {
+    let (status, sink) = ran(alloc, source, sink);
+    let put = shown(alloc, sink.bytes())?;
+    let gap = if put.is_empty() || put.ends_with('\n') {
+        ""
+    } else {
+        "\n"
+    };
+    format!(in alloc; "{put}{gap}status {status}")
+}
+
+/// The same, where the source gives and the sink takes at most so many bytes a call.
+fn answer_in(alloc: Global, script: &str, bytes: usize) -> Result<String, AllocError> {
+    let most = bytes.max(1);
+    let source = MemSource::new(alloc, script.as_bytes().to_vec(alloc)?).giving_at_most(most);
+    answer(alloc, source, MemSink::new(alloc).taking_at_most(most))
+}
+
+/// What a run puts and its status, whether in pieces of 1, 2, 5 or 100,000 bytes; or the first of these with which it is another.
+pub fn pieces(alloc: Global, script: &str) -> Result<String, AllocError> {
+    let first = answer_in(alloc, script, 1)?;
+    for bytes in [2, 5, 100000] {
+        let text = answer_in(alloc, script, bytes)?;
+        if text.as_str() != first.as_str() {
+            return format!(in alloc; "{first}\nin pieces of {bytes}:\n{text}");
+        }
+    }
+    Ok(first)
+}
+
+/// The status of a run whose sink takes a byte at a time and fails at this call; or `!` where it took other bytes than those before
+/// it, or failed otherwise than once.
+fn status_at(alloc: Global, script: &str, whole: &[u8], call: usize) -> Result<char, AllocError> {
+    let source = MemSource::new(alloc, script.as_bytes().to_vec(alloc)?);
+    let sink = MemSink::new(alloc)
+        .with_failing([call as u64].to_vec(alloc)?)
+        .taking_at_most(1);
+    let (status, sink) = ran(alloc, source, sink);
+    let before = call.min(whole.len());
+    let faults = if call < whole.len() { 1 } else { 0 };
+    if sink.bytes() == &whole[..before] && sink.faults() == faults {
+        Ok(digit(status as usize))
+    } else {
+        Ok('!')
+    }
+}
+
+/// The status of the run for each call of the sink that fails, up to the first that isn't made.
+pub fn sink_faults(alloc: Global, script: &str) -> Result<String, AllocError> {
+    let source = MemSource::new(alloc, script.as_bytes().to_vec(alloc)?);
+    let (_, sink) = ran(alloc, source, MemSink::new(alloc));
+    let mut signs = String::new(alloc);
+    for call in 0..=sink.bytes().len() {
+        signs.push(status_at(alloc, script, sink.bytes(), call)?)?;
+    }
+    Ok(signs)
+}

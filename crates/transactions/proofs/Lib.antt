@@ -1,4 +1,0 @@
-pub mod Nothing
-pub mod Orders
-pub mod Stays
-pub mod Within

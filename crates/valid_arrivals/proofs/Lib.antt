@@ -1,4 +1,0 @@
-pub mod Backups
-pub mod Copies
-pub mod Moves
-pub mod Tests

@@ -1,9 +1,0 @@
-pub mod Backups
-pub mod Clients
-pub mod Days
-pub mod Domains
-pub mod Names
-pub mod Parts
-pub mod Policy
-pub mod Refusals
-pub mod Rows

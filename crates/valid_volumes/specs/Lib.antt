@@ -1,4 +1,0 @@
-pub mod Chains
-pub mod Coming
-pub mod Kept
-pub mod Steady
