@@ -5,8 +5,7 @@ use Rattle.std.proofs.Math.Seq.{take-add}
 use Rattle.std.specs.Str.{byte}
 use Rattle.command_words.specs.declared.words.Spot.{Spot}
 use Rattle.command_words.specs.declared.words.Spot.TheVariants.{Between, Plain, Equals, Bare, Quoted, Closed, Torn}
-use Rattle.command_words.specs.declared.words.TheConstants.{QUOTE}
-use Rattle.command_words.specs.Words.{Word, spot_after, is_between, is_sound, ended, words_from, words}
+use Rattle.command_words.specs.Words.{Word, is_quote, spot_after, is_between, is_sound, ended, words_from, words}
 use Rattle.admin_words.specs.Spelling.{SameTexts, single_spaced_from, single_spaced}
 
 -- the text of a word that ends here, and whether its quotes are closed
@@ -93,7 +92,7 @@ space_after Plain b e = refl
 space_after Equals b e = refl
 space_after Bare b e = refl
 space_after Quoted b e =
-    elim (b == QUOTE) as (λ c. is_between (cond c Closed Quoted) ≡ true → spot_after Quoted (byte " ") ≡ Between) [ true ↦ λ f. cc | false ↦ λ f. cc ] e
+    elim (is_quote b) as (λ c. is_between (cond c Closed Quoted) ≡ true → spot_after Quoted (byte " ") ≡ Between) [ true ↦ λ f. cc | false ↦ λ f. cc ] e
 space_after Closed b e = refl
 space_after Torn b e = refl
 

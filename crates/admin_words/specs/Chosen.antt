@@ -1,5 +1,5 @@
 -- What the words that stand as values mean.
-use Rattle.std.specs.Prelude.{ℕ, Bool, false, ◌==◌, List, map, if◌then◌else◌, Option, Some, None}
+use Rattle.std.specs.Prelude.{ℕ, Bool, false, ◌==◌, List, if◌then◌else◌, Option, Some, None}
 use Rattle.kinds.specs.declared.rule.Still.{Still}
 use Rattle.kinds.specs.declared.rule.Still.TheVariants.{ShrStatic, Static}
 use Rattle.kinds.specs.declared.pool.Access.{Access}
@@ -9,7 +9,7 @@ use Rattle.kinds.specs.declared.pool.PoolKind.TheVariants.{Primary, Copy}
 use Rattle.command_words.specs.Fields.{word_of, name_if}
 use Rattle.admin_words.specs.declared.words.Mode.{Mode}
 use Rattle.admin_words.specs.declared.words.Mode.TheVariants.{Modified, Absolute}
-use Rattle.admin_words.specs.declared.table.TheConstants.{ACCESSES, MODES, NO_YES, POOL_TYPES, SERIALIZATIONS}
+use Rattle.admin_words.specs.Grammar.{access_words, mode_words, pool_type_words, serialization_words, yes_words}
 
 -- MODE: MODIFIED or ABSOLUTE
 abbrev pub mode_at : ℕ → Mode
@@ -20,7 +20,7 @@ mode_when None = None
 mode_when (Some at) = Some (mode_at at)
 
 abbrev pub mode_of : Option (List ℕ) → Option Mode
-mode_of text = mode_when (word_of (map (λ w. w.now) MODES.now) text)
+mode_of text = mode_when (word_of mode_words text)
 
 -- SERIALIZATION: SHRSTATIC or STATIC
 abbrev pub still_at : ℕ → Still
@@ -31,7 +31,7 @@ still_when None = None
 still_when (Some at) = Some (still_at at)
 
 abbrev pub still_of : Option (List ℕ) → Option Still
-still_of text = still_when (word_of (map (λ w. w.now) SERIALIZATIONS.now) text)
+still_of text = still_when (word_of serialization_words text)
 
 -- ACCESS: READWRITE, READONLY, UNAVAILABLE, OFFSITE or DESTROYED
 abbrev pub access_at : ℕ → Access
@@ -43,7 +43,7 @@ access_when None = None
 access_when (Some at) = Some (access_at at)
 
 abbrev pub access_of : Option (List ℕ) → Option Access
-access_of text = access_when (word_of (map (λ w. w.now) ACCESSES.now) text)
+access_of text = access_when (word_of access_words text)
 
 -- POOLTYPE: PRIMARY or COPY
 abbrev pub pool_kind_at : ℕ → PoolKind
@@ -54,7 +54,7 @@ pool_kind_when None = None
 pool_kind_when (Some at) = Some (pool_kind_at at)
 
 abbrev pub pool_kind_of : Option (List ℕ) → Option PoolKind
-pool_kind_of text = pool_kind_when (word_of (map (λ w. w.now) POOL_TYPES.now) text)
+pool_kind_of text = pool_kind_when (word_of pool_type_words text)
 
 -- NO or YES
 abbrev pub yes_at : Option ℕ → Bool
@@ -62,7 +62,7 @@ yes_at None = false
 yes_at (Some at) = at == 1
 
 abbrev pub is_yes : Option (List ℕ) → Bool
-is_yes text = yes_at (word_of (map (λ w. w.now) NO_YES.now) text)
+is_yes text = yes_at (word_of yes_words text)
 
 -- RECLAIM where it is not given
 abbrev pub usual_reclaim : PoolKind → ℕ

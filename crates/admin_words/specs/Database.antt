@@ -1,8 +1,11 @@
 -- Commands of the database and of the calendar.
-use Rattle.std.specs.Prelude.{List, unwrap_or}
+use Rattle.std.specs.Prelude.{List, codes, unwrap_or}
 use Rattle.admin_words.specs.declared.database.DatabaseBackup.{DatabaseBackup}
 use Rattle.admin_words.specs.declared.database.HistoryDeletion.{HistoryDeletion}
 use Rattle.admin_words.specs.declared.database.DayChange.{DayChange}
+use Rattle.admin_words.specs.declared.table.Form.TheVariants.{Database}
+use Rattle.admin_words.specs.declared.table.DatabaseForm.TheVariants.{BackupDatabase, DeleteHistory}
+use Rattle.admin_words.specs.Grammar.{given_for}
 use Rattle.command_words.specs.Rows.{Given, text_at}
 use Rattle.command_words.specs.Fields.{name_if, number_of}
 
@@ -10,14 +13,14 @@ use Rattle.command_words.specs.Fields.{name_if, number_of}
 abbrev pub database_backup : List Given → List Given → DatabaseBackup
 database_backup places keys =
     record {
-      dev_class = name_if 30 (text_at 0 keys);
+      dev_class = name_if 30 (given_for (Database BackupDatabase) (codes "DEVCLASS") keys);
     }
 
 -- DELETE VOLHISTORY with TYPE=DBBACKUP: what was taken on or before this day.
 abbrev pub history_deletion : List Given → List Given → HistoryDeletion
 history_deletion places keys =
     record {
-      to_date = unwrap_or (number_of 2147483647 (text_at 0 keys)) 0;
+      to_date = unwrap_or (number_of 2147483647 (given_for (Database DeleteHistory) (codes "TODATE") keys)) 0;
     }
 
 -- DAY.

@@ -1,5 +1,5 @@
 -- Commands of client files.
-use Rattle.std.specs.Prelude.{ℕ, List, Option, Some, None, unwrap_or}
+use Rattle.std.specs.Prelude.{ℕ, List, codes, Option, Some, None, unwrap_or}
 use Rattle.admin_words.specs.declared.files.FileWrite.{FileWrite}
 use Rattle.admin_words.specs.declared.files.Contents.{Contents}
 use Rattle.admin_words.specs.declared.files.Contents.TheVariants.{Text, Counted}
@@ -10,6 +10,9 @@ use Rattle.admin_words.specs.declared.files.FilePut.{FilePut}
 use Rattle.admin_words.specs.declared.files.FileGet.{FileGet}
 use Rattle.admin_words.specs.declared.files.IncrementalBackup.{IncrementalBackup}
 use Rattle.admin_words.specs.declared.files.FilesRestore.{FilesRestore}
+use Rattle.admin_words.specs.declared.table.Form.TheVariants.{File}
+use Rattle.admin_words.specs.declared.table.FileForm.TheVariants.{Put, RestoreFiles, Write}
+use Rattle.admin_words.specs.Grammar.{given_for}
 use Rattle.command_words.specs.Rows.{Given, text_at}
 use Rattle.command_words.specs.Fields.{name_of, number_of, path_of, size_of, text_of}
 
@@ -25,7 +28,7 @@ file_write places keys =
       tree = unwrap_or (number_of 9999999999 (text_at 0 places)) 0;
       path = path_of 1024 (text_at 1 places);
       mtime = unwrap_or (number_of 9999999999 (text_at 2 places)) 0;
-      contents = contents (text_at 0 keys) (text_at 1 keys) (text_at 2 keys);
+      contents = contents (given_for (File Write) (codes "TEXT") keys) (given_for (File Write) (codes "SIZE") keys) (given_for (File Write) (codes "FILL") keys);
     }
 
 -- ERASE: a file of a tree.
@@ -44,7 +47,7 @@ file_put places keys =
       filespace = path_of 64 (text_at 1 places);
       path = path_of 1024 (text_at 2 places);
       mtime = unwrap_or (number_of 9999999999 (text_at 3 places)) 0;
-      text = text_of (text_at 0 keys);
+      text = text_of (given_for (File Put) (codes "TEXT") keys);
     }
 
 -- GET: the active version of one file.
@@ -83,5 +86,5 @@ files_restore places keys =
       node = name_of 64 (text_at 0 places);
       filespace = path_of 64 (text_at 1 places);
       tree = unwrap_or (number_of 9999999999 (text_at 2 places)) 0;
-      wanted = wanted (text_at 0 keys) (text_at 1 keys) (text_at 2 keys);
+      wanted = wanted (given_for (File RestoreFiles) (codes "PATTERN") keys) (given_for (File RestoreFiles) (codes "PITDATE") keys) (given_for (File RestoreFiles) (codes "OBJECT") keys);
     }

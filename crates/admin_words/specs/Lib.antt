@@ -2,6 +2,7 @@ pub mod Chosen
 pub mod Command
 pub mod Database
 pub mod Files
+pub mod Grammar
 pub mod Legible
 pub mod Line
 pub mod Nodes

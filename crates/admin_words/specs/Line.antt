@@ -1,12 +1,11 @@
 -- What a line says: a command, or the refusal at its first offending word.
-use Rattle.std.specs.Prelude.{ℕ, ◌+◌, Bool, ◌&&◌, ◌||◌, nat_eq, List, [], ◌∷◌, map, length, codes, slice_get, if◌then◌else◌, Option, Some, None, Result, Ok, Err}
-use Rattle.std.specs.List.{list_all, starts_with, ends_with}
+use Rattle.std.specs.Prelude.{ℕ, ◌+◌, Bool, List, [], ◌∷◌, map, length, slice_get, if◌then◌else◌, Option, Some, None, Result, Ok, Err}
 use Rattle.kinds.specs.declared.refusal.Refusal.{Refusal}
 use Rattle.kinds.specs.declared.refusal.Refusal.TheVariants.{Syntax}
 use Rattle.command_words.specs.Choice.{choose}
 use Rattle.command_words.specs.Reading.{◌>>=◌}
 use Rattle.command_words.specs.Rows.{row_values}
-use Rattle.command_words.specs.Words.{Word, is_blank, words, torn_at}
+use Rattle.command_words.specs.Words.{Word, words, torn_at}
 use Rattle.admin_words.specs.declared.command.Command.{Command}
 use Rattle.admin_words.specs.Command.{command_of}
 use Rattle.admin_words.specs.Rows.{Row, Verb, verbs, is_bare}
@@ -46,11 +45,3 @@ command_by table ws end None = row_of end table ws >>= λ r. row_command end r
 -- what a line says: its command, or the refusal at its first offending word. A missing word has the line's length plus 1
 abbrev pub command : List ℕ → Bool → Result Command Refusal
 command line in_block = command_by (verbs in_block) (words line) (length line + 1) (torn_at (words line))
-
--- a line that begins with `/*` and ends with `*/`
-abbrev pub is_marked : List ℕ → Bool
-is_marked line = starts_with nat_eq line (codes "/*") && ends_with nat_eq line (codes "*/")
-
--- a comment: a line of blanks, or one that is marked so
-abbrev pub is_comment : List ℕ → Bool
-is_comment line = list_all is_blank line || is_marked line

@@ -1,9 +1,12 @@
 -- Commands of client nodes and their filespaces.
-use Rattle.std.specs.Prelude.{List}
+use Rattle.std.specs.Prelude.{List, codes}
 use Rattle.admin_words.specs.declared.nodes.NamedNode.{NamedNode}
 use Rattle.admin_words.specs.declared.nodes.NodeRegistration.{NodeRegistration}
 use Rattle.admin_words.specs.declared.nodes.NodeFilespace.{NodeFilespace}
 use Rattle.admin_words.specs.declared.nodes.FilespaceQuery.{FilespaceQuery}
+use Rattle.admin_words.specs.declared.table.Form.TheVariants.{Node}
+use Rattle.admin_words.specs.declared.table.NodeForm.TheVariants.{RegisterNode}
+use Rattle.admin_words.specs.Grammar.{given_for}
 use Rattle.command_words.specs.Rows.{Given, text_at}
 use Rattle.command_words.specs.Fields.{name_if, name_of, path_of}
 
@@ -19,7 +22,7 @@ abbrev pub node_registration : List Given → List Given → NodeRegistration
 node_registration places keys =
     record {
       node = name_of 64 (text_at 0 places);
-      domain = name_of 30 (text_at 0 keys);
+      domain = name_of 30 (given_for (Node RegisterNode) (codes "DOMAIN") keys);
     }
 
 -- A filespace by its node and its name.

@@ -1,5 +1,5 @@
 -- Commands of policy: domains, policy sets, management classes and copy groups.
-use Rattle.std.specs.Prelude.{List, unwrap_or}
+use Rattle.std.specs.Prelude.{List, codes, unwrap_or}
 use Rattle.admin_words.specs.declared.policy.NamedDomain.{NamedDomain}
 use Rattle.admin_words.specs.declared.policy.DomainDefinition.{DomainDefinition}
 use Rattle.admin_words.specs.declared.policy.DomainUpdate.{DomainUpdate}
@@ -10,6 +10,10 @@ use Rattle.admin_words.specs.declared.policy.GroupUpdate.{GroupUpdate}
 use Rattle.admin_words.specs.declared.words.Mode.TheVariants.{Modified}
 use Rattle.kinds.specs.declared.rule.Still.TheVariants.{ShrStatic}
 use Rattle.kinds.specs.declared.rule.Limit.TheVariants.{At}
+use Rattle.admin_words.specs.declared.table.Form.TheVariants.{Class, Policy}
+use Rattle.admin_words.specs.declared.table.ClassForm.TheVariants.{DefineGroup, UpdateGroup}
+use Rattle.admin_words.specs.declared.table.PolicyForm.TheVariants.{DefineDomain, UpdateDomain}
+use Rattle.admin_words.specs.Grammar.{given_for}
 use Rattle.command_words.specs.Rows.{Given, text_at}
 use Rattle.command_words.specs.Fields.{limit_of, name_if, name_of, number_of}
 use Rattle.admin_words.specs.Chosen.{mode_of, still_of}
@@ -26,7 +30,7 @@ abbrev pub domain_definition : List Given → List Given → DomainDefinition
 domain_definition places keys =
     record {
       domain = name_of 30 (text_at 0 places);
-      back_retention = unwrap_or (number_of 9999 (text_at 0 keys)) 30;
+      back_retention = unwrap_or (number_of 9999 (given_for (Policy DefineDomain) (codes "BACKRETENTION") keys)) 30;
     }
 
 -- UPDATE DOMAIN.
@@ -34,7 +38,7 @@ abbrev pub domain_update : List Given → List Given → DomainUpdate
 domain_update places keys =
     record {
       domain = name_of 30 (text_at 0 places);
-      back_retention = unwrap_or (number_of 9999 (text_at 0 keys)) 30;
+      back_retention = unwrap_or (number_of 9999 (given_for (Policy UpdateDomain) (codes "BACKRETENTION") keys)) 30;
     }
 
 -- A policy set by its domain and its name.
@@ -61,14 +65,14 @@ group_definition places keys =
       domain = name_of 30 (text_at 0 places);
       set = name_of 30 (text_at 1 places);
       class = name_of 30 (text_at 2 places);
-      destination = name_of 30 (text_at 1 keys);
-      frequency = unwrap_or (number_of 9999 (text_at 2 keys)) 0;
-      ver_exists = unwrap_or (limit_of (text_at 3 keys)) (At 2);
-      ver_deleted = unwrap_or (limit_of (text_at 4 keys)) (At 1);
-      ret_extra = unwrap_or (limit_of (text_at 5 keys)) (At 30);
-      ret_only = unwrap_or (limit_of (text_at 6 keys)) (At 60);
-      mode = unwrap_or (mode_of (text_at 7 keys)) Modified;
-      still = unwrap_or (still_of (text_at 8 keys)) ShrStatic;
+      destination = name_of 30 (given_for (Class DefineGroup) (codes "DESTINATION") keys);
+      frequency = unwrap_or (number_of 9999 (given_for (Class DefineGroup) (codes "FREQUENCY") keys)) 0;
+      ver_exists = unwrap_or (limit_of (given_for (Class DefineGroup) (codes "VEREXISTS") keys)) (At 2);
+      ver_deleted = unwrap_or (limit_of (given_for (Class DefineGroup) (codes "VERDELETED") keys)) (At 1);
+      ret_extra = unwrap_or (limit_of (given_for (Class DefineGroup) (codes "RETEXTRA") keys)) (At 30);
+      ret_only = unwrap_or (limit_of (given_for (Class DefineGroup) (codes "RETONLY") keys)) (At 60);
+      mode = unwrap_or (mode_of (given_for (Class DefineGroup) (codes "MODE") keys)) Modified;
+      still = unwrap_or (still_of (given_for (Class DefineGroup) (codes "SERIALIZATION") keys)) ShrStatic;
     }
 
 -- UPDATE COPYGROUP: what is not given stays.
@@ -78,12 +82,12 @@ group_update places keys =
       domain = name_of 30 (text_at 0 places);
       set = name_of 30 (text_at 1 places);
       class = name_of 30 (text_at 2 places);
-      destination = name_if 30 (text_at 1 keys);
-      frequency = number_of 9999 (text_at 2 keys);
-      ver_exists = limit_of (text_at 3 keys);
-      ver_deleted = limit_of (text_at 4 keys);
-      ret_extra = limit_of (text_at 5 keys);
-      ret_only = limit_of (text_at 6 keys);
-      mode = mode_of (text_at 7 keys);
-      still = still_of (text_at 8 keys);
+      destination = name_if 30 (given_for (Class UpdateGroup) (codes "DESTINATION") keys);
+      frequency = number_of 9999 (given_for (Class UpdateGroup) (codes "FREQUENCY") keys);
+      ver_exists = limit_of (given_for (Class UpdateGroup) (codes "VEREXISTS") keys);
+      ver_deleted = limit_of (given_for (Class UpdateGroup) (codes "VERDELETED") keys);
+      ret_extra = limit_of (given_for (Class UpdateGroup) (codes "RETEXTRA") keys);
+      ret_only = limit_of (given_for (Class UpdateGroup) (codes "RETONLY") keys);
+      mode = mode_of (given_for (Class UpdateGroup) (codes "MODE") keys);
+      still = still_of (given_for (Class UpdateGroup) (codes "SERIALIZATION") keys);
     }

@@ -1,5 +1,5 @@
 -- Commands of device classes and storage pools.
-use Rattle.std.specs.Prelude.{List, unwrap_or}
+use Rattle.std.specs.Prelude.{List, codes, unwrap_or}
 use Rattle.admin_words.specs.declared.pools.NamedDevClass.{NamedDevClass}
 use Rattle.admin_words.specs.declared.pools.DevClassDefinition.{DevClassDefinition}
 use Rattle.admin_words.specs.declared.pools.PoolDefinition.{PoolDefinition}
@@ -11,6 +11,9 @@ use Rattle.admin_words.specs.declared.pools.PoolBackup.{PoolBackup}
 use Rattle.admin_words.specs.declared.pools.PoolQuery.{PoolQuery}
 use Rattle.kinds.specs.declared.pool.PoolKind.TheVariants.{Primary}
 use Rattle.kinds.specs.declared.pool.SizeLimit.TheVariants.{NoLimit}
+use Rattle.admin_words.specs.declared.table.Form.TheVariants.{Pool}
+use Rattle.admin_words.specs.declared.table.PoolForm.TheVariants.{DefineDevClass, DefinePool, MigratePool, ReclaimPool, UpdatePool}
+use Rattle.admin_words.specs.Grammar.{given_for}
 use Rattle.command_words.specs.Rows.{Given, text_at}
 use Rattle.command_words.specs.Fields.{capacity_of, name_if, name_of, number_of, size_limit_of}
 use Rattle.admin_words.specs.Chosen.{pool_kind_of, usual_reclaim, next_of}
@@ -27,7 +30,7 @@ abbrev pub dev_class_definition : List Given → List Given → DevClassDefiniti
 dev_class_definition places keys =
     record {
       class = name_of 30 (text_at 0 places);
-      capacity = unwrap_or (capacity_of (text_at 1 keys)) 2147483648;
+      capacity = unwrap_or (capacity_of (given_for (Pool DefineDevClass) (codes "MAXCAPACITY") keys)) 2147483648;
     }
 
 -- DEFINE STGPOOL, with the usual values where none are given. An empty NEXTSTGPOOL is none.
@@ -36,14 +39,14 @@ pool_definition places keys =
     record {
       pool = name_of 30 (text_at 0 places);
       class = name_of 30 (text_at 1 places);
-      kind = unwrap_or (pool_kind_of (text_at 0 keys)) Primary;
-      max_size = unwrap_or (size_limit_of (text_at 1 keys)) NoLimit;
-      next = name_if 30 (text_at 2 keys);
-      high = unwrap_or (number_of 100 (text_at 3 keys)) 90;
-      low = unwrap_or (number_of 100 (text_at 4 keys)) 70;
-      reclaim = unwrap_or (number_of 100 (text_at 5 keys)) (usual_reclaim (unwrap_or (pool_kind_of (text_at 0 keys)) Primary));
-      reuse_delay = unwrap_or (number_of 9999 (text_at 6 keys)) 0;
-      max_scratch = unwrap_or (number_of 9999 (text_at 7 keys)) 0;
+      kind = unwrap_or (pool_kind_of (given_for (Pool DefinePool) (codes "POOLTYPE") keys)) Primary;
+      max_size = unwrap_or (size_limit_of (given_for (Pool DefinePool) (codes "MAXSIZE") keys)) NoLimit;
+      next = name_if 30 (given_for (Pool DefinePool) (codes "NEXTSTGPOOL") keys);
+      high = unwrap_or (number_of 100 (given_for (Pool DefinePool) (codes "HIGHMIG") keys)) 90;
+      low = unwrap_or (number_of 100 (given_for (Pool DefinePool) (codes "LOWMIG") keys)) 70;
+      reclaim = unwrap_or (number_of 100 (given_for (Pool DefinePool) (codes "RECLAIM") keys)) (usual_reclaim (unwrap_or (pool_kind_of (given_for (Pool DefinePool) (codes "POOLTYPE") keys)) Primary));
+      reuse_delay = unwrap_or (number_of 9999 (given_for (Pool DefinePool) (codes "REUSEDELAY") keys)) 0;
+      max_scratch = unwrap_or (number_of 9999 (given_for (Pool DefinePool) (codes "MAXSCRATCH") keys)) 0;
     }
 
 -- UPDATE STGPOOL: what is not given stays. An empty NEXTSTGPOOL takes the next pool away.
@@ -51,13 +54,13 @@ abbrev pub pool_update : List Given → List Given → PoolUpdate
 pool_update places keys =
     record {
       pool = name_of 30 (text_at 0 places);
-      max_size = size_limit_of (text_at 0 keys);
-      next = next_of (text_at 1 keys);
-      high = number_of 100 (text_at 2 keys);
-      low = number_of 100 (text_at 3 keys);
-      reclaim = number_of 100 (text_at 4 keys);
-      reuse_delay = number_of 9999 (text_at 5 keys);
-      max_scratch = number_of 9999 (text_at 6 keys);
+      max_size = size_limit_of (given_for (Pool UpdatePool) (codes "MAXSIZE") keys);
+      next = next_of (given_for (Pool UpdatePool) (codes "NEXTSTGPOOL") keys);
+      high = number_of 100 (given_for (Pool UpdatePool) (codes "HIGHMIG") keys);
+      low = number_of 100 (given_for (Pool UpdatePool) (codes "LOWMIG") keys);
+      reclaim = number_of 100 (given_for (Pool UpdatePool) (codes "RECLAIM") keys);
+      reuse_delay = number_of 9999 (given_for (Pool UpdatePool) (codes "REUSEDELAY") keys);
+      max_scratch = number_of 9999 (given_for (Pool UpdatePool) (codes "MAXSCRATCH") keys);
     }
 
 -- A storage pool by its name.
@@ -72,7 +75,7 @@ abbrev pub migration : List Given → List Given → Migration
 migration places keys =
     record {
       pool = name_of 30 (text_at 0 places);
-      low = number_of 100 (text_at 0 keys);
+      low = number_of 100 (given_for (Pool MigratePool) (codes "LOWMIG") keys);
     }
 
 -- RECLAIM STGPOOL: from this percentage on, or from the pool's RECLAIM.
@@ -80,7 +83,7 @@ abbrev pub reclamation : List Given → List Given → Reclamation
 reclamation places keys =
     record {
       pool = name_of 30 (text_at 0 places);
-      threshold = number_of 100 (text_at 0 keys);
+      threshold = number_of 100 (given_for (Pool ReclaimPool) (codes "THRESHOLD") keys);
     }
 
 -- BACKUP STGPOOL: from a primary pool to a copy pool.

@@ -1,13 +1,22 @@
--- The rows of the table, as the code has them and as the definition of the language reads them.
-use Rattle.std.specs.Prelude.{ℕ, Bool, false, ◌==◌, List, [], ◌∷◌, map, length, if◌then◌else◌}
+-- The table of the commands: the first words, and the rows that begin with each.
+use Rattle.std.specs.Prelude.{ℕ, Bool, true, false, ◌==◌, List, [], ◌∷◌, map, length, codes}
 use Rattle.std.specs.Borrow.{Bor}
 use Rattle.command_words.specs.declared.value.Kind.{Kind}
 use Rattle.command_words.specs.declared.row.Need.{Need}
 use Rattle.command_words.specs.Rows.{Place, Slot, place_view, slot_view}
 use Rattle.admin_words.specs.declared.table.Form.{Form}
+use Rattle.admin_words.specs.declared.table.Form.TheVariants as forms
+use Rattle.admin_words.specs.declared.table.PolicyForm.TheVariants as policies
+use Rattle.admin_words.specs.declared.table.ClassForm.TheVariants as classes
+use Rattle.admin_words.specs.declared.table.NodeForm.TheVariants as nodes
+use Rattle.admin_words.specs.declared.table.PoolForm.TheVariants as pools
+use Rattle.admin_words.specs.declared.table.VolumeForm.TheVariants as volumes
+use Rattle.admin_words.specs.declared.table.FileForm.TheVariants as files
+use Rattle.admin_words.specs.declared.table.DatabaseForm.TheVariants as databases
+use Rattle.admin_words.specs.declared.table.BlockForm.TheVariants as blocks
 use Rattle.admin_words.specs.declared.table.FirstWord.{FirstWord}
 use Rattle.admin_words.specs.declared.table.FirstWord.TheVariants.{Activate, And, Assign, Audit, Backup, Checkpoint, Day, Define, Delete, Dsmc, End, Erase, Expire, Get, Migrate, Move, Parallel, Put, Query, Reclaim, Register, Remove, Restore, Reuse, Update, Validate, Write}
-use Rattle.admin_words.specs.declared.table.TheConstants.{MAIN, BLOCK, ACTIVATE_NOUNS, AND_NOUNS, ASSIGN_NOUNS, AUDIT_NOUNS, BACKUP_NOUNS, CHECKPOINT_NOUNS, DAY_NOUNS, DEFINE_NOUNS, DELETE_NOUNS, DSMC_NOUNS, END_NOUNS, ERASE_NOUNS, EXPIRE_NOUNS, GET_NOUNS, MIGRATE_NOUNS, MOVE_NOUNS, PARALLEL_NOUNS, PUT_NOUNS, QUERY_NOUNS, RECLAIM_NOUNS, REGISTER_NOUNS, REMOVE_NOUNS, RESTORE_NOUNS, REUSE_NOUNS, UPDATE_NOUNS, VALIDATE_NOUNS, WRITE_NOUNS}
+use Rattle.admin_words.specs.Grammar.{shape}
 
 -- a row of the table: the second word, or an empty text where the command has none; which command it is; its places and its keywords
 pub record Row : Type 0 where
@@ -20,61 +29,155 @@ pub record Row : Type 0 where
 abbrev pub noun_view : Bor (List ℕ) × Form × Bor (List (Kind × Bor (List (Bor (List ℕ))) × Bool)) × Bor (List (Bor (List ℕ) × Kind × Bor (List (Bor (List ℕ))) × Need)) → Row
 noun_view n = record { word = n.0.now; form = n.1; places = map place_view n.2.now; slots = map slot_view n.3.now }
 
--- the same of the table's constants
-abbrev pub place_row : Kind × record { now : List (record { now : List ℕ }) } × Bool → Place
-place_row p = record { kind = p.0; words = map (λ w. w.now) p.1.now; required = p.2 }
-
-abbrev pub slot_row : record { now : List ℕ } × Kind × record { now : List (record { now : List ℕ }) } × Need → Slot
-slot_row s = record { key = s.0.now; kind = s.1; words = map (λ w. w.now) s.2.now; need = s.3 }
-
-abbrev pub noun_row : record { now : List ℕ } × Form × record { now : List (Kind × record { now : List (record { now : List ℕ }) } × Bool) } × record { now : List (record { now : List ℕ } × Kind × record { now : List (record { now : List ℕ }) } × Need) } → Row
-noun_row n = record { word = n.0.now; form = n.1; places = map place_row n.2.now; slots = map slot_row n.3.now }
+-- the row of a command that has this second word
+abbrev pub row : List ℕ → Form → Row
+row word form = record { word = word; form = form; places = (shape form).0; slots = (shape form).1 }
 
 -- the rows that begin with a first word
 unfoldable pub rows_of : FirstWord → List Row
-rows_of Activate = map noun_row ACTIVATE_NOUNS.now
-rows_of And = map noun_row AND_NOUNS.now
-rows_of Assign = map noun_row ASSIGN_NOUNS.now
-rows_of Audit = map noun_row AUDIT_NOUNS.now
-rows_of Backup = map noun_row BACKUP_NOUNS.now
-rows_of Checkpoint = map noun_row CHECKPOINT_NOUNS.now
-rows_of Day = map noun_row DAY_NOUNS.now
-rows_of Define = map noun_row DEFINE_NOUNS.now
-rows_of Delete = map noun_row DELETE_NOUNS.now
-rows_of Dsmc = map noun_row DSMC_NOUNS.now
-rows_of End = map noun_row END_NOUNS.now
-rows_of Erase = map noun_row ERASE_NOUNS.now
-rows_of Expire = map noun_row EXPIRE_NOUNS.now
-rows_of Get = map noun_row GET_NOUNS.now
-rows_of Migrate = map noun_row MIGRATE_NOUNS.now
-rows_of Move = map noun_row MOVE_NOUNS.now
-rows_of Parallel = map noun_row PARALLEL_NOUNS.now
-rows_of Put = map noun_row PUT_NOUNS.now
-rows_of Query = map noun_row QUERY_NOUNS.now
-rows_of Reclaim = map noun_row RECLAIM_NOUNS.now
-rows_of Register = map noun_row REGISTER_NOUNS.now
-rows_of Remove = map noun_row REMOVE_NOUNS.now
-rows_of Restore = map noun_row RESTORE_NOUNS.now
-rows_of Reuse = map noun_row REUSE_NOUNS.now
-rows_of Update = map noun_row UPDATE_NOUNS.now
-rows_of Validate = map noun_row VALIDATE_NOUNS.now
-rows_of Write = map noun_row WRITE_NOUNS.now
+rows_of Activate = row (codes "POLICYSET") (forms.Policy policies.ActivateSet) ∷ []
+rows_of And = row [] (forms.Block blocks.And) ∷ []
+rows_of Assign = row (codes "DEFMGMTCLASS") (forms.Class classes.AssignClass) ∷ []
+rows_of Audit = row (codes "VOLUME") (forms.Volume volumes.AuditVolume) ∷ []
+rows_of Backup =
+    row (codes "DB") (forms.Database databases.BackupDatabase)
+    ∷ row (codes "STGPOOL") (forms.Pool pools.BackupPool)
+    ∷ []
+rows_of Checkpoint = row [] (forms.Database databases.Checkpoint) ∷ []
+rows_of Day = row [] (forms.Database databases.Day) ∷ []
+rows_of Define =
+    row (codes "COPYGROUP") (forms.Class classes.DefineGroup)
+    ∷ row (codes "DEVCLASS") (forms.Pool pools.DefineDevClass)
+    ∷ row (codes "DOMAIN") (forms.Policy policies.DefineDomain)
+    ∷ row (codes "MGMTCLASS") (forms.Class classes.DefineClass)
+    ∷ row (codes "POLICYSET") (forms.Policy policies.DefineSet)
+    ∷ row (codes "STGPOOL") (forms.Pool pools.DefinePool)
+    ∷ row (codes "VOLUME") (forms.Volume volumes.DefineVolume)
+    ∷ []
+rows_of Delete =
+    row (codes "COPYGROUP") (forms.Class classes.DeleteGroup)
+    ∷ row (codes "DEVCLASS") (forms.Pool pools.DeleteDevClass)
+    ∷ row (codes "DOMAIN") (forms.Policy policies.DeleteDomain)
+    ∷ row (codes "FILESPACE") (forms.Node nodes.DeleteFilespace)
+    ∷ row (codes "MGMTCLASS") (forms.Class classes.DeleteClass)
+    ∷ row (codes "POLICYSET") (forms.Policy policies.DeleteSet)
+    ∷ row (codes "STGPOOL") (forms.Pool pools.DeletePool)
+    ∷ row (codes "VOLHISTORY") (forms.Database databases.DeleteHistory)
+    ∷ row (codes "VOLUME") (forms.Volume volumes.DeleteVolume)
+    ∷ []
+rows_of Dsmc =
+    row (codes "INCREMENTAL") (forms.File files.Incremental)
+    ∷ row (codes "RESTORE") (forms.File files.RestoreFiles)
+    ∷ []
+rows_of End = row [] (forms.Block blocks.End) ∷ []
+rows_of Erase = row [] (forms.File files.Erase) ∷ []
+rows_of Expire = row (codes "INVENTORY") (forms.Database databases.ExpireInventory) ∷ []
+rows_of Get = row [] (forms.File files.Get) ∷ []
+rows_of Migrate =
+    row (codes "ALL") (forms.Pool pools.MigrateAll)
+    ∷ row (codes "STGPOOL") (forms.Pool pools.MigratePool)
+    ∷ []
+rows_of Move = row (codes "DATA") (forms.Volume volumes.MoveData) ∷ []
+rows_of Parallel = row [] (forms.Block blocks.Parallel) ∷ []
+rows_of Put = row [] (forms.File files.Put) ∷ []
+rows_of Query =
+    row (codes "BACKUP") (forms.Node nodes.QueryBackup)
+    ∷ row (codes "CONTENT") (forms.Volume volumes.QueryContent)
+    ∷ row (codes "COPYGROUP") (forms.Class classes.QueryGroup)
+    ∷ row (codes "DEVCLASS") (forms.Pool pools.QueryDevClass)
+    ∷ row (codes "DOMAIN") (forms.Policy policies.QueryDomain)
+    ∷ row (codes "FILESPACE") (forms.Node nodes.QueryFilespace)
+    ∷ row (codes "MGMTCLASS") (forms.Class classes.QueryClass)
+    ∷ row (codes "NODE") (forms.Node nodes.QueryNode)
+    ∷ row (codes "POLICYSET") (forms.Policy policies.QuerySet)
+    ∷ row (codes "STGPOOL") (forms.Pool pools.QueryPool)
+    ∷ row (codes "VOLHISTORY") (forms.Database databases.QueryHistory)
+    ∷ row (codes "VOLUME") (forms.Volume volumes.QueryVolume)
+    ∷ []
+rows_of Reclaim = row (codes "STGPOOL") (forms.Pool pools.ReclaimPool) ∷ []
+rows_of Register = row (codes "NODE") (forms.Node nodes.RegisterNode) ∷ []
+rows_of Remove = row (codes "NODE") (forms.Node nodes.RemoveNode) ∷ []
+rows_of Restore =
+    row (codes "STGPOOL") (forms.Pool pools.RestorePool)
+    ∷ row (codes "VOLUME") (forms.Volume volumes.RestoreVolume)
+    ∷ []
+rows_of Reuse = row (codes "VOLUMES") (forms.Volume volumes.ReuseVolumes) ∷ []
+rows_of Update =
+    row (codes "COPYGROUP") (forms.Class classes.UpdateGroup)
+    ∷ row (codes "DOMAIN") (forms.Policy policies.UpdateDomain)
+    ∷ row (codes "STGPOOL") (forms.Pool pools.UpdatePool)
+    ∷ row (codes "VOLUME") (forms.Volume volumes.UpdateVolume)
+    ∷ []
+rows_of Validate = row (codes "POLICYSET") (forms.Policy policies.ValidateSet) ∷ []
+rows_of Write = row [] (forms.File files.Write) ∷ []
 
 -- a first word, and the rows that begin with it
 pub record Verb : Type 0 where
   pub word : List ℕ
   pub rows : List Row
 
--- a first word as the code has it, and as the table's constants have it
+-- a first word as the code has it
 abbrev pub verb_view : Bor (List ℕ) × FirstWord → Verb
 verb_view v = record { word = v.0.now; rows = rows_of v.1 }
 
-abbrev pub verb_row : record { now : List ℕ } × FirstWord → Verb
-verb_row v = record { word = v.0.now; rows = rows_of v.1 }
+abbrev pub verb : List ℕ → FirstWord → Verb
+verb word first = record { word = word; rows = rows_of first }
 
 -- the table: the commands that are possible in a block, and those outside one
 unfoldable pub verbs : Bool → List Verb
-verbs in_block = if in_block then map verb_row BLOCK.now else map verb_row MAIN.now
+verbs true =
+    verb (codes "ACTIVATE") Activate
+    ∷ verb (codes "AND") And
+    ∷ verb (codes "ASSIGN") Assign
+    ∷ verb (codes "AUDIT") Audit
+    ∷ verb (codes "BACKUP") Backup
+    ∷ verb (codes "DEFINE") Define
+    ∷ verb (codes "DELETE") Delete
+    ∷ verb (codes "DSMC") Dsmc
+    ∷ verb (codes "END") End
+    ∷ verb (codes "ERASE") Erase
+    ∷ verb (codes "EXPIRE") Expire
+    ∷ verb (codes "GET") Get
+    ∷ verb (codes "MIGRATE") Migrate
+    ∷ verb (codes "MOVE") Move
+    ∷ verb (codes "PUT") Put
+    ∷ verb (codes "QUERY") Query
+    ∷ verb (codes "RECLAIM") Reclaim
+    ∷ verb (codes "REGISTER") Register
+    ∷ verb (codes "REMOVE") Remove
+    ∷ verb (codes "RESTORE") Restore
+    ∷ verb (codes "REUSE") Reuse
+    ∷ verb (codes "UPDATE") Update
+    ∷ verb (codes "VALIDATE") Validate
+    ∷ verb (codes "WRITE") Write
+    ∷ []
+verbs false =
+    verb (codes "ACTIVATE") Activate
+    ∷ verb (codes "ASSIGN") Assign
+    ∷ verb (codes "AUDIT") Audit
+    ∷ verb (codes "BACKUP") Backup
+    ∷ verb (codes "CHECKPOINT") Checkpoint
+    ∷ verb (codes "DAY") Day
+    ∷ verb (codes "DEFINE") Define
+    ∷ verb (codes "DELETE") Delete
+    ∷ verb (codes "DSMC") Dsmc
+    ∷ verb (codes "ERASE") Erase
+    ∷ verb (codes "EXPIRE") Expire
+    ∷ verb (codes "GET") Get
+    ∷ verb (codes "MIGRATE") Migrate
+    ∷ verb (codes "MOVE") Move
+    ∷ verb (codes "PARALLEL") Parallel
+    ∷ verb (codes "PUT") Put
+    ∷ verb (codes "QUERY") Query
+    ∷ verb (codes "RECLAIM") Reclaim
+    ∷ verb (codes "REGISTER") Register
+    ∷ verb (codes "REMOVE") Remove
+    ∷ verb (codes "RESTORE") Restore
+    ∷ verb (codes "REUSE") Reuse
+    ∷ verb (codes "UPDATE") Update
+    ∷ verb (codes "VALIDATE") Validate
+    ∷ verb (codes "WRITE") Write
+    ∷ []
 
 -- the command has no second word
 abbrev pub is_bare : List Row → Bool

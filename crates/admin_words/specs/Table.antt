@@ -24,6 +24,7 @@ use Rattle.admin_words.specs.declared.table.FileForm.{FileForm}
 use Rattle.admin_words.specs.declared.table.FileForm.TheVariants.{Erase, Get, Incremental, Put, RestoreFiles, Write}
 use Rattle.admin_words.specs.declared.table.DatabaseForm.{DatabaseForm}
 use Rattle.admin_words.specs.declared.table.DatabaseForm.TheVariants.{Day}
+use Rattle.admin_words.specs.Grammar.{number, day}
 use Rattle.admin_words.specs.Rows.{Row, Verb, is_bare}
 
 -- a word of one or more letters, all in upper case
@@ -85,12 +86,6 @@ abbrev pub without : List (List ℕ) → List Verb → List Verb
 without words verbs = filter (λ v. not (is_among words v)) verbs
 
 -- the places that a command can't do without, from the first on, by the kinds as which its reader takes them
-abbrev pub number : Kind
-number = Number 0 9999999999
-
-abbrev pub day : Kind
-day = Number 0 2147483647
-
 abbrev pub policy_places : PolicyForm → List Kind
 policy_places ActivateSet = Name ∷ Name ∷ []
 policy_places DefineDomain = Name ∷ []

@@ -1,5 +1,5 @@
 -- Commands of volumes.
-use Rattle.std.specs.Prelude.{List, unwrap_or}
+use Rattle.std.specs.Prelude.{List, codes, unwrap_or}
 use Rattle.admin_words.specs.declared.volumes.NamedVolume.{NamedVolume}
 use Rattle.admin_words.specs.declared.volumes.VolumeDefinition.{VolumeDefinition}
 use Rattle.admin_words.specs.declared.volumes.VolumeUpdate.{VolumeUpdate}
@@ -8,6 +8,9 @@ use Rattle.admin_words.specs.declared.volumes.DataMove.{DataMove}
 use Rattle.admin_words.specs.declared.volumes.VolumeAudit.{VolumeAudit}
 use Rattle.admin_words.specs.declared.volumes.VolumeQuery.{VolumeQuery}
 use Rattle.kinds.specs.declared.pool.Access.TheVariants.{ReadWrite}
+use Rattle.admin_words.specs.declared.table.Form.TheVariants.{Volume}
+use Rattle.admin_words.specs.declared.table.VolumeForm.TheVariants.{AuditVolume, DefineVolume, DeleteVolume, MoveData, QueryVolume, UpdateVolume}
+use Rattle.admin_words.specs.Grammar.{given_for}
 use Rattle.command_words.specs.Rows.{Given, text_at}
 use Rattle.command_words.specs.Fields.{name_if, name_of, number_of}
 use Rattle.admin_words.specs.Chosen.{is_yes, access_of}
@@ -25,7 +28,7 @@ volume_definition places keys =
     record {
       pool = name_of 30 (text_at 0 places);
       volume = name_of 30 (text_at 1 places);
-      format_size = number_of 65536 (text_at 0 keys);
+      format_size = number_of 65536 (given_for (Volume DefineVolume) (codes "FORMATSIZE") keys);
     }
 
 -- UPDATE VOLUME.
@@ -33,7 +36,7 @@ abbrev pub volume_update : List Given → List Given → VolumeUpdate
 volume_update places keys =
     record {
       volume = name_of 30 (text_at 0 places);
-      access = unwrap_or (access_of (text_at 0 keys)) ReadWrite;
+      access = unwrap_or (access_of (given_for (Volume UpdateVolume) (codes "ACCESS") keys)) ReadWrite;
     }
 
 -- DELETE VOLUME, with what it holds or only where it is empty.
@@ -41,7 +44,7 @@ abbrev pub volume_deletion : List Given → List Given → VolumeDeletion
 volume_deletion places keys =
     record {
       volume = name_of 30 (text_at 0 places);
-      discard_data = is_yes (text_at 0 keys);
+      discard_data = is_yes (given_for (Volume DeleteVolume) (codes "DISCARDDATA") keys);
     }
 
 -- MOVE DATA: to this pool, or within the volume's own.
@@ -49,7 +52,7 @@ abbrev pub data_move : List Given → List Given → DataMove
 data_move places keys =
     record {
       volume = name_of 30 (text_at 0 places);
-      pool = name_if 30 (text_at 0 keys);
+      pool = name_if 30 (given_for (Volume MoveData) (codes "STGPOOL") keys);
     }
 
 -- AUDIT VOLUME, which also repairs where that is asked.
@@ -57,7 +60,7 @@ abbrev pub volume_audit : List Given → List Given → VolumeAudit
 volume_audit places keys =
     record {
       volume = name_of 30 (text_at 0 places);
-      fix = is_yes (text_at 0 keys);
+      fix = is_yes (given_for (Volume AuditVolume) (codes "FIX") keys);
     }
 
 -- QUERY VOLUME: what meets all that is given.
@@ -65,5 +68,5 @@ abbrev pub volume_query : List Given → List Given → VolumeQuery
 volume_query places keys =
     record {
       volume = name_if 30 (text_at 0 places);
-      pool = name_if 30 (text_at 0 keys);
+      pool = name_if 30 (given_for (Volume QueryVolume) (codes "STGPOOL") keys);
     }

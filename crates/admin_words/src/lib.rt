@@ -14,4 +14,4 @@ pub mod volumes;
 pub mod words;
 
 pub use command::Command;
-pub use line::{is_comment, read_line};
+pub use line::read_line;

@@ -1,16 +1,15 @@
 ghost use Rattle.std.specs.Prelude.{◌≡◌, ◌<◌, ◌≤◌, ◌+◌, ◌-◌, ◌^◌, ℕ, List, map, length, drop, IfOk, OnOk};
-ghost use Rattle.std.specs.List.{list_all};
 ghost use Rattle.kinds.specs.Answers.{Answers};
 ghost use Rattle.command_words.specs.Reading.{Says, Reads};
-ghost use Rattle.command_words.specs.Words.{word_view, is_blank, words};
+ghost use Rattle.command_words.specs.Words.{word_view, words};
 ghost use Rattle.admin_words.specs.Rows.{noun_view, verb_view, verbs, is_bare};
 ghost use Rattle.admin_words.specs.Legible.{IsRead, LineIsRead};
 ghost use Rattle.admin_words.specs.Spelling.{accepted, SameWords, single_spaced};
-ghost use Rattle.admin_words.specs.Line.{row_named, row_among, row_of, row_command, command, is_marked, is_comment};
+ghost use Rattle.admin_words.specs.Line.{row_named, row_among, row_of, row_command, command};
 
 use crate::command::{Command, command_of};
 use crate::table::{Noun, Verb, nouns_of, verbs_of};
-use command_words::{Word, choose, is_blank, row_values, torn_at, words_of};
+use command_words::{Word, choose, row_values, torn_at, words_of};
 use kinds::Refusal;
 use std::alloc::Global;
 
@@ -103,23 +102,4 @@ pub fn read_line(alloc: Global, line: &[u8], in_block: bool) -> Result<Command, 
         Err(refusal) => Err(refusal),
         Ok((noun, used)) => row_command(alloc, end, noun, &words[used..]),
     }
-}
-
-fn are_blanks(line: &[u8]) -> bool
-    ensures { result ≡ list_all is_blank line.now }
-{
-    line.iter().all(|b| is_blank(*b))
-}
-
-fn is_marked(line: &[u8]) -> bool
-    ensures { result ≡ is_marked line.now }
-{
-    line.starts_with(b"/*") && line.ends_with(b"*/")
-}
-
-/// Whether a line is a comment: one of spaces and tabs alone, or one that begins with `/*` and ends with `*/`.
-pub fn is_comment(line: &[u8]) -> bool
-    ensures { result ≡ is_comment line.now }
-{
-    are_blanks(line) || is_marked(line)
 }

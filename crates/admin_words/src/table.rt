@@ -124,7 +124,7 @@ pub enum Form {
 pub type Noun = (&'static str, Form, &'static [Place], &'static [Slot]);
 
 /// The first word of a command.
-#[derive(Clone, Copy, Debug, PartialEq, Eq)]
+#[derive(Clone, Copy)]
 pub enum FirstWord {
     Activate,
     And,
@@ -880,16 +880,10 @@ pub fn verbs_of(in_block: bool) -> &'static [Verb]
     if in_block { BLOCK } else { MAIN }
 }
 
-/// The rows that begin with a first word.
-#[tactic(auto, using(crate::proofs::Laws::sound_rows, crate::proofs::Laws::legible_rows), unfolding(crate::specs::Rows::rows_of))]
-pub fn nouns_of(first: FirstWord) -> &'static [Noun]
-    ensures value { map noun_view result.now ≡ rows_of first }
-
-    // The second words, the keywords and the words that are values are in upper case and distinct, and each is meant by itself.
-    ensures sound { IsTrue (are_sound_rows (rows_of first)) }
-
-    // The places that a command's reader takes as names, paths and numbers must be there, and hold these.
-    ensures legible { IsTrue (are_legible (rows_of first)) }
+/// The rows that begin with a first word, as the table has them.
+#[tactic(auto, unfolding(crate::specs::Rows::rows_of))]
+fn rows_behind(first: FirstWord) -> &'static [Noun]
+    ensures { map noun_view result.now ≡ rows_of first }
 {
     match first {
         FirstWord::Activate => ACTIVATE_NOUNS,
@@ -920,4 +914,19 @@ pub fn nouns_of(first: FirstWord) -> &'static [Noun]
         FirstWord::Validate => VALIDATE_NOUNS,
         FirstWord::Write => WRITE_NOUNS,
     }
+}
+
+/// The rows that begin with a first word.
+#[tactic(auto, using(crate::proofs::Laws::sound_rows, crate::proofs::Laws::legible_rows))]
+pub fn nouns_of(first: FirstWord) -> &'static [Noun]
+    // They are those of the grammar: words, places and keywords, with the kinds and the ranges of their values.
+    ensures value { map noun_view result.now ≡ rows_of first }
+
+    // The second words, the keywords and the words that are values are in upper case and distinct, and each is meant by itself.
+    ensures sound { IsTrue (are_sound_rows (rows_of first)) }
+
+    // The places that a command's reader takes as names, paths and numbers must be there, and hold these.
+    ensures legible { IsTrue (are_legible (rows_of first)) }
+{
+    rows_behind(first)
 }

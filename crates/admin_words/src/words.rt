@@ -10,7 +10,7 @@ use kinds::{Access, Capacity, Day, Name, PoolKind, Refusal, Still};
 use std::alloc::Global;
 
 /// Which files a copy group has sent: those that changed, or all.
-#[derive(Clone, Copy, Debug, PartialEq, Eq)]
+#[derive(Clone, Copy, Debug)]
 pub enum Mode {
     Modified,
     Absolute,

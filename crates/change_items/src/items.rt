@@ -60,7 +60,7 @@ impl Fitting for ScratchVolume {
 }
 
 /// A version that a client sent.
-#[derive(Debug, Drop)]
+#[derive(Drop)]
 pub struct NewVersion {
     /// The path of the client file.
     pub path: Path,
@@ -136,7 +136,7 @@ impl Fitting for NewVersion {
 }
 
 /// A path that is bound to another management class.
-#[derive(Debug, Drop)]
+#[derive(Drop)]
 pub struct Rebinding {
     /// The path of the client file.
     pub path: Path,
@@ -173,7 +173,7 @@ impl Fitting for Rebinding {
 }
 
 /// A version, by its path and its object number.
-#[derive(Debug, Drop)]
+#[derive(Drop)]
 pub struct NamedVersion {
     /// The path of the client file.
     pub path: Path,
@@ -210,7 +210,7 @@ impl Fitting for NamedVersion {
 }
 
 /// A copy that moves.
-#[derive(Debug, Drop)]
+#[derive(Drop)]
 pub struct MovedCopy {
     /// Its object number.
     pub object: u64,
@@ -267,7 +267,7 @@ impl Fitting for MovedCopy {
 }
 
 /// A copy that is made beside others of its object.
-#[derive(Debug, Drop)]
+#[derive(Drop)]
 pub struct NewCopy {
     /// Its object number.
     pub object: u64,
@@ -312,7 +312,7 @@ impl Fitting for NewCopy {
 }
 
 /// A copy that goes, while another copy of its object stays.
-#[derive(Debug, Drop)]
+#[derive(Drop)]
 pub struct DroppedCopy {
     /// Its object number.
     pub object: u64,
@@ -364,7 +364,7 @@ impl Fitting for DroppedCopy {
 }
 
 /// A version that goes with its copies.
-#[derive(Debug, Drop)]
+#[derive(Drop)]
 pub struct DiscardedVersion {
     /// Its object number.
     pub object: u64,

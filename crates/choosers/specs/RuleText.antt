@@ -1,19 +1,21 @@
 -- The text of a rule file: its lines, and the rule of each.
-use Rattle.std.specs.Prelude.{◌≡◌, ◌⊎◌, ℕ, ◌+◌, ◌-◌, Bool, ◌==◌, ◌&&◌, ◌||◌, nat_le, nat_eq, List, [], ◌∷◌, ◌++◌, length, take, codes, slice_index, if◌then◌else◌, Option, Some, None, Result, Ok, Err}
-use Rattle.std.specs.List.{list_all, starts_with, ends_with}
+use Rattle.std.specs.Prelude.{◌≡◌, ◌⊎◌, ℕ, ◌+◌, ◌==◌, List, [], ◌∷◌, ◌++◌, length, codes, if◌then◌else◌, Option, Some, None, Result, Ok, Err}
+use Rattle.std.specs.List.{slice_split}
 use Rattle.std.specs.Str.{str_to_ascii_uppercase}
+use Rattle.std.specs.Str.Lines.{strip_carriage_return}
 use Rattle.kinds.specs.declared.refusal.Refusal.{Refusal}
 use Rattle.kinds.specs.declared.refusal.Refusal.TheVariants.{Syntax, UnknownWord, BadValue, Memory}
 use Rattle.kinds.specs.Names.{is_name}
-use Rattle.path_patterns.specs.Patterns.{is_pattern, glued}
+use Rattle.path_patterns.specs.Patterns.{is_pattern}
 use Rattle.choosers.specs.declared.rule.Rule.{Rule}
 use Rattle.choosers.specs.declared.rule.Rule.TheVariants.{Include, Exclude}
 use Rattle.choosers.specs.declared.rule_text.Verb.{Verb}
 use Rattle.choosers.specs.declared.rule_text.Verb.TheVariants.{Including, Excluding}
 use Rattle.command_words.specs.Reading.{◌>>=◌}
 use Rattle.command_words.specs.Choice.{begins}
+use Rattle.command_words.specs.Comments.{is_comment}
 use Rattle.command_words.specs.Values.{unquoted}
-use Rattle.command_words.specs.Words.{Word, is_blank, words_behind, torn_at}
+use Rattle.command_words.specs.Words.{Word, words_behind, torn_at}
 
 -- which of the two words a rule begins with
 abbrev pub verb_at : Word → Result Verb Refusal
@@ -66,42 +68,51 @@ sound_rule None end ws = rule_of end ws
 unfoldable pub rule_at : ℕ → List ℕ → Result Rule Refusal
 rule_at first line = sound_rule (torn_at (words_behind first line)) (first + length line + 1) (words_behind first line)
 
--- there are only spaces and tabs in the line
-abbrev pub is_blank_line : List ℕ → Bool
-is_blank_line line = list_all is_blank line
-
--- a line of spaces and tabs, or one that begins with /* and ends with */
-abbrev pub is_comment : List ℕ → Bool
-is_comment line =
-    is_blank_line line || nat_le 3 (length line) && starts_with nat_eq line (codes "/*") && ends_with nat_eq line (codes "*/")
-
--- a line without the carriage return at its end
-abbrev pub without_return : List ℕ → List ℕ
-without_return line = if slice_index line (length line - 1) == 13 then take (length line - 1) line else line
-
 -- the rules that a line gives: none where it is a comment
 abbrev pub rules_at : ℕ → List ℕ → Result (List Rule) Refusal
 rules_at first line = if is_comment line then Ok [] else (rule_at first line >>= λ rule. Ok (rule ∷ []))
 
--- the lines of a text: what stands before, between and behind its line feeds
-unfoldable pub lines : List ℕ → List (List ℕ)
-lines [] = [] ∷ []
-lines (b ∷ bytes) = if b == 10 then [] ∷ lines bytes else glued b (lines bytes)
+-- a line of a rule file: how many bytes of the file stand before it, and the line
+abbrev pub PlacedLine : Type 0
+PlacedLine = ℕ × List ℕ
 
--- the lines that are left behind one: none at the end, else those behind its line feed
-abbrev pub lines_left : List ℕ → List (List ℕ)
-lines_left [] = []
-lines_left (b ∷ bytes) = lines bytes
+-- the parts of a text between its line feeds
+abbrev pub parts : List ℕ → List (List ℕ)
+parts text = slice_split (λ b. b == 10) text
 
--- the rules of lines that begin behind `first` bytes of their file, or the refusal at the first word that offends
-unfoldable pub rules_from : ℕ → List (List ℕ) → Result (List Rule) Refusal
-rules_from first [] = Ok []
-rules_from first (line ∷ others) =
-    rules_at first (without_return line) >>= λ here. rules_from (first + length line + 1) others >>= λ behind. Ok (here ++ behind)
+-- the parts that are left behind one: none at the end, else those behind its line feed
+abbrev pub parts_left : List ℕ → List (List ℕ)
+parts_left [] = []
+parts_left (b ∷ bytes) = parts bytes
+
+-- a part as a line: only one before a line feed loses its carriage return
+abbrev pub line_of : List ℕ → List ℕ → List ℕ
+line_of part [] = part
+line_of part (b ∷ bytes) = strip_carriage_return part
+
+-- the last part as a line, where it isn't empty
+abbrev pub last_placed : ℕ → List ℕ → List PlacedLine
+last_placed first [] = []
+last_placed first (b ∷ part) = (first, b ∷ part) ∷ []
+
+-- the lines in parts, the first of which begins behind `first` bytes
+unfoldable pub placed_from : ℕ → List (List ℕ) → List PlacedLine
+placed_from first [] = []
+placed_from first (part ∷ []) = last_placed first part
+placed_from first (part ∷ next ∷ more) = (first, strip_carriage_return part) ∷ placed_from (first + length part + 1) (next ∷ more)
+
+-- the lines of a rule file with their places
+abbrev pub placed_lines : List ℕ → List PlacedLine
+placed_lines text = placed_from 0 (parts text)
+
+-- the rules of lines, or the refusal at the first word that offends
+unfoldable pub rules_from : List PlacedLine → Result (List Rule) Refusal
+rules_from [] = Ok []
+rules_from (line ∷ others) = rules_at line.0 line.1 >>= λ here. rules_from others >>= λ behind. Ok (here ++ behind)
 
 -- the rules of a rule file
 abbrev pub rules_of : List ℕ → Result (List Rule) Refusal
-rules_of text = rules_from 0 (lines text)
+rules_of text = rules_from (placed_lines text)
 
 -- with other rules in front
 abbrev pub behind : List Rule → Result (List Rule) Refusal → Result (List Rule) Refusal

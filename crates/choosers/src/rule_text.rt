@@ -1,13 +1,14 @@
 //! The text of a rule file.
 
 ghost use Rattle.std.specs.Prelude.{◌≡◌, ◌+◌, ◌-◌, ◌<◌, ◌≤◌, ◌^◌, ◌≢◌, ℕ, length, map, slice_index, ◌∷◌};
+ghost use Rattle.std.specs.Str.Lines.{lines, strip_carriage_return};
 ghost use Rattle.kinds.specs.Answers.{Answers};
 ghost use Rattle.command_words.specs.Reading.{Reads};
 ghost use Rattle.command_words.specs.Words.{word_view};
-ghost use Rattle.choosers.specs.RuleText.{Adds, verb_at, pattern_at, class_at, class_of, include_of, exclude_of, rule_behind, rule_of, rule_at, is_blank_line, is_comment, without_return, rules_at, lines, lines_left, rules_of};
+ghost use Rattle.choosers.specs.RuleText.{Adds, verb_at, pattern_at, class_at, class_of, include_of, exclude_of, rule_behind, rule_of, rule_at, rules_at, parts, parts_left, line_of, placed_lines, rules_of};
 
 use crate::rule::Rule;
-use command_words::{Word, begins, is_blank, torn_at, unquoted, words_behind};
+use command_words::{Word, begins, is_comment, torn_at, unquoted, words_behind};
 use kinds::{Name, Refusal};
 use path_patterns::Pattern;
 use std::alloc::Global;
@@ -129,26 +130,27 @@ fn rule_at(alloc: Global, first: u32, line: &[u8]) -> Result<Rule, Refusal>
     }
 }
 
-fn is_blank_line(line: &[u8]) -> bool
-    ensures { result ≡ is_blank_line line.now }
-{
-    line.iter().all(|b| is_blank(*b))
-}
-
-fn is_comment(line: &[u8]) -> bool
-    ensures { result ≡ is_comment line.now }
-{
-    is_blank_line(line) || line.len() >= 3 && line.starts_with(b"/*") && line.ends_with(b"*/")
-}
-
 /// The line without the carriage return at its end.
 fn without_return(line: &[u8]) -> &[u8]
-    ensures value { result.now ≡ without_return line.now }
+    ensures value { result.now ≡ strip_carriage_return line.now }
     ensures short { length result.now ≤ length line.now }
 {
     match line {
         [front @ .., b'\r'] => front,
         _ => line,
+    }
+}
+
+/// The line that a part of the text is, where this is left behind the part: only one before a line feed loses its carriage
+/// return.
+fn line_of<'a>(part: &'a [u8], left: &[u8]) -> &'a [u8]
+    ensures value { result.now ≡ line_of part.now left.now }
+    ensures short { length result.now ≤ length part.now }
+{
+    if left.is_empty() {
+        part
+    } else {
+        without_return(part)
     }
 }
 
@@ -183,9 +185,9 @@ fn line_len(text: &[u8]) -> usize
     text.len()
 }
 
-/// The first line, and what is left from its line feed on.
+/// What stands before the first line feed, and what is left from that on.
 fn split_line(text: &[u8]) -> (&[u8], &[u8])
-    ensures cut { lines text.now ≡ result.0.now ∷ lines_left result.1.now }
+    ensures cut { parts text.now ≡ result.0.now ∷ parts_left result.1.now }
     ensures len { length result.0.now + length result.1.now ≡ length text.now }
 {
     text.split_at(line_len(text))
@@ -197,23 +199,27 @@ fn split_line(text: &[u8]) -> (&[u8], &[u8])
 /// that don't end their word, for a word that is missing, whose place is behind its line's last byte, or that may not
 /// follow; `UnknownWord` for a first word that begins neither INCLUDE nor EXCLUDE; `BadValue` for a pattern that is none or
 /// a class that is no name.
+#[tactic(auto, using(crate::proofs::Lines::lines_placed))]
 pub fn read_rules(alloc: Global, bytes: &[u8]) -> Result<Vec<Rule>, Refusal>
     requires { length bytes.now < 2 ^ 32 - 1 }
-    ensures { Reads (λ v. v.items) result (rules_of bytes.now) }
+    ensures value { Reads (λ v. v.items) result (rules_of bytes.now) }
+
+    // The lines are those of a script: one ends at its LF or CR LF, and what stands behind the last LF is taken as it is.
+    ensures lines { map (λ l. l.1) (placed_lines bytes.now) ≡ lines bytes.now }
 {
     let mut rules = Vec::new(alloc);
     let mut rest = bytes;
     let mut first = 0u32;
     'lines: loop {
-        let (line, left) = split_line(rest);
-        match add_rule(alloc, &mut rules, first, without_return(line)) {
+        let (part, left) = split_line(rest);
+        match add_rule(alloc, &mut rules, first, line_of(part, left)) {
             Ok(()) => {}
             Err(e) => return Err(e),
         }
         match left.split_first() {
             None => return Ok(rules),
             Some((_, others)) => {
-                first += line.len() as u32 + 1;
+                first += part.len() as u32 + 1;
                 rest = others;
             }
         }

@@ -1,4 +1,5 @@
 pub mod Choice
+pub mod Comments
 pub mod Fields
 pub mod Reading
 pub mod Rows

@@ -7,11 +7,10 @@ use Rattle.kinds.specs.declared.refusal.Refusal.TheVariants.{Syntax}
 use Rattle.command_words.specs.declared.value.Kind.{Kind}
 use Rattle.command_words.specs.declared.row.Need.{Need}
 use Rattle.command_words.specs.declared.row.Need.TheVariants.{Required, OneSide, AnySide}
-use Rattle.command_words.specs.declared.words.TheConstants.{QUOTE, EQUALS}
 use Rattle.command_words.specs.Choice.{choose}
 use Rattle.command_words.specs.Reading.{◌>>=◌}
 use Rattle.command_words.specs.Values.{unquoted, valued}
-use Rattle.command_words.specs.Words.{Word}
+use Rattle.command_words.specs.Words.{Word, is_quote, is_equals}
 
 -- a place of a row, which a word from the left takes: the kind of its value, the words that it may be, and whether it must be there
 pub record Place : Type 0 where
@@ -48,7 +47,7 @@ text_at at (g ∷ gs) = if g.0 == at then Some g.1 else text_at at gs
 
 -- where the equals sign stands that makes a word a keyword and its value; a word in quotes is none
 abbrev pub equals_at : List ℕ → Option ℕ
-equals_at text = if slice_index text 0 == QUOTE then None else position_from (λ b. b == EQUALS) 0 text
+equals_at text = if is_quote (slice_index text 0) then None else position_from is_equals 0 text
 
 -- a word is taken for a place that must be there, and for any place where it is no keyword
 abbrev pub is_for_place : Place → List ℕ → Bool

@@ -8,13 +8,13 @@ use Rattle.kinds.specs.Names.{is_within, is_name}
 use Rattle.kinds.specs.Paths.{is_rooted, is_path}
 use Rattle.command_words.specs.declared.value.Kind.{Kind}
 use Rattle.command_words.specs.declared.value.Kind.TheVariants.{Name, NodeName, NameOrNone, Path, FilespaceName, Pattern, Number, Size, Limit, SizeLimit, Text, OneOf}
-use Rattle.command_words.specs.declared.words.TheConstants.{QUOTE}
 use Rattle.command_words.specs.Choice.{begins, choose}
 use Rattle.command_words.specs.Reading.{◌>>=◌}
+use Rattle.command_words.specs.Words.{is_quote}
 
 -- a value without the quotes that it stands in
 abbrev pub unquoted : List ℕ → List ℕ
-unquoted text = if nat_le 2 (length text) && slice_index text 0 == QUOTE then slice_range text 1 (length text - 1) else text
+unquoted text = if nat_le 2 (length text) && is_quote (slice_index text 0) then slice_range text 1 (length text - 1) else text
 
 -- the number that decimal digits write when they follow those of n
 abbrev pub decimal_after : ℕ → List ℕ → Option ℕ

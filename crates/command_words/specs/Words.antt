@@ -3,7 +3,6 @@ use Rattle.std.specs.Prelude.{ℕ, ◌+◌, ◌-◌, Bool, true, false, ◌==◌
 use Rattle.std.specs.Borrow.{Bor}
 use Rattle.command_words.specs.declared.words.Spot.{Spot}
 use Rattle.command_words.specs.declared.words.Spot.TheVariants.{Between, Plain, Equals, Bare, Quoted, Closed, Torn}
-use Rattle.command_words.specs.declared.words.TheConstants.{QUOTE, EQUALS, SPACE, TAB}
 
 -- a word of a line: the column of its first byte, counted from 1, or its place in a file; its bytes with their quotes; and
 -- whether the quotes are closed and end the word
@@ -16,16 +15,24 @@ pub record Word : Type 0 where
 abbrev pub word_view : ℕ × Bor (List ℕ) × Bool → Word
 word_view w = record { column = w.0; text = w.1.now; sound = w.2 }
 
--- words are separated by spaces and tabs
+-- words are separated by spaces and tabs, the bytes 32 and 9
 abbrev pub is_blank : ℕ → Bool
-is_blank b = b == SPACE || b == TAB
+is_blank b = b == 32 || b == 9
+
+-- a double quote, in which a value may stand
+abbrev pub is_quote : ℕ → Bool
+is_quote b = b == 34
+
+-- the sign between a keyword and its value
+abbrev pub is_equals : ℕ → Bool
+is_equals b = b == 61
 
 -- where a byte stands that is no blank, by where the byte before it stands outside quotes. Quotes count at a word's start and
 -- right behind its first equals sign alone
 abbrev pub spot_in_word : Spot → ℕ → Spot
-spot_in_word Between b = if b == QUOTE then Quoted else (if b == EQUALS then Equals else Plain)
-spot_in_word Plain b = if b == EQUALS then Equals else Plain
-spot_in_word Equals b = if b == QUOTE then Quoted else Bare
+spot_in_word Between b = if is_quote b then Quoted else (if is_equals b then Equals else Plain)
+spot_in_word Plain b = if is_equals b then Equals else Plain
+spot_in_word Equals b = if is_quote b then Quoted else Bare
 spot_in_word Bare b = Bare
 spot_in_word Quoted b = Quoted
 spot_in_word Closed b = Torn
@@ -33,7 +40,7 @@ spot_in_word Torn b = Torn
 
 -- where a byte stands, by where the byte before it stands
 abbrev pub spot_after : Spot → ℕ → Spot
-spot_after Quoted b = if b == QUOTE then Closed else Quoted
+spot_after Quoted b = if is_quote b then Closed else Quoted
 spot_after s b = if is_blank b then Between else spot_in_word s b
 
 -- no word stands there

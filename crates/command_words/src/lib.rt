@@ -3,6 +3,7 @@
 #![tactic(auto)]
 
 mod choice;
+mod comments;
 pub mod field;
 mod row;
 mod text;
@@ -10,6 +11,7 @@ mod value;
 mod words;
 
 pub use choice::{Titled, begins, choose};
+pub use comments::is_comment;
 pub use row::{Given, Need, Place, Slot, row_values, text_at};
 pub use text::Text;
 pub use value::{Kind, Words, decimal, is_no_limit, size, unquoted, valued};

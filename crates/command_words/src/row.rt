@@ -2,7 +2,7 @@ ghost use Rattle.std.specs.Prelude.{◌≡◌, ◌<◌, ◌≤◌, ◌==◌, len
 ghost use Rattle.std.specs.List.{position_from};
 ghost use Rattle.std.specs.Option.{option_copied};
 ghost use Rattle.command_words.specs.Reading.{Says, Reads};
-ghost use Rattle.command_words.specs.Words.{word_view};
+ghost use Rattle.command_words.specs.Words.{word_view, is_quote, is_equals};
 ghost use Rattle.command_words.specs.Rows.{place_view, slot_view, given_view, text_at, equals_at, is_for_place, place_taken, places_from, side_of, are_apart, are_opposed, settles, is_settled, is_needed, is_complete, slot_value, key_value, keyword, keywords_from, row_values};
 ghost use Rattle.command_words.specs.Fit.{PlacesFit, KeywordsFit, SidesApart};
 
@@ -46,13 +46,13 @@ pub fn text_at<'a>(given: &[Given<'a>], at: usize) -> Option<&'a [u8]>
 }
 
 fn is_quoted(text: &[u8]) -> bool
-    ensures { result ≡ (slice_index text.now 0 == QUOTE) }
+    ensures { result ≡ is_quote (slice_index text.now 0) }
 {
     text.first() == Some(&QUOTE)
 }
 
 fn first_equals(text: &[u8]) -> Option<usize>
-    ensures value { result ≡ position_from (λ b. b == EQUALS) 0 text.now }
+    ensures value { result ≡ position_from is_equals 0 text.now }
     ensures within { IfSome result (λ at. at < length text.now) }
 {
     text.iter().position(|byte| *byte == EQUALS)

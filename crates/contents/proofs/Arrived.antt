@@ -15,14 +15,15 @@ use Rattle.inventory_rows.proofs.of_object_rows.Splices.{Splices}
 use Rattle.inventory_rows.specs.Search.{versions}
 use Rattle.inventory_rows.specs.State.{Inv}
 use Rattle.inventory_rules.specs.Common.{or_same}
-use Rattle.inventory_rules.specs.Transactions.{effect, parts_fit}
+use Rattle.inventory_rules.specs.Journal.{Journal}
+use Rattle.inventory_rules.specs.Transactions.{effect, causes}
 use Rattle.inventory_rules.specs.Versions.{new_version}
 use Rattle.inventory_rows.specs.Ascending.{AreAscending}
 use Rattle.inventory_laws.specs.Stored.{stored}
 use Rattle.inventory_laws.proofs.Grouped.{versions_put}
 use Rattle.inventory_laws.proofs.VersionVolumes.{put_only}
 use Rattle.contents.specs.Contents.{HasVersion, HaveAll, with_content}
-use Rattle.contents.proofs.Came.{one_fits, is_one, one_version}
+use Rattle.contents.proofs.Came.{one_new, is_one, one_version}
 
 module _ (P : ℕ → ℕ → List ℕ → Type 0) where
   -- lists of versions side by side
@@ -93,9 +94,9 @@ module _ (P : ℕ → ℕ → List ℕ → Type 0) where
       subst (λ rows. HaveAll P (with_content item.object bytes contents) (versions_of rows.filespaces)) (sym (put_only item.object item.segments (stored filespace item v)).clients)
       (have_stored contents bytes filespace item v order none have new)
 
-  -- after a transaction that brings the version and isn't refused
-  pub have_more : (contents : ℕ → List ℕ) (bytes : List ℕ) (c : NewVersions) (item : NewVersion) (v : Inv) → AreAscending v → parts_fit (change.Backup c) v ≡ true → c.scratch ≡ [] → c.items ≡ item ∷ []
+  -- after a transaction that brings the version and that no cause refuses
+  pub have_more : (j : Journal) (contents : ℕ → List ℕ) (bytes : List ℕ) (c : NewVersions) (item : NewVersion) (v : Inv) → AreAscending v → causes j (change.Backup c) v ≡ [] → c.scratch ≡ [] → c.items ≡ item ∷ []
       → HaveAll P contents (versions v) → HasVersion P bytes (new_version v item) → HaveAll P (with_content item.object bytes contents) (versions (effect (change.Backup c) v))
-  have_more contents bytes c item v order fit none one have new =
+  have_more j contents bytes c item v order caused none one have new =
       subst (λ (x : Change). HaveAll P (with_content item.object bytes contents) (versions (effect x v))) (sym (is_one c item none one))
-      (have_backed_up contents bytes c.filespace item v order (one_fits c item v fit none one).new have new)
+      (have_backed_up contents bytes c.filespace item v order (one_new j c item v caused one) have new)

@@ -1,5 +1,5 @@
 -- What isn't refused of a transaction that brings one version.
-use Rattle.std.proofs.Common.{◌≡◌, ℕ, ◌≤◌, eqb, Bool, true, false, cond, not, ◌&&◌, List, [], ◌∷◌, ◌++◌, map, is_some, Option, Some, None, refl, sym, ap, subst, ◌∙◌}
+use Rattle.std.proofs.Common.{◌≡◌, ℕ, ◌≤◌, eqb, Bool, true, false, cond, not, ◌&&◌, List, [], ◌∷◌, ◌++◌, map, is_some, nat_le, Option, Some, None, refl, sym, ap, subst, ◌∙◌}
 use Rattle.std.specs.List.{AllByRecursion, list_all, flat_map, sum_by}
 use Rattle.std.specs.Map.{keys_of}
 use Rattle.std.specs.BTreeMap.{is_at}
@@ -20,9 +20,12 @@ use Rattle.inventory_rows.specs.Search.{pool, segments_on, versions}
 use Rattle.inventory_rows.specs.State.{Inv}
 use Rattle.inventory_rules.specs.Valid.{is_valid, lie_in}
 use Rattle.inventory_laws.proofs.Facts.{facts_of, first, rest}
-use Rattle.inventory_rules.specs.Segments.{are_all_clear, are_clear, copy_fits, items_fit, lies_rightly, scratch_fits, segment_fits}
-use Rattle.inventory_rules.specs.Transactions.{parts_fit}
-use Rattle.inventory_rules.specs.Versions.{is_new_object, new_version_fits}
+use Rattle.inventory_rules.specs.Segments.{are_all_clear, are_clear, items_fit, lies_rightly, scratch_fits, scratch_refused, segment_fits}
+use Rattle.inventory_rules.specs.Journal.{Journal}
+use Rattle.inventory_rules.specs.Transactions.{causes, parts_fit}
+use Rattle.inventory_rules.specs.Versions.{backup_refused, is_new_object, new_version_fits, object_refused, objects_refused}
+use Rattle.kinds.specs.Refusals.{bad_value, unless}
+use Rattle.inventory_laws.proofs.Tests.{both_none, unless_holds}
 use Rattle.contents.proofs.Segments.{all_weaker, drawn_row, each_passes, front_lies}
 
 -- the change that brings one version of a filespace
@@ -32,9 +35,8 @@ one_version filespace item = change.Backup (record { filespace = filespace; scra
 pub is_one : (c : NewVersions) (item : NewVersion) → c.scratch ≡ [] → c.items ≡ item ∷ [] → change.Backup c ≡ one_version c.filespace item
 is_one c item none one = ap (λ s. change.Backup (record { filespace = c.filespace; scratch = s; items = c.items })) none ∙ ap (λ l. change.Backup (record { filespace = c.filespace; scratch = []; items = l })) one
 
--- its version is of a new object, its segments lie where nothing else does, and they don't overlap one another
+-- its segments lie where nothing else does, and they don't overlap one another
 pub record Fits (item : NewVersion) (v : Inv) : Type 0 where
-  pub new : has_object item.object (versions v) ≡ false
   pub each : list_all (segment_fits v item.pool) item.segments ≡ true
   pub apart : are_all_clear v item.segments ≡ true
 
@@ -43,17 +45,22 @@ unfolding parts_fit
 fits_of filespace item v h =
     let items : ((new_version_fits v item && true) && are_all_clear v (item.segments ++ [])) ≡ true = rest (scratch_fits v []) _ h in
     let whole : new_version_fits v item ≡ true = first (new_version_fits v item) true (first (new_version_fits v item && true) (are_all_clear v (item.segments ++ [])) items) in
-    let new : is_new_object v item.object ≡ true = first (is_new_object v item.object) (copy_fits v item.pool item.size item.segments) whole in
-    let copy : copy_fits v item.pool item.size item.segments ≡ true = rest (is_new_object v item.object) (copy_fits v item.pool item.size item.segments) whole in
-    let full = rest (is_some (pool item.pool v)) (eqb (sum_by (λ s. s.len) item.segments) item.size && list_all (segment_fits v item.pool) item.segments) copy in
+    let full = rest (is_some (pool item.pool v)) (eqb (sum_by (λ s. s.len) item.segments) item.size && list_all (segment_fits v item.pool) item.segments) whole in
     record {
-      new = not-true (has_object item.object (versions v)) (and_parts _ (not (has_object item.object (versions v))) new).1;
       each = rest (eqb (sum_by (λ s. s.len) item.segments) item.size) (list_all (segment_fits v item.pool) item.segments) full;
       apart = subst (λ (l : List Segment). are_all_clear v l ≡ true) (append-nil item.segments) (rest (new_version_fits v item && true) (are_all_clear v (item.segments ++ [])) items);
     }
 
 pub one_fits : (c : NewVersions) (item : NewVersion) (v : Inv) → parts_fit (change.Backup c) v ≡ true → c.scratch ≡ [] → c.items ≡ item ∷ [] → Fits item v
 one_fits c item v fit none one = fits_of c.filespace item v (subst (λ (x : Change). parts_fit x v ≡ true) (is_one c item none one) fit)
+
+-- no cause refuses it, so its object is new
+pub one_new : (j : Journal) (c : NewVersions) (item : NewVersion) (v : Inv) → causes j (change.Backup c) v ≡ [] → c.items ≡ item ∷ [] → has_object item.object (versions v) ≡ false
+one_new j c item v h one =
+    let drawn = both_none (scratch_refused c.scratch v) (objects_refused c.items v) (both_none (backup_refused c.filespace c.items v) (scratch_refused c.scratch v ++ objects_refused c.items v) h).1 in
+    let its : object_refused v item.object ++ [] ≡ [] = subst (λ (l : List NewVersion). objects_refused l v ≡ []) one drawn.1 in
+    let new = both_none (unless (is_new_object v item.object) bad_value) _ (both_none (object_refused v item.object) [] its).0 in
+    not-true (has_object item.object (versions v)) (and_parts (nat_le 1 item.object) (not (has_object item.object (versions v))) (unless_holds (is_new_object v item.object) bad_value new.0)).1
 
 -- what each segment passes by lying rightly
 lies_from : (q : Bool) (number bound : ℕ) (s : Segment) (volumes : List (ℕ × Volume)) (o : Option Volume) → lie_in 4 bound (keys_of volumes) ≡ true → row_at s.file volumes ≡ o → lies_rightly q number s o ≡ true → 4 ≤ s.file

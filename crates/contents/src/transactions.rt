@@ -34,14 +34,14 @@ pub fn same_versions()
     ensures held { (contents image : ℕ → List ℕ) (v w : Inv) → versions w ≡ versions v → Holds contents image v → Holds contents image w }
 {}
 
-/// A transaction that brings one version which fits, with no scratch volume: where the version has its bytes, the database
+/// A transaction that brings one version, with no scratch volume, and that no cause refuses: where the version has its bytes, the database
 /// afterwards is kept, or held by an image, with the contents of one object more. The former active version of its path stays with its bytes.
 pub fn a_version_more()
-    ensures kept { (contents : ℕ → List ℕ) (bytes : List ℕ) (h : History) (c : NewVersions) (item : NewVersion) (v : Inv) →
-        AreAscending v → parts_fit (change.Backup c) v ≡ true → c.scratch ≡ [] → c.items ≡ item ∷ [] →
+    ensures kept { (j : Journal) (contents : ℕ → List ℕ) (bytes : List ℕ) (h : History) (c : NewVersions) (item : NewVersion) (v : Inv) →
+        AreAscending v → causes j (change.Backup c) v ≡ [] → c.scratch ≡ [] → c.items ≡ item ∷ [] →
         IsKept contents h v → HasVersion (InStore h) bytes (new_version v item) → IsKept (with_content item.object bytes contents) h (effect (change.Backup c) v) }
-    ensures held { (contents image : ℕ → List ℕ) (bytes : List ℕ) (c : NewVersions) (item : NewVersion) (v : Inv) →
-        AreAscending v → parts_fit (change.Backup c) v ≡ true → c.scratch ≡ [] → c.items ≡ item ∷ [] →
+    ensures held { (j : Journal) (contents image : ℕ → List ℕ) (bytes : List ℕ) (c : NewVersions) (item : NewVersion) (v : Inv) →
+        AreAscending v → causes j (change.Backup c) v ≡ [] → c.scratch ≡ [] → c.items ≡ item ∷ [] →
         Holds contents image v → HasVersion (InImage image) bytes (new_version v item) → Holds (with_content item.object bytes contents) image (effect (change.Backup c) v) }
 {}
 

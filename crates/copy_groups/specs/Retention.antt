@@ -1,5 +1,5 @@
 -- Which versions of a file a rule retains. A group's versions stand newest first, at places 0, 1 and so on.
-use Rattle.std.specs.Prelude.{ℕ, ◌-◌, Bool, true, false, not, ◌==◌, ◌&&◌, ◌||◌, nat_lt, if◌then◌else◌, List, length, slice_index, drop, filter, reverse}
+use Rattle.std.specs.Prelude.{ℕ, ◌-◌, Bool, true, false, not, ◌==◌, ◌&&◌, ◌||◌, nat_lt, if◌then◌else◌, Option, Some, None, List, length, slice_index, drop, filter, reverse}
 use Rattle.std.specs.List.{range_with_len}
 use Rattle.kinds.specs.declared.rule.BackupRule.{BackupRule}
 use Rattle.kinds.specs.declared.rule.Limit.{Limit}
@@ -31,6 +31,13 @@ is_active active place = active && place == 0
 -- a version is retained: the active one always, the others by the rule and the days since they became inactive
 abbrev pub retained : RuleFound → Bool → ℕ → ℕ → ℕ → Bool
 retained rule active since today place = is_active active place || is_kept_by rule active (today - since) place
+
+-- A version is owed by the rule that was found for it: each one where there is none, an active version, which has no day from which it is inactive,
+-- and one that is inactive since a day where the rule retains it today.
+abbrev pub is_owed : Option RuleFound → Bool → Option ℕ → ℕ → ℕ → Bool
+is_owed None active since today place = true
+is_owed (Some rule) active None today place = true
+is_owed (Some rule) active (Some since) today place = retained rule active since today place
 
 -- the days of a group's inactive versions
 abbrev pub inactive : Bool → List ℕ → List ℕ

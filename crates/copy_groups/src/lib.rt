@@ -1,25 +1,25 @@
 //! Which versions of a file the rule of a backup copy group retains.
 #![tactic(auto)]
 
-ghost use Rattle.std.specs.Prelude.{◌≡◌, ◌≤◌, ◌<◌, ◌^◌, ℕ, false, IsTrue, All, length};
+ghost use Rattle.std.specs.Prelude.{◌≡◌, ◌≤◌, ◌<◌, ◌^◌, ◌-◌, ℕ, IsTrue, All, length};
 ghost use Rattle.kinds.specs.Answers.{AnswersBy};
 ghost use Rattle.kinds.specs.declared.rule.RuleFound.{RuleFound};
-ghost use Rattle.copy_groups.specs.Retention.{is_below, is_kept, is_kept_by, is_active, retained, inactive, is_unretained, unretained};
+ghost use Rattle.copy_groups.specs.Retention.{is_below, is_kept, is_kept_by, retained, is_owed, inactive, is_unretained, unretained};
 ghost use Rattle.copy_groups.specs.Laws.{IsNotTighterRule, HasNoLimitRule};
 
 use kinds::{BackupRule, Day, Limit, Refusal, RuleFound};
 use std::alloc::Global;
 
-fn is_below(limit: Limit, number: u32) -> bool
+fn is_below(limit: Limit, number: usize) -> bool
     ensures { result ≡ is_below limit number }
 {
     match limit {
-        Limit::At(n) => number < n,
+        Limit::At(n) => number < n as usize,
         Limit::NoLimit => true,
     }
 }
 
-fn is_kept(rule: &BackupRule, active: bool, days: u32, place: u32) -> bool
+fn is_kept(rule: &BackupRule, active: bool, days: usize, place: usize) -> bool
     ensures { result ≡ is_kept rule.now active days place }
 {
     if active {
@@ -34,21 +34,27 @@ fn is_kept(rule: &BackupRule, active: bool, days: u32, place: u32) -> bool
     }
 }
 
-fn is_kept_by(rule: &RuleFound, active: bool, days: u32, place: u32) -> bool
+fn is_kept_by(rule: &RuleFound, active: bool, days: usize, place: usize) -> bool
     ensures { result ≡ is_kept_by rule.now active days place }
 {
     match rule {
         RuleFound::Own(rule) => is_kept(rule, active, days, place),
         RuleFound::Default(rule) => is_kept(rule, active, days, place),
-        RuleFound::Grace(count) => days < *count as u32,
+        RuleFound::Grace(count) => days < *count as usize,
     }
 }
 
-fn is_retained(rule: &RuleFound, active: bool, since: Day, today: Day, place: u32) -> bool
-    requires { is_active active place ≡ false → since ≤ today }
+/// How many days have passed since this one; none where it is to come.
+fn days_since(since: Day, today: Day) -> usize
+    ensures { result ≡ today - since }
+{
+    today.number().saturating_sub(since.number()) as usize
+}
+
+fn is_retained(rule: &RuleFound, active: bool, since: Day, today: Day, place: usize) -> bool
     ensures { result ≡ retained rule.now active since today place }
 {
-    (active && place == 0) || is_kept_by(rule, active, today.number() - since.number(), place)
+    (active && place == 0) || is_kept_by(rule, active, days_since(since, today), place)
 }
 
 /// Whether a version is retained: by this rule, in a group that has an active version or not, inactive since this day (of the active version it
@@ -69,15 +75,32 @@ pub fn retained(rule: &RuleFound, active: bool, since: Day, today: Day, place: u
     // NOLIMIT everywhere retains everything.
     ensures unlimited { HasNoLimitRule rule.now → IsTrue result }
 {
-    is_retained(rule, active, since, today, place)
+    is_retained(rule, active, since, today, place as usize)
+}
+
+/// Whether a version is retained by the rule that was found for it, where there is one: in a group that has an active version or not, inactive since
+/// this day, or active, today, and at this place, counted from 0 at the newest. An active version is, and so is each one without a rule.
+pub fn is_owed(
+    rule: &Option<RuleFound>,
+    active: bool,
+    since: Option<Day>,
+    today: Day,
+    place: usize,
+) -> bool
+    ensures { result ≡ is_owed rule.now active since today place }
+{
+    match (rule, since) {
+        (Some(rule), Some(since)) => is_retained(rule, active, since, today, place),
+        (None, _) => true,
+        (Some(_), None) => true,
+    }
 }
 
 fn is_unretained(rule: &RuleFound, active: bool, since: &[Day], today: Day, place: u32) -> bool
-    requires past { All (λ day. day ≤ today) (inactive active since.now) }
     requires there { place < length since.now }
     ensures { result ≡ is_unretained rule.now active since.now today place }
 {
-    !is_retained(rule, active, since[place as usize], today, place)
+    !is_retained(rule, active, since[place as usize], today, place as usize)
 }
 
 /// The places, counted from 0 at the newest, of the versions that this rule doesn't retain today, in descending order. The group's days stand

@@ -1,12 +1,11 @@
 -- The gate of an image under calls on its file.
-use Rattle.std.proofs.Common.{◌≡◌, ◌≢◌, ◌⊎◌, inl, inr, ℕ, zero, suc, ◌+◌, ◌-◌, ◌<◌, ◌≤◌, min, List, [], ◌∷◌, ◌++◌, length, take, drop, Result, Ok, Err, OnOk, IfOk, refl, sym, ◌∙◌, ap, subst, arith}
-use Rattle.store_api.specs.declared.store.Failed.{Failed}
-use Rattle.store_api.specs.Disk.{Standing, History, standing, reads, now, ImageAt}
-use Rattle.store_api.specs.Runs.{Stands, Firm, GoesOn, EachImage, IsOutside, WroteWithin, WroteSynced, ReadWithin}
+use Rattle.std.proofs.Common.{◌≡◌, ◌≢◌, ◌⊎◌, inl, inr, ℕ, zero, suc, ◌<◌, List, [], ◌∷◌, length, take, refl, sym, subst, arith}
+use Rattle.store_api.specs.Disk.{Standing, History, standing, now}
+use Rattle.store_api.specs.Runs.{Stands, Firm, GoesOn, EachImage, IsOutside, WroteWithin}
 use Rattle.store_api.proofs.Runs.{goes_weaker, goes_standing, each_then, each_weaker}
 use Rattle.store_api.proofs.Pieces.{stands_join, firm_left, firm_right, firm_beside, firm_since}
 use Rattle.log_file.specs.Blocks.{IsClosed}
-use Rattle.db_image.specs.Steps.{FirmShut, CanShut, KeepsShut, OldOrShut, Shut}
+use Rattle.db_image.specs.Steps.{FirmShut, CanShut, KeepsShut, OldOrShut}
 
 -- a gate that stands there and isn't open
 pub is_shut : (bytes : List ℕ) (gate : ℕ) → gate ≢ 1 → Stands bytes 0 (gate ∷ []) → IsClosed bytes

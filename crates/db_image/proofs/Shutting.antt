@@ -1,12 +1,11 @@
 -- A gate is looked at, and shut where it is open or isn't there.
-use Rattle.std.proofs.Common.{◌≡◌, ◌≢◌, ◌⊎◌, inl, inr, ℕ, ◌+◌, ◌-◌, ◌<◌, ◌≤◌, min, List, [], ◌∷◌, length, get_or, take, drop, Result, Ok, Err, OnOk, refl, sym, ◌∙◌, ap, subst, arith}
+use Rattle.std.proofs.Common.{◌≡◌, ◌≢◌, ◌⊎◌, inl, inr, ℕ, List, [], ◌∷◌, length, get_or, Result, Ok, Err, OnOk, refl, sym, ◌∙◌, ap, arith}
 use Rattle.store_api.specs.declared.store.Failed.{Failed}
-use Rattle.store_api.specs.Disk.{Standing, History, standing, reads}
-use Rattle.store_api.specs.Runs.{Stands, Firm, WroteSynced, ReadWithin}
-use Rattle.store_api.proofs.Runs.{goes_none}
+use Rattle.store_api.specs.Disk.{History, standing}
+use Rattle.store_api.specs.Runs.{Firm, WroteSynced, ReadWithin}
 use Rattle.store_api.proofs.Ranges.{wrote_then}
 use Rattle.store_api.proofs.Pieces.{firm_beside}
-use Rattle.db_image.specs.Steps.{FirmShut, CanShut, KeepsShut, OldOrShut, Shut}
+use Rattle.db_image.specs.Steps.{FirmShut, CanShut, Shut}
 use Rattle.db_image.proofs.Gates.{looked_within, keeps_shut, old_or_shut}
 
 -- one byte is the byte that is read of it

@@ -1,7 +1,6 @@
 -- An image of the database as whole bytes of a file: a gate, a mark, a number, the payload's length, and the payload.
-use Rattle.std.specs.Prelude.{◌≡◌, ◌≢◌, ◌⊎◌, ℕ, ◌+◌, ◌<◌, ◌≤◌, ◌^◌, ◌%◌, codes, List, [], ◌∷◌, ◌++◌, length, take, drop}
+use Rattle.std.specs.Prelude.{◌≡◌, ◌≢◌, ◌⊎◌, ℕ, ◌+◌, ◌<◌, ◌≤◌, ◌^◌, ◌%◌, codes, List, ◌∷◌, ◌++◌, length, take, drop}
 use Rattle.std.specs.Int.{w64, to_be_bytes, from_be_bytes}
-use Rattle.log_file.specs.Blocks.{IsClosed}
 use Rattle.db_image.specs.declared.mark.Mark.{Mark}
 use Rattle.db_image.specs.declared.mark.Mark.TheVariants.{Server, Backup}
 

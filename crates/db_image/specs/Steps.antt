@@ -1,5 +1,5 @@
 -- What the steps of writing an image do to the store.
-use Rattle.std.specs.Prelude.{◌≡◌, ◌≢◌, ◌⊎◌, ℕ, ◌+◌, ◌-◌, ◌<◌, ◌≤◌, nat_le, if◌then◌else◌, List, [], ◌∷◌, ◌++◌, length, take, Result, OnOk}
+use Rattle.std.specs.Prelude.{◌≡◌, ◌≢◌, ◌⊎◌, ℕ, ◌+◌, ◌-◌, ◌<◌, min, nat_le, if◌then◌else◌, List, [], ◌∷◌, ◌++◌, length, take, Result, OnOk}
 use Rattle.store_api.specs.Disk.{Standing, History, standing, reads, now}
 use Rattle.store_api.specs.Runs.{Stands, Firm, GoesOn, EachImage, WroteWithin}
 use Rattle.log_file.specs.Blocks.{IsClosed}
@@ -64,6 +64,22 @@ progress_at (Written done) = More
 progress_at Durable = More
 progress_at Failed = More
 
+-- Where that which a step may write of its file begins, and how many bytes it has: with the first step the gate, the head and at most
+-- 65,536 bytes of the payload, then at most 65,536 bytes of the payload more, and at the end the gate.
+abbrev pub from_of : Phase → ℕ
+from_of Begun = 0
+from_of (Written done) = 24 + done
+from_of Durable = 0
+from_of Open = 0
+from_of Failed = 0
+
+abbrev pub most_of : Phase → ℕ → ℕ
+most_of Begun len = 24 + min 65536 len
+most_of (Written done) len = min 65536 (len - done)
+most_of Durable len = 1
+most_of Open len = 0
+most_of Failed len = 0
+
 -- the image may still be written, and its gate is not to be opened yet
 abbrev pub IsWriting : Phase → Type 0
 IsWriting Begun = Unit {0}
@@ -90,12 +106,14 @@ pub record Shut {T E : Type 0} (file : ℕ) (result : Result T E) (old new : His
 -- The payload was written on from a place, and where that was its end, all was made durable.
 pub record Put {T E : Type 0} (job next : Job) (done : ℕ) (result : Result T E) (old new : History) : Type 0 where
   pub goes : GoesOn (λ other. other ≡ job.file) old new
+  pub within : WroteWithin job.file (from_of (Written done)) (most_of (Written done) (length job.payload)) old new
   pub underway : OnOk result (UnderwayAs (Written done) job old → Underway next new)
   pub shut : KeepsShut job.file old new
 
 -- The gate was shut, and what stands first behind it was written.
 pub record Started {T E : Type 0} (job next : Job) (result : Result T E) (old new : History) : Type 0 where
   pub goes : GoesOn (λ other. other ≡ job.file) old new
+  pub within : WroteWithin job.file (from_of Begun) (most_of Begun (length job.payload)) old new
   pub underway : OnOk result (CanShut (standing old job.file) → Underway next new)
   pub shut : KeepsShut job.file old new
   pub older : OldOrShut job.file old new
@@ -107,23 +125,25 @@ NewOrShut job old new = EachImage (now old) new (λ image. IsClosed (image job.f
 -- The gate was opened.
 pub record Opened {T E : Type 0} (job next : Job) (result : Result T E) (old new : History) : Type 0 where
   pub goes : GoesOn (λ other. other ≡ job.file) old new
+  pub within : WroteWithin job.file (from_of Durable) (most_of Durable (length job.payload)) old new
   pub underway : OnOk result (UnderwayAs Durable job old → Underway next new)
   pub opening : UnderwayAs Durable job old → NewOrShut job old new
 
--- One step of writing an image. Where it stood as far as it was written, it stands as far as it is written now. Until its gate is to be
--- opened the gate stays shut in each image since; while it is being shut, each has what stood there before, or a shut gate; and while it is
+-- One step of writing an image. It writes no more of its file than that of which it is the turn. Where the image stood as far as it was
+-- written, it stands as far as it is written now. Until its gate is to be opened the gate stays shut in each image since; while it is being shut, each has what stood there before, or a shut gate; and while it is
 -- being opened, each has the image or a shut gate.
 pub record Stepped {T E : Type 0} (job next : Job) (result : Result T E) (old new : History) : Type 0 where
   pub goes : GoesOn (λ other. other ≡ job.file) old new
+  pub within : WroteWithin job.file (from_of job.phase) (most_of job.phase (length job.payload)) old new
   pub underway : OnOk result (Underway job old → Underway next new)
   pub shut : IsWriting job.phase → KeepsShut job.file old new
   pub older : job.phase ≡ Begun → OldOrShut job.file old new
   pub opening : job.phase ≡ Durable → Underway job old → NewOrShut job old new
 
--- so much of the payload was written as there is
+-- not all of the payload was written as long as some of it is to be written
 abbrev pub IsWithin : Phase → ℕ → Type 0
 IsWithin Begun len = Unit {0}
-IsWithin (Written done) len = done ≤ len
+IsWithin (Written done) len = done < len
 IsWithin Durable len = Unit {0}
 IsWithin Open len = Unit {0}
 IsWithin Failed len = Unit {0}

@@ -1,8 +1,8 @@
 // An image as it is written.
-ghost use Rattle.std.specs.Prelude.{◌≡◌, ◌⊎◌, ◌≤◌, ◌^◌, ◌+◌, length, IfOk, OnErr, IsErr};
+ghost use Rattle.std.specs.Prelude.{◌≡◌, ◌≢◌, ℕ, ◌⊎◌, ◌<◌, ◌≤◌, ◌^◌, ◌+◌, length, IfOk, OnErr, IsErr};
 ghost use Rattle.store_api.specs.Cause.{Rose, NoneFell};
 ghost use Rattle.store_api.specs.Told.{Told};
-ghost use Rattle.db_image.specs.declared.phase.Phase.TheVariants.{Begun, Open, Failed as Stuck};
+ghost use Rattle.db_image.specs.declared.phase.Phase.TheVariants.{Begun, Written, Open, Failed as Stuck};
 ghost use Rattle.db_image.specs.declared.phase.Progress.TheVariants.{More, Done};
 ghost use Rattle.db_image.specs.Steps.{Put, Started, Opened, Stepped, at_phase, written_to, further, progress_at};
 
@@ -147,9 +147,11 @@ impl Image {
         ensures told { Told (S.told store.old) (S.told store.new) (Stepped self.old self.new result) }
         ensures ok { IfOk result (λ progress. (progress ≡ progress_at (further self.old.phase (length self.old.payload))) × (self.new ≡ at_phase (further self.old.phase (length self.old.payload)) self.old)) }
         ensures err { OnErr result (self.new ≡ at_phase Stuck self.old) }
+        ensures some { (done : ℕ) → self.old.phase ≡ Written done → done < length self.old.payload }
         ensures idle { (self.old.phase ≡ Open) ⊎ (self.old.phase ≡ Stuck) → store.new ≡ store.old }
         ensures stuck { self.old.phase ≡ Stuck → IsErr result }
         ensures time { S.moment_of store.new ≤ S.moment_of store.old + 6 }
+        ensures brief { self.old.phase ≢ Begun → S.moment_of store.new ≤ S.moment_of store.old + 2 }
         ensures later { S.moment_of store.old ≤ S.moment_of store.new }
         ensures counts { NoneFell (S.faults_of store.old) (S.faults_of store.new) }
         ensures cause { OnErr result ((self.old.phase ≡ Stuck) ⊎ Rose (S.faults_of store.old self.old.file) (S.faults_of store.new self.old.file)) }

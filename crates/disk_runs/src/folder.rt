@@ -1,14 +1,14 @@
 //! Stores in folders of the system.
 use crate::answer::{Fault, done};
 use crate::calls;
-use real_edge::FolderStore;
+use real_edge::{FolderStore, RealFiles};
 use std::alloc::Global;
 use std::mem;
 
 /// A store in a folder, where one is open.
 #[derive(Drop)]
 pub struct Folder {
-    store: Option<FolderStore<HostRuntime>>,
+    store: Option<FolderStore<RealFiles<HostRuntime>>>,
 }
 
 /// The folders in which stores may lie. A folder's path has to last as long as the program.
@@ -35,7 +35,8 @@ impl Folder {
     fn open(&mut self, rt: &HostRuntime, word: &str) -> Result<String, Fault> {
         let path = path(word)?;
         self.close();
-        let store = FolderStore::new(*rt, rt.alloc(), path);
+        let files = RealFiles::new(*rt, rt.alloc(), path);
+        let store = FolderStore::new(files, rt.alloc());
         drop(mem::replace(&mut self.store, Some(store)));
         done(rt.alloc())
     }

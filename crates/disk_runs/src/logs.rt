@@ -57,7 +57,9 @@ impl Logs {
     }
 
     fn force(&mut self, alloc: Global, store: &mut MemStore) -> Result<String, Fault> {
-        self.log()?.force(store)?;
+        let log = self.log()?;
+        ready(store)?;
+        log.force(store)?;
         done(alloc)
     }
 

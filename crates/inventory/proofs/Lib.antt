@@ -1,5 +1,7 @@
 pub mod Nothing
 pub mod Orders
+pub mod Sooner
 pub mod Sound
 pub mod Stays
+pub mod Tested
 pub mod Within

@@ -1,5 +1,5 @@
 -- What the order of the rows gives.
-use Rattle.std.proofs.Common.{◌≡◌, ℕ, Bool, true, false, not, ◌&&◌, List, [], ◌∷◌, Ordering, refl, sym, ap, subst, ◌∙◌, arith}
+use Rattle.std.proofs.Common.{◌≡◌, ℕ, true, false, not, List, [], ◌∷◌, refl, ap, ◌∙◌, arith}
 use Rattle.std.specs.Prelude.{◌==◌, eqb}
 use Rattle.std.proofs.lemmas.Bool.{eqb-true}
 use Rattle.std.specs.List.{list_all, AllByRecursion}
@@ -8,18 +8,12 @@ use Rattle.std.specs.Map.{keys_of}
 use Rattle.std.specs.Ordering.{nat_cmp}
 use Rattle.std.specs.declared.cmp.Ordering.TheVariants.{Less}
 use Rattle.entries.specs.declared.change.Change.{Change}
-use Rattle.inventory_rows.specs.version_groups.declared.group.Group.{Group}
-use Rattle.inventory_rows.specs.version_groups.declared.groups.Filespace.{Filespace}
-use Rattle.inventory_rows.specs.version_groups.Entries.{all_later}
-use Rattle.inventory_rows.specs.version_groups.Versions.{is_empty}
-use Rattle.inventory_rows.specs.object_rows.Places.{AreAllOrderly, AreOrderly, PathsAscend, are_full}
 use Rattle.inventory_rows.specs.State.{Inv}
-use Rattle.inventory_rules.specs.Valid.{are_apart, groups_are_orderly, is_orderly}
-use Rattle.inventory_laws.proofs.Facts.{both, first, rest}
+use Rattle.inventory_rules.specs.Valid.{are_apart}
+use Rattle.inventory_laws.proofs.Facts.{both}
 use Rattle.inventory_rules.specs.Transactions.{IsOrderedFor}
 use Rattle.inventory_laws.proofs.Every.{ordered_for}
 use Rattle.inventory_rows.specs.Ascending.{AreAscending}
-use Rattle.inventory_rules.specs.Ordered.{IsOrdered}
 use Rattle.inventory.specs.Legal.{IsAscending}
 
 other : (k n : ℕ) → nat_cmp k n ≡ Less → not (k == n) ≡ true
@@ -45,17 +39,3 @@ ascending v a = record {
 
 pub counted : (c : Change) (v : Inv) → AreAscending v → IsOrderedFor c v
 counted c v a = ordered_for c v (a.sets, a.paths)
-
-full : (groups : List (List ℕ × Group)) → list_all (λ g. is_orderly g.1) groups ≡ true → are_full groups ≡ true
-full [] h = refl
-full (g ∷ groups) h =
-    both (not (is_empty g.1.versions)) (are_full groups)
-    (first (not (is_empty g.1.versions)) _ (first (is_orderly g.1) (list_all (λ g. is_orderly g.1) groups) h))
-    (full groups (rest (is_orderly g.1) (list_all (λ g. is_orderly g.1) groups) h))
-
-pub orderly : (filespaces : List (ℕ × Filespace)) → PathsAscend filespaces → list_all (λ f. list_all (λ g. is_orderly g.1) f.1.groups) filespaces ≡ true → AreAllOrderly filespaces
-orderly [] a h = tt
-orderly (f ∷ filespaces) a h = (
-  (a.0, full f.1.groups (first (list_all (λ g. is_orderly g.1) f.1.groups) (list_all (λ f. list_all (λ g. is_orderly g.1) f.1.groups) filespaces) h)),
-  orderly filespaces a.1 (rest (list_all (λ g. is_orderly g.1) f.1.groups) (list_all (λ f. list_all (λ g. is_orderly g.1) f.1.groups) filespaces) h),
-)

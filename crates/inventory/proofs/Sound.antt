@@ -1,18 +1,16 @@
 -- A valid database has parts such as tables hold them.
-use Rattle.std.proofs.Common.{◌≡◌, ℕ, Bool, true, false, not, cond, ◌&&◌, List, [], ◌∷◌, ◌++◌, map, Option, Some, None, refl, sym, ap, subst, ◌∙◌}
+use Rattle.std.proofs.Common.{◌≡◌, ℕ, Bool, true, false, not, cond, ◌&&◌, List, [], ◌∷◌, ◌++◌, map, Option, Some, None, refl, sym, ap, ◌∙◌}
 use Rattle.std.proofs.lemmas.Bool.{eq-eqb, eqb-true}
 use Rattle.std.specs.Prelude.{◌==◌, ◌||◌, is_none, is_some, if◌then◌else◌}
 use Rattle.std.specs.BTreeMap.{is_at}
 use Rattle.std.specs.Cmp.Lexicographic.{slice_cmp}
-use Rattle.std.specs.List.{list_all, flat_map}
+use Rattle.std.specs.List.{list_all}
 use Rattle.std.specs.Map.{lookup}
 use Rattle.std.specs.Ordering.{nat_cmp}
 use Rattle.kinds.specs.declared.segment.Segment.{Segment}
 use Rattle.inventory_rows.specs.version_groups.declared.copies.CopyRow.{CopyRow}
-use Rattle.inventory_rows.specs.version_groups.declared.group.Group.{Group}
 use Rattle.inventory_rows.specs.version_groups.declared.groups.Filespace.{Filespace}
 use Rattle.inventory_rows.specs.version_groups.Entries.{all_later}
-use Rattle.inventory_rows.specs.version_groups.Versions.{is_empty}
 use Rattle.inventory_rows.specs.object_rows.declared.place.Node.{Node}
 use Rattle.inventory_rows.specs.object_rows.Index.{AreDistinct}
 use Rattle.inventory_rows.specs.object_rows.Names.{named, named_of}
@@ -20,15 +18,15 @@ use Rattle.inventory_rows.specs.object_rows.Places.{are_all_full, are_full}
 use Rattle.inventory_rows.specs.object_rows.Rows as rows
 use Rattle.inventory_rows.specs.pool_tables.Names.{are_apart, pool_name, row_named}
 use Rattle.kinds.specs.Names.{is_same_name}
-use Rattle.inventory_rows.specs.pool_tables.Rows.{number_where, row_at}
+use Rattle.inventory_rows.specs.pool_tables.Rows.{row_at}
 use Rattle.inventory_rows.specs.pool_tables.Scratch.{are_rightly_named, volume_name}
 use Rattle.inventory_rows.proofs.of_pool_tables.Names.{at_name, same_flips}
-use Rattle.inventory_rows.specs.pool_rows.PoolRows.{with_rows}
 use Rattle.inventory_rows.specs.volume_rows.declared.volume.Volume.{Volume}
 use Rattle.inventory_rows.specs.Search.{copies, pool}
 use Rattle.inventory_rows.specs.State.{Inv}
 use Rattle.inventory_rules.specs.Facts.{Facts}
 use Rattle.inventory_laws.proofs.Facts.{both, first, rest}
+use Rattle.inventory_laws.proofs.Others.{full_groups}
 use Rattle.inventory_rules.specs.Valid.{is_of_pool, is_orderly, names_apart}
 use Rattle.inventory_bytes.specs.Payload.{AreSound}
 use Rattle.inventory_bytes.specs.Segments.{all_lie, is_there}
@@ -108,18 +106,11 @@ spaces_distinct (f ∷ fs) h node =
     (spaces_distinct fs (rest (list_all (λ g. not (f.1.node == g.1.node) || not (is_same_name f.1.name g.1.name)) fs) (all_later (λ f g. not (f.1.node == g.1.node) || not (is_same_name f.1.name g.1.name)) fs) h) node)
     (f.1.node == node) refl
 
-full : (groups : List (List ℕ × Group)) → list_all (λ g. is_orderly g.1) groups ≡ true → are_full groups ≡ true
-full [] h = refl
-full (g ∷ groups) h =
-    both (not (is_empty g.1.versions)) (are_full groups)
-    (first (not (is_empty g.1.versions)) _ (first (is_orderly g.1) (list_all (λ g. is_orderly g.1) groups) h))
-    (full groups (rest (is_orderly g.1) (list_all (λ g. is_orderly g.1) groups) h))
-
 all_full : (filespaces : List (ℕ × Filespace)) → list_all (λ f. list_all (λ g. is_orderly g.1) f.1.groups) filespaces ≡ true → are_all_full filespaces ≡ true
 all_full [] h = refl
 all_full (f ∷ filespaces) h =
     both (are_full f.1.groups) (are_all_full filespaces)
-    (full f.1.groups (first (list_all (λ g. is_orderly g.1) f.1.groups) (list_all (λ f. list_all (λ g. is_orderly g.1) f.1.groups) filespaces) h))
+    (full_groups f.1.groups (first (list_all (λ g. is_orderly g.1) f.1.groups) (list_all (λ f. list_all (λ g. is_orderly g.1) f.1.groups) filespaces) h))
     (all_full filespaces (rest (list_all (λ g. is_orderly g.1) f.1.groups) (list_all (λ f. list_all (λ g. is_orderly g.1) f.1.groups) filespaces) h))
 
 pub sound : (v : Inv) → Facts v → AreSound v

@@ -6,7 +6,7 @@ use Rattle.entries.specs.declared.change.Change.{Change}
 use Rattle.inventory_laws.proofs.Facts.{facts_of}
 use Rattle.inventory_rows.specs.Items.{count_items, most_items}
 use Rattle.inventory_rows.specs.State.{Inv}
-use Rattle.inventory_rules.specs.Transactions.{effect, causes, brings_items, items_added, IsOrderedFor}
+use Rattle.inventory_rules.specs.Transactions.{effect, causes, brings_items, items_added, refused, IsOrderedFor}
 use Rattle.inventory_rules.specs.Journal.{Journal}
 use Rattle.inventory_rules.specs.Valid.{is_valid}
 use Rattle.inventory_effects.proofs.Ways.{same_Ok}
@@ -15,7 +15,6 @@ use Rattle.kinds.specs.declared.refusal.Refusal.{Refusal}
 use Rattle.inventory_laws.proofs.Every.{adds, others}
 use Rattle.inventory_sizes.specs.Room.{sum_within}
 use Rattle.inventory_rows.specs.Ascending.{AreAscending}
-use Rattle.inventory.specs.Legal.{refused}
 use Rattle.inventory.proofs.Nothing.{IsFree, is_free}
 use Rattle.inventory.proofs.Orders.{counted}
 

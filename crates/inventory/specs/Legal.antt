@@ -1,4 +1,4 @@
--- Why the database refuses a transaction, decided before it is made.
+-- The tests by which it is decided, before a transaction is made, whether and why the database refuses it.
 use Rattle.std.specs.Prelude.{◌≡◌, ⊤, ◌^◌, true, nat_lt, Option, List, ◌++◌}
 use Rattle.std.specs.Map.{keys_of}
 use Rattle.kinds.specs.declared.refusal.Refusal.{Refusal}
@@ -18,9 +18,10 @@ use Rattle.inventory_rules.specs.Ordered.{IsOrdered}
 abbrev pub sizes : Change → Inv → List Refusal
 sizes c v = unless (has_item_room c v) refusal.InventoryFull ++ full_at v.number (2 ^ 62)
 
--- The foremost of the causes, a size among them; where there is none, 4 where what the change brings doesn't fit where it comes.
-unfoldable pub refused : Journal → Change → Inv → Option Refusal
-refused j c v = then_valid (foremost (causes j c v ++ sizes c v)) (parts_fit c v)
+-- The foremost of the causes, a size among them; where there is none, 4 where what the change brings doesn't fit where it comes. Over a valid
+-- database this is what the rules refuse.
+unfoldable pub tested : Journal → Change → Inv → Option Refusal
+tested j c v = then_valid (foremost (causes j c v ++ sizes c v)) (parts_fit c v)
 
 -- the rows ascend: filespaces by number, the paths of each, and pools by number, of which none stands twice
 pub record IsAscending (v : Inv) : Type 0 where

@@ -4,11 +4,10 @@ use Rattle.entries.specs.declared.entry.Entry.{Entry}
 use Rattle.entries.specs.Meaning.{Meaning}
 use Rattle.inventory_bytes.specs.Payload.{payload, unheld}
 use Rattle.inventory_rows.specs.State.{Inv}
-use Rattle.inventory_rules.specs.Transactions.{effect}
+use Rattle.inventory_rules.specs.Transactions.{effect, refused}
 use Rattle.inventory_rules.specs.Held.{IsTied}
 use Rattle.inventory_rules.specs.Journal.{no_journal}
 use Rattle.inventory_rules.specs.Valid.{is_valid}
-use Rattle.inventory.specs.Legal.{refused}
 
 -- a value is an inventory: it is valid, its volumes hold the segments of its copies, and it has a spelling
 pub record IsInventory (v : Inv) : Type 0 where

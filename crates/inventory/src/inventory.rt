@@ -6,8 +6,8 @@ ghost use Rattle.inventory_answers.specs.Answered.{answered};
 ghost use Rattle.inventory_rows.specs.Fresh.{fresh};
 ghost use Rattle.inventory_rows.specs.State.{inv_of};
 ghost use Rattle.inventory_rules.specs.Held.{IsTied};
+ghost use Rattle.inventory_rules.specs.Transactions.{refused};
 ghost use Rattle.inventory_rules.specs.Valid.{is_valid};
-ghost use Rattle.inventory.specs.Legal.{refused};
 ghost use Rattle.inventory.specs.Meant.{meaning};
 ghost use Rattle.inventory.specs.Meaningful.{is_meaning};
 
@@ -81,7 +81,8 @@ impl Inventory {
         &self.tables
     }
 
-    /// Why a transaction with this change is refused, where it is. What a run's journal tells of versions and copies that are not as they
+    /// Why a transaction with this change is refused, where it is: as the rules say, which look at the database that it would leave. None is made to answer
+    /// it. What a run's journal tells of versions and copies that are not as they
     /// were named is asked of `past`. It takes no memory.
     pub fn refused<J: Past>(&self, past: &J, change: &Change) -> Option<Refusal>
         ensures { result ≡ refused (J.journal past.now) change.now self.now }

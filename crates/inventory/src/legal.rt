@@ -6,12 +6,14 @@ ghost use Rattle.inventory_rows.specs.State.{inv_of};
 ghost use Rattle.inventory_rules.specs.Held.{IsTied};
 ghost use Rattle.inventory_rules.specs.Common.{full_at};
 ghost use Rattle.inventory_rules.specs.Valid.{is_valid};
-ghost use Rattle.inventory.specs.Legal.{refused, sizes};
+ghost use Rattle.inventory_rules.specs.Transactions.{refused};
+ghost use Rattle.inventory.specs.Legal.{sizes, tested};
 
+use crate::made::is_day;
 use entries::Change;
 use inventory_fits::parts_fit;
 use inventory_refusals::refusal_of;
-use inventory_rows::Tables;
+use inventory_rows::{Tables, are_ascending};
 use inventory_sizes::has_item_room;
 use item_refusals::Past;
 use kinds::{Refusal, bad_value, sooner_of, unless};
@@ -36,10 +38,24 @@ fn sizes_refused(tables: &Tables, change: &Change, known: u128) -> Option<Refusa
     sooner_of(items, number_refused(tables))
 }
 
-/// Why a transaction with this change is refused, where it is: by the foremost of the causes, a database that would be too large among them,
-/// and behind them by `BadValue` where what it brings doesn't fit where it comes. The database holds no more than `most_items` items. Only where
-/// these leave no room for what comes are they counted. It takes no memory.
-#[tactic(auto, using(item_refusals::proofs::Foremost::foremost_append), unfolding(crate::specs::Legal::refused))]
+/// The foremost of the causes, a database that would be too large among them, and behind them `BadValue` where what the change brings doesn't fit
+/// where it comes.
+#[tactic(auto, using(item_refusals::proofs::Foremost::foremost_append), unfolding(crate::specs::Legal::tested))]
+fn tested<J: Past>(past: &J, tables: &Tables, change: &Change, most_items: u128) -> Option<Refusal>
+    requires valid { is_valid (inv_of tables.now) ≡ true }
+    requires tied { IsTied (inv_of tables.now) }
+    requires bound { count_items (inv_of tables.now) ≤ most_items }
+    ensures { result ≡ tested (J.journal past.now) change.now (inv_of tables.now) }
+{
+    let causes = refusal_of(past, tables, change);
+    match sooner_of(causes, sizes_refused(tables, change, most_items)) {
+        Some(refusal) => Some(refusal),
+        None => unless(parts_fit(tables, change), bad_value()),
+    }
+}
+
+/// Why a transaction with this change is refused, where it is. It is decided by tests of the database as it is. The database holds no more than
+/// `most_items` items. Only where these leave no room for what comes are they counted. It takes no memory.
 pub fn refused<J: Past>(
     past: &J,
     tables: &Tables,
@@ -51,9 +67,7 @@ pub fn refused<J: Past>(
     requires bound { count_items (inv_of tables.now) ≤ most_items }
     ensures { result ≡ refused (J.journal past.now) change.now (inv_of tables.now) }
 {
-    let causes = refusal_of(past, tables, change);
-    match sooner_of(causes, sizes_refused(tables, change, most_items)) {
-        Some(refusal) => Some(refusal),
-        None => unless(parts_fit(tables, change), bad_value()),
-    }
+    is_day(change);
+    are_ascending(tables);
+    tested(past, tables, change, most_items)
 }

@@ -3,12 +3,11 @@ ghost use Rattle.std.specs.Prelude.{◌≡◌, ◌≤◌, true, None, Ok, IfErr}
 ghost use Rattle.kinds.specs.Answers.{Becomes};
 ghost use Rattle.inventory_rows.specs.Items.{count_items};
 ghost use Rattle.inventory_rows.specs.State.{inv_of};
-ghost use Rattle.inventory_rules.specs.Transactions.{effect, IsDayOf};
+ghost use Rattle.inventory_rules.specs.Transactions.{effect, refused, IsDayOf};
 ghost use Rattle.inventory_rules.specs.Held.{IsTied};
 ghost use Rattle.inventory_rules.specs.Journal.{no_journal};
 ghost use Rattle.inventory_rules.specs.Valid.{is_valid};
 ghost use Rattle.inventory_rows.specs.Ascending.{AreAscending};
-ghost use Rattle.inventory.specs.Legal.{refused};
 
 use crate::bounds::or_counted;
 use entries::Change;
@@ -19,7 +18,7 @@ use kinds::Refusal;
 use std::alloc::Global;
 
 /// A day that a transaction brings is one of the calendar.
-fn is_day(change: &Change)
+pub(crate) fn is_day(change: &Change)
     ensures { IsDayOf change.now }
 {
     if let Change::Day { day } = change {

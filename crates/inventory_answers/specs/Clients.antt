@@ -3,6 +3,7 @@ use Rattle.std.specs.Prelude.{ℕ, suc, Bool, List, [], ◌∷◌, map, length, 
 use Rattle.std.specs.List.{flat_map, sum_by}
 use Rattle.kinds.specs.declared.refusal.Refusal.{Refusal}
 use Rattle.kinds.specs.declared.rule.RuleFound.{RuleFound}
+use Rattle.copy_groups.specs.Retention.{is_owed}
 use Rattle.inventory_rows.specs.version_groups.declared.group.Group.{Group}
 use Rattle.inventory_rows.specs.version_groups.declared.groups.Filespace.{Filespace}
 use Rattle.inventory_rows.specs.version_groups.declared.versions.Version.{Version}
@@ -19,7 +20,6 @@ use Rattle.inventory_answers.specs.declared.lines.FilespaceLine.{FilespaceLine}
 use Rattle.inventory_answers.specs.declared.lines.VersionLine.{VersionLine}
 use Rattle.inventory_answers.specs.Look.{name_of_node, node_asked, is_asked}
 use Rattle.inventory_work.specs.Lists.{only}
-use Rattle.inventory_work.specs.Owed.{is_owed}
 
 -- a client node
 abbrev pub node_line : ℕ × Node → NodeLine
@@ -80,7 +80,7 @@ version_line path class owed version = record {
 -- the version at this place of the group of a path
 abbrev pub version_line_at : Option RuleFound → ℕ → List ℕ → Group → ℕ → Version → VersionLine
 version_line_at rule today path group place version =
-    version_line path group.class (is_owed rule (has_active group.versions) today place version) version
+    version_line path group.class (is_owed rule (has_active group.versions) version.since today place) version
 
 -- a line for each of some rows, by the row's place
 abbrev pub lines_from : {A B : Type 0} → (ℕ → A → B) → ℕ → List A → List B

@@ -7,10 +7,11 @@ ghost use Rattle.inventory_answers.specs.Clients.{node_line, active_files, files
 
 use crate::lines::{FilespaceLine, NodeLine, VersionLine};
 use crate::look::{is_asked, name_of_node, node_asked, plus};
-use inventory_rows::Tables;
+use copy_groups::is_owed;
 use inventory_rows::object_rows::{Node, Objects};
 use inventory_rows::version_groups::{Filespace, Group, Version};
-use inventory_work::{Listed, is_owed, place_of, rule_in};
+use inventory_rows::{Tables, rule_in};
+use inventory_work::Listed;
 use kinds::{Day, FilespaceName, Name, NodeName, Path, Refusal, RuleFound};
 use std::alloc::Global;
 use std::collections::BTreeMap;
@@ -154,8 +155,13 @@ fn write_version(
 ) -> Result<(), Refusal>
     ensures { Writes result lines.old.items lines.new.items (version_line_at rule.now today path.now group.now place version.now ∷ []) }
 {
-    let place = place_of(place)?;
-    let owed = is_owed(rule, group.versions.has_active(), today, place, version);
+    let owed = is_owed(
+        rule,
+        group.versions.has_active(),
+        version.since,
+        today,
+        place,
+    );
     lines.push(version_line(path, &group.class, owed, version)?)?;
     Ok(())
 }

@@ -1,4 +1,5 @@
 pub mod Apart
+pub mod ClassNames
 pub mod Distinct
 pub mod Joined
 pub mod Lying

@@ -2,6 +2,7 @@
 #![tactic(auto)]
 
 mod backups;
+mod classes;
 mod clients;
 mod counts;
 mod days;

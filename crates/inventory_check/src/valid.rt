@@ -8,6 +8,7 @@ ghost use Rattle.inventory_rules.specs.Valid.{is_valid};
 ghost use Rattle.inventory_check.specs.Together.{agree, all_cited, together};
 
 use crate::backups::{are_by_today, are_past};
+use crate::classes::classes_are;
 use crate::clients::{filespaces_cite, groups_are_orderly, nodes_cite};
 use crate::counts::is_small;
 use crate::names::{are_named, are_numbered};
@@ -30,7 +31,7 @@ fn all_cited(tables: &Tables) -> bool
                 && (pools_cite(tables) && (volumes_cite(tables) && copies_cite(tables)))))
 }
 
-/// Whether defaults, groups, versions, volumes, the hierarchy of pools and the days are as they have to be.
+/// Whether defaults, groups, versions, volumes, the hierarchy of pools, the days and the device classes are as they have to be.
 fn agree(tables: &Tables) -> bool
     requires { IsTied (inv_of tables.now) }
     ensures { result ≡ agree (inv_of tables.now) }
@@ -38,7 +39,8 @@ fn agree(tables: &Tables) -> bool
     defaults_are_there(tables)
         && (groups_are_orderly(tables)
             && (versions_are_copied(tables)
-                && (volumes_are(tables) && (no_ring(tables) && are_by_today(tables)))))
+                && (volumes_are(tables)
+                    && (no_ring(tables) && (are_by_today(tables) && classes_are(tables))))))
 }
 
 fn together(tables: &Tables, numbered: bool, named: bool, small: bool) -> bool

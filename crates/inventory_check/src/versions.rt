@@ -4,16 +4,16 @@ ghost use Rattle.std.specs.Prelude.{◌≡◌, ◌==◌, length, filter, map, na
 ghost use Rattle.std.specs.List.{list_all, sum_by};
 ghost use Rattle.inventory_rows.specs.pool_tables.Rows.{row_at};
 ghost use Rattle.inventory_rows.specs.version_groups.Copies.{are_by_pool};
-ghost use Rattle.inventory_rows.specs.Search.{copies, is_primary, is_primary_kind, versions};
+ghost use Rattle.inventory_rows.specs.Search.{copies, is_primary, versions};
 ghost use Rattle.inventory_rows.specs.State.{inv_of};
 ghost use Rattle.inventory_rules.specs.Valid.{copies_cite, is_copied, is_of_pool, lie_in, versions_are_copied};
 ghost use Rattle.inventory_check.specs.Asked.{all_in_filespaces, all_in_groups, copy_cites, holds, is_by_today};
 
 use crate::days::{is_by, is_none_or_by};
-use inventory_rows::Tables;
 use inventory_rows::pool_rows::Pools;
 use inventory_rows::version_groups::{Copies, CopyRow, Filespace, Group, Version};
-use kinds::{Day, Path, PoolKind, Segment};
+use inventory_rows::{Tables, is_primary};
+use kinds::{Day, Path, Segment};
 use std::collections::BTreeMap;
 
 /// What is asked of each version.
@@ -69,25 +69,6 @@ fn is_by_today(version: &Version, today: Day) -> bool
     ensures { result ≡ is_by_today today version.now }
 {
     is_by(version.stored, today) && is_none_or_by(version.since, today)
-}
-
-fn is_primary_kind(kind: PoolKind) -> bool
-    ensures { result ≡ is_primary_kind kind }
-{
-    match kind {
-        PoolKind::Primary => true,
-        PoolKind::Copy => false,
-    }
-}
-
-/// Whether the pool is there and a primary one.
-pub(crate) fn is_primary(tables: &Tables, pool: u32) -> bool
-    ensures { result ≡ is_primary pool (inv_of tables.now) }
-{
-    match tables.pools.pools().get(&pool) {
-        Some(pool) => is_primary_kind(pool.kind),
-        None => false,
-    }
 }
 
 /// How many of the copies lie in primary pools.

@@ -6,13 +6,12 @@ ghost use Rattle.inventory_rows.specs.volume_rows.Holdings.{is_bare};
 ghost use Rattle.inventory_rows.specs.Search.{segments_on};
 ghost use Rattle.inventory_rows.specs.State.{inv_of};
 ghost use Rattle.inventory_rules.specs.Held.{IsTied, holding};
-ghost use Rattle.inventory_rules.specs.Valid.{is_format_size, is_sized, is_volume, may_have, volumes_are};
+ghost use Rattle.inventory_rules.specs.Valid.{is_sized, is_volume, volumes_are};
 ghost use Rattle.inventory_check.specs.Laid.{are_laid, emptied_by, fits_below, high_held, is_behind, limit_of, low_held, row_agrees};
 
-use crate::versions::is_primary;
-use inventory_rows::Tables;
 use inventory_rows::volume_rows::{HeldSegment, Volume};
-use kinds::Access;
+use inventory_rows::{Tables, is_primary};
+use inventory_rules::{is_format_size, may_have};
 use std::collections::BTreeMap;
 
 /// Where the segment's frame ends, in bytes.
@@ -77,12 +76,6 @@ fn limit_of(sequential: bool, volume: &Volume) -> u64
     }
 }
 
-fn is_format_size(bytes: u64) -> bool
-    ensures { result ≡ is_format_size bytes }
-{
-    bytes % (1 << 20) == 0 && (1 << 20 <= bytes && bytes <= 65536 << 20)
-}
-
 fn is_sized(tables: &Tables, sequential: bool, volume: &Volume) -> bool
     ensures { result ≡ is_sized sequential (inv_of tables.now) volume.now }
 {
@@ -94,18 +87,6 @@ fn is_sized(tables: &Tables, sequential: bool, volume: &Volume) -> bool
         }
     } else {
         is_format_size(bytes) && (volume.end == 0 && !volume.scratch)
-    }
-}
-
-fn may_have(access: Access, primary: bool) -> bool
-    ensures { result ≡ may_have access primary }
-{
-    match access {
-        Access::ReadWrite => true,
-        Access::ReadOnly => true,
-        Access::Unavailable => true,
-        Access::Offsite => !primary,
-        Access::Destroyed => primary,
     }
 }
 

@@ -1,6 +1,6 @@
 -- Of the segments that a volume's row holds, in their order, each ends before the next begins; so a new one is clear of all where it is clear
 -- of its neighbours.
-use Rattle.std.proofs.Common.{◌≡◌, ℕ, ◌≤◌, Bool, true, false, not, ◌&&◌, nat_le, List, [], ◌∷◌, ◌++◌, refl, sym, ap, ◌∙◌, arith}
+use Rattle.std.proofs.Common.{◌≡◌, ℕ, ◌≤◌, Bool, true, false, not, ◌&&◌, ◌||◌, nat_le, List, [], ◌∷◌, ◌++◌, refl, sym, ap, ◌∙◌, arith}
 use Rattle.std.proofs.lemmas.Bool.{leb-true, le-leb}
 use Rattle.std.proofs.lemmas.List.Folds.{list_all-append}
 use Rattle.std.proofs.lemmas.Map.Keys.{sorted_head, sorted_tail}
@@ -12,14 +12,15 @@ use Rattle.std.specs.Ordering.{nat_cmp, ordering_then, is_le}
 use Rattle.std.specs.declared.cmp.Ordering.TheVariants.{Less, Equal, Greater}
 use Rattle.std.specs.declared.ops.Bound.TheVariants.{Included, Excluded, Unbounded}
 use Rattle.kinds.specs.declared.segment.Segment.{Segment}
+use Rattle.entries.specs.change_items.declared.items.MovedCopy.{MovedCopy}
 use Rattle.inventory_rows.specs.version_groups.Entries.{all_later}
 use Rattle.inventory_rows.specs.volume_rows.declared.held.HeldSegment.{HeldSegment}
 use Rattle.inventory_rows.specs.volume_rows.Held.{held_cmp}
 use Rattle.inventory_rules.specs.Valid.{high_of, low_of}
-use Rattle.inventory_rules.specs.Segments.{are_clear}
+use Rattle.inventory_rules.specs.Segments.{are_clear, leaves}
 use Rattle.inventory_laws.proofs.Facts.{first, rest, both}
-use Rattle.inventory_fits.specs.Frames.{frame_of, is_clear, are_held_apart, start_of}
-use Rattle.inventory_fits.proofs.Clear.{first_ends, clear_before, clear_behind}
+use Rattle.inventory_fits.specs.Frames.{frame_of, is_clear, is_clear_after, are_held_apart, start_of}
+use Rattle.inventory_fits.proofs.Clear.{either_second, first_ends, clear_before, clear_behind}
 use Rattle.inventory_fits.proofs.Lists.{all_weaker, later_kept, kept_pass, in_two_parts, related_to_last}
 
 less_below : (a b : ℕ) → nat_cmp a b ≡ Less → a ≤ b
@@ -92,43 +93,72 @@ above_pass k held =
     kept_pass (starts_from k.offset) (λ e. is_le (held_cmp k e.0) && true)
     (λ e h. le-leb k.offset e.0.offset (ordered_below k e.0 (sym (and_true (is_le (held_cmp k e.0))) ∙ h))) held
 
+-- whether one that is held stays clear or leaves
+abbrev let_off : List MovedCopy → ℕ → Bool → Segment → HeldSegment × ℕ → Bool
+let_off moved number q s e = leaves moved number e.0.object || are_clear q s (frame_of e.0)
+
+clear_let_off : (moved : List MovedCopy) (number : ℕ) (q : Bool) (s : Segment) (e : HeldSegment × ℕ) → are_clear q s (frame_of e.0) ≡ true → let_off moved number q s e ≡ true
+clear_let_off moved number q s e h = either_second (leaves moved number e.0.object) (are_clear q s (frame_of e.0)) h
+
 -- of those that begin before a segment, only the last matters to it
-pub last_decides : (q : Bool) (s : Segment) (k : HeldSegment) (held before : List (HeldSegment × ℕ)) (e : HeldSegment × ℕ) → k ≡ start_of s → IsStrictlySortedBy held_cmp (keys_of held) → are_held_apart q held ≡ true
-    → entries_between held_cmp Unbounded (Excluded k) held ≡ before ++ e ∷ [] → are_clear q s (frame_of e.0) ≡ is_clear q s (entries_between held_cmp Unbounded (Excluded k) held)
-last_decides q s k held before e start sorted apart is =
+pub last_decides : (moved : List MovedCopy) (number : ℕ) (q : Bool) (s : Segment) (k : HeldSegment) (held before : List (HeldSegment × ℕ)) (e : HeldSegment × ℕ) → k ≡ start_of s → IsStrictlySortedBy held_cmp (keys_of held) → are_held_apart q held ≡ true
+    → entries_between held_cmp Unbounded (Excluded k) held ≡ before ++ e ∷ [] → let_off moved number q s e ≡ is_clear_after moved number q s (entries_between held_cmp Unbounded (Excluded k) held)
+last_decides moved number q s k held before e start sorted apart is =
     let ahead : all_later (is_ahead q) (before ++ e ∷ []) ≡ true = sym (ap (all_later (is_ahead q)) is) ∙ later_kept (is_ahead q) (λ e. not (is_le (held_cmp k e.0))) held (all_ahead q held sorted apart) in
     let by : list_all (starts_by k.offset) (before ++ e ∷ []) ≡ true = sym (ap (list_all (starts_by k.offset)) is) ∙ below_pass k held in
     let last : list_all (starts_by k.offset) (e ∷ []) ≡ true = rest (list_all (starts_by k.offset) before) (list_all (starts_by k.offset) (e ∷ [])) (sym (list_all-append (starts_by k.offset) before (e ∷ [])) ∙ by) in
     let same : k.offset ≡ s.offset = ap (λ (h : HeldSegment). h.offset) start in
     let until : e.0.offset ≤ k.offset = leb-true e.0.offset k.offset (first (starts_by k.offset e) true last) in
     let low : e.0.offset ≤ s.offset = omega (arith, until, same) in
-    let clear : is_clear q s before ≡ true = all_weaker (λ x. is_ahead q x e) (λ x. are_clear q s (frame_of x.0)) (λ x h. clear_before q s (frame_of x.0) (frame_of e.0) h low) before (related_to_last (is_ahead q) before e ahead) in
-    sym (ap (is_clear q s) is ∙ list_all-append (λ x. are_clear q s (frame_of x.0)) before (e ∷ []) ∙ ap (λ b. b && (are_clear q s (frame_of e.0) && true)) clear ∙ and_true (are_clear q s (frame_of e.0)))
+    let clear : is_clear_after moved number q s before ≡ true = all_weaker (λ x. is_ahead q x e) (let_off moved number q s) (λ x h. clear_let_off moved number q s x (clear_before q s (frame_of x.0) (frame_of e.0) h low)) before (related_to_last (is_ahead q) before e ahead) in
+    sym (ap (is_clear_after moved number q s) is ∙ list_all-append (let_off moved number q s) before (e ∷ []) ∙ ap (λ b. b && (let_off moved number q s e && true)) clear ∙ and_true (let_off moved number q s e))
 
--- of those that begin where a segment does or behind, only the first matters to it
-pub first_decides : (q : Bool) (s : Segment) (k : HeldSegment) (held behind : List (HeldSegment × ℕ)) (e : HeldSegment × ℕ) → k ≡ start_of s → IsStrictlySortedBy held_cmp (keys_of held) → are_held_apart q held ≡ true
-    → entries_between held_cmp (Included k) Unbounded held ≡ e ∷ behind → are_clear q s (frame_of e.0) ≡ is_clear q s (entries_between held_cmp (Included k) Unbounded held)
-first_decides q s k held behind e start sorted apart is =
-    let ahead : all_later (is_ahead q) (e ∷ behind) ≡ true = sym (ap (all_later (is_ahead q)) is) ∙ later_kept (is_ahead q) (λ e. is_le (held_cmp k e.0) && true) held (all_ahead q held sorted apart) in
-    let from : list_all (starts_from k.offset) (e ∷ behind) ≡ true = sym (ap (list_all (starts_from k.offset)) is) ∙ above_pass k held in
-    let same : k.offset ≡ s.offset = ap (λ (h : HeldSegment). h.offset) start in
-    let since : k.offset ≤ e.0.offset = leb-true k.offset e.0.offset (first (starts_from k.offset e) (list_all (starts_from k.offset) behind) from) in
-    let high : s.offset ≤ e.0.offset = omega (arith, since, same) in
-    let others : list_all (is_ahead q e) behind ≡ true = first (list_all (is_ahead q e) behind) (all_later (is_ahead q) behind) ahead in
-    sym (ap (is_clear q s) is ∙ only (are_clear q s (frame_of e.0)) (is_clear q s behind) (λ h. all_weaker (is_ahead q e) (λ x. are_clear q s (frame_of x.0)) (λ x l. clear_behind q s (frame_of e.0) (frame_of x.0) h high l) behind others))
+-- those that begin where a segment does or behind, of which some have been passed: those that are left decide, each ends before the next begins,
+-- and none begins before the segment
+pub record AreLeft (moved : List MovedCopy) (number : ℕ) (q : Bool) (s : Segment) (whole left : List (HeldSegment × ℕ)) : Type 0 where
+  pub same : is_clear_after moved number q s whole ≡ is_clear_after moved number q s left
+  pub ahead : all_later (is_ahead q) left ≡ true
+  pub from : list_all (starts_from s.offset) left ≡ true
+
+pub all_left : (moved : List MovedCopy) (number : ℕ) (q : Bool) (s : Segment) (k : HeldSegment) (held left : List (HeldSegment × ℕ)) → k ≡ start_of s → IsStrictlySortedBy held_cmp (keys_of held) → are_held_apart q held ≡ true
+    → left ≡ entries_between held_cmp (Included k) Unbounded held → AreLeft moved number q s (entries_between held_cmp (Included k) Unbounded held) left
+all_left moved number q s k held left start sorted apart is = record {
+  same = ap (is_clear_after moved number q s) (sym is);
+  ahead = ap (all_later (is_ahead q)) is ∙ later_kept (is_ahead q) (λ e. is_le (held_cmp k e.0) && true) held (all_ahead q held sorted apart);
+  from = ap (list_all (starts_from s.offset)) is ∙ ap (λ (h : HeldSegment). list_all (starts_from h.offset) (entries_between held_cmp (Included k) Unbounded held)) (sym start) ∙ above_pass k held;
+}
+
+-- one that leaves is passed
+pub one_passed : (moved : List MovedCopy) (number : ℕ) (q : Bool) (s : Segment) (whole behind : List (HeldSegment × ℕ)) (e : HeldSegment × ℕ) → AreLeft moved number q s whole (e ∷ behind) → leaves moved number e.0.object ≡ true → AreLeft moved number q s whole behind
+one_passed moved number q s whole behind e a leaving = record {
+  same = a.same ∙ ap (λ b. (b || are_clear q s (frame_of e.0)) && is_clear_after moved number q s behind) leaving;
+  ahead = rest (list_all (is_ahead q e) behind) (all_later (is_ahead q) behind) a.ahead;
+  from = rest (starts_from s.offset e) (list_all (starts_from s.offset) behind) a.from;
+}
+
+-- the first that stays decides
+pub first_decides : (moved : List MovedCopy) (number : ℕ) (q : Bool) (s : Segment) (whole behind : List (HeldSegment × ℕ)) (e : HeldSegment × ℕ) → AreLeft moved number q s whole (e ∷ behind) → leaves moved number e.0.object ≡ false
+    → are_clear q s (frame_of e.0) ≡ is_clear_after moved number q s whole
+first_decides moved number q s whole behind e a stays =
+    let high : s.offset ≤ e.0.offset = leb-true s.offset e.0.offset (first (starts_from s.offset e) (list_all (starts_from s.offset) behind) a.from) in
+    let others : list_all (is_ahead q e) behind ≡ true = first (list_all (is_ahead q e) behind) (all_later (is_ahead q) behind) a.ahead in
+    sym (a.same ∙ ap (λ b. (b || are_clear q s (frame_of e.0)) && is_clear_after moved number q s behind) stays
+    ∙ only (are_clear q s (frame_of e.0)) (is_clear_after moved number q s behind)
+    (λ h. all_weaker (is_ahead q e) (let_off moved number q s) (λ x l. clear_let_off moved number q s x (clear_behind q s (frame_of e.0) (frame_of x.0) h high l)) behind others))
   where
     only : (a b : Bool) → (a ≡ true → b ≡ true) → (a && b) ≡ a
     only true b h = h refl
     only false b h = refl
 
 -- those before and those from a segment on are all
-pub all_sides : (q : Bool) (s : Segment) (k : HeldSegment) (held : List (HeldSegment × ℕ)) → (is_clear q s (entries_between held_cmp Unbounded (Excluded k) held) && is_clear q s (entries_between held_cmp (Included k) Unbounded held)) ≡ is_clear q s held
-all_sides q s k held =
-    in_two_parts (λ e. are_clear q s (frame_of e.0)) (λ e. not (is_le (held_cmp k e.0))) (λ e. is_le (held_cmp k e.0) && true) (λ e. sym (ap not (and_true (is_le (held_cmp k e.0))))) held
+pub all_sides : (moved : List MovedCopy) (number : ℕ) (q : Bool) (s : Segment) (k : HeldSegment) (held : List (HeldSegment × ℕ)) → (is_clear_after moved number q s (entries_between held_cmp Unbounded (Excluded k) held) && is_clear_after moved number q s (entries_between held_cmp (Included k) Unbounded held)) ≡ is_clear_after moved number q s held
+all_sides moved number q s k held =
+    in_two_parts (let_off moved number q s) (λ e. not (is_le (held_cmp k e.0))) (λ e. is_le (held_cmp k e.0) && true) (λ e. sym (ap not (and_true (is_le (held_cmp k e.0))))) held
 
 -- where those before are clear, those from a segment on decide; and where they aren't, not all are
-pub then_above : (q : Bool) (s : Segment) (k : HeldSegment) (held : List (HeldSegment × ℕ)) (a b : Bool) → a ≡ is_clear q s (entries_between held_cmp Unbounded (Excluded k) held) → a ≡ true → b ≡ is_clear q s (entries_between held_cmp (Included k) Unbounded held) → b ≡ is_clear q s held
-then_above q s k held a b below clear above = above ∙ ap (λ t. t && is_clear q s (entries_between held_cmp (Included k) Unbounded held)) (sym (sym below ∙ clear)) ∙ all_sides q s k held
+pub then_above : (moved : List MovedCopy) (number : ℕ) (q : Bool) (s : Segment) (k : HeldSegment) (held : List (HeldSegment × ℕ)) (a b : Bool) → a ≡ is_clear_after moved number q s (entries_between held_cmp Unbounded (Excluded k) held) → a ≡ true → b ≡ is_clear_after moved number q s (entries_between held_cmp (Included k) Unbounded held)
+    → b ≡ is_clear_after moved number q s held
+then_above moved number q s k held a b below clear above = above ∙ ap (λ t. t && is_clear_after moved number q s (entries_between held_cmp (Included k) Unbounded held)) (sym (sym below ∙ clear)) ∙ all_sides moved number q s k held
 
-pub not_below : (q : Bool) (s : Segment) (k : HeldSegment) (held : List (HeldSegment × ℕ)) (a : Bool) → a ≡ is_clear q s (entries_between held_cmp Unbounded (Excluded k) held) → a ≡ false → a ≡ is_clear q s held
-not_below q s k held a below over = over ∙ ap (λ t. t && is_clear q s (entries_between held_cmp (Included k) Unbounded held)) (sym (sym below ∙ over)) ∙ all_sides q s k held
+pub not_below : (moved : List MovedCopy) (number : ℕ) (q : Bool) (s : Segment) (k : HeldSegment) (held : List (HeldSegment × ℕ)) (a : Bool) → a ≡ is_clear_after moved number q s (entries_between held_cmp Unbounded (Excluded k) held) → a ≡ false → a ≡ is_clear_after moved number q s held
+not_below moved number q s k held a below over = over ∙ ap (λ t. t && is_clear_after moved number q s (entries_between held_cmp (Included k) Unbounded held)) (sym (sym below ∙ over)) ∙ all_sides moved number q s k held

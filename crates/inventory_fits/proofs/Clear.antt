@@ -5,7 +5,7 @@ use Rattle.kinds.specs.declared.segment.Segment.{Segment}
 use Rattle.inventory_rules.specs.Valid.{high_of, low_of}
 use Rattle.inventory_rules.specs.Segments.{are_clear}
 
-either_second : (a b : Bool) → b ≡ true → (a || b) ≡ true
+pub either_second : (a b : Bool) → b ≡ true → (a || b) ≡ true
 either_second true b h = refl
 either_second false b h = h
 

@@ -1,16 +1,15 @@
 -- The tests of items, once the scratch volumes are made and before.
-use Rattle.std.proofs.Common.{◌≡◌, ℕ, eqb, Bool, true, false, cond, ◌&&◌, ◌||◌, not, nat_le, List, [], ◌∷◌, filter, Option, Some, None, refl, sym, ap, ◌∙◌}
+use Rattle.std.proofs.Common.{◌≡◌, ℕ, eqb, Bool, true, false, cond, ◌&&◌, ◌||◌, not, List, [], ◌∷◌, filter, Option, Some, None, refl, sym, ap, ◌∙◌}
 use Rattle.std.specs.List.{list_all, list_any}
 use Rattle.std.specs.Option.{option_map_or}
 use Rattle.entries.specs.change_items.declared.items.MovedCopy.{MovedCopy}
 use Rattle.entries.specs.change_items.declared.items.NewCopy.{NewCopy}
-use Rattle.entries.specs.change_items.declared.items.NewVersion.{NewVersion}
 use Rattle.entries.specs.change_items.declared.items.ScratchVolume.{ScratchVolume}
 use Rattle.inventory_rows.specs.version_groups.declared.copies.CopyRow.{CopyRow}
 use Rattle.inventory_rows.specs.version_groups.declared.versions.Version.{Version}
 use Rattle.inventory_rows.specs.version_groups.Copies.{has_copy, without_copy}
 use Rattle.inventory_rows.specs.version_groups.Entries.{is_nil}
-use Rattle.inventory_rows.specs.version_groups.Versions.{has_object, version_of}
+use Rattle.inventory_rows.specs.version_groups.Versions.{version_of}
 use Rattle.inventory_rows.specs.object_rows.Filespaces.{versions_of}
 use Rattle.inventory_rows.specs.object_rows.Rows.{Rows}
 use Rattle.inventory_rows.specs.pool_tables.declared.pool.Pool.{Pool}
@@ -19,9 +18,8 @@ use Rattle.inventory_rows.specs.Search.{is_primary, is_primary_kind, version, ve
 use Rattle.inventory_rows.specs.State.{Inv}
 use Rattle.inventory_rules.specs.Valid.{primary_copies}
 use Rattle.inventory_rules.specs.Copies.{added_fits, new_copy_fits, replaced_fits, moved_copy_fits}
-use Rattle.inventory_rules.specs.Segments.{copy_fits}
-use Rattle.inventory_rules.specs.Versions.{is_new_object, new_version_fits}
-use Rattle.inventory_fits.specs.Fitting.{has_primary, has_other, are_primary_in, copy_fits_at, new_version_fits_at, added_fits_at, new_copy_fits_at, replaced_fits_at, moved_copy_fits_at}
+use Rattle.inventory_rules.specs.Segments.{copy_fits, copy_fits_after}
+use Rattle.inventory_fits.specs.Fitting.{has_primary, has_other, are_primary_in, added_fits_at, new_copy_fits_at, replaced_fits_at, moved_copy_fits_at}
 use Rattle.inventory_fits.specs.Targets.{made}
 use Rattle.inventory_fits.proofs.Made.{same_clients, same_pools}
 use Rattle.inventory_fits.proofs.Seen.{copy_seen}
@@ -51,29 +49,21 @@ primary_copies_stay scratch v w = ap (λ pools. filter (λ (c : CopyRow). is_pri
 versions_stay : (scratch : List ScratchVolume) (v : Inv) → versions (made scratch v) ≡ versions v
 versions_stay scratch v = ap (λ (rows : Rows). versions_of rows.filespaces) (same_clients scratch v)
 
-abbrev is_new_in : ℕ → List Version → Bool
-is_new_in object ws = nat_le 1 object && not (has_object object ws)
-
-pub version_seen : (scratch : List ScratchVolume) (v : Inv) (item : NewVersion) → new_version_fits_at scratch v item ≡ new_version_fits (made scratch v) item
-version_seen scratch v item =
-    ap (λ ws. is_new_in item.object ws && copy_fits_at scratch v item.pool item.size item.segments) (sym (versions_stay scratch v))
-    ∙ ap (λ b. is_new_object (made scratch v) item.object && b) (copy_seen scratch v item.pool item.size item.segments)
-
 added_seen : (scratch : List ScratchVolume) (v : Inv) (item : NewCopy) (w : Version) → added_fits_at scratch v item w ≡ added_fits (made scratch v) item w
 added_seen scratch v item w =
     let fits : Bool = copy_fits (made scratch v) item.pool w.size item.segments in
-    ap (λ b. b && (not (is_primary item.pool v) || not (has_primary v w.copies))) (copy_seen scratch v item.pool w.size item.segments)
+    ap (λ b. b && (not (is_primary item.pool v) || not (has_primary v w.copies))) (copy_seen [] scratch v item.pool w.size item.segments)
     ∙ sym (
     ap (λ b. fits && (not b || is_nil (primary_copies (made scratch v) w))) (primary_stays item.pool scratch v)
     ∙ ap (λ cs. fits && (not (is_primary item.pool v) || is_nil cs)) (primary_copies_stay scratch v w)
     ∙ ap (λ b. fits && (not (is_primary item.pool v) || b)) (none_kept (λ (c : CopyRow). is_primary c.pool v) w.copies)
     )
 
-replaced_seen : (scratch : List ScratchVolume) (v : Inv) (item : MovedCopy) (w : Version) → replaced_fits_at scratch v item w ≡ replaced_fits (made scratch v) item w
-replaced_seen scratch v item w =
-    let fits : Bool = copy_fits (made scratch v) item.pool w.size item.segments in
+replaced_seen : (moved : List MovedCopy) (scratch : List ScratchVolume) (v : Inv) (item : MovedCopy) (w : Version) → replaced_fits_at moved scratch v item w ≡ replaced_fits moved (made scratch v) item w
+replaced_seen moved scratch v item w =
+    let fits : Bool = copy_fits_after moved (made scratch v) item.pool w.size item.segments in
     let other : Bool = has_copy item.pool (without_copy item.from w.copies) in
-    ap (λ b. b && (not (has_other item.from item.pool w.copies) && (not (is_primary item.pool v) || are_primary_in v item.from w.copies))) (copy_seen scratch v item.pool w.size item.segments)
+    ap (λ b. b && (not (has_other item.from item.pool w.copies) && (not (is_primary item.pool v) || are_primary_in v item.from w.copies))) (copy_seen moved scratch v item.pool w.size item.segments)
     ∙ sym (
     ap (λ b. fits && (not other && (not b || list_all (λ (c : CopyRow). eqb c.pool item.from) (primary_copies (made scratch v) w)))) (primary_stays item.pool scratch v)
     ∙ ap (λ cs. fits && (not other && (not (is_primary item.pool v) || list_all (λ (c : CopyRow). eqb c.pool item.from) cs))) (primary_copies_stay scratch v w)
@@ -90,7 +80,7 @@ new_copy_seen scratch v item =
     ap (λ ws. option_map_or (λ w. added_fits_at scratch v item w) (version_of item.object ws) false) (sym (versions_stay scratch v))
     ∙ same_found (added_fits_at scratch v item) (added_fits (made scratch v) item) (added_seen scratch v item) (version item.object (made scratch v))
 
-pub moved_copy_seen : (scratch : List ScratchVolume) (v : Inv) (item : MovedCopy) → moved_copy_fits_at scratch v item ≡ moved_copy_fits (made scratch v) item
-moved_copy_seen scratch v item =
-    ap (λ ws. option_map_or (λ w. replaced_fits_at scratch v item w) (version_of item.object ws) false) (sym (versions_stay scratch v))
-    ∙ same_found (replaced_fits_at scratch v item) (replaced_fits (made scratch v) item) (replaced_seen scratch v item) (version item.object (made scratch v))
+pub moved_copy_seen : (moved : List MovedCopy) (scratch : List ScratchVolume) (v : Inv) (item : MovedCopy) → moved_copy_fits_at moved scratch v item ≡ moved_copy_fits moved (made scratch v) item
+moved_copy_seen moved scratch v item =
+    ap (λ ws. option_map_or (λ w. replaced_fits_at moved scratch v item w) (version_of item.object ws) false) (sym (versions_stay scratch v))
+    ∙ same_found (replaced_fits_at moved scratch v item) (replaced_fits moved (made scratch v) item) (replaced_seen moved scratch v item) (version item.object (made scratch v))

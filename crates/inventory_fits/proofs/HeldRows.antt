@@ -7,6 +7,7 @@ use Rattle.std.specs.Ordering.{match_ordering, is_eq}
 use Rattle.std.specs.declared.cmp.Ordering.{Ordering}
 use Rattle.std.specs.declared.cmp.Ordering.TheVariants.{Less, Equal, Greater}
 use Rattle.kinds.specs.declared.segment.Segment.{Segment}
+use Rattle.entries.specs.change_items.declared.items.MovedCopy.{MovedCopy}
 use Rattle.inventory_rows.specs.version_groups.Entries.{all_later}
 use Rattle.inventory_rows.specs.volume_rows.declared.held.HeldSegment.{HeldSegment}
 use Rattle.inventory_rows.specs.volume_rows.Held.{held_of, held_cmp}
@@ -14,9 +15,9 @@ use Rattle.inventory_rows.specs.volume_rows.Holdings.{repeats_of, raised, with_s
 use Rattle.inventory_rows.proofs.of_volume_rows.Segments.{held_same}
 use Rattle.inventory_rules.specs.Held.{holding}
 use Rattle.inventory_rules.specs.Valid.{high_of, low_of, are_disjoint}
-use Rattle.inventory_rules.specs.Segments.{are_clear}
+use Rattle.inventory_rules.specs.Segments.{are_clear, leaves}
 use Rattle.inventory_laws.proofs.Facts.{first, rest, both}
-use Rattle.inventory_fits.specs.Frames.{frame_of, is_clear, are_held_apart}
+use Rattle.inventory_fits.specs.Frames.{frame_of, is_clear_after, are_held_apart}
 
 swapped : (a b c : Bool) → (a && (b && c)) ≡ (b && (a && c))
 swapped true b c = refl
@@ -121,5 +122,5 @@ held_are_apart q held segments is apart =
     ap (are_held_apart q) is ∙ holding_apart (λ a b. are_clear q (frame_of a) (frame_of b)) (λ a b. clear_flips q (frame_of a) (frame_of b)) segments apart
 
 -- a segment is clear of those on a volume where it is clear of those that the row holds
-pub clear_of_held : (q : Bool) (s : Segment) (held : List (HeldSegment × ℕ)) (segments : List (ℕ × Segment)) → held ≡ holding segments → is_clear q s held ≡ list_all (λ e. are_clear q s e.1) segments
-clear_of_held q s held segments is = ap (is_clear q s) is ∙ holding_passes (λ h. are_clear q s (frame_of h)) segments
+pub clear_of_held : (moved : List MovedCopy) (number : ℕ) (q : Bool) (s : Segment) (held : List (HeldSegment × ℕ)) (segments : List (ℕ × Segment)) → held ≡ holding segments → is_clear_after moved number q s held ≡ list_all (λ e. leaves moved number e.0 || are_clear q s e.1) segments
+clear_of_held moved number q s held segments is = ap (is_clear_after moved number q s) is ∙ holding_passes (λ h. leaves moved number h.object || are_clear q s (frame_of h)) segments

@@ -1,11 +1,12 @@
 -- How segments lie on the volumes of a valid database, whose rows hold those of the copies.
-use Rattle.std.proofs.Common.{◌≡◌, ℕ, eqb, Bool, true, false, cond, ◌&&◌, List, [], ◌∷◌, ◌++◌, map, filter, is_some, Some, None, refl, sym, ap, subst, ◌∙◌}
+use Rattle.std.proofs.Common.{◌≡◌, ℕ, eqb, Bool, true, false, cond, ◌&&◌, ◌||◌, List, [], ◌∷◌, ◌++◌, map, filter, is_some, Some, None, refl, sym, ap, subst, ◌∙◌}
 use Rattle.std.proofs.lemmas.Bool.{eqb-true}
 use Rattle.std.specs.List.{AllByRecursion, list_all, flat_map}
 use Rattle.std.specs.BTreeMap.{is_at}
 use Rattle.std.specs.Ordering.{nat_cmp}
 use Rattle.std.proofs.lemmas.Option.{same_Some}
 use Rattle.kinds.specs.declared.segment.Segment.{Segment}
+use Rattle.entries.specs.change_items.declared.items.MovedCopy.{MovedCopy}
 use Rattle.inventory_rows.specs.version_groups.declared.copies.CopyRow.{CopyRow}
 use Rattle.inventory_rows.specs.volume_rows.declared.volume.Volume.{Volume}
 use Rattle.inventory_rows.proofs.of_object_rows.Stands.{at-eqb}
@@ -17,8 +18,8 @@ use Rattle.inventory_rules.specs.Held.{holding, IsTied}
 use Rattle.inventory_rules.specs.Valid.{is_valid, is_volume, is_sized, may_have, is_placed, is_emptied_rightly, are_disjoint, is_of_pool}
 use Rattle.std.specs.Option.{option_map_or}
 use Rattle.inventory_laws.proofs.Facts.{facts_of, first, rest}
-use Rattle.inventory_rules.specs.Segments.{are_clear}
-use Rattle.inventory_fits.specs.Frames.{is_clear, are_held_apart}
+use Rattle.inventory_rules.specs.Segments.{are_clear, leaves}
+use Rattle.inventory_fits.specs.Frames.{is_clear_after, are_held_apart}
 use Rattle.inventory_fits.specs.Lying.{Lying}
 use Rattle.inventory_fits.proofs.HeldRows.{held_are_apart, clear_of_held}
 
@@ -80,12 +81,12 @@ lying v valid tied =
     }
 
 -- nothing lies on a volume that isn't there
-pub none_on_row : (v : Inv) → Lying v → (q : Bool) (s : Segment) → row_at s.file v.stores.volumes ≡ None → true ≡ list_all (λ e. are_clear q s e.1) (segments_on s.file v)
-none_on_row v lies q s gone = sym (ap (λ (there : List (ℕ × Segment)). list_all (λ e. are_clear q s e.1) there) (lies.bare s.file gone))
+pub none_on_row : (moved : List MovedCopy) (number : ℕ) (v : Inv) → Lying v → (q : Bool) (s : Segment) → row_at s.file v.stores.volumes ≡ None → true ≡ list_all (λ e. leaves moved number e.0 || are_clear q s e.1) (segments_on s.file v)
+none_on_row moved number v lies q s gone = sym (ap (λ (there : List (ℕ × Segment)). list_all (λ e. leaves moved number e.0 || are_clear q s e.1) there) (lies.bare s.file gone))
 
 -- a segment is clear of what lies on a volume where it is clear of what the row holds
-pub clear_on_row : (v : Inv) → Lying v → (q : Bool) (s : Segment) (volume : Volume) (b : Bool) → row_at s.file v.stores.volumes ≡ Some volume → b ≡ is_clear q s volume.segments → b ≡ list_all (λ e. are_clear q s e.1) (segments_on s.file v)
-clear_on_row v lies q s volume b there h = h ∙ clear_of_held q s volume.segments (segments_on s.file v) (lies.held s.file volume there)
+pub clear_on_row : (moved : List MovedCopy) (number : ℕ) (v : Inv) → Lying v → (q : Bool) (s : Segment) (volume : Volume) (b : Bool) → row_at s.file v.stores.volumes ≡ Some volume → b ≡ is_clear_after moved number q s volume.segments → b ≡ list_all (λ e. leaves moved number e.0 || are_clear q s e.1) (segments_on s.file v)
+clear_on_row moved number v lies q s volume b there h = h ∙ clear_of_held moved number q s volume.segments (segments_on s.file v) (lies.held s.file volume there)
 
 -- what the row holds is clear of one another
 pub apart_on_row : (v : Inv) → Lying v → (file : ℕ) (volume : Volume) → row_at file v.stores.volumes ≡ Some volume → are_held_apart (is_sequential volume.pool v.stores) volume.segments ≡ true

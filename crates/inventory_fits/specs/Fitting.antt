@@ -5,15 +5,13 @@ use Rattle.std.specs.Option.{option_map_or}
 use Rattle.kinds.specs.declared.segment.Segment.{Segment}
 use Rattle.entries.specs.change_items.declared.items.MovedCopy.{MovedCopy}
 use Rattle.entries.specs.change_items.declared.items.NewCopy.{NewCopy}
-use Rattle.entries.specs.change_items.declared.items.NewVersion.{NewVersion}
 use Rattle.entries.specs.change_items.declared.items.ScratchVolume.{ScratchVolume}
 use Rattle.inventory_rows.specs.version_groups.declared.copies.CopyRow.{CopyRow}
 use Rattle.inventory_rows.specs.version_groups.declared.versions.Version.{Version}
 use Rattle.inventory_rows.specs.pool_rows.PoolRows.{is_sequential, is_sequential_at}
 use Rattle.inventory_rows.specs.Search.{is_primary, pool, segments_on, version}
 use Rattle.inventory_rows.specs.State.{Inv}
-use Rattle.inventory_rules.specs.Segments.{are_clear}
-use Rattle.inventory_rules.specs.Versions.{is_new_object}
+use Rattle.inventory_rules.specs.Segments.{are_clear, leaves}
 use Rattle.inventory_fits.specs.Sizes.{have_bytes}
 use Rattle.inventory_fits.specs.Targets.{lies_at, target_at}
 
@@ -47,32 +45,29 @@ abbrev pub all_lead : {X S : Type 0} → (S → S → Bool) → (X → List S) �
 all_lead r segments [] = true
 all_lead r segments (x ∷ items) = lead r (segments x) (flat_map segments items) && all_lead r segments items
 
--- a segment lies on a volume of the pool, and overlaps none that lies there
-unfoldable pub segment_fits_at : List ScratchVolume → Inv → ℕ → Segment → Bool
-segment_fits_at scratch v number s =
-    lies_at (is_sequential number v.stores) number s (target_at v.stores s.file scratch) && list_all (λ e. are_clear (is_sequential number v.stores) s e.1) (segments_on s.file v)
+-- a segment lies on a volume of the pool, and overlaps none that lies there, but for those of copies that move from there
+unfoldable pub segment_fits_at : List MovedCopy → List ScratchVolume → Inv → ℕ → Segment → Bool
+segment_fits_at moved scratch v number s =
+    lies_at (is_sequential number v.stores) number s (target_at v.stores s.file scratch)
+    && list_all (λ e. leaves moved number e.0 || are_clear (is_sequential number v.stores) s e.1) (segments_on s.file v)
 
 -- a copy's pool is there, its segments have so many bytes, and each fits
-unfoldable pub copy_fits_at : List ScratchVolume → Inv → ℕ → ℕ → List Segment → Bool
-copy_fits_at scratch v number size segments = is_some (pool number v) && (have_bytes size segments && list_all (segment_fits_at scratch v number) segments)
-
--- a new version's object number is new, and its copy fits
-abbrev pub new_version_fits_at : List ScratchVolume → Inv → NewVersion → Bool
-new_version_fits_at scratch v item = is_new_object v item.object && copy_fits_at scratch v item.pool item.size item.segments
+unfoldable pub copy_fits_at : List MovedCopy → List ScratchVolume → Inv → ℕ → ℕ → List Segment → Bool
+copy_fits_at moved scratch v number size segments = is_some (pool number v) && (have_bytes size segments && list_all (segment_fits_at moved scratch v number) segments)
 
 -- a new copy fits a version
 abbrev pub added_fits_at : List ScratchVolume → Inv → NewCopy → Version → Bool
-added_fits_at scratch v item w = copy_fits_at scratch v item.pool w.size item.segments && (not (is_primary item.pool v) || not (has_primary v w.copies))
+added_fits_at scratch v item w = copy_fits_at [] scratch v item.pool w.size item.segments && (not (is_primary item.pool v) || not (has_primary v w.copies))
 
 -- it fits the version of its object
 abbrev pub new_copy_fits_at : List ScratchVolume → Inv → NewCopy → Bool
 new_copy_fits_at scratch v item = option_map_or (λ w. added_fits_at scratch v item w) (version item.object v) false
 
--- a copy that moves fits a version
-abbrev pub replaced_fits_at : List ScratchVolume → Inv → MovedCopy → Version → Bool
-replaced_fits_at scratch v item w =
-    copy_fits_at scratch v item.pool w.size item.segments && (not (has_other item.from item.pool w.copies) && (not (is_primary item.pool v) || are_primary_in v item.from w.copies))
+-- a copy that moves, together with these, fits a version
+abbrev pub replaced_fits_at : List MovedCopy → List ScratchVolume → Inv → MovedCopy → Version → Bool
+replaced_fits_at moved scratch v item w =
+    copy_fits_at moved scratch v item.pool w.size item.segments && (not (has_other item.from item.pool w.copies) && (not (is_primary item.pool v) || are_primary_in v item.from w.copies))
 
 -- it fits the version of its object
-abbrev pub moved_copy_fits_at : List ScratchVolume → Inv → MovedCopy → Bool
-moved_copy_fits_at scratch v item = option_map_or (λ w. replaced_fits_at scratch v item w) (version item.object v) false
+abbrev pub moved_copy_fits_at : List MovedCopy → List ScratchVolume → Inv → MovedCopy → Bool
+moved_copy_fits_at moved scratch v item = option_map_or (λ w. replaced_fits_at moved scratch v item w) (version item.object v) false

@@ -1,10 +1,12 @@
 //! Where the frames of segments begin and end on a volume.
 
-ghost use Rattle.std.specs.Prelude.{◌≡◌};
+ghost use Rattle.std.specs.Prelude.{◌≡◌, ◌==◌, ◌&&◌};
+ghost use Rattle.std.specs.List.{list_any};
 ghost use Rattle.inventory_rules.specs.Valid.{high_of, low_of};
-ghost use Rattle.inventory_rules.specs.Segments.{are_clear};
+ghost use Rattle.inventory_rules.specs.Segments.{are_clear, leaves};
 ghost use Rattle.inventory_fits.specs.Frames.{frame_of};
 
+use entries::change_items::MovedCopy;
 use inventory_rows::volume_rows::HeldSegment;
 use kinds::Segment;
 
@@ -29,6 +31,15 @@ pub(crate) fn are_clear(sequential: bool, a: &Segment, b: &Segment) -> bool
     ensures { result ≡ are_clear sequential a.now b.now }
 {
     high(sequential, a) <= low(sequential, b) || high(sequential, b) <= low(sequential, a)
+}
+
+/// Whether one of these copies that move is the object's copy in the pool.
+pub(crate) fn leaves(moved: &[MovedCopy], number: u32, object: u64) -> bool
+    ensures { result ≡ leaves moved.now number object }
+{
+    moved
+        .iter()
+        .any(|copy| object == copy.object && number == copy.from)
 }
 
 /// Whether a new segment doesn't overlap one that is held.

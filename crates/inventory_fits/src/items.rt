@@ -1,40 +1,32 @@
 //! Whether new versions, new copies and copies that move fit where they come.
 
-ghost use Rattle.std.specs.Prelude.{◌≡◌, ◌&&◌, ◌||◌, not, Bool};
+ghost use Rattle.std.specs.Prelude.{◌≡◌, ◌&&◌, ◌||◌, not, Bool, List, []};
 ghost use Rattle.std.specs.List.{list_all};
 ghost use Rattle.inventory_rows.specs.Search.{is_primary};
 ghost use Rattle.inventory_rows.specs.State.{Inv, inv_of};
 ghost use Rattle.inventory_rules.specs.Copies.{new_copy_fits, moved_copy_fits};
 ghost use Rattle.inventory_rules.specs.Segments.{items_fit};
-ghost use Rattle.inventory_rules.specs.Versions.{is_new_object, new_version_fits};
-ghost use Rattle.inventory_fits.specs.Fitting.{has_primary, has_other, are_primary_in, new_version_fits_at, added_fits_at, new_copy_fits_at, replaced_fits_at, moved_copy_fits_at};
+ghost use Rattle.inventory_rules.specs.Versions.{new_version_fits};
+ghost use Rattle.inventory_fits.specs.Fitting.{has_primary, has_other, are_primary_in, copy_fits_at, added_fits_at, new_copy_fits_at, replaced_fits_at, moved_copy_fits_at};
 ghost use Rattle.inventory_fits.specs.Lying.{Lying};
 ghost use Rattle.inventory_fits.specs.Targets.{made};
 
 use crate::overlaps::{Placed, are_all_clear};
 use crate::placing::copy_fits;
-use crate::pools::is_primary;
 use entries::change_items::{MovedCopy, NewCopy, NewVersion, ScratchVolume};
-use inventory_rows::Tables;
 use inventory_rows::version_groups::{CopyRow, Version};
+use inventory_rows::{Tables, is_primary};
 use kinds::Segment;
 
 /// What a transaction places, which has to fit.
 pub(crate) trait Fitted: Placed {
     /// It fits.
-    ghost fits: { Inv → Self → Bool };
+    ghost fits: { List Self → Inv → Self → Bool };
 
-    /// Whether it fits once the scratch volumes are made.
-    fn fits(&self, tables: &Tables, scratch: &[ScratchVolume]) -> bool
+    /// Whether it fits, together with these, once the scratch volumes are made.
+    fn fits(&self, items: &[Self], tables: &Tables, scratch: &[ScratchVolume]) -> bool
         requires { Lying (inv_of tables.now) }
-        ensures { result ≡ fits (made scratch.now (inv_of tables.now)) self.now };
-}
-
-/// Whether an object number is one from 1 on that no version has.
-fn is_new_object(tables: &Tables, object: u64) -> bool
-    ensures { result ≡ is_new_object (inv_of tables.now) object }
-{
-    1 <= object && !tables.objects.has_object(object)
+        ensures { result ≡ fits items.now (made scratch.now (inv_of tables.now)) self.now };
 }
 
 /// Whether one of the copies lies in a primary pool.
@@ -75,16 +67,16 @@ fn are_primary_in(tables: &Tables, copies: &[CopyRow], from: u32) -> bool
 
 fn new_version_fits(tables: &Tables, scratch: &[ScratchVolume], item: &NewVersion) -> bool
     requires { Lying (inv_of tables.now) }
-    ensures { result ≡ new_version_fits_at scratch.now (inv_of tables.now) item.now }
+    ensures { result ≡ copy_fits_at [] scratch.now (inv_of tables.now) item.now.pool item.now.size item.now.segments }
 {
-    is_new_object(tables, item.object)
-        && copy_fits(
-            tables,
-            scratch,
-            item.pool,
-            item.size,
-            item.segments.as_slice(),
-        )
+    copy_fits(
+        tables,
+        &[],
+        scratch,
+        item.pool,
+        item.size,
+        item.segments.as_slice(),
+    )
 }
 
 /// Whether a copy in this pool would be no second one in a primary pool.
@@ -100,6 +92,7 @@ fn added_fits(tables: &Tables, scratch: &[ScratchVolume], item: &NewCopy, versio
 {
     copy_fits(
         tables,
+        &[],
         scratch,
         item.pool,
         version.size,
@@ -127,15 +120,17 @@ fn is_free(tables: &Tables, from: u32, pool: u32, version: &Version) -> bool
 
 fn replaced_fits(
     tables: &Tables,
+    moved: &[MovedCopy],
     scratch: &[ScratchVolume],
     item: &MovedCopy,
     version: &Version,
 ) -> bool
     requires { Lying (inv_of tables.now) }
-    ensures { result ≡ replaced_fits_at scratch.now (inv_of tables.now) item.now version.now }
+    ensures { result ≡ replaced_fits_at moved.now scratch.now (inv_of tables.now) item.now version.now }
 {
     copy_fits(
         tables,
+        moved,
         scratch,
         item.pool,
         version.size,
@@ -143,13 +138,18 @@ fn replaced_fits(
     ) && is_free(tables, item.from, item.pool, version)
 }
 
-fn moved_copy_fits(tables: &Tables, scratch: &[ScratchVolume], item: &MovedCopy) -> bool
+fn moved_copy_fits(
+    tables: &Tables,
+    moved: &[MovedCopy],
+    scratch: &[ScratchVolume],
+    item: &MovedCopy,
+) -> bool
     requires { Lying (inv_of tables.now) }
-    ensures { result ≡ moved_copy_fits_at scratch.now (inv_of tables.now) item.now }
+    ensures { result ≡ moved_copy_fits_at moved.now scratch.now (inv_of tables.now) item.now }
 {
     match tables.objects.find(item.object) {
         None => false,
-        Some(version) => replaced_fits(tables, scratch, item, version),
+        Some(version) => replaced_fits(tables, moved, scratch, item, version),
     }
 }
 
@@ -162,9 +162,9 @@ impl Placed for NewVersion {
 }
 
 impl Fitted for NewVersion {
-    ghost fits = { new_version_fits };
+    ghost fits = { λ items. new_version_fits };
 
-    fn fits(&self, tables: &Tables, scratch: &[ScratchVolume]) -> bool {
+    fn fits(&self, _items: &[NewVersion], tables: &Tables, scratch: &[ScratchVolume]) -> bool {
         new_version_fits(tables, scratch, self)
     }
 }
@@ -178,9 +178,9 @@ impl Placed for NewCopy {
 }
 
 impl Fitted for NewCopy {
-    ghost fits = { new_copy_fits };
+    ghost fits = { λ items. new_copy_fits };
 
-    fn fits(&self, tables: &Tables, scratch: &[ScratchVolume]) -> bool {
+    fn fits(&self, _items: &[NewCopy], tables: &Tables, scratch: &[ScratchVolume]) -> bool {
         new_copy_fits(tables, scratch, self)
     }
 }
@@ -196,17 +196,17 @@ impl Placed for MovedCopy {
 impl Fitted for MovedCopy {
     ghost fits = { moved_copy_fits };
 
-    fn fits(&self, tables: &Tables, scratch: &[ScratchVolume]) -> bool {
-        moved_copy_fits(tables, scratch, self)
+    fn fits(&self, items: &[MovedCopy], tables: &Tables, scratch: &[ScratchVolume]) -> bool {
+        moved_copy_fits(tables, items, scratch, self)
     }
 }
 
 fn each_fits<T: Fitted>(tables: &Tables, scratch: &[ScratchVolume], items: &[T]) -> bool
     requires { Lying (inv_of tables.now) }
-    ensures { result ≡ list_all (T.fits (made scratch.now (inv_of tables.now))) items.now }
+    ensures { result ≡ list_all (T.fits items.now (made scratch.now (inv_of tables.now))) items.now }
 {
     'items: for item in items {
-        if !item.fits(tables, scratch) {
+        if !item.fits(items, tables, scratch) {
             return false;
         }
     }
@@ -216,7 +216,7 @@ fn each_fits<T: Fitted>(tables: &Tables, scratch: &[ScratchVolume], items: &[T])
 /// Whether each item fits once the scratch volumes are made, and no two of the new segments overlap.
 pub(crate) fn items_fit<T: Fitted>(tables: &Tables, scratch: &[ScratchVolume], items: &[T]) -> bool
     requires { Lying (inv_of tables.now) }
-    ensures { result ≡ items_fit T.fits T.segments items.now (made scratch.now (inv_of tables.now)) }
+    ensures { result ≡ items_fit (T.fits items.now) T.segments items.now (made scratch.now (inv_of tables.now)) }
 {
     each_fits(tables, scratch, items) && are_all_clear(tables, scratch, items)
 }

@@ -1,47 +1,20 @@
 //! Whether a pool that goes is of no use, and a volume that is defined fits its pool.
 
-ghost use Rattle.std.specs.Prelude.{◌≡◌, ◌%◌, ◌^◌, ◌*◌, ◌==◌, ◌&&◌, not, nat_le, true};
+ghost use Rattle.std.specs.Prelude.{◌≡◌, not, true};
 ghost use Rattle.std.specs.Option.{option_map_or};
 ghost use Rattle.inventory_rows.specs.pool_rows.PoolRows.{is_sequential, pool_named};
 ghost use Rattle.std.specs.List.{list_all};
-ghost use Rattle.inventory_rows.specs.Search.{holds_copy, is_primary, is_primary_kind};
+ghost use Rattle.inventory_rows.specs.Search.{holds_copy};
 ghost use Rattle.inventory_rows.specs.State.{inv_of};
-ghost use Rattle.inventory_rules.specs.Valid.{is_format_size, may_have};
 ghost use Rattle.inventory_rules.specs.Segments.{scratch_fits};
 ghost use Rattle.inventory_rules.specs.Stores.{capacity_fits, volume_fits, store_fits};
 
 use entries::change_items::ScratchVolume;
-use inventory_rows::Tables;
 use inventory_rows::pool_rows::Pools;
 use inventory_rows::pool_tables::is_scratch_name;
-use kinds::{Access, Capacity, Name, PoolChange, PoolKind, Verb};
-
-/// Whether pools of this kind take what clients send.
-fn is_primary_kind(kind: PoolKind) -> bool
-    ensures { result ≡ is_primary_kind kind }
-{
-    match kind {
-        PoolKind::Primary => true,
-        PoolKind::Copy => false,
-    }
-}
-
-/// Whether the pool is there and a primary one.
-pub(crate) fn is_primary(tables: &Tables, pool: u32) -> bool
-    ensures { result ≡ is_primary pool (inv_of tables.now) }
-{
-    match tables.pools.pools().get(&pool) {
-        Some(pool) => is_primary_kind(pool.kind),
-        None => false,
-    }
-}
-
-/// Whether a volume of random access may have so many bytes: 1 to 65,536 MiB.
-fn is_format_size(capacity: u64) -> bool
-    ensures { result ≡ is_format_size capacity }
-{
-    capacity % (1 << 20) == 0 && 1 << 20 <= capacity && capacity <= 1 << 36
-}
+use inventory_rows::{Tables, is_primary};
+use inventory_rules::{is_format_size, may_have};
+use kinds::{Access, Capacity, Name, PoolChange, Verb};
 
 /// Whether a volume of a pool may have so many bytes: those of its class, or on random access whole MiB.
 fn capacity_fits(class: Option<Capacity>, capacity: Capacity) -> bool
@@ -50,17 +23,6 @@ fn capacity_fits(class: Option<Capacity>, capacity: Capacity) -> bool
     match class {
         Some(class) => capacity.bytes() == class.bytes(),
         None => is_format_size(capacity.bytes()),
-    }
-}
-
-/// Whether a volume of a pool may have this access: OFFSITE in copy pools alone, DESTROYED in primary pools alone.
-fn may_have(access: Access, primary: bool) -> bool
-    ensures { result ≡ may_have access primary }
-{
-    match access {
-        Access::ReadWrite | Access::ReadOnly | Access::Unavailable => true,
-        Access::Offsite => !primary,
-        Access::Destroyed => primary,
     }
 }
 

@@ -33,7 +33,7 @@ fn versions_fit(tables: &Tables, versions: &NewVersions) -> bool
 fn moves_fit(tables: &Tables, moved: &MovedCopies) -> bool
     requires { Lying (inv_of tables.now) }
     ensures { result ≡ (scratch_fits (inv_of tables.now) moved.now.scratch
-        && items_fit moved_copy_fits (λ i. i.segments) moved.now.items (made moved.now.scratch (inv_of tables.now))) }
+        && items_fit (moved_copy_fits moved.now.items) (λ i. i.segments) moved.now.items (made moved.now.scratch (inv_of tables.now))) }
 {
     scratch_fits(tables, moved.scratch.as_slice())
         && items_fit(tables, moved.scratch.as_slice(), moved.items.as_slice())
@@ -65,8 +65,9 @@ fn change_fits(tables: &Tables, change: &Change) -> bool
 /// Whether what a change of a valid database brings fits where it comes, and what it takes away is of no use: a pool that goes holds no copy; a
 /// volume that is defined has a name, a capacity and an access that its pool's volumes may have; scratch volumes are made for sequential
 /// pools; and new versions, new copies and copies that move have their pools, the bytes of their versions, and segments that lie on volumes
-/// of their pools, end within them and overlap nothing. It takes no memory; for each new segment the logarithm of what lies on its volume and
-/// as many steps as the transaction has scratch volumes and other segments.
+/// of their pools, end within them and overlap nothing but what copies that move with them leave. It takes no memory; for each new segment the
+/// logarithm of what lies on its volume and as many steps as the transaction has scratch volumes and other segments, and where it comes to
+/// segments that move, as many steps as the list has items for each of these.
 #[tactic(auto, using(crate::proofs::Lie::lying))]
 pub fn parts_fit(tables: &Tables, change: &Change) -> bool
     requires valid { is_valid (inv_of tables.now) ≡ true }

@@ -1,59 +1,32 @@
 -- What holds within a transaction on data holds of a valid database at its beginning, and gives one at its end.
-use Rattle.std.proofs.Common.{◌≡◌, ℕ, ◌^◌, ◌≤◌, true, ◌&&◌, List, [], Option, Some, None, is_some, refl, sym, ap, subst, ◌∙◌, length, arith}
+use Rattle.std.proofs.Common.{◌≡◌, ℕ, ◌^◌, ◌≤◌, true, ◌&&◌, List, [], Option, Some, None, is_some, refl, sym, ap, subst, ◌∙◌, arith}
 use Rattle.std.specs.Prelude.{nat_le, nat_lt}
 use Rattle.std.specs.List.{list_all}
-use Rattle.std.proofs.lemmas.Bool.{and_parts, le-leb, leb-true}
+use Rattle.std.proofs.lemmas.Bool.{le-leb, leb-true}
 use Rattle.kinds.specs.declared.segment.Segment.{Segment}
 use Rattle.inventory_rows.specs.policy_domains.Rows.{DomainRow}
-use Rattle.inventory_rows.specs.version_groups.declared.copies.CopyRow.{CopyRow}
 use Rattle.inventory_rows.specs.object_rows.declared.place.Node.{Node}
 use Rattle.inventory_rows.specs.pool_tables.declared.pool.Pool.{Pool}
-use Rattle.inventory_rows.specs.pool_tables.Rows.{named, row_at}
+use Rattle.inventory_rows.specs.pool_tables.Rows.{named}
 use Rattle.inventory_rows.specs.declared.backup.Backup.{Backup}
-use Rattle.inventory_rows.specs.object_rows.Rows.{most_versions}
 use Rattle.inventory_rows.specs.Items.{count_items, most_items}
 use Rattle.inventory_rows.specs.Search.{copies, pool, versions}
 use Rattle.inventory_rows.specs.State.{Inv}
 use Rattle.inventory_rules.specs.Held.{IsTied}
 use Rattle.inventory_rules.specs.Transactions.{OnlyData}
-use Rattle.inventory_rules.specs.Valid.{copies_cite, is_of_pool, next_is_there, pools_cite}
+use Rattle.inventory_rules.specs.Valid.{copies_cite, next_is_there, pools_cite}
 use Rattle.inventory_rules.specs.Facts.{Facts}
-use Rattle.inventory_rules.specs.Halfway.{copies_in_pools}
-use Rattle.inventory_laws.specs.Kept.{is_cited}
 use Rattle.inventory_laws.specs.Steady.{IsSteady}
 use Rattle.inventory_laws.proofs.Ends.{facts_begin, tied_end, volumes_end}
 use Rattle.inventory_laws.proofs.Orders.{reordered_itself}
+use Rattle.inventory_laws.proofs.VersionsWhole.{begins, elsewhere, later}
 use Rattle.inventory_laws.proofs.VolumeRows.{all_same, all_so}
 use Rattle.inventory_laws.proofs.Swapping.{facts_swapped}
 
 -- ---- the beginning
 
-placed_so_far : (n m : ℕ) (cs : List (ℕ × CopyRow)) → n ≤ m → list_all (λ e. nat_le e.1.placed n) cs ≡ true → list_all (λ e. nat_le e.1.placed m) cs ≡ true
-placed_so_far n m cs h all =
-    all_so (λ e. nat_le e.1.placed n) (λ e. nat_le e.1.placed m) (λ e t. let under : e.1.placed ≤ n = leb-true e.1.placed n t in le-leb e.1.placed m (omega arith)) cs all
-
-lie_in_pools : (v : Inv) → copies_cite v ≡ true → copies_in_pools v ≡ true
-lie_in_pools v h =
-    all_so (is_cited v) (λ e. is_some (pool e.1.pool v)) (λ e t. (and_parts (is_some (pool e.1.pool v)) (list_all (λ s. is_of_pool e.1.pool (row_at s.file v.stores.volumes)) e.1.segments) t).0) (copies v) h
-
 pub steady_begins : (n : ℕ) (v : Inv) → Facts v → IsTied v → nat_le v.number n ≡ true → IsSteady n [] v
-steady_begins n v f t le = record {
-  versions = record {
-    cite = f.filespaces_cite;
-    drawn = f.filespaces_drawn;
-    names = f.filespace_names;
-    objects_drawn = f.objects_drawn;
-    objects_bounded = f.objects_bounded;
-    objects_apart = f.objects_apart;
-    in_pools = lie_in_pools v f.copies_cite;
-    past = placed_so_far v.number n (copies v) (leb-true v.number n le) f.copies_past;
-    orderly = f.groups_orderly;
-    copied = f.versions_copied;
-    by_today = f.versions_by_today;
-  };
-  volumes = facts_begin v f t;
-  cite = f.copies_cite;
-}
+steady_begins n v f t le = record { versions = later v.number n v le (begins v f); volumes = facts_begin v f t; cite = f.copies_cite }
 
 -- ---- the end
 
@@ -92,7 +65,6 @@ all_else v w s =
 record IsBounded (n : ℕ) (w : Inv) : Type 0 where
   number : nat_lt w.number (2 ^ 62) ≡ true
   later : nat_le n w.number ≡ true
-  versions : nat_le (length (versions w)) most_versions ≡ true
   items : nat_le (count_items w) most_items ≡ true
 
 backups_so_far : (n m : ℕ) (bs : List (ℕ × Backup)) → n ≤ m → list_all (λ b. nat_le b.1.number n) bs ≡ true → list_all (λ b. nat_le b.1.number m) bs ≡ true
@@ -145,35 +117,25 @@ facts_of_rest v w f s b = record {
   versions_by_today = s.versions.by_today;
   backups_by_today = f.backups_by_today;
   volumes_by_today = s.volumes.by_today;
-  few_versions = b.versions;
+  classes_are = f.classes_are;
   few_items = b.items;
 }
 
-pub steady_ends : (v w : Inv) → Facts v → OnlyData v w → nat_le v.number w.number ≡ true → IsSteady w.number [] w → nat_lt w.number (2 ^ 62) ≡ true → nat_le (length (versions w)) most_versions ≡ true → nat_le (count_items w) most_items ≡ true
+pub steady_ends : (v w : Inv) → Facts v → OnlyData v w → nat_le v.number w.number ≡ true → IsSteady w.number [] w → nat_lt w.number (2 ^ 62) ≡ true → nat_le (count_items w) most_items ≡ true
     → Facts w × IsTied w
-steady_ends v w f s later steady number few items =
+steady_ends v w f s later steady number items =
     let same : w ≡ rest_of v w = all_else v w s in
-    let bounds : IsBounded v.number w = record { number = number; later = later; versions = few; items = items } in (
+    let bounds : IsBounded v.number w = record { number = number; later = later; items = items } in (
       subst Facts (sym same) (facts_of_rest v w f (subst (IsSteady w.number []) same steady) (subst (IsBounded v.number) same bounds)),
       tied_end w steady.volumes,
     )
 
 -- a number that counts on makes no difference to what lies where
 pub steady_counted : (n number : ℕ) (p : List (ℕ × Segment)) (v : Inv) → IsSteady n p v → IsSteady n p (record v { number = number })
-steady_counted n number p v s = record {
-  versions = record {
-    cite = s.versions.cite;
-    drawn = s.versions.drawn;
-    names = s.versions.names;
-    objects_drawn = s.versions.objects_drawn;
-    objects_bounded = s.versions.objects_bounded;
-    objects_apart = s.versions.objects_apart;
-    in_pools = s.versions.in_pools;
-    past = s.versions.past;
-    orderly = s.versions.orderly;
-    copied = s.versions.copied;
-    by_today = s.versions.by_today;
-  };
-  volumes = facts_swapped [] [] p v (record v { number = number }) refl refl refl refl (reordered_itself (copies v)) s.volumes;
-  cite = s.cite;
-}
+steady_counted n number p v s =
+    let w : Inv = record v { number = number } in
+    record {
+      versions = elsewhere n v w refl refl refl refl refl s.versions;
+      volumes = facts_swapped [] [] p v w refl refl refl refl (reordered_itself (copies v)) s.volumes;
+      cite = s.cite;
+    }

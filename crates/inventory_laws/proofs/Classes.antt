@@ -1,6 +1,6 @@
 -- A device class that comes or goes leaves a valid database.
-use Rattle.std.proofs.Common.{◌≡◌, ℕ, true, false, ◌&&◌, List, Option, Some, None, is_some, refl, sym, ap, subst, ◌∙◌}
-use Rattle.std.specs.List.{AllByRecursion}
+use Rattle.std.proofs.Common.{◌≡◌, ℕ, true, false, cond, ◌&&◌, List, Option, Some, None, is_some, is_none, refl, sym, ap, subst, ◌∙◌}
+use Rattle.std.specs.List.{list_all, AllByRecursion}
 use Rattle.std.specs.Map.{remove_entry}
 use Rattle.std.specs.BTreeMap.{insert_entry, is_at}
 use Rattle.std.specs.Cmp.Lexicographic.{slice_cmp}
@@ -15,9 +15,10 @@ use Rattle.inventory_rows.specs.pool_rows.PoolRows.{capacity_there, pool_class_c
 use Rattle.inventory_rows.specs.Search.{pool}
 use Rattle.inventory_rows.specs.State.{Inv}
 use Rattle.inventory_rules.specs.Held.{IsTied}
-use Rattle.inventory_rules.specs.Valid.{next_is_there}
+use Rattle.inventory_rules.specs.Valid.{disk, is_class, next_is_there}
 use Rattle.inventory_rules.specs.Facts.{Facts}
-use Rattle.inventory_laws.proofs.Lists.{all_of, all_from, each_also, each_both, came, went, lookup_left}
+use Rattle.inventory_laws.proofs.Lists.{all_of, all_from, all_left, all_with, each_also, each_both, came, went, lookup_left}
+use Rattle.inventory_laws.proofs.RowsKept.{passes-lookup}
 use Rattle.inventory_laws.proofs.StoreRows.{none_where}
 use Rattle.inventory_laws.proofs.Stored.{stored, with_pools, IsRoom, Stands, Alike, uses_found, next_also, seen, same_backups, stored_valid}
 
@@ -57,9 +58,9 @@ row_cites : (c d : Option (Option ℕ)) (o : Option ℕ) (v w : Inv) → ((n : �
 row_cites c d o v w there same t =
     let p = and_parts (is_some d) (next_is_there o v) t in and_from (is_some c) (next_is_there o w) (ap is_some same ∙ p.0) (next_also o v w there p.1)
 
-pub classes_stand : (v : Inv) (classes : List (List ℕ × Option ℕ)) → Facts v → IsTied v → ClassesStay v classes
+pub classes_stand : (v : Inv) (classes : List (List ℕ × Option ℕ)) → Facts v → IsTied v → ClassesStay v classes → (is_some (named disk classes) && list_all is_class classes) ≡ true
     → IsRoom (stored v (with_pools v classes v.stores.pools) v.next_pool v.next_file v.backups) → Stands (stored v (with_pools v classes v.stores.pools) v.next_pool v.next_file v.backups)
-classes_stand v classes f tied h room =
+classes_stand v classes f tied h are room =
     let s = seen v classes v.stores.pools v.next_pool v.backups f (uses_found v (with_pools v classes v.stores.pools) f (λ n _. alike v classes h n)) in (
       stored_valid v (with_pools v classes v.stores.pools) v.next_pool v.next_file v.backups f (same_backups v f) (record {
         rules_cite = s.rules_cite;
@@ -82,6 +83,7 @@ classes_stand v classes f tied h room =
         versions_copied = s.versions_copied;
         volumes_are = s.volumes_are;
         no_ring = f.no_ring;
+        classes_are = are;
         volumes_by_today = f.volumes_by_today;
       }) room,
       tied,
@@ -100,3 +102,35 @@ deleted_stays v class x there unused =
     each_also (λ (p : ℕ × Pool). is_same_name p.1.class class ≡ false) (λ p. named p.1.class (remove_entry (is_at (slice_cmp nat_cmp class)) v.stores.classes) ≡ named p.1.class v.stores.classes) v.stores.pools
     (λ p t. left_besides p.1.class class x v.stores.classes there t)
     (none_where (λ (p : Pool). is_same_name p.class class) v.stores.pools unused)
+
+-- DISK is there and it alone has no capacity, still where a class with a capacity comes
+pub defined_are : (class : List ℕ) (capacity : ℕ) (classes : List (List ℕ × Option ℕ)) → (is_some (named disk classes) && list_all is_class classes) ≡ true → named class classes ≡ None
+    → (is_some (named disk (insert_entry (slice_cmp nat_cmp) classes class (Some capacity))) && list_all is_class (insert_entry (slice_cmp nat_cmp) classes class (Some capacity))) ≡ true
+defined_are class capacity classes h absent =
+    let new : List (List ℕ × Option ℕ) = insert_entry (slice_cmp nat_cmp) classes class (Some capacity) in
+    let t = and_parts (is_some (named disk classes)) (list_all is_class classes) h in
+    and_from (is_some (named disk new)) (list_all is_class new) (ap is_some (found_besides disk class (Some capacity) classes absent t.0) ∙ t.0)
+    (all_with is_class (class, Some capacity) new classes (came (slice_cmp nat_cmp) class (Some capacity) classes absent) (ap (λ b. cond b false true) (other t.0)) t.1)
+  where
+    other : is_some (named disk classes) ≡ true → is_same_name disk class ≡ false
+    other there = false_from_ne_true (is_same_name disk class) (λ is. false≢true (sym (ap is_some absent) ∙ subst (λ (n : List ℕ). is_some (named n classes) ≡ true) (same_is disk class is) there))
+
+-- a class with a capacity isn't DISK
+with_capacity : (class : List ℕ) (x : Option ℕ) (classes : List (List ℕ × Option ℕ)) → list_all is_class classes ≡ true → named class classes ≡ Some x → is_some x ≡ true → is_same_name disk class ≡ false
+with_capacity class x classes all there has =
+    let k = passes-lookup is_class (is_at (slice_cmp nat_cmp class)) classes x all there in
+    let same : class ≡ k.0 = same_is class k.0 (sym (at_name class k.0) ∙ k.1) in
+    false_from_ne_true (is_same_name disk class) (λ is. neither x has (sym (ap (λ b. cond b (is_none x) (is_some x)) (sym (ap (is_same_name disk) same) ∙ is)) ∙ k.2))
+  where
+    neither : (x : Option ℕ) → is_some x ≡ true → is_none x ≡ true → ⊥
+    neither None a b = false≢true a
+    neither (Some n) a b = false≢true b
+
+-- so it is where such a class goes
+pub deleted_are : (class : List ℕ) (x : Option ℕ) (classes : List (List ℕ × Option ℕ)) → (is_some (named disk classes) && list_all is_class classes) ≡ true → named class classes ≡ Some x → is_some x ≡ true
+    → (is_some (named disk (remove_entry (is_at (slice_cmp nat_cmp class)) classes)) && list_all is_class (remove_entry (is_at (slice_cmp nat_cmp class)) classes)) ≡ true
+deleted_are class x classes h there has =
+    let new : List (List ℕ × Option ℕ) = remove_entry (is_at (slice_cmp nat_cmp class)) classes in
+    let t = and_parts (is_some (named disk classes)) (list_all is_class classes) h in
+    let w = went (is_at (slice_cmp nat_cmp class)) classes x there in
+    and_from (is_some (named disk new)) (list_all is_class new) (ap is_some (left_besides disk class x classes there (with_capacity class x classes t.1 there has)) ∙ t.0) (all_left is_class (w.0, x) classes new w.2 t.1)

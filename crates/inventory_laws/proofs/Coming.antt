@@ -18,11 +18,11 @@ use Rattle.inventory_rows.specs.pool_tables.Rows.{row_at}
 use Rattle.inventory_rows.specs.pool_rows.PoolRows.{PoolRows, is_sequential, is_sequential_row, is_sequential_at}
 use Rattle.inventory_rows.specs.Search.{copies, is_primary, pool, segments_on, version}
 use Rattle.inventory_rows.specs.State.{Inv}
-use Rattle.inventory_rules.specs.Segments.{put, are_all_clear, are_clear, copy_fits, items_fit, lies_rightly, segment_fits}
+use Rattle.inventory_rules.specs.Segments.{put, are_all_clear, are_clear, copy_fits, items_fit, lies_rightly, leaves, segment_fits, segment_fits_after}
 use Rattle.inventory_rules.specs.Halfway.{lying, segments_of}
 use Rattle.inventory_rules.specs.Valid.{primary_copies}
 use Rattle.inventory_rules.specs.Copies.{added_fits, moved_copy_fits, new_copy_fits, replaced_fits}
-use Rattle.inventory_rules.specs.Versions.{is_new_object, new_version_fits}
+use Rattle.inventory_rules.specs.Versions.{new_version_fits}
 use Rattle.inventory_rules.specs.Reordered.{IsReordered}
 use Rattle.inventory_laws.specs.Coming.{in_pool, in_pools, is_clear_of, is_clear_there, MayCome}
 use Rattle.inventory_laws.specs.Kept.{OnlyVolumes}
@@ -34,16 +34,16 @@ use Rattle.inventory_laws.proofs.Swapping.{swapped}
 -- ---- they may come at the beginning
 
 -- on a volume of the pool, what is sequential is what the pool is
-lies_at_pool : (n : ℕ) (s : Segment) (stores : PoolRows) → lies_rightly (is_sequential n stores) n s (row_at s.file stores.volumes) ≡ true → is_sequential_at s.file stores ≡ is_sequential n stores
+pub lies_at_pool : (n : ℕ) (s : Segment) (stores : PoolRows) → lies_rightly (is_sequential n stores) n s (row_at s.file stores.volumes) ≡ true → is_sequential_at s.file stores ≡ is_sequential n stores
 lies_at_pool n s stores h = go (row_at s.file stores.volumes) h where
   go : (o : Option Volume) → lies_rightly (is_sequential n stores) n s o ≡ true → is_sequential_row stores o ≡ is_sequential n stores
   go None h = absurd cc
   go (Some w) h =
       ap (λ k. is_sequential k stores) (eqb-true w.pool n (and_parts (w.pool == n) (nat_le (s.offset + 32 + s.len) w.capacity && (is_sequential n stores || s.offset % 4096 == 0)) h).0)
 
-fits_lies : (v : Inv) (n : ℕ) (s : Segment) → segment_fits v n s ≡ true → lies_rightly (is_sequential_at s.file v.stores) n s (row_at s.file v.stores.volumes) ≡ true
-fits_lies v n s h =
-    let parts = and_parts (lies_rightly (is_sequential n v.stores) n s (row_at s.file v.stores.volumes)) (list_all (λ e. are_clear (is_sequential n v.stores) s e.1) (segments_on s.file v)) h in
+pub fits_lies_after : (moved : List MovedCopy) (v : Inv) (n : ℕ) (s : Segment) → segment_fits_after moved v n s ≡ true → lies_rightly (is_sequential_at s.file v.stores) n s (row_at s.file v.stores.volumes) ≡ true
+fits_lies_after moved v n s h =
+    let parts = and_parts (lies_rightly (is_sequential n v.stores) n s (row_at s.file v.stores.volumes)) (list_all (λ e. leaves moved n e.0 || are_clear (is_sequential n v.stores) s e.1) (segments_on s.file v)) h in
     ap (λ b. lies_rightly b n s (row_at s.file v.stores.volumes)) (lies_at_pool n s v.stores parts.0) ∙ parts.0
 
 fits_clear : (v : Inv) (n : ℕ) (s : Segment) → segment_fits v n s ≡ true → is_clear_there [] v s ≡ true
@@ -64,11 +64,11 @@ all-in_pools number segments p (i ∷ items) h =
     let parts = and_parts (list_all (λ s. p (number i, s)) (segments i)) (list_all (λ j. list_all (λ s. p (number j, s)) (segments j)) items) h in
     list_all-append p (in_pool (number i) (segments i)) (in_pools number segments items) (all-in_pool p (number i) (segments i) parts.0) (all-in_pools number segments p items parts.1)
 
-map-in_pool : (n : ℕ) (ss : List Segment) → map (λ (e : ℕ × Segment). e.1) (in_pool n ss) ≡ ss
+pub map-in_pool : (n : ℕ) (ss : List Segment) → map (λ (e : ℕ × Segment). e.1) (in_pool n ss) ≡ ss
 map-in_pool n [] = refl
 map-in_pool n (s ∷ ss) = ap (λ (l : List Segment). s ∷ l) (map-in_pool n ss)
 
-map-in_pools : {X : Type 0} (number : X → ℕ) (segments : X → List Segment) (items : List X) → map (λ (e : ℕ × Segment). e.1) (in_pools number segments items) ≡ flat_map segments items
+pub map-in_pools : {X : Type 0} (number : X → ℕ) (segments : X → List Segment) (items : List X) → map (λ (e : ℕ × Segment). e.1) (in_pools number segments items) ≡ flat_map segments items
 map-in_pools number segments [] = refl
 map-in_pools number segments (i ∷ items) =
     map-append (λ (e : ℕ × Segment). e.1) (in_pool (number i) (segments i)) (in_pools number segments items)
@@ -79,23 +79,29 @@ all-map : {A B : Type 0} (f : A → B) (p : B → Bool) (xs : List A) → list_a
 all-map f p [] = refl
 all-map f p (x ∷ xs) = ap (λ b. p (f x) && b) (all-map f p xs)
 
-later-map : {A B : Type 0} (f : A → B) (r : B → B → Bool) (xs : List A) → all_later r (map f xs) ≡ all_later (λ x y. r (f x) (f y)) xs
+pub later-map : {A B : Type 0} (f : A → B) (r : B → B → Bool) (xs : List A) → all_later r (map f xs) ≡ all_later (λ x y. r (f x) (f y)) xs
 later-map f r [] = refl
 later-map f r (x ∷ xs) = ap (λ b. b && all_later r (map f xs)) (all-map f (r (f x)) xs) ∙ ap (λ b. list_all (λ y. r (f x) (f y)) xs && b) (later-map f r xs)
 
-pub may_come : {X : Type 0} (number : X → ℕ) (segments : X → List Segment) (items : List X) (v : Inv) → list_all (λ i. list_all (segment_fits v (number i)) (segments i)) items ≡ true → are_all_clear v (flat_map segments items) ≡ true
-    → MayCome [] v (in_pools number segments items)
-may_come number segments items v fit apart =
-    let each : list_all (λ (e : ℕ × Segment). segment_fits v e.0 e.1) (in_pools number segments items) ≡ true = all-in_pools number segments (λ e. segment_fits v e.0 e.1) items fit in
+-- where a test says of each that it lies rightly and is clear of what lies there
+pub may_come_by : {X : Type 0} (number : X → ℕ) (segments : X → List Segment) (items : List X) (p : List (ℕ × Segment)) (v : Inv) (test : ℕ → Segment → Bool)
+    → ((n : ℕ) (s : Segment) → test n s ≡ true → lies_rightly (is_sequential_at s.file v.stores) n s (row_at s.file v.stores.volumes) ≡ true) → ((n : ℕ) (s : Segment) → test n s ≡ true → is_clear_there p v s ≡ true)
+    → list_all (λ i. list_all (test (number i)) (segments i)) items ≡ true → are_all_clear v (flat_map segments items) ≡ true → MayCome p v (in_pools number segments items)
+may_come_by number segments items p v test lies clear fit apart =
+    let each : list_all (λ (e : ℕ × Segment). test e.0 e.1) (in_pools number segments items) ≡ true = all-in_pools number segments (λ e. test e.0 e.1) items fit in
     record {
       lie =
-          all_so (λ (e : ℕ × Segment). segment_fits v e.0 e.1) (λ e. lies_rightly (is_sequential_at e.1.file v.stores) e.0 e.1 (row_at e.1.file v.stores.volumes)) (λ e h. fits_lies v e.0 e.1 h)
+          all_so (λ (e : ℕ × Segment). test e.0 e.1) (λ e. lies_rightly (is_sequential_at e.1.file v.stores) e.0 e.1 (row_at e.1.file v.stores.volumes)) (λ e h. lies e.0 e.1 h)
           (in_pools number segments items) each;
-      clear = all_so (λ (e : ℕ × Segment). segment_fits v e.0 e.1) (λ e. is_clear_there [] v e.1) (λ e h. fits_clear v e.0 e.1 h) (in_pools number segments items) each;
+      clear = all_so (λ (e : ℕ × Segment). test e.0 e.1) (λ e. is_clear_there p v e.1) (λ e h. clear e.0 e.1 h) (in_pools number segments items) each;
       apart =
           sym (later-map (λ (e : ℕ × Segment). e.1) (is_clear_of v) (in_pools number segments items))
           ∙ ap (all_later (is_clear_of v)) (map-in_pools number segments items) ∙ apart;
     }
+
+pub may_come : {X : Type 0} (number : X → ℕ) (segments : X → List Segment) (items : List X) (v : Inv) → list_all (λ i. list_all (segment_fits v (number i)) (segments i)) items ≡ true → are_all_clear v (flat_map segments items) ≡ true
+    → MayCome [] v (in_pools number segments items)
+may_come number segments items v fit apart = may_come_by number segments items [] v (segment_fits v) (λ n s h. fits_lies_after [] v n s h) (λ n s h. fits_clear v n s h) fit apart
 
 -- ---- after others came
 
@@ -148,7 +154,7 @@ copy_segments v number size segments h =
     (and_parts (sum_by (λ s. s.len) segments == size) (list_all (segment_fits v number) segments) parts.1).1
 
 new_version_segments : (v : Inv) (i : NewVersion) → new_version_fits v i ≡ true → list_all (segment_fits v i.pool) i.segments ≡ true
-new_version_segments v i h = copy_segments v i.pool i.size i.segments (and_parts (is_new_object v i.object) (copy_fits v i.pool i.size i.segments) h).1
+new_version_segments v i h = copy_segments v i.pool i.size i.segments h
 
 new_copy_segments : (v : Inv) (i : NewCopy) → new_copy_fits v i ≡ true → list_all (segment_fits v i.pool) i.segments ≡ true
 new_copy_segments v i h = go (version i.object v) h where
@@ -156,9 +162,9 @@ new_copy_segments v i h = go (version i.object v) h where
   go None t = absurd cc
   go (Some w) t = copy_segments v i.pool w.size i.segments (and_parts (copy_fits v i.pool w.size i.segments) (not (is_primary i.pool v) || is_nil (primary_copies v w)) t).0
 
-moved_copy_segments : (v : Inv) (i : MovedCopy) → moved_copy_fits v i ≡ true → list_all (segment_fits v i.pool) i.segments ≡ true
+moved_copy_segments : (v : Inv) (i : MovedCopy) → moved_copy_fits [] v i ≡ true → list_all (segment_fits v i.pool) i.segments ≡ true
 moved_copy_segments v i h = go (version i.object v) h where
-  go : (o : Option Version) → option_map_or (λ w. replaced_fits v i w) o false ≡ true → list_all (segment_fits v i.pool) i.segments ≡ true
+  go : (o : Option Version) → option_map_or (λ w. replaced_fits [] v i w) o false ≡ true → list_all (segment_fits v i.pool) i.segments ≡ true
   go None t = absurd cc
   go (Some w) t =
       copy_segments v i.pool w.size i.segments
@@ -176,5 +182,5 @@ new_versions_come items v h = items_come new_version_fits (λ i. i.pool) (λ i. 
 pub new_copies_come : (items : List NewCopy) (v : Inv) → items_fit new_copy_fits (λ i. i.segments) items v ≡ true → MayCome [] v (in_pools (λ (i : NewCopy). i.pool) (λ i. i.segments) items)
 new_copies_come items v h = items_come new_copy_fits (λ i. i.pool) (λ i. i.segments) v (new_copy_segments v) items h
 
-pub moved_copies_come : (items : List MovedCopy) (v : Inv) → items_fit moved_copy_fits (λ i. i.segments) items v ≡ true → MayCome [] v (in_pools (λ (i : MovedCopy). i.pool) (λ i. i.segments) items)
-moved_copies_come items v h = items_come moved_copy_fits (λ i. i.pool) (λ i. i.segments) v (moved_copy_segments v) items h
+pub moved_copies_come : (items : List MovedCopy) (v : Inv) → items_fit (moved_copy_fits []) (λ i. i.segments) items v ≡ true → MayCome [] v (in_pools (λ (i : MovedCopy). i.pool) (λ i. i.segments) items)
+moved_copies_come items v h = items_come (moved_copy_fits []) (λ i. i.pool) (λ i. i.segments) v (moved_copy_segments v) items h

@@ -1,5 +1,5 @@
 -- A transaction that makes copies beside others.
-use Rattle.std.proofs.Common.{◌≡◌, ℕ, ◌+◌, Bool, true, false, eqb, not, ◌&&◌, ◌||◌, List, [], ◌∷◌, ◌++◌, map, length, Option, Some, None, is_some, refl, ap, ◌∙◌}
+use Rattle.std.proofs.Common.{◌≡◌, ℕ, ◌+◌, Bool, true, false, eqb, not, ◌&&◌, ◌||◌, List, [], ◌∷◌, ◌++◌, map, Option, Some, None, is_some, refl, ap, ◌∙◌}
 use Rattle.std.specs.Prelude.{nat_le}
 use Rattle.std.specs.List.{list_all, flat_map, sum_by}
 use Rattle.std.specs.Option.{option_map_or}
@@ -13,7 +13,7 @@ use Rattle.inventory_rows.specs.version_groups.declared.versions.Version.{Versio
 use Rattle.inventory_rows.specs.version_groups.Entries.{all_later, is_nil}
 use Rattle.inventory_rows.specs.version_groups.Versions.{version_of}
 use Rattle.inventory_rows.specs.object_rows.Filespaces.{versions_of}
-use Rattle.inventory_rows.specs.object_rows.Rows.{Rows, most_versions}
+use Rattle.inventory_rows.specs.object_rows.Rows.{Rows}
 use Rattle.inventory_rows.specs.Search.{copy_in, is_primary, pool, version, versions}
 use Rattle.inventory_rows.specs.State.{Inv}
 use Rattle.inventory_rules.specs.Common.{each, this}
@@ -28,7 +28,7 @@ use Rattle.inventory_rules.specs.Valid.{is_valid, primary_copies}
 use Rattle.inventory_rules.specs.Facts.{Facts}
 use Rattle.inventory_laws.proofs.Facts.{facts_of}
 use Rattle.inventory_laws.proofs.CopySteps as copy_steps
-use Rattle.inventory_laws.proofs.Others.{length_copied, other_copied}
+use Rattle.inventory_laws.proofs.Others.{other_copied}
 use Rattle.inventory_laws.proofs.VersionVolumes.{all_scratch_only}
 use Rattle.inventory_laws.specs.Coming.{in_pool, in_pools, MayCome}
 use Rattle.inventory_laws.specs.Kept.{OnlyVolumes}
@@ -104,10 +104,6 @@ all_come : (n : ℕ) (items : List NewCopy) (v : Inv) → AreToCome n v items �
 all_come n [] v a = a.steady
 all_come n (i ∷ items) v a = all_come n items (add_copy i v) (next_to_come n i items v a)
 
-counted : (items : List NewCopy) (v : Inv) → length (versions (each add_copy items v)) ≡ length (versions v)
-counted [] v = refl
-counted (i ∷ items) v = counted items (add_copy i v) ∙ ap (λ (x : Inv). length (versions x)) (kept_but i v).only ∙ length_copied i.object (added i v) v
-
 -- ---- what the transaction has to fit, and why it is refused
 
 abbrev is_free : Inv → NewCopy → Bool
@@ -136,13 +132,9 @@ may v i h k = go (version i.object v) h k where
 free_still : (v u : Inv) → u.clients ≡ v.clients → (i : NewCopy) → is_free v i ≡ true → is_free u i ≡ true
 free_still v u same i h = ap (λ (c : Rows). option_map_or (λ w. not (is_some (copy_in i.pool w))) (version_of i.object (versions_of c.filespaces)) false) same ∙ h
 
-parts_of : (c : NewCopies) (v : Inv) → parts_fit (change.Copy c) v ≡ true → (scratch_fits v c.scratch ≡ true) × (items_fit new_copy_fits (λ i. i.segments) c.items (each make_scratch c.scratch v) ≡ true)
+pub parts_of : (c : NewCopies) (v : Inv) → parts_fit (change.Copy c) v ≡ true → (scratch_fits v c.scratch ≡ true) × (items_fit new_copy_fits (λ i. i.segments) c.items (each make_scratch c.scratch v) ≡ true)
 unfolding parts_fit
 parts_of c v h = and_parts (scratch_fits v c.scratch) (items_fit new_copy_fits (λ i. i.segments) c.items (each make_scratch c.scratch v)) h
-
-effect_of : (c : NewCopies) (v : Inv) → effect (change.Copy c) v ≡ record (each add_copy c.items (each make_scratch c.scratch v)) { number = v.number + 1 }
-unfolding effect
-effect_of c v = refl
 
 -- ---- the transaction
 
@@ -168,6 +160,4 @@ copies_come j c v valid tied h sizes fit =
     let only = all_scratch_only c.scratch v in
     let s : IsSteady (v.number + 1) [] u = scratch_steady (v.number + 1) c.scratch v why.1 parts.0 (steady_begins (v.number + 1) v f tied (before_next v.number)) in
     let done : IsSteady (v.number + 1) [] (each add_copy c.items u) = all_come (v.number + 1) c.items u (begin j c.items v u only.clients only.number s why.0 parts.1) in
-    let few : nat_le (length (versions (each add_copy c.items u))) most_versions ≡ true =
-    ap (λ (n : ℕ). nat_le n most_versions) (counted c.items u ∙ ap (λ (r : Rows). length (versions_of r.filespaces)) only.clients) ∙ f.few_versions in
-    data_ends (change.Copy c) v refl f done sizes (ap (λ (x : Inv). nat_le (length (versions x)) most_versions) (effect_of c v) ∙ few)
+    data_ends (change.Copy c) v refl f done sizes

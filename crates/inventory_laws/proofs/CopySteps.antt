@@ -39,14 +39,14 @@ placed_by n c = nat_le c.placed n
 said_drop : (from : ℕ) (cs : List CopyRow) (old : CopyRow) → in_pool from cs ≡ Some old → copies_after (Drop from) cs ≡ Ok (without_copy from cs)
 said_drop from cs old h = ap (λ b. cond {A = Result (List CopyRow) Refusal} b (Ok (without_copy from cs)) (Err NotFound)) (has-in_pool from cs ∙ ap is_some h)
 
-said_replace : (from : ℕ) (new : CopyRow) (cs : List CopyRow) (old : CopyRow) → in_pool from cs ≡ Some old → copies_after (Replace from new) cs ≡ Ok (with_copy new (without_copy from cs))
+pub said_replace : (from : ℕ) (new : CopyRow) (cs : List CopyRow) (old : CopyRow) → in_pool from cs ≡ Some old → copies_after (Replace from new) cs ≡ Ok (with_copy new (without_copy from cs))
 said_replace from new cs old h = ap (λ b. cond {A = Result (List CopyRow) Refusal} b (Ok (with_copy new (without_copy from cs))) (Err NotFound)) (has-in_pool from cs ∙ ap is_some h)
 
 -- ---- the copies as pairs with the object
-goes : (k from : ℕ) (cs : List CopyRow) (old : CopyRow) → are_by_pool cs ≡ true → in_pool from cs ≡ Some old → Splices {A = ℕ × CopyRow} ((k, old) ∷ []) [] (map (λ c. (k, c)) cs) (map (λ c. (k, c)) (without_copy from cs))
+pub goes : (k from : ℕ) (cs : List CopyRow) (old : CopyRow) → are_by_pool cs ≡ true → in_pool from cs ≡ Some old → Splices {A = ℕ × CopyRow} ((k, old) ∷ []) [] (map (λ c. (k, c)) cs) (map (λ c. (k, c)) (without_copy from cs))
 goes k from cs old s h = splice_map (λ (c : CopyRow). (k, c)) (copy_goes from cs old s h)
 
-comes : (k : ℕ) (new : CopyRow) (cs : List CopyRow) → Splices {A = ℕ × CopyRow} [] ((k, new) ∷ []) (map (λ c. (k, c)) cs) (map (λ c. (k, c)) (with_copy new cs))
+pub comes : (k : ℕ) (new : CopyRow) (cs : List CopyRow) → Splices {A = ℕ × CopyRow} [] ((k, new) ∷ []) (map (λ c. (k, c)) cs) (map (λ c. (k, c)) (with_copy new cs))
 comes k new cs = splice_map (λ (c : CopyRow). (k, c)) (copy_comes new cs)
 
 pub less : {A : Type 0} (x : A) {old new : List A} → Splices (x ∷ []) [] old new → IsReordered old (x ∷ new)
@@ -55,7 +55,7 @@ less x s = splice_reordered [] (x ∷ []) s (reordered_self (x ∷ []))
 pub more : {A : Type 0} (x : A) {old new : List A} → Splices [] (x ∷ []) old new → IsReordered (x ∷ old) new
 more x s = splice_reordered (x ∷ []) [] s (reordered_self (x ∷ []))
 
-replaces : {A : Type 0} (x y : A) (old mid new : List A) → IsReordered old (y ∷ mid) → IsReordered (x ∷ mid) new → IsReordered (x ∷ old) (y ∷ new)
+pub replaces : {A : Type 0} (x y : A) (old mid new : List A) → IsReordered old (y ∷ mid) → IsReordered (x ∷ mid) new → IsReordered (x ∷ old) (y ∷ new)
 replaces x y old mid new a b =
     reordered_through (x ∷ old) (x ∷ y ∷ mid) (y ∷ new) (reordered_behind (x ∷ []) old (y ∷ mid) a)
     (reordered_through (x ∷ y ∷ mid) (y ∷ x ∷ mid) (y ∷ new) (reordered_past (x ∷ []) (y ∷ []) mid) (reordered_behind (y ∷ []) (x ∷ mid) new b))

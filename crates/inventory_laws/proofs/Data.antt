@@ -27,8 +27,8 @@ use Rattle.inventory_rows.specs.State.{Inv}
 use Rattle.inventory_rules.specs.Transactions.{CanChange, parts_fit}
 use Rattle.inventory_rules.specs.Facts.{Facts}
 use Rattle.inventory_rules.specs.Copies.{added_fits, moved_copy_fits, new_copy_fits, replaced_fits, put_moved, copied_refused, copy_list_refused, move_refused, moved_refused, stale_copy}
-use Rattle.inventory_rules.specs.Segments.{are_all_clear, copy_fits, items_fit, scratch_fits, make_scratch, scratch_refused}
-use Rattle.inventory_rules.specs.Versions.{is_new_object, new_version_fits, object_bounds, backup_refused, filespace_there, gone_refused, name_once, named_gone_refused, of_version, stale_version}
+use Rattle.inventory_rules.specs.Segments.{are_all_clear, copy_fits, copy_fits_after, items_fit, scratch_fits, make_scratch, scratch_refused}
+use Rattle.inventory_rules.specs.Versions.{is_new_object, new_version_fits, object_refused, objects_refused, backup_refused, filespace_there, gone_refused, name_once, named_gone_refused, of_version, stale_version}
 use Rattle.inventory_laws.proofs.Facts.{first, rest}
 use Rattle.inventory_rules.specs.Common.{each}
 use Rattle.inventory_rules.specs.Journal.{Journal}
@@ -48,25 +48,29 @@ next_number v f = let less : v.number < 2 ^ 62 = ltb-true v.number (2 ^ 62) f.nu
 
 -- ---- new versions
 
-next_object : (next object : ℕ) → unless (nat_lt (max next (object + 1)) (2 ^ 62)) refusal.InventoryFull ≡ [] → nat_lt (object + 1) (2 ^ 64) ≡ true
-next_object next object h =
-    let less : max next (object + 1) < 2 ^ 62 = ltb-true (max next (object + 1)) (2 ^ 62) (holds (nat_lt (max next (object + 1)) (2 ^ 62)) refusal.InventoryFull h) in
-    lt-ltb (object + 1) (2 ^ 64) (omega (arith, less))
+next_object : (v : Inv) (i : NewVersion) → object_refused v i.object ≡ [] → nat_lt (i.object + 1) (2 ^ 64) ≡ true
+next_object v i h =
+    let bound : Bool = nat_lt (max v.next_object (i.object + 1)) (2 ^ 62) in
+    let less : max v.next_object (i.object + 1) < 2 ^ 62 = ltb-true (max v.next_object (i.object + 1)) (2 ^ 62) (holds bound refusal.InventoryFull (back_nil (unless (is_new_object v i.object) bad_value) (unless bound refusal.InventoryFull) h)) in
+    lt-ltb (i.object + 1) (2 ^ 64) (omega (arith, less))
 
-is_new : (v : Inv) (i : NewVersion) → new_version_fits v i ≡ true → not (has_object i.object (versions_of v.clients.filespaces)) ≡ true
-is_new v i h = rest (nat_le 1 i.object) (not (has_object i.object (versions v))) (first (is_new_object v i.object) (copy_fits v i.pool i.size i.segments) h)
+is_new : (v : Inv) (i : NewVersion) → object_refused v i.object ≡ [] → not (has_object i.object (versions_of v.clients.filespaces)) ≡ true
+is_new v i h =
+    rest (nat_le 1 i.object) (not (has_object i.object (versions v)))
+    (holds (is_new_object v i.object) bad_value (front_nil (unless (is_new_object v i.object) bad_value) (unless (nat_lt (max v.next_object (i.object + 1)) (2 ^ 62)) refusal.InventoryFull) h))
 
 new_roomy : (v : Inv) (i : NewVersion) → new_version_fits v i ≡ true → all_roomy i.object i.segments v ≡ true
-new_roomy v i h = roomy_copy v i.pool i.size i.object i.segments (rest (is_new_object v i.object) (copy_fits v i.pool i.size i.segments) h)
+new_roomy v i h = roomy_copy [] v i.pool i.size i.object i.segments h
 
-pub can_backup : (c : NewVersions) (v : Inv) → Facts v → AreAllOrderly v.clients.filespaces → backup_refused c.filespace c.items v ++ (scratch_refused c.scratch v ++ object_bounds c.items v) ≡ [] → parts_fit (change.Backup c) v ≡ true → CanChange (change.Backup c) v
+pub can_backup : (c : NewVersions) (v : Inv) → Facts v → AreAllOrderly v.clients.filespaces → backup_refused c.filespace c.items v ++ (scratch_refused c.scratch v ++ objects_refused c.items v) ≡ [] → parts_fit (change.Backup c) v ≡ true → CanChange (change.Backup c) v
 unfolding parts_fit
 can_backup c v f orderly h fit =
     let w : Inv = each make_scratch c.scratch v in
     let only : OnlyVolumes v w = only_scratch c.scratch v in
     let is : w.clients.filespaces ≡ v.clients.filespaces = ap (λ (r : Rows). r.filespaces) only.clients in
-    let drawn : scratch_refused c.scratch v ++ object_bounds c.items v ≡ [] = back_nil (backup_refused c.filespace c.items v) (scratch_refused c.scratch v ++ object_bounds c.items v) h in
-    let asked : backup_refused c.filespace c.items v ≡ [] = front_nil (backup_refused c.filespace c.items v) (scratch_refused c.scratch v ++ object_bounds c.items v) h in
+    let drawn : scratch_refused c.scratch v ++ objects_refused c.items v ≡ [] = back_nil (backup_refused c.filespace c.items v) (scratch_refused c.scratch v ++ objects_refused c.items v) h in
+    let objects : objects_refused c.items v ≡ [] = back_nil (scratch_refused c.scratch v) (objects_refused c.items v) drawn in
+    let asked : backup_refused c.filespace c.items v ≡ [] = front_nil (backup_refused c.filespace c.items v) (scratch_refused c.scratch v ++ objects_refused c.items v) h in
     let once : List Refusal = unless (name_once (map (λ i. i.object) c.items)) bad_value in
     let full : List Refusal = unless (nat_le (length (versions v) + length c.items) (2 ^ 20)) refusal.InventoryFull in
     let listed : once ++ full ≡ [] = back_nil (filespace_there c.filespace v) (once ++ full) asked in
@@ -74,15 +78,15 @@ can_backup c v f orderly h fit =
     let scratch_fit : scratch_fits v c.scratch ≡ true = first (scratch_fits v c.scratch) (items_fit new_version_fits (λ i. i.segments) c.items w) fit in
     let fits : list_all (new_version_fits w) c.items ≡ true =
     first (list_all (new_version_fits w) c.items) (are_all_clear w (flat_map (λ i. i.segments) c.items)) (rest (scratch_fits v c.scratch) (items_fit new_version_fits (λ i. i.segments) c.items w) fit) in (
-      can_scratch_all c.scratch v (scratch_new c.scratch v (front_nil (scratch_refused c.scratch v) (object_bounds c.items v) drawn) scratch_fit),
+      can_scratch_all c.scratch v (scratch_new c.scratch v (front_nil (scratch_refused c.scratch v) (objects_refused c.items v) drawn) scratch_fit),
       can_back_up_all c.filespace c.items w (record {
-        new = all_so (new_version_fits w) (λ i. not (has_object i.object (versions_of w.clients.filespaces))) (is_new w) c.items fits;
+        new = ap (λ (fs : List (ℕ × Filespace)). list_all (λ (i : NewVersion). not (has_object i.object (versions_of fs))) c.items) is
+            ∙ none_refused (λ i. object_refused v i.object) (λ i. not (has_object i.object (versions_of v.clients.filespaces))) (is_new v) c.items objects;
         apart = items_apart (λ i. i.object) c.items (holds (name_once (map (λ i. i.object) c.items)) bad_value (front_nil once full listed));
         there = ap (λ (fs : List (ℕ × Filespace)). is_some (filespace_at c.filespace fs)) is
             ∙ holds (is_some (filespace_at c.filespace v.clients.filespaces)) refusal.NotFound (front_nil (filespace_there c.filespace v) (once ++ full) asked);
         room = subst (λ (fs : List (ℕ × Filespace)). length (versions_of fs) + length c.items ≤ 2 ^ 20) (sym is) few;
-        next = none_refused (λ i. unless (nat_lt (max v.next_object (i.object + 1)) (2 ^ 62)) refusal.InventoryFull) (λ i. nat_lt (i.object + 1) (2 ^ 64)) (λ i t. next_object v.next_object i.object t) c.items
-            (back_nil (scratch_refused c.scratch v) (object_bounds c.items v) drawn);
+        next = none_refused (λ i. object_refused v i.object) (λ i. nat_lt (i.object + 1) (2 ^ 64)) (next_object v) c.items objects;
         number = subst (λ (n : ℕ). n + 1 < 2 ^ 64) (sym only.number) (next_number v f);
         orderly = subst AreAllOrderly (sym is) orderly;
         roomy = all_so (new_version_fits w) (λ i. all_roomy i.object i.segments w) (new_roomy w) c.items fits;
@@ -100,18 +104,18 @@ can_gone j c v h =
 
 -- ---- copies that move
 
-moved_free : (v : Inv) (i : MovedCopy) (o : Option Version) → option_map_or (λ w. replaced_fits v i w) o false ≡ true → takes_moved i o ≡ true
-moved_free v i None h = absurd cc
-moved_free v i (Some w) h =
+moved_free : (moved : List MovedCopy) (v : Inv) (i : MovedCopy) (o : Option Version) → option_map_or (λ w. replaced_fits moved v i w) o false ≡ true → takes_moved i o ≡ true
+moved_free moved v i None h = absurd cc
+moved_free moved v i (Some w) h =
     let free : Bool = not (has_copy i.pool (without_copy i.from w.copies)) in
     let one : Bool = not (is_primary i.pool v) || list_all (λ c. c.pool == i.from) (primary_copies v w) in
-    first free one (rest (copy_fits v i.pool w.size i.segments) (free && one) h)
+    first free one (rest (copy_fits_after moved v i.pool w.size i.segments) (free && one) h)
 
-moved_roomy : (v : Inv) (i : MovedCopy) (o : Option Version) → option_map_or (λ w. replaced_fits v i w) o false ≡ true → all_roomy i.object i.segments v ≡ true
-moved_roomy v i None h = absurd cc
-moved_roomy v i (Some w) h =
-    roomy_copy v i.pool w.size i.object i.segments
-    (first (copy_fits v i.pool w.size i.segments) (not (has_copy i.pool (without_copy i.from w.copies)) && (not (is_primary i.pool v) || list_all (λ c. c.pool == i.from) (primary_copies v w))) h)
+moved_roomy : (moved : List MovedCopy) (v : Inv) (i : MovedCopy) (o : Option Version) → option_map_or (λ w. replaced_fits moved v i w) o false ≡ true → all_roomy i.object i.segments v ≡ true
+moved_roomy moved v i None h = absurd cc
+moved_roomy moved v i (Some w) h =
+    roomy_copy moved v i.pool w.size i.object i.segments
+    (first (copy_fits_after moved v i.pool w.size i.segments) (not (has_copy i.pool (without_copy i.from w.copies)) && (not (is_primary i.pool v) || list_all (λ c. c.pool == i.from) (primary_copies v w))) h)
 
 pub can_move : (j : Journal) (c : MovedCopies) (v : Inv) → Facts v → move_refused j c.items v ++ scratch_refused c.scratch v ≡ [] → parts_fit (change.Move c) v ≡ true → CanChange (change.Move c) v
 unfolding parts_fit
@@ -121,15 +125,15 @@ can_move j c v f h fit =
     let once : List Refusal = unless (name_once (map (λ i. i.object) c.items)) bad_value in
     let asked : move_refused j c.items v ≡ [] = front_nil (move_refused j c.items v) (scratch_refused c.scratch v) h in
     let apart = items_apart (λ (i : MovedCopy). i.object) c.items (holds (name_once (map (λ i. i.object) c.items)) bad_value (front_nil once (flat_map (moved_refused j v) c.items) asked)) in
-    let scratch_fit : scratch_fits v c.scratch ≡ true = first (scratch_fits v c.scratch) (items_fit moved_copy_fits (λ i. i.segments) c.items w) fit in
-    let fits : list_all (moved_copy_fits w) c.items ≡ true =
-    first (list_all (moved_copy_fits w) c.items) (are_all_clear w (flat_map (λ i. i.segments) c.items)) (rest (scratch_fits v c.scratch) (items_fit moved_copy_fits (λ i. i.segments) c.items w) fit) in (
+    let scratch_fit : scratch_fits v c.scratch ≡ true = first (scratch_fits v c.scratch) (items_fit (moved_copy_fits c.items) (λ i. i.segments) c.items w) fit in
+    let fits : list_all (moved_copy_fits c.items w) c.items ≡ true =
+    first (list_all (moved_copy_fits c.items w) c.items) (are_all_clear w (flat_map (λ i. i.segments) c.items)) (rest (scratch_fits v c.scratch) (items_fit (moved_copy_fits c.items) (λ i. i.segments) c.items w) fit) in (
       can_scratch_all c.scratch v (scratch_new c.scratch v (back_nil (move_refused j c.items v) (scratch_refused c.scratch v) h) scratch_fit),
       record {
-        puts = can_put_moved_all c.items w (all_so (moved_copy_fits w) (λ i. all_roomy i.object i.segments w) (λ i t. moved_roomy w i (version i.object w) t) c.items fits);
+        puts = can_put_moved_all c.items w (all_so (moved_copy_fits c.items w) (λ i. all_roomy i.object i.segments w) (λ i t. moved_roomy c.items w i (version i.object w) t) c.items fits);
         moves = can_move_all c.items (each put_moved c.items w) apart
             (ap (λ (r : Rows). all_versions (λ (i : MovedCopy). i.object) takes_moved c.items r.filespaces) (only_moved c.items w).clients
-            ∙ all_so (moved_copy_fits w) (λ i. takes_moved i (version i.object w)) (λ i t. moved_free w i (version i.object w) t) c.items fits);
+            ∙ all_so (moved_copy_fits c.items w) (λ i. takes_moved i (version i.object w)) (λ i t. moved_free c.items w i (version i.object w) t) c.items fits);
         number = subst (λ (n : ℕ). n + 1 < 2 ^ 64) (sym only.number) (next_number v f);
       },
     )
@@ -148,7 +152,7 @@ copy_taken j i (Some w) h =
 copy_roomy : (v : Inv) (i : NewCopy) (o : Option Version) → option_map_or (λ w. added_fits v i w) o false ≡ true → all_roomy i.object i.segments v ≡ true
 copy_roomy v i None h = absurd cc
 copy_roomy v i (Some w) h =
-    roomy_copy v i.pool w.size i.object i.segments (first (copy_fits v i.pool w.size i.segments) (not (is_primary i.pool v) || is_nil (primary_copies v w)) h)
+    roomy_copy [] v i.pool w.size i.object i.segments (first (copy_fits v i.pool w.size i.segments) (not (is_primary i.pool v) || is_nil (primary_copies v w)) h)
 
 pub can_copy : (j : Journal) (c : NewCopies) (v : Inv) → Facts v → copy_list_refused j c.items v ++ scratch_refused c.scratch v ≡ [] → parts_fit (change.Copy c) v ≡ true → CanChange (change.Copy c) v
 unfolding parts_fit

@@ -1,15 +1,14 @@
 -- Validity is the facts together.
 use Rattle.std.proofs.Common.{◌≡◌, ◌-◌, ◌^◌, Bool, true, false, ◌&&◌, [], ◌∷◌, ◌++◌, map, refl}
-use Rattle.std.specs.Prelude.{nat_lt, nat_le, length}
+use Rattle.std.specs.Prelude.{nat_lt, nat_le}
 use Rattle.std.specs.List.{list_all}
 use Rattle.std.specs.Map.{keys_of}
 use Rattle.std.specs.Option.{option_map_or}
 use Rattle.inventory_rows.specs.version_groups.Versions.{are_distinct}
-use Rattle.inventory_rows.specs.object_rows.Rows.{most_versions}
 use Rattle.inventory_rows.specs.Items.{count_items, most_items}
 use Rattle.inventory_rows.specs.Search.{versions, copies}
 use Rattle.inventory_rows.specs.State.{Inv}
-use Rattle.inventory_rules.specs.Valid.{are_apart, are_bounded, are_by_today, are_drawn, are_named, are_numbered, are_past, copies_cite, defaults_are_there, filespaces_apart, filespaces_cite, groups_are_orderly, is_named_soundly, is_valid, lie_in, names_apart, no_ring, nodes_cite, pools_cite, rules_cite, versions_are_copied, volumes_are, volumes_cite}
+use Rattle.inventory_rules.specs.Valid.{are_apart, are_bounded, are_by_today, are_drawn, are_named, are_numbered, are_past, classes_are, copies_cite, defaults_are_there, filespaces_apart, filespaces_cite, groups_are_orderly, is_named_soundly, is_valid, lie_in, names_apart, no_ring, nodes_cite, pools_cite, rules_cite, versions_are_copied, volumes_are, volumes_cite}
 use Rattle.inventory_rules.specs.Facts.{Facts}
 
 -- the first of two tests that both hold, and the second
@@ -31,7 +30,7 @@ abbrev from18 : Inv → Bool
 from18 v = nat_le (count_items v) most_items
 
 abbrev from17 : Inv → Bool
-from17 v = nat_le (length (versions v)) most_versions && from18 v
+from17 v = classes_are v && from18 v
 
 abbrev from16 : Inv → Bool
 from16 v = are_by_today v && from17 v
@@ -155,7 +154,7 @@ facts_of v h =
     let h15 : from15 v ≡ true = rest (volumes_are v) (from15 v) h14 in
     let h16 : from16 v ≡ true = rest (no_ring v) (from16 v) h15 in
     let h17 : from17 v ≡ true = rest (are_by_today v) (from17 v) h16 in
-    let h18 : from18 v ≡ true = rest (nat_le (length (versions v)) most_versions) (from18 v) h17 in
+    let h18 : from18 v ≡ true = rest (classes_are v) (from18 v) h17 in
     let drawn_0 : are_drawn v ≡ true = first (are_drawn v) (from7 v) h6 in
     let drawn_1 : drawn1 v ≡ true = rest (lie_in 1 v.next_node (keys_of v.clients.nodes)) (drawn1 v) drawn_0 in
     let drawn_2 : drawn2 v ≡ true = rest (lie_in 1 v.next_filespace (keys_of v.clients.filespaces)) (drawn2 v) drawn_1 in
@@ -216,7 +215,7 @@ facts_of v h =
       versions_by_today = first (list_all (λ version. nat_le version.stored v.today && option_map_or (λ day. nat_le day v.today) version.since true) (versions v)) (today1 v) today_0;
       backups_by_today = first (list_all (λ b. nat_le b.1.taken v.today) v.backups) (today2 v) today_1;
       volumes_by_today = today_2;
-      few_versions = first (nat_le (length (versions v)) most_versions) (from18 v) h17;
+      classes_are = first (classes_are v) (from18 v) h17;
       few_items = h18;
     }
 
@@ -247,7 +246,7 @@ valid_of v f =
     let today_1 : today1 v ≡ true = both (list_all (λ b. nat_le b.1.taken v.today) v.backups) (today2 v) f.backups_by_today today_2 in
     let today_0 : are_by_today v ≡ true = both (list_all (λ version. nat_le version.stored v.today && option_map_or (λ day. nat_le day v.today) version.since true) (versions v)) (today1 v) f.versions_by_today today_1 in
     let h18 : from18 v ≡ true = f.few_items in
-    let h17 : from17 v ≡ true = both (nat_le (length (versions v)) most_versions) (from18 v) f.few_versions h18 in
+    let h17 : from17 v ≡ true = both (classes_are v) (from18 v) f.classes_are h18 in
     let h16 : from16 v ≡ true = both (are_by_today v) (from17 v) today_0 h17 in
     let h15 : from15 v ≡ true = both (no_ring v) (from16 v) f.no_ring h16 in
     let h14 : from14 v ≡ true = both (volumes_are v) (from15 v) f.volumes_are h15 in

@@ -64,7 +64,7 @@ put_shape : (b : Bool) (object : ℕ) (s : Segment) (volume : Volume) → shape_
 put_shape true object s volume = refl
 put_shape false object s volume = refl
 
-put_none : (object : ℕ) (s : Segment) (v : Inv) → row_at s.file v.stores.volumes ≡ None → put object (s ∷ []) v ≡ v
+pub put_none : (object : ℕ) (s : Segment) (v : Inv) → row_at s.file v.stores.volumes ≡ None → put object (s ∷ []) v ≡ v
 put_none object s v absent =
     ap (λ (o : Option Volume). with_stores (or_same v.stores (with_volumes v.stores (changed s.file (row.put (is_sequential_row v.stores o) (held_of object s)) v.stores.volumes o))) v) absent
 

@@ -1,9 +1,11 @@
 pub mod Absent
 pub mod Alone
 pub mod Assembled
+pub mod BackupBack
 pub mod BackupCounts
 pub mod BackupRows
 pub mod Causes
+pub mod Chains
 pub mod Changing
 pub mod Cited
 pub mod ClassLaws
@@ -24,6 +26,8 @@ pub mod Domains
 pub mod Ends
 pub mod Every
 pub mod Facts
+pub mod FitBack
+pub mod Fitting
 pub mod Flat
 pub mod Frames
 pub mod Gone
@@ -31,9 +35,11 @@ pub mod GroupSteps
 pub mod GroupTakes
 pub mod Grouped
 pub mod Holding
+pub mod InOrder
 pub mod Joined
 pub mod Keeping
 pub mod Kept
+pub mod Laid
 pub mod Lists
 pub mod MadeBackups
 pub mod MadeCopies
@@ -42,6 +48,7 @@ pub mod MadeRows
 pub mod MadeVersions
 pub mod MadeVolumes
 pub mod MoveCounts
+pub mod MovedRows
 pub mod Moves
 pub mod Names
 pub mod Numbers
@@ -54,6 +61,7 @@ pub mod PolicyTakes
 pub mod PoolLaws
 pub mod Pools
 pub mod PutSteps
+pub mod Recopied
 pub mod Refusals
 pub mod Removals
 pub mod RemovedItems
@@ -62,10 +70,12 @@ pub mod Rewrites
 pub mod RowParts
 pub mod RowsKept
 pub mod Scratch
+pub mod ScratchBack
 pub mod ScratchList
 pub mod Spliced
 pub mod Stays
 pub mod Steady
+pub mod StoreBack
 pub mod StoreCounts
 pub mod StoreLegal
 pub mod StoreRows
@@ -73,6 +83,7 @@ pub mod StoreVolumes
 pub mod Stored
 pub mod Swapping
 pub mod Tests
+pub mod Turned
 pub mod UpdateLaws
 pub mod Updates
 pub mod VersionArrivals

@@ -1,14 +1,10 @@
 -- The files of a backup become versions one after the other.
-use Rattle.std.proofs.Common.{◌≡◌, ℕ, ◌+◌, ◌^◌, ◌<◌, ◌≤◌, true, false, not, List, [], ◌∷◌, ◌++◌, length, Option, Some, None, Ordering, Ok, refl, sym, ap, subst, ◌∙◌, arith}
+use Rattle.std.proofs.Common.{◌≡◌, ℕ, ◌+◌, ◌^◌, ◌<◌, ◌≤◌, true, false, not, List, [], ◌∷◌, ◌++◌, length, Option, Some, None, Ok, refl, sym, ap, subst, ◌∙◌, arith}
 use Rattle.std.specs.Prelude.{eqb, is_some, nat_lt, ◌||◌, ◌==◌}
-use Rattle.std.specs.BTreeMap.{insert_entry}
-use Rattle.std.specs.Cmp.{IsTotalOrder}
 use Rattle.std.specs.Cmp.Lexicographic.{nat_list_cmp_total, slice_cmp}
-use Rattle.std.specs.List.{AllByRecursion, list_all, list_any}
-use Rattle.std.specs.List.Sorted.{IsStrictlySortedBy}
+use Rattle.std.specs.List.{list_all, list_any}
 use Rattle.std.specs.Map.{keys_of, set_value}
-use Rattle.std.specs.Ordering.{match_ordering, nat_cmp, ordering_reverse}
-use Rattle.std.specs.declared.cmp.Ordering.TheVariants.{Less, Equal, Greater}
+use Rattle.std.specs.Ordering.{nat_cmp}
 use Rattle.std.proofs.lemmas.Bool.{lt-leb, ltb-true}
 use Rattle.std.proofs.lemmas.List.{length-map, map-append}
 use Rattle.entries.specs.change_items.declared.items.NewVersion.{NewVersion}
@@ -27,6 +23,7 @@ use Rattle.inventory_rows.proofs.of_object_rows.Full.{all-insert_entry}
 use Rattle.inventory_rows.proofs.of_object_rows.Splices.{Splices}
 use Rattle.inventory_rows.proofs.of_object_rows.Stands.{keys-listed, numbers}
 use Rattle.inventory_rows.proofs.of_object_rows.Steps.{orderly-set, orderly_at, put_of}
+use Rattle.inventory_rows.proofs.of_policy_domains.Sorted.{sorted-insert}
 use Rattle.inventory_rows.specs.State.{Inv}
 use Rattle.inventory_rules.specs.Common.{or_same, CanEach}
 use Rattle.inventory_rules.specs.Versions.{back_up, new_version, CanBackUp, inserted}
@@ -36,32 +33,6 @@ use Rattle.inventory_laws.proofs.MadeItems.{others_hold}
 use Rattle.inventory_laws.proofs.MadeVersions.{OnlyVolumes, only_put}
 use Rattle.inventory_laws.proofs.MadeVolumes.{all_roomy, can_put_all, roomy_items, roomy_puts}
 
--- ---- one entry more keeps a map in order
-
-module _ {K X : Type 0} {R : K → K → Ordering} (o : IsTotalOrder R) (k : K) (x : X) where
-  still_above : (a : K) (es : List (K × X)) → R a k ≡ Less → AllByRecursion (λ y. R a y ≡ Less) (keys_of es) → AllByRecursion (λ y. R a y ≡ Less) (keys_of (insert_entry R es k x))
-  still_above a [] less h = (less, tt)
-  still_above a (e ∷ es) less h =
-      elim (R k e.0) as (λ r. AllByRecursion (λ y. R a y ≡ Less) (keys_of (match_ordering r ((k, x) ∷ e ∷ es) ((e.0, x) ∷ es) (e ∷ insert_entry R es k x)))) [
-        | Less ↦ (less, h)
-        | Equal ↦ h
-        | Greater ↦ (h.0, still_above a es less h.1)
-      ]
-
-  below_all : (b : K) (ys : List K) → R k b ≡ Less → AllByRecursion (λ y. R b y ≡ Less) ys → AllByRecursion (λ y. R k y ≡ Less) ys
-  below_all b [] less h = tt
-  below_all b (y ∷ ys) less h = (o.trans k b y less h.0, below_all b ys less h.1)
-
-  pub sorted_with : (es : List (K × X)) → IsStrictlySortedBy R (keys_of es) → IsStrictlySortedBy R (keys_of (insert_entry R es k x))
-  unfolding IsStrictlySortedBy
-  sorted_with [] s = (tt, tt)
-  sorted_with (e ∷ es) s =
-      elim (R k e.0) as (λ r. R k e.0 ≡ r → IsStrictlySortedBy R (keys_of (match_ordering r ((k, x) ∷ e ∷ es) ((e.0, x) ∷ es) (e ∷ insert_entry R es k x)))) [
-        | Less ↦ λ less. ((less, below_all e.0 (keys_of es) less s.0), s)
-        | Equal ↦ λ _. s
-        | Greater ↦ λ greater. (still_above e.0 es (o.antisymm e.0 k ∙ ap ordering_reverse greater) s.0, sorted_with es s.1)
-      ] refl
-
 -- ---- the groups stay orderly
 
 full_group : (class : List ℕ) (version : Version) (o : Option Group) → not (is_empty (group_with class version o).versions) ≡ true
@@ -70,7 +41,7 @@ full_group class version (Some g) = refl
 
 pub orderly_with : (path class : List ℕ) (version : Version) (groups : List (List ℕ × Group)) → AreOrderly groups → AreOrderly (groups_with path class version groups)
 orderly_with path class version groups orderly = (
-  sorted_with nat_list_cmp_total path (group_with class version (group_at path groups)) groups orderly.0,
+  sorted-insert nat_list_cmp_total path (group_with class version (group_at path groups)) groups orderly.0,
   all-insert_entry (λ (g : Group). not (is_empty g.versions)) (slice_cmp nat_cmp) groups path (group_with class version (group_at path groups)) orderly.1 (full_group class version (group_at path groups)),
 )
 

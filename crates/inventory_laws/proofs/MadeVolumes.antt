@@ -21,8 +21,9 @@ use Rattle.inventory_rows.specs.volume_rows.declared.volume.Volume.{Volume}
 use Rattle.inventory_rows.specs.volume_rows.Held.{held_of}
 use Rattle.inventory_rows.specs.volume_rows.Volumes.{put_on}
 use Rattle.inventory_rows.specs.State.{Inv}
+use Rattle.entries.specs.change_items.declared.items.MovedCopy.{MovedCopy}
 use Rattle.inventory_rules.specs.Common.{or_same, CanEach, file_bound, files_refused, is_free_file}
-use Rattle.inventory_rules.specs.Segments.{make_scratch, put, CanPut, CanScratch, has_room, put_step, are_clear, copy_fits, lies_rightly, scratch_fits, segment_fits, scratch_refused}
+use Rattle.inventory_rules.specs.Segments.{make_scratch, put, CanPut, CanScratch, has_room, put_step, are_clear, copy_fits_after, lies_rightly, scratch_fits, segment_fits_after, scratch_refused, leaves}
 use Rattle.inventory_laws.proofs.Facts.{both, first, rest}
 use Rattle.inventory_rows.specs.Search.{pool, segments_on}
 use Rattle.kinds.specs.Refusals.{bad_value}
@@ -159,21 +160,21 @@ room_right sequential number object s (Some w) h =
     let ends : Bool = nat_le (s.offset + 32 + s.len) w.capacity in
     first ends (sequential || s.offset % 4096 == 0) (rest (w.pool == number) (ends && (sequential || s.offset % 4096 == 0)) h)
 
-roomy_fit : (v : Inv) (number object : ℕ) (segments : List Segment) → list_all (segment_fits v number) segments ≡ true → all_roomy object segments v ≡ true
-roomy_fit v number object [] h = refl
-roomy_fit v number object (s ∷ segments) h =
-    let here : segment_fits v number s ≡ true = first (segment_fits v number s) (list_all (segment_fits v number) segments) h in
+roomy_fit : (moved : List MovedCopy) (v : Inv) (number object : ℕ) (segments : List Segment) → list_all (segment_fits_after moved v number) segments ≡ true → all_roomy object segments v ≡ true
+roomy_fit moved v number object [] h = refl
+roomy_fit moved v number object (s ∷ segments) h =
+    let here : segment_fits_after moved v number s ≡ true = first (segment_fits_after moved v number s) (list_all (segment_fits_after moved v number) segments) h in
     let lies : lies_rightly (is_sequential number v.stores) number s (row_at s.file v.stores.volumes) ≡ true =
-    first (lies_rightly (is_sequential number v.stores) number s (row_at s.file v.stores.volumes)) (list_all (λ e. are_clear (is_sequential number v.stores) s e.1) (segments_on s.file v)) here in
+    first (lies_rightly (is_sequential number v.stores) number s (row_at s.file v.stores.volumes)) (list_all (λ e. leaves moved number e.0 || are_clear (is_sequential number v.stores) s e.1) (segments_on s.file v)) here in
     both (has_room (held_of object s) (row_at s.file v.stores.volumes)) (all_roomy object segments v) (room_right (is_sequential number v.stores) number object s (row_at s.file v.stores.volumes) lies)
-    (roomy_fit v number object segments (rest (segment_fits v number s) (list_all (segment_fits v number) segments) h))
+    (roomy_fit moved v number object segments (rest (segment_fits_after moved v number s) (list_all (segment_fits_after moved v number) segments) h))
 
 -- so has a copy that fits
-pub roomy_copy : (v : Inv) (number size object : ℕ) (segments : List Segment) → copy_fits v number size segments ≡ true → all_roomy object segments v ≡ true
-roomy_copy v number size object segments h =
+pub roomy_copy : (moved : List MovedCopy) (v : Inv) (number size object : ℕ) (segments : List Segment) → copy_fits_after moved v number size segments ≡ true → all_roomy object segments v ≡ true
+roomy_copy moved v number size object segments h =
     let sized : Bool = sum_by (λ s. s.len) segments == size in
-    let fit : Bool = list_all (segment_fits v number) segments in
-    roomy_fit v number object segments (rest sized fit (rest (is_some (pool number v)) (sized && fit) h))
+    let fit : Bool = list_all (segment_fits_after moved v number) segments in
+    roomy_fit moved v number object segments (rest sized fit (rest (is_some (pool number v)) (sized && fit) h))
 
 -- ---- scratch volumes
 

@@ -1,9 +1,8 @@
 -- Lists with the same elements: which lists have them, and what is the same for both.
-use Rattle.std.proofs.Common.{◌≡◌, ℕ, ◌+◌, Bool, true, false, cond, ◌&&◌, List, [], ◌∷◌, ◌++◌, map, refl, sym, ap, subst, ◌∙◌, append_assoc, append-nil, arith}
-use Rattle.std.specs.List.{list_all, sum_by, flat_map, filter}
+use Rattle.std.proofs.Common.{◌≡◌, ◌+◌, Bool, true, false, cond, ◌&&◌, List, [], ◌∷◌, ◌++◌, map, refl, sym, ap, subst, ◌∙◌, append_assoc, append-nil}
+use Rattle.std.specs.List.{list_all, flat_map, filter}
 use Rattle.std.proofs.lemmas.List.{map-append}
 use Rattle.std.proofs.lemmas.List.Concat.{flat_map-append}
-use Rattle.std.proofs.lemmas.List.Sums.{sum_by-cons}
 use Rattle.inventory_rows.specs.version_groups.Entries.{all_later, is_nil}
 use Rattle.inventory_rules.specs.Reordered.{Picks, IsReordered}
 
@@ -195,9 +194,6 @@ list_all-reordered p xs ys r = same_by_steps (list_all p) (λ x b. p x && b) (λ
 
 pub is_nil-reordered : {A : Type 0} (xs ys : List A) → IsReordered xs ys → is_nil xs ≡ is_nil ys
 is_nil-reordered xs ys r = same_by_steps is_nil (λ x b. false) (λ x l. refl) (λ x y b. refl) xs ys r
-
-pub sum_by-reordered : {A : Type 0} (f : A → ℕ) (xs ys : List A) → IsReordered xs ys → sum_by f xs ≡ sum_by f ys
-sum_by-reordered f xs ys r = same_by_steps (sum_by f) (λ x n. f x + n) (λ x l. sum_by-cons f x l) (λ x y n. omega arith) xs ys r
 
 and_four : (p q s t : Bool) → ((p && q) && (s && t)) ≡ ((p && s) && (q && t))
 and_four true true s t = refl

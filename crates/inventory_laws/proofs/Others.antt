@@ -171,7 +171,7 @@ place_of_path n k path v d has =
     ap (lookup (at_number k)) s.was ∙ lookup_behind (at_number k) s.before (xs ++ s.after) (none_before k s.before (xs ++ s.after) here apart found) ∙ found
 
 -- the place that is found for an object is that of its version
-full_groups : (groups : List (List ℕ × Group)) → list_all (λ g. is_orderly g.1) groups ≡ true → are_full groups ≡ true
+pub full_groups : (groups : List (List ℕ × Group)) → list_all (λ g. is_orderly g.1) groups ≡ true → are_full groups ≡ true
 full_groups [] h = refl
 full_groups (g ∷ groups) h =
     let hs : (is_orderly g.1 ≡ true) × (list_all (λ g. is_orderly g.1) groups ≡ true) = and_parts (is_orderly g.1) (list_all (λ g. is_orderly g.1) groups) h in
@@ -181,7 +181,7 @@ full_groups (g ∷ groups) h =
     full class [] t = t
     full class (v ∷ vs) t = refl
 
-orderly_all : (fs : List (ℕ × Filespace)) → AllByRecursion (λ f. AreByPath f.1.groups) fs → are_orderly fs ≡ true → AreAllOrderly fs
+pub orderly_all : (fs : List (ℕ × Filespace)) → AllByRecursion (λ f. AreByPath f.1.groups) fs → are_orderly fs ≡ true → AreAllOrderly fs
 orderly_all [] a h = tt
 orderly_all (f ∷ fs) a h =
     let hs : (list_all (λ g. is_orderly g.1) f.1.groups ≡ true) × (are_orderly fs ≡ true) = and_parts (list_all (λ g. is_orderly g.1) f.1.groups) (are_orderly fs) h in

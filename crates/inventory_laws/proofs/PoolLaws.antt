@@ -63,7 +63,7 @@ free_before : (v : Inv) (k : ℕ) (o : Option ℕ) → refusal_of (unless_before
 free_before v k None h = (refl, refl)
 free_before v k (Some n) h = absurd cc
 
-free_filled : (v : Inv) (k : ℕ) (o : Option ℕ) → refusal_of (unless_filled k v.stores o) ≡ []
+pub free_filled : (v : Inv) (k : ℕ) (o : Option ℕ) → refusal_of (unless_filled k v.stores o) ≡ []
     → (o ≡ None) × (pool_before k v.stores ≡ None) × (unless_filled k v.stores o ≡ Ok (record v.stores { pools = without_row k v.stores.pools }))
 free_filled v k None h = let t = free_before v k (pool_before k v.stores) h in (refl, t.0, t.1)
 free_filled v k (Some n) h = absurd cc

@@ -215,6 +215,7 @@ pool_comes v x f tied class next name bound room =
         versions_copied = s.versions_copied;
         volumes_are = s.volumes_are;
         no_ring = ring_with k x old new picks absent (nexts_there v f) on f.no_ring;
+        classes_are = f.classes_are;
         volumes_by_today = f.volumes_by_today;
       }) room,
       tied,
@@ -260,6 +261,7 @@ pool_goes v k x f tied there of_rules of_volumes of_copies before room =
         versions_copied = s.versions_copied;
         volumes_are = s.volumes_are;
         no_ring = ring_left k x old new picks before f.no_ring;
+        classes_are = f.classes_are;
         volumes_by_today = f.volumes_by_today;
       }) room,
       tied,

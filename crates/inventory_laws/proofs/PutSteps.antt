@@ -77,7 +77,7 @@ raised n m v f l bounded = record {
 }
 
 -- ---- the filespace is there
-abbrev Answer : ℕ → List ℕ → List ℕ → Version → List (ℕ × Filespace) → Type 0
+abbrev pub Answer : ℕ → List ℕ → List ℕ → Version → List (ℕ × Filespace) → Type 0
 Answer n path class w fs = (new : List (ℕ × Filespace)) × (filespaces_with n path class w fs ≡ Ok new)
 
 puts_at : (n : ℕ) (path class : List ℕ) (w : Version) (fs : List (ℕ × Filespace)) (o : Option Filespace) → is_some o ≡ true
@@ -89,10 +89,10 @@ pub puts : (n : ℕ) (path class : List ℕ) (w : Version) (fs : List (ℕ × Fi
 puts n path class w fs h = puts_at n path class w fs (filespace_at n fs) h
 
 -- ---- the versions behind the new one
-superseded_or : (P : List Version → Type 0) (day : ℕ) (vs : List Version) → P (retired day vs) → P vs → P (superseded day vs)
+pub superseded_or : (P : List Version → Type 0) (day : ℕ) (vs : List Version) → P (retired day vs) → P vs → P (superseded day vs)
 superseded_or P day vs a b = elim (has_active vs) as (λ t. P (cond t (retired day vs) vs)) [ true ↦ a | false ↦ b ]
 
-copies-superseded : (day : ℕ) (vs : List Version) → copies_in (superseded day vs) ≡ copies_in vs
+pub copies-superseded : (day : ℕ) (vs : List Version) → copies_in (superseded day vs) ≡ copies_in vs
 copies-superseded day vs = superseded_or (λ ws. copies_in ws ≡ copies_in vs) day vs (copies-retired day vs) refl
 
 pub objects-superseded : (day : ℕ) (vs : List Version) → objects (superseded day vs) ≡ objects vs
@@ -136,7 +136,7 @@ distinct_more k old new free d s =
     distinct-objects new ∙ later_more differ k s (others_too k (objects old) others) others (sym (distinct-objects old) ∙ d)
 
 -- in front of a run that stays
-in_front : {A : Type 0} (x : A) {xs ys old new : List A} → ys ≡ xs → Splices xs (x ∷ ys) old new → Splices [] (x ∷ []) old new
+pub in_front : {A : Type 0} (x : A) {xs ys old new : List A} → ys ≡ xs → Splices xs (x ∷ ys) old new → Splices [] (x ∷ []) old new
 in_front x {xs} {ys} {old} {new} same s = splice_in (record { before = []; after = xs; was = refl; becomes = ap (λ z. x ∷ z) same }) s
 
 -- ---- the step

@@ -1,7 +1,7 @@
 -- Copies and versions that go: what a transaction finds that has no cause to be refused, what each step keeps, and what the whole leaves.
-use Rattle.std.proofs.Common.{◌≡◌, ℕ, Bool, true, false, cond, eqb, ◌||◌, List, [], ◌∷◌, length, Option, Some, None, refl, ◌∙◌, ◌+◌, map, ap, arith, ◌≤◌}
-use Rattle.std.specs.Prelude.{◌==◌, nat_le}
-use Rattle.std.specs.List.{flat_map, AllByRecursion}
+use Rattle.std.proofs.Common.{◌≡◌, ℕ, Bool, true, false, cond, eqb, not, ◌||◌, List, [], ◌∷◌, length, Option, Some, None, refl, ◌∙◌, ◌+◌, map, ap, arith, ◌≤◌}
+use Rattle.std.specs.Prelude.{nat_le}
+use Rattle.std.specs.List.{flat_map, find, AllByRecursion}
 use Rattle.std.proofs.lemmas.Bool.{false≢true, le-leb, leb-true}
 use Rattle.kinds.specs.declared.refusal.Refusal.{Refusal}
 use Rattle.kinds.specs.Refusals.{bad_value, unless}
@@ -24,10 +24,9 @@ use Rattle.inventory_rows.proofs.of_object_rows.Splices.{Splices}
 use Rattle.inventory_rows.specs.Search.{copy_in, place, version, versions}
 use Rattle.inventory_rows.specs.State.{Inv}
 use Rattle.inventory_rows.specs.object_rows.declared.place.Place.{Place}
-use Rattle.inventory_rows.specs.object_rows.Rows.{most_versions}
 use Rattle.inventory_rows.specs.Items.{count_items}
 use Rattle.inventory_rules.specs.Journal.{Journal}
-use Rattle.inventory_rules.specs.Copies.{dropped_refused, named_drop_refused, placed_by, stale_copy, version_drop_refused, change_copy, drop_copy, dropped}
+use Rattle.inventory_rules.specs.Copies.{dropped_refused, lies_elsewhere, named_drop_refused, placed_by, stale_copy, version_drop_refused, change_copy, drop_copy, dropped}
 use Rattle.inventory_rules.specs.Versions.{discarded_refused, expired_refused, of_version, change_group, discard, discard_at, expire, remove, name_once}
 use Rattle.inventory_rules.specs.Transactions.{effect, causes, sizes_refused}
 use Rattle.inventory_rules.specs.Held.{IsTied}
@@ -36,7 +35,7 @@ use Rattle.inventory_rules.specs.Ordered.{IsOrdered}
 use Rattle.inventory_rules.proofs.Touched.{effect-data}
 use Rattle.inventory_laws.proofs.GroupSteps.{found_in, removes}
 use Rattle.inventory_laws.proofs.Grouped.{versions_changed}
-use Rattle.inventory_laws.proofs.Others.{place_of_path, length_copied, length_removed, other_copied, other_removed, path_of_place, place_stays}
+use Rattle.inventory_laws.proofs.Others.{place_of_path, other_copied, other_removed, path_of_place, place_stays}
 use Rattle.inventory_laws.proofs.ScratchList.{none_of_both, unless_not}
 use Rattle.inventory_laws.proofs.CopySteps as copy
 use Rattle.inventory_laws.proofs.GroupSteps as group
@@ -101,17 +100,37 @@ pub record Drops (item : DroppedCopy) (v : Inv) : Type 0 where
   pub there : copy_in item.pool old ≡ Some copy
   pub another : nat_le 2 (length old.copies) ≡ true
 
-copy_there : (placed : ℕ) (o : Option CopyRow) (named : List Refusal) (stale : Refusal) → cond (placed_by placed o) named (stale ∷ []) ≡ [] → (c : CopyRow) × (o ≡ Some c) × (named ≡ [])
+copy_there : (placed : ℕ) (o : Option CopyRow) (named : List Refusal) (stale : Refusal) → cond (placed_by placed o) named (stale ∷ []) ≡ [] → (c : CopyRow) × (o ≡ Some c)
 copy_there placed None named stale h = absurd cc
-copy_there placed (Some c) named stale h = (c, refl, (passed (c.placed == placed) named stale h).1)
+copy_there placed (Some c) named stale h = (c, refl)
+
+-- beside one in the pool and one in another there are two copies
+some_behind : (number : ℕ) (copies : List CopyRow) (old : CopyRow) → find (λ c. eqb c.pool number) copies ≡ Some old → nat_le 1 (length copies) ≡ true
+some_behind number [] old h = absurd cc
+some_behind number (c ∷ copies) old h = le-leb 1 (length (c ∷ copies)) (omega arith)
+
+others_behind : (number : ℕ) (copies : List CopyRow) → lies_elsewhere number copies ≡ true → nat_le 1 (length copies) ≡ true
+others_behind number [] h = absurd cc
+others_behind number (c ∷ copies) h = le-leb 1 (length (c ∷ copies)) (omega arith)
+
+two_of : (c : CopyRow) (copies : List CopyRow) → nat_le 1 (length copies) ≡ true → nat_le 2 (length (c ∷ copies)) ≡ true
+two_of c copies h = let some : 1 ≤ length copies = leb-true 1 (length copies) h in le-leb 2 (length (c ∷ copies)) (omega (arith, some))
+
+two_copies : (number : ℕ) (copies : List CopyRow) (old : CopyRow) → find (λ c. eqb c.pool number) copies ≡ Some old → lies_elsewhere number copies ≡ true → nat_le 2 (length copies) ≡ true
+two_copies number [] old h k = absurd cc
+two_copies number (c ∷ copies) old h k =
+    elim (eqb c.pool number) as (λ b. cond b (Some c) (find (λ c. eqb c.pool number) copies) ≡ Some old → (not b || lies_elsewhere number copies) ≡ true → nat_le 2 (length (c ∷ copies)) ≡ true) [
+      | true ↦ λ t u. two_of c copies (others_behind number copies u)
+      | false ↦ λ t u. two_of c copies (some_behind number copies old t)
+    ] h k
 
 pub drop_found : (j : Journal) (reason : DropReason) (v : Inv) (item : DroppedCopy) → dropped_refused j reason v item ≡ [] → Drops item v
 drop_found j reason v item h =
     let w = version_there j item.object (version_drop_refused j reason v item) v (version item.object v) refl h in
-    let c = copy_there item.placed (copy_in item.pool w.0) (named_drop_refused reason v item w.0) (stale_copy (j.copy_changed item.object item.pool) (copy_in item.pool w.0)) w.2 in
-    let rest = none_of_both _ _ c.2 in
-    let two = none_of_both _ _ rest.1 in
-    record { old = w.0; found = w.1; copy = c.0; there = c.1; another = unless_not _ _ two.0 }
+    let one = none_of_both (named_drop_refused j reason item w.0) _ w.2 in
+    let two = none_of_both _ _ one.1 in
+    let c = copy_there item.placed (copy_in item.pool w.0) _ (stale_copy (j.copy_changed item.object item.pool) (copy_in item.pool w.0)) one.0 in
+    record { old = w.0; found = w.1; copy = c.0; there = c.1; another = two_copies item.pool w.0.copies c.0 c.1 (unless_not _ _ two.0) }
 
 -- ---- versions that expire
 
@@ -143,11 +162,7 @@ drop_holds n item v h d =
     let u : Inv = change_copy item.object (dropped item) v in
     let k : OnlyVolumes u (drop_copy item v) = drops_kept item v in
     let r = copy.dropped n item.object item.pool v d.old d.copy h.steady.versions d.found d.there d.another in
-    let count : length (versions (drop_copy item v)) ≡ length (versions v) = ap (λ (x : Inv). length (versions x)) k.only ∙ length_copied item.object (dropped item) v in
-    record {
-      steady = drop_steady n [] item v d.old d.copy d.found d.there r.0 r.1 h.steady.volumes h.steady.cite;
-      few = ap (λ m. nat_le m most_versions) count ∙ h.few;
-    }
+    record { steady = drop_steady n [] item v d.old d.copy d.found d.there r.0 r.1 h.steady.volumes h.steady.cite }
 
 drop_stays : (item other : DroppedCopy) (v : Inv) → eqb other.object item.object ≡ false → Drops other v → Drops other (drop_copy item v)
 drop_stays item other v ne d =
@@ -162,23 +177,15 @@ drop_stays item other v ne d =
 
 -- ---- a version goes
 
-fewer : (a b most : ℕ) → a + 1 ≡ b → nat_le b most ≡ true → nat_le a most ≡ true
-fewer a b most less h = let under = leb-true b most h in le-leb a most (omega arith)
-
 remove_holds : (n filespace object : ℕ) (path : List ℕ) (v : Inv) (old : Version) → Holds n v → version object v ≡ Some old → has_object object (versions_at filespace path v.clients.filespaces) ≡ true → Holds n (remove filespace path object v)
 remove_holds n filespace object path v old h found has =
     let u : Inv = change_group filespace path (Remove object) v in
     let w : Inv = remove filespace path object v in
     let k : OnlyVolumes u w = removes_kept filespace path object v in
     let r = group.removed n filespace object path v old h.steady.versions found has in
-    let count : length (versions w) ≡ length (versions u) = ap (λ (x : Inv). length (versions x)) k.only in
-    let less : length (versions u) + 1 ≡ length (versions v) = length_removed filespace object path v old h.steady.versions.objects_apart found has in
-    record {
-      steady = remove_steady n [] filespace path object v old found r.0 r.1 h.steady.volumes h.steady.cite;
-      few = fewer (length (versions w)) (length (versions v)) most_versions (ap (λ m. m + 1) count ∙ less) h.few;
-    }
+    record { steady = remove_steady n [] filespace path object v old found r.0 r.1 h.steady.volumes h.steady.cite }
 
-remove_ordered : (filespace object : ℕ) (path : List ℕ) (v : Inv) → IsOrdered v → IsOrdered (remove filespace path object v)
+pub remove_ordered : (filespace object : ℕ) (path : List ℕ) (v : Inv) → IsOrdered v → IsOrdered (remove filespace path object v)
 remove_ordered filespace object path v o =
     ordered_elsewhere (change_group filespace path (Remove object) v) (remove filespace path object v) (ap (λ (x : Inv). x.clients) (removes_kept filespace path object v).only) (ordered_change filespace path (Remove object) v o)
 

@@ -1,10 +1,7 @@
 -- A transaction on data item by item: what holds of the database so far, and of the items that are left.
-use Rattle.std.proofs.Common.{◌≡◌, ℕ, true, false, eqb, not, List, [], ◌∷◌, map, length, sym}
-use Rattle.std.specs.Prelude.{nat_le}
+use Rattle.std.proofs.Common.{◌≡◌, ℕ, true, false, eqb, not, List, [], ◌∷◌, map, sym}
 use Rattle.std.specs.List.{list_all, AllByRecursion}
 use Rattle.std.proofs.lemmas.Bool.{and_parts, eqb-false, ne_eqb, not-true}
-use Rattle.inventory_rows.specs.object_rows.Rows.{most_versions}
-use Rattle.inventory_rows.specs.Search.{versions}
 use Rattle.inventory_rows.specs.State.{Inv}
 use Rattle.inventory_rules.specs.Common.{each}
 use Rattle.inventory_rules.specs.Versions.{name_once}
@@ -14,7 +11,6 @@ use Rattle.inventory_laws.specs.Steady.{IsSteady}
 -- what holds of the database between two items
 pub record Holds (n : ℕ) (v : Inv) : Type 0 where
   pub steady : IsSteady n [] v
-  pub few : nat_le (length (versions v)) most_versions ≡ true
 
 -- the same, and the rows stand in order
 pub record HoldsInOrder (n : ℕ) (v : Inv) : Type 0 where

@@ -1,6 +1,5 @@
 -- Paths that are bound to other classes, and versions that become inactive: no copy comes or goes.
-use Rattle.std.proofs.Common.{◌≡◌, ℕ, ◌+◌, true, List, [], length, refl, sym, ap, subst, ◌∙◌, ◌≤◌}
-use Rattle.std.specs.Prelude.{nat_le}
+use Rattle.std.proofs.Common.{◌≡◌, ℕ, ◌+◌, true, List, [], refl, sym, ap, subst, ◌≤◌}
 use Rattle.entries.specs.change_items.declared.items.NamedVersion.{NamedVersion}
 use Rattle.entries.specs.change_items.declared.lists.NamedVersions.{NamedVersions}
 use Rattle.entries.specs.change_items.declared.items.Rebinding.{Rebinding}
@@ -9,7 +8,6 @@ use Rattle.entries.specs.declared.change.Change.TheVariants.{Gone, Rebind}
 use Rattle.inventory_rows.specs.version_groups.declared.copies.CopyRow.{CopyRow}
 use Rattle.inventory_rows.specs.version_groups.declared.group.GroupChange.{GroupChange}
 use Rattle.inventory_rows.specs.version_groups.declared.group.GroupChange.TheVariants as group
-use Rattle.inventory_rows.specs.object_rows.Rows.{most_versions}
 use Rattle.inventory_rows.specs.Search.{copies, versions}
 use Rattle.inventory_rows.specs.State.{Inv}
 use Rattle.inventory_rows.specs.Items.{count_items}
@@ -22,7 +20,6 @@ use Rattle.inventory_rules.specs.Reordered.{IsReordered}
 use Rattle.inventory_rules.proofs.Touched.{effect-data}
 use Rattle.inventory_laws.proofs.GroupSteps as steps
 use Rattle.inventory_laws.proofs.Kept.{copies_in}
-use Rattle.inventory_laws.proofs.Others.{length_gone}
 use Rattle.inventory_laws.proofs.Cited.{cite_swapped}
 use Rattle.inventory_laws.proofs.Orders.{reordered_itself}
 use Rattle.inventory_laws.proofs.Swapping.{facts_swapped}
@@ -33,24 +30,21 @@ use Rattle.inventory_laws.proofs.GroupTakes.{group_takes}
 
 -- a path's versions change, and no copy
 same_copies : (n filespace : ℕ) (path : List ℕ) (step : GroupChange) (v : Inv) → Holds n v → VersionFacts n (change_group filespace path step v) → copies (change_group filespace path step v) ≡ copies v
-    → length (versions (change_group filespace path step v)) ≡ length (versions v) → Holds n (change_group filespace path step v)
-same_copies n filespace path step v h f same count =
+    → Holds n (change_group filespace path step v)
+same_copies n filespace path step v h f same =
     let w : Inv = change_group filespace path step v in
     let r : IsReordered (copies v) (copies w) = subst (λ (l : List (ℕ × CopyRow)). IsReordered (copies v) l) (sym same) (reordered_itself (copies v)) in
-    record {
-      steady = record { versions = f; volumes = facts_swapped [] [] [] v w refl refl refl refl r h.steady.volumes; cite = (cite_swapped [] [] v w refl r refl h.steady.cite).1 };
-      few = ap (λ k. nat_le k most_versions) count ∙ h.few;
-    }
+    record { steady = record { versions = f; volumes = facts_swapped [] [] [] v w refl refl refl refl r h.steady.volumes; cite = (cite_swapped [] [] v w refl r refl h.steady.cite).1 } }
 
 rebind_holds : (n filespace : ℕ) (item : Rebinding) (v : Inv) → Holds n v → Holds n (rebind filespace item v)
 rebind_holds n filespace item v h =
     let r = steps.rebound n filespace item.path item.class v h.steady.versions in
-    same_copies n filespace item.path (group.Rebind item.class) v h r.0 (ap copies_in r.1) (ap length r.1)
+    same_copies n filespace item.path (group.Rebind item.class) v h r.0 (ap copies_in r.1)
 
 gone_holds : (n filespace : ℕ) (item : NamedVersion) (v : Inv) → Holds n v → Holds n (mark_gone filespace item v)
 gone_holds n filespace item v h =
     let g = steps.gone n filespace item.object item.path v h.steady.versions in
-    same_copies n filespace item.path (group.Gone item.object v.today) v h g.0 g.1 (length_gone v (mark_gone filespace item v) g.2)
+    same_copies n filespace item.path (group.Gone item.object v.today) v h g.0 g.1
 
 pub rebind_valid : (c : Rebindings) (v : Inv) → is_valid v ≡ true → IsTied v → sizes_refused (Rebind c) v ≡ [] → (is_valid (effect (Rebind c) v) ≡ true) × IsTied (effect (Rebind c) v)
 rebind_valid c v valid tied sizes =

@@ -20,12 +20,11 @@ use Rattle.inventory_rows.specs.pool_tables.declared.pool.Pool.{Pool}
 use Rattle.kinds.specs.Names.{is_same_name}
 use Rattle.inventory_rows.specs.pool_tables.Rows.{named, row_at}
 use Rattle.inventory_rows.specs.declared.backup.Backup.{Backup}
-use Rattle.inventory_rows.specs.object_rows.Rows.{most_versions}
 use Rattle.inventory_rows.specs.Items.{count_items, most_items}
 use Rattle.inventory_rows.specs.Search.{is_primary_kind, rules_of_set, segments_on, versions}
 use Rattle.inventory_rows.specs.State.{Inv}
 use Rattle.inventory_rules.specs.Held.{IsTied, holding}
-use Rattle.inventory_rules.specs.Valid.{are_apart, are_disjoint, is_default_there, is_emptied_rightly, is_format_size, is_named_soundly, is_of_pool, is_orderly, is_placed, is_sized, is_valid, is_volume, lie_in, may_have, names_apart, next_is_there}
+use Rattle.inventory_rules.specs.Valid.{are_apart, are_disjoint, disk, is_class, is_default_there, is_emptied_rightly, is_format_size, is_named_soundly, is_of_pool, is_orderly, is_placed, is_sized, is_valid, is_volume, lie_in, may_have, names_apart, next_is_there}
 use Rattle.inventory_rules.specs.Facts.{Facts}
 use Rattle.inventory_laws.proofs.Facts.{both, facts_of, first, rest, valid_of}
 use Rattle.inventory_laws.proofs.RowsKept.{list_all-mono, list_all-same, le_then}
@@ -80,6 +79,7 @@ pub record StoreParts (next_pool : ℕ) (stores : PoolRows) : Type 0 where
   pub volume_names : names_apart (map (λ f. f.1.name) stores.volumes) ≡ true
   pub named_soundly : list_all is_named_soundly stores.volumes ≡ true
   pub no_ring : list_all (λ p. not (comes_to p.0 p.1.settings.next stores.pools)) stores.pools ≡ true
+  pub classes_are : (is_some (named disk stores.classes) && list_all is_class stores.classes) ≡ true
 
 pub record FileParts (number today next_file : ℕ) (volumes : List (ℕ × Volume)) (backups : List (ℕ × Backup)) : Type 0 where
   pub drawn : lie_in 4 next_file (keys_of volumes ++ keys_of backups) ≡ true
@@ -98,7 +98,6 @@ pub record VersionParts (number today next_object : ℕ) (stores : PoolRows) (vs
   pub copied : list_all (λ version. not (is_nil version.copies) && (leb (length (filter (λ c. option_map_or (λ p. is_primary_kind p.kind) (row_at c.pool stores.pools) false) version.copies)) 1 && (are_by_pool version.copies && list_all (λ c. eqb (sum_by (λ s. s.len) c.segments) version.size) version.copies))) vs ≡ true
   pub volumes_are : list_all (λ f. is_volume_in stores (segments_there f.0 vs) f) stores.volumes ≡ true
   pub by_today : list_all (λ version. leb version.stored today && option_map_or (λ day. leb day today) version.since true) vs ≡ true
-  pub few : leb (length vs) most_versions ≡ true
   pub tied : AllByRecursion (λ f. f.1.segments ≡ holding (segments_there f.0 vs)) stores.volumes
 
 pub record ClockParts (number today : ℕ) (volumes : List (ℕ × Volume)) : Type 0 where
@@ -163,6 +162,7 @@ parts-from v f t = record {
     volume_names = f.volume_names;
     named_soundly = f.named_soundly;
     no_ring = f.no_ring;
+    classes_are = f.classes_are;
   };
   files = record {
     drawn = f.files_drawn;
@@ -181,7 +181,6 @@ parts-from v f t = record {
     copied = f.versions_copied;
     volumes_are = sym (volumes-parts v) ∙ f.volumes_are;
     by_today = f.versions_by_today;
-    few = f.few_versions;
     tied = t;
   };
   clock = record { number_bounded = f.number_bounded; day_bounded = f.day_bounded; volumes_by_today = f.volumes_by_today };
@@ -225,7 +224,7 @@ facts-from v p = record {
   versions_by_today = p.versions.by_today;
   backups_by_today = p.files.by_today;
   volumes_by_today = p.clock.volumes_by_today;
-  few_versions = p.versions.few;
+  classes_are = p.stores.classes_are;
   few_items = p.few_items;
 }
 
@@ -262,7 +261,6 @@ versions_later number more today day next stores vs n d p = record {
   volumes_are = p.volumes_are;
   by_today = list_all-mono (λ version. leb version.stored today && option_map_or (λ day. leb day today) version.since true) (λ version. leb version.stored day && option_map_or (λ d. leb d day) version.since true)
       (λ w h. both _ _ (le_then w.stored today day (first _ _ h) d) (by_later today day d w.since (rest _ _ h))) vs p.by_today;
-  few = p.few;
   tied = p.tied;
 }
 

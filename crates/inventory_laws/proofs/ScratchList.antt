@@ -21,7 +21,7 @@ use Rattle.inventory_rules.specs.Common.{each, file_bound, files_refused, is_fre
 use Rattle.inventory_rules.specs.Segments.{make_scratch, scratch_refused, scratch_fits}
 use Rattle.kinds.specs.Refusals.{unless}
 use Rattle.inventory_rules.specs.Valid.{copies_cite, is_of_pool}
-use Rattle.inventory_rules.specs.Halfway.{lying, VersionFacts, VolumeFacts}
+use Rattle.inventory_rules.specs.Halfway.{lying, VolumeFacts}
 use Rattle.inventory_laws.specs.Coming.{of_object}
 use Rattle.inventory_laws.specs.Kept.{is_cited}
 use Rattle.inventory_laws.proofs.VolumeRows.{all_both, all_so}
@@ -57,7 +57,7 @@ free_absent v file free =
     let parts = and_parts (nat_le 4 file) (is_none (row_at file v.stores.volumes) && is_none (row_at file v.backups)) free in
     from_none (row_at file v.stores.volumes) (and_parts (is_none (row_at file v.stores.volumes)) (is_none (row_at file v.backups)) parts.1).0
 
-still_free : (s : ScratchVolume) (v : Inv) (file : ℕ) → is_free_file v s.file ≡ true → not (s.file == file) ≡ true → is_free_file v file ≡ true → is_free_file (make_scratch s v) file ≡ true
+pub still_free : (s : ScratchVolume) (v : Inv) (file : ℕ) → is_free_file v s.file ≡ true → not (s.file == file) ≡ true → is_free_file v file ≡ true → is_free_file (make_scratch s v) file ≡ true
 still_free s v file own ne free =
     ap (λ (o : Option Volume). nat_le 4 file && (is_none o && is_none (row_at file v.backups)))
     (lookup-insert_other nat_cmp (is_at (nat_cmp file)) s.file (made s v) off v.stores.volumes (free_absent v s.file own)) ∙ free
@@ -82,21 +82,6 @@ cite_made s v free h = all_so (is_cited v) (is_cited (make_scratch s v)) one (co
       let parts = and_parts (is_some (pool e.1.pool v)) (list_all (λ x. is_of_pool e.1.pool (row_at x.file v.stores.volumes)) e.1.segments) t in
       and_from (is_some (pool e.1.pool v)) (list_all (λ x. is_of_pool e.1.pool (row_at x.file (make_scratch s v).stores.volumes)) e.1.segments) parts.0
       (all_so (λ x. is_of_pool e.1.pool (row_at x.file v.stores.volumes)) (λ x. is_of_pool e.1.pool (row_at x.file (make_scratch s v).stores.volumes)) (λ x h. there e.1.pool x.file (row_at x.file v.stores.volumes) refl h) e.1.segments parts.1)
-
-pub versions_made : (n : ℕ) (s : ScratchVolume) (v : Inv) → VersionFacts n v → VersionFacts n (make_scratch s v)
-versions_made n s v f = record {
-  cite = f.cite;
-  drawn = f.drawn;
-  names = f.names;
-  objects_drawn = f.objects_drawn;
-  objects_bounded = f.objects_bounded;
-  objects_apart = f.objects_apart;
-  in_pools = f.in_pools;
-  past = f.past;
-  orderly = f.orderly;
-  copied = f.copied;
-  by_today = f.by_today;
-}
 
 -- ---- all of them
 
@@ -154,13 +139,13 @@ bounds_of v e (s ∷ scratch) h =
     and_from (nat_lt (max v.next_file (s.file + 1)) (2 ^ 32 - 1)) (list_all (λ t. nat_lt (max v.next_file (t.file + 1)) (2 ^ 32 - 1)) scratch)
     (unless_not (nat_lt (max v.next_file (s.file + 1)) (2 ^ 32 - 1)) e parts.0) (bounds_of v e scratch parts.1)
 
-all-mapped : {A B : Type 0} (f : A → B) (p : B → Bool) (xs : List A) → list_all p (map f xs) ≡ true → list_all (λ x. p (f x)) xs ≡ true
+pub all-mapped : {A B : Type 0} (f : A → B) (p : B → Bool) (xs : List A) → list_all p (map f xs) ≡ true → list_all (λ x. p (f x)) xs ≡ true
 all-mapped f p [] h = refl
 all-mapped f p (x ∷ xs) h =
     let parts = and_parts (p (f x)) (list_all p (map f xs)) h in
     and_from (p (f x)) (list_all (λ y. p (f y)) xs) parts.0 (all-mapped f p xs parts.1)
 
-later-mapped : {A B : Type 0} (f : A → B) (r : B → B → Bool) (xs : List A) → all_later r (map f xs) ≡ true → all_later (λ x y. r (f x) (f y)) xs ≡ true
+pub later-mapped : {A B : Type 0} (f : A → B) (r : B → B → Bool) (xs : List A) → all_later r (map f xs) ≡ true → all_later (λ x y. r (f x) (f y)) xs ≡ true
 later-mapped f r [] h = refl
 later-mapped f r (x ∷ xs) h =
     let parts = and_parts (list_all (r (f x)) (map f xs)) (all_later r (map f xs)) h in
@@ -182,7 +167,3 @@ pub scratch_come : (scratch : List ScratchVolume) (v : Inv) → VolumeFacts [] v
 scratch_come scratch v f cite h fit =
     let m : Made [] (each make_scratch scratch v) = each_made scratch v (are_free scratch v h fit) (record { facts = f; cite = cite }) in
     (m.facts, m.cite)
-
-pub versions_come : (n : ℕ) (scratch : List ScratchVolume) (v : Inv) → VersionFacts n v → VersionFacts n (each make_scratch scratch v)
-versions_come n [] v f = f
-versions_come n (s ∷ scratch) v f = versions_come n scratch (make_scratch s v) (versions_made n s v f)

@@ -1,5 +1,6 @@
 -- What holds within a transaction on data is kept by the step of each item.
-use Rattle.std.proofs.Common.{◌≡◌, ℕ, true, List, [], ◌∷◌, ◌++◌, map, Some, is_some, refl, ◌∙◌}
+use Rattle.std.proofs.Common.{◌≡◌, ℕ, true, List, [], ◌∷◌, ◌++◌, map, Some, is_some, refl, sym, subst, ◌∙◌, append-nil}
+use Rattle.std.specs.List.{flat_map}
 use Rattle.std.proofs.lemmas.Bool.{and_from}
 use Rattle.kinds.specs.declared.segment.Segment.{Segment}
 use Rattle.entries.specs.change_items.declared.items.DroppedCopy.{DroppedCopy}
@@ -14,20 +15,21 @@ use Rattle.inventory_rows.specs.object_rows.Filespaces.{filespaces_with}
 use Rattle.inventory_rows.specs.Search.{copies, copy_in, pool, version}
 use Rattle.inventory_rows.specs.State.{Inv}
 use Rattle.inventory_rules.specs.Common.{each, or_same}
-use Rattle.inventory_rules.specs.Copies.{added, add_copy, change_copy, drop_copy, dropped, move_copy, moved, placed_now}
+use Rattle.inventory_rules.specs.Copies.{added, add_copy, change_copy, drop_copy, dropped, move_copy, moved, placed_now, put_moved}
 use Rattle.inventory_rules.specs.Segments.{make_scratch, scratch_refused, scratch_fits}
 use Rattle.inventory_rules.specs.Versions.{after_object, back_up, change_group, new_version, remove}
 use Rattle.inventory_rules.specs.Valid.{copies_cite}
 use Rattle.inventory_rules.specs.Halfway.{VersionFacts, VolumeFacts}
 use Rattle.inventory_rules.specs.Reordered.{IsReordered}
-use Rattle.inventory_laws.specs.Coming.{Came, in_pool, in_rows, MayCome, of_object}
+use Rattle.inventory_laws.specs.Coming.{Came, in_pool, in_pools, in_rows, MayCome, of_object}
 use Rattle.inventory_laws.specs.Kept.{is_cited, OnlyVolumes}
 use Rattle.inventory_laws.specs.Steady.{IsSteady}
 use Rattle.inventory_laws.proofs.Cited.{cite_kept, cite_swapped, cited_kept, cited_new}
 use Rattle.inventory_laws.proofs.Coming.{lie_first}
-use Rattle.inventory_laws.proofs.VolumeItems.{adds, copy_comes, copy_drops, drops_kept, moves, moves_kept, removes, removes_kept, versions_kept}
+use Rattle.inventory_laws.proofs.VolumeItems.{adds, copy_comes, copy_drops, drops_kept, moved_come, moved_kept, moves, moves_kept, removes, removes_kept, versions_kept}
 use Rattle.inventory_laws.proofs.Keeping.{put_kept}
-use Rattle.inventory_laws.proofs.ScratchList.{scratch_come, versions_come}
+use Rattle.inventory_laws.proofs.ScratchList.{scratch_come}
+use Rattle.inventory_laws.proofs.VersionVolumes.{all_scratch_only, facts_only}
 
 -- ---- copies go
 
@@ -106,6 +108,15 @@ move_steady n p item v w old found there new versions r f cite =
       cite = cite_kept u (move_copy item v) k ∙ (cite_swapped ((item.object, row) ∷ []) ((item.object, old) ∷ []) v u refl r (and_from (is_cited v (item.object, row)) true new refl) cite).1;
     }
 
+-- all new segments come before
+pub puts_steady : (n : ℕ) (items : List MovedCopy) (v : Inv) → IsSteady n [] v → MayCome [] v (in_pools (λ (i : MovedCopy). i.pool) (λ i. i.segments) items) → IsSteady n (flat_map (λ (i : MovedCopy). of_object i.object i.segments) items) (each put_moved items v)
+puts_steady n items v s m =
+    let k : OnlyVolumes v (each put_moved items v) = moved_kept items v in
+    let new : List (ℕ × Segment) = flat_map (λ (i : MovedCopy). of_object i.object i.segments) items in
+    let came : Came (new ++ []) (each put_moved items v) [] = moved_come [] items v [] s.volumes (subst (MayCome [] v) (sym (append-nil (in_pools (λ (i : MovedCopy). i.pool) (λ i. i.segments) items))) m) in
+    subst (λ (p : List (ℕ × Segment)). IsSteady n p (each put_moved items v)) (append-nil new)
+    (record { versions = versions_kept n v (each put_moved items v) k s.versions; volumes = came.facts; cite = cite_kept v (each put_moved items v) k ∙ s.cite })
+
 -- what else lies on volumes of its pool does so still
 pub move_cited : (item : MovedCopy) (v : Inv) (e : ℕ × CopyRow) → is_cited (move_copy item v) e ≡ is_cited v e
 move_cited item v e = cited_kept (change_copy item.object (moved item v) v) (move_copy item v) (moves_kept item v) e
@@ -115,4 +126,4 @@ move_cited item v e = cited_kept (change_copy item.object (moved item v) v) (mov
 pub scratch_steady : (n : ℕ) (scratch : List ScratchVolume) (v : Inv) → scratch_refused scratch v ≡ [] → scratch_fits v scratch ≡ true → IsSteady n [] v → IsSteady n [] (each make_scratch scratch v)
 scratch_steady n scratch v h fit s =
     let came = scratch_come scratch v s.volumes s.cite h fit in
-    record { versions = versions_come n scratch v s.versions; volumes = came.0; cite = came.1 }
+    record { versions = facts_only n v (each make_scratch scratch v) (all_scratch_only scratch v) s.versions; volumes = came.0; cite = came.1 }

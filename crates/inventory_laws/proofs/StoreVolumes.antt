@@ -15,11 +15,12 @@ use Rattle.inventory_rows.specs.version_groups.declared.copies.CopyRow.{CopyRow}
 use Rattle.inventory_rows.specs.volume_rows.declared.held.HeldSegment.{HeldSegment}
 use Rattle.inventory_rows.specs.volume_rows.declared.volume.Volume.{Volume}
 use Rattle.inventory_rows.specs.volume_rows.Held.{held_of}
-use Rattle.inventory_rows.specs.volume_rows.Holdings.{least_object, lesser, weight_of, with_segment}
+use Rattle.inventory_rows.specs.volume_rows.Holdings.{least_object, weight_of, with_segment}
 use Rattle.inventory_rows.specs.volume_rows.Volumes.{reset}
 use Rattle.inventory_rows.proofs.of_volume_rows.Segments.{weight_of-with}
 use Rattle.inventory_rows.specs.pool_tables.declared.pool.Pool.{Pool}
 use Rattle.inventory_rows.specs.pool_tables.RowChanges.{with_access}
+use Rattle.kinds.specs.Least.{lesser}
 use Rattle.kinds.specs.Names.{is_same_name}
 use Rattle.inventory_rows.specs.pool_tables.Rows.{named, row_at, set_row, with_row, without_row}
 use Rattle.inventory_rows.specs.pool_tables.Scratch.{is_scratch_name, scratch_name}
@@ -89,6 +90,7 @@ volumes_stand v volumes next_file f t room =
             (each_any (λ (e : ℕ × Volume). is_volume w e ≡ is_volume v e) volumes (λ e. volume_alike v w e (record { there = refl; primary = refl; capacity = same_class v volumes (row_at e.1.pool v.stores.pools) }) refl))
             ∙ t.are;
         no_ring = f.no_ring;
+        classes_are = f.classes_are;
         volumes_by_today = t.by_today;
       }) room,
       t.tied,

@@ -26,7 +26,7 @@ use Rattle.inventory_rules.specs.Common.{or_same, full_at}
 use Rattle.inventory_rules.specs.Transactions.{effect, sizes_refused}
 use Rattle.inventory_rules.specs.Held.{IsTied}
 use Rattle.kinds.specs.Refusals.{unless}
-use Rattle.inventory_rules.specs.Valid.{are_apart, are_disjoint, copies_cite, is_copied, is_emptied_rightly, is_named_soundly, is_of_pool, is_placed, is_sized, is_valid, is_volume, lie_in, may_have, names_apart, next_is_there, no_ring, pools_cite, rules_cite, versions_are_copied, volumes_are, volumes_cite}
+use Rattle.inventory_rules.specs.Valid.{are_apart, are_disjoint, classes_are, copies_cite, is_copied, is_emptied_rightly, is_named_soundly, is_of_pool, is_placed, is_sized, is_valid, is_volume, lie_in, may_have, names_apart, next_is_there, no_ring, pools_cite, rules_cite, versions_are_copied, volumes_are, volumes_cite}
 use Rattle.inventory_rules.specs.Facts.{Facts}
 use Rattle.inventory_laws.proofs.Facts.{valid_of}
 use Rattle.inventory_laws.proofs.StoreLegal.{held, none_of_both}
@@ -59,6 +59,7 @@ pub record StoreFacts (w : Inv) : Type 0 where
   pub versions_copied : versions_are_copied w ≡ true
   pub volumes_are : volumes_are w ≡ true
   pub no_ring : no_ring w ≡ true
+  pub classes_are : classes_are w ≡ true
   pub volumes_by_today : list_all (λ f. option_map_or (λ day. nat_le day w.today) f.1.emptied true) w.stores.volumes ≡ true
 
 -- the backups are as they were, but for their delays
@@ -120,7 +121,7 @@ stored_valid v s next_pool next_file backups f b t room = valid_of (stored v s n
   versions_by_today = f.versions_by_today;
   backups_by_today = b.by_today;
   volumes_by_today = t.volumes_by_today;
-  few_versions = f.few_versions;
+  classes_are = t.classes_are;
   few_items = room.items;
 })
 

@@ -32,7 +32,7 @@ filter-mapped file object (s ∷ ss) =
     go true ts = refl
     go false ts = refl
 
-pending-segments_of : (file : ℕ) (cs : List (ℕ × CopyRow)) → pending_on file (segments_of cs) ≡ on_file file cs
+pub pending-segments_of : (file : ℕ) (cs : List (ℕ × CopyRow)) → pending_on file (segments_of cs) ≡ on_file file cs
 pending-segments_of file [] = refl
 pending-segments_of file (c ∷ cs) =
     filter-append (λ (e : ℕ × Segment). e.1.file == file) (map (λ s. (c.0, s)) c.1.segments) (segments_of cs)

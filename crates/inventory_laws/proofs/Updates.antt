@@ -148,6 +148,7 @@ settings_valid v k x rule o f there next room ring =
       versions_copied = s.versions_copied;
       volumes_are = s.volumes_are;
       no_ring = ring;
+      classes_are = f.classes_are;
       volumes_by_today = f.volumes_by_today;
     }) room
   where

@@ -9,14 +9,15 @@ use Rattle.entries.specs.change_items.declared.items.NewVersion.{NewVersion}
 use Rattle.entries.specs.change_items.declared.lists.NewVersions.{NewVersions}
 use Rattle.entries.specs.declared.change.Change.TheVariants as change
 use Rattle.inventory_rows.specs.version_groups.Entries.{all_later}
+use Rattle.inventory_rows.specs.version_groups.Versions.{has_object}
 use Rattle.inventory_rows.specs.object_rows.Filespaces.{filespace_at, versions_of}
 use Rattle.inventory_rows.specs.object_rows.Rows.{Rows, most_versions}
 use Rattle.inventory_rows.specs.Search.{pool, versions}
 use Rattle.inventory_rows.specs.State.{Inv}
 use Rattle.inventory_rules.specs.Common.{each, this}
-use Rattle.inventory_rules.specs.Segments.{make_scratch, scratch_refused, are_all_clear, copy_fits, items_fit, scratch_fits, segment_fits}
+use Rattle.inventory_rules.specs.Segments.{make_scratch, scratch_refused, are_all_clear, items_fit, scratch_fits, segment_fits}
 use Rattle.inventory_rules.specs.Transactions.{effect, causes, sizes_refused, parts_fit}
-use Rattle.inventory_rules.specs.Versions.{back_up, object_bounds, backup_refused, filespace_there, name_once, is_new_object, new_version_fits}
+use Rattle.inventory_rules.specs.Versions.{back_up, object_refused, objects_refused, backup_refused, filespace_there, name_once, is_new_object, new_version_fits}
 use Rattle.inventory_rules.specs.Held.{IsTied}
 use Rattle.inventory_rules.specs.Journal.{Journal}
 use Rattle.kinds.specs.Refusals.{bad_value, unless}
@@ -26,7 +27,7 @@ use Rattle.inventory_laws.proofs.Facts.{facts_of}
 use Rattle.inventory_rules.specs.Ordered.{IsOrdered}
 use Rattle.inventory_laws.specs.Stored.{stored}
 use Rattle.inventory_laws.proofs.Ordered.{ordered_stored}
-use Rattle.inventory_laws.proofs.Others.{length_stored, other_stored, there_stored}
+use Rattle.inventory_laws.proofs.Others.{other_stored, there_stored}
 use Rattle.inventory_laws.proofs.PutSteps as put_steps
 use Rattle.inventory_laws.proofs.VersionVolumes.{all_scratch_only}
 use Rattle.inventory_laws.proofs.VersionsWhole.{ordered_elsewhere}
@@ -36,7 +37,7 @@ use Rattle.inventory_laws.specs.Steady.{IsSteady}
 use Rattle.inventory_laws.proofs.Assembled.{steady_begins}
 use Rattle.inventory_laws.proofs.Coming.{new_versions_come}
 use Rattle.inventory_laws.proofs.Keeping.{put_kept}
-use Rattle.inventory_laws.proofs.VolumeRows.{all_both, all_so}
+use Rattle.inventory_laws.proofs.VolumeRows.{all_both}
 use Rattle.inventory_laws.proofs.Steady.{back_up_steady, scratch_steady}
 use Rattle.inventory_laws.proofs.DataEnds.{data_ends}
 use Rattle.inventory_laws.proofs.Tests.{all_taken, before_next, both_none, named_once, no_later, unless_holds}
@@ -109,22 +110,13 @@ all_come : (n filespace : ℕ) (items : List NewVersion) (v : Inv) → AreToCome
 all_come n filespace [] v a = a.steady
 all_come n filespace (i ∷ items) v a = all_come n filespace items (back_up filespace i v) (next_to_come n filespace i items v a)
 
-counted : (n filespace : ℕ) (items : List NewVersion) (v : Inv) → AreToCome n filespace v items → length (versions (each (back_up filespace) items v)) ≡ length (versions v) + length items
-counted n filespace [] v a = omega arith
-counted n filespace (i ∷ items) v a =
-    let rest : length (versions (each (back_up filespace) items (back_up filespace i v))) ≡ length (versions (back_up filespace i v)) + length items = counted n filespace items (back_up filespace i v) (next_to_come n filespace i items v a) in
-    let volumes : length (versions (back_up filespace i v)) ≡ length (versions (stored filespace i v)) = ap (λ (x : Inv). length (versions x)) (kept_but filespace i v).only in
-    let one : length (versions (stored filespace i v)) ≡ length (versions v) + 1 = length_stored filespace i v a.ordered a.there in
-    omega (arith, rest, volumes, one)
-
 -- ---- what the transaction has to fit, and why it is refused
 
-ready : (v : Inv) (i : NewVersion) → new_version_fits v i ≡ true → is_ready v i ≡ true
-ready v i h =
-    let one = and_parts (is_new_object v i.object) (copy_fits v i.pool i.size i.segments) h in
-    let two = and_parts (is_some (pool i.pool v)) (eqb (sum_by (λ s. s.len) i.segments) i.size && list_all (segment_fits v i.pool) i.segments) one.1 in
+ready : (v : Inv) (i : NewVersion) → is_new_object v i.object ≡ true → new_version_fits v i ≡ true → is_ready v i ≡ true
+ready v i new h =
+    let two = and_parts (is_some (pool i.pool v)) (eqb (sum_by (λ s. s.len) i.segments) i.size && list_all (segment_fits v i.pool) i.segments) h in
     let three = and_parts (eqb (sum_by (λ s. s.len) i.segments) i.size) (list_all (segment_fits v i.pool) i.segments) two.1 in
-    and_from (is_new_object v i.object) (is_some (pool i.pool v) && eqb (sum_by (λ s. s.len) i.segments) i.size) one.0
+    and_from (is_new_object v i.object) (is_some (pool i.pool v) && eqb (sum_by (λ s. s.len) i.segments) i.size) new
     (and_from (is_some (pool i.pool v)) (eqb (sum_by (λ s. s.len) i.segments) i.size) two.0 three.0)
 
 below : (next object most : ℕ) → nat_lt (max next (object + 1)) most ≡ true → nat_lt (object + 1) most ≡ true
@@ -132,25 +124,27 @@ below next object most h =
     let p : max next (object + 1) < most = ltb-true (max next (object + 1)) most h in
     lt-ltb (object + 1) most (omega arith)
 
-bounded_by : (v : Inv) (i : NewVersion) → unless (nat_lt (max v.next_object (i.object + 1)) (2 ^ 62)) refusal.InventoryFull ≡ [] → is_bounded i ≡ true
-bounded_by v i h = below v.next_object i.object (2 ^ 62) (unless_holds (nat_lt (max v.next_object (i.object + 1)) (2 ^ 62)) refusal.InventoryFull h)
+bounded_by : (v : Inv) (i : NewVersion) → object_refused v i.object ≡ [] → is_bounded i ≡ true
+bounded_by v i h =
+    below v.next_object i.object (2 ^ 62)
+    (unless_holds (nat_lt (max v.next_object (i.object + 1)) (2 ^ 62)) refusal.InventoryFull (both_none (unless (is_new_object v i.object) bad_value) (unless (nat_lt (max v.next_object (i.object + 1)) (2 ^ 62)) refusal.InventoryFull) h).1)
 
-parts_of : (c : NewVersions) (v : Inv) → parts_fit (change.Backup c) v ≡ true → (scratch_fits v c.scratch ≡ true) × (items_fit new_version_fits (λ i. i.segments) c.items (each make_scratch c.scratch v) ≡ true)
+new_by : (v : Inv) (i : NewVersion) → object_refused v i.object ≡ [] → is_new_object v i.object ≡ true
+new_by v i h =
+    unless_holds (is_new_object v i.object) bad_value (both_none (unless (is_new_object v i.object) bad_value) (unless (nat_lt (max v.next_object (i.object + 1)) (2 ^ 62)) refusal.InventoryFull) h).0
+
+pub parts_of : (c : NewVersions) (v : Inv) → parts_fit (change.Backup c) v ≡ true → (scratch_fits v c.scratch ≡ true) × (items_fit new_version_fits (λ i. i.segments) c.items (each make_scratch c.scratch v) ≡ true)
 unfolding parts_fit
 parts_of c v h = and_parts (scratch_fits v c.scratch) (items_fit new_version_fits (λ i. i.segments) c.items (each make_scratch c.scratch v)) h
-
-effect_of : (c : NewVersions) (v : Inv) → effect (change.Backup c) v ≡ record (each (back_up c.filespace) c.items (each make_scratch c.scratch v)) { number = v.number + 1 }
-unfolding effect
-effect_of c v = refl
 
 -- the causes to refuse it that don't hold
 record IsTaken (filespace : ℕ) (items : List NewVersion) (v : Inv) : Type 0 where
   there : is_some (filespace_at filespace v.clients.filespaces) ≡ true
   once : name_once (map (λ (i : NewVersion). i.object) items) ≡ true
-  few : nat_le (length (versions v) + length items) most_versions ≡ true
   bounded : list_all is_bounded items ≡ true
+  new : list_all (λ i. is_new_object v i.object) items ≡ true
 
-taken : (filespace : ℕ) (items : List NewVersion) (v : Inv) → backup_refused filespace items v ≡ [] → object_bounds items v ≡ [] → IsTaken filespace items v
+taken : (filespace : ℕ) (items : List NewVersion) (v : Inv) → backup_refused filespace items v ≡ [] → objects_refused items v ≡ [] → IsTaken filespace items v
 taken filespace items v h bounds =
     let few : Bool = nat_le (length (versions v) + length items) most_versions in
     let one = both_none (filespace_there filespace v) (unless (name_once (map (λ (i : NewVersion). i.object) items)) bad_value ++ unless few refusal.InventoryFull) h in
@@ -158,8 +152,8 @@ taken filespace items v h bounds =
     record {
       there = unless_holds (is_some (filespace_at filespace v.clients.filespaces)) refusal.NotFound one.0;
       once = unless_holds (name_once (map (λ (i : NewVersion). i.object) items)) bad_value two.0;
-      few = unless_holds few refusal.InventoryFull two.1;
-      bounded = all_taken (λ (i : NewVersion). unless (nat_lt (max v.next_object (i.object + 1)) (2 ^ 62)) refusal.InventoryFull) is_bounded (bounded_by v) items bounds;
+      bounded = all_taken (λ (i : NewVersion). object_refused v i.object) is_bounded (bounded_by v) items bounds;
+      new = all_taken (λ (i : NewVersion). object_refused v i.object) (λ i. is_new_object v i.object) (new_by v) items bounds;
     }
 
 -- ---- the transaction
@@ -174,7 +168,7 @@ begin filespace items v u clients number o s t fit =
       come = new_versions_come items u fit;
       ordered = ordered_elsewhere v u clients o;
       there = ap (λ (c : Rows). is_some (filespace_at filespace c.filespaces)) clients ∙ t.there;
-      ready = all_so (new_version_fits u) (is_ready u) (ready u) items parts.0;
+      ready = all_both (λ (i : NewVersion). is_new_object u i.object) (new_version_fits u) (is_ready u) (λ i. ready u i) items (ap (λ (c : Rows). list_all (λ (i : NewVersion). nat_le 1 i.object && not (has_object i.object (versions_of c.filespaces))) items) clients ∙ t.new) parts.0;
       bounded = t.bounded;
       once = named_once (λ (i : NewVersion). i.object) items t.once;
     }
@@ -183,8 +177,8 @@ pub versions_come : (j : Journal) (c : NewVersions) (v : Inv) → is_valid v ≡
     → (is_valid (effect (change.Backup c) v) ≡ true) × IsTied (effect (change.Backup c) v)
 versions_come j c v valid tied o h sizes fit =
     let f : Facts v = facts_of v valid in
-    let one = both_none (backup_refused c.filespace c.items v) (scratch_refused c.scratch v ++ object_bounds c.items v) h in
-    let two = both_none (scratch_refused c.scratch v) (object_bounds c.items v) one.1 in
+    let one = both_none (backup_refused c.filespace c.items v) (scratch_refused c.scratch v ++ objects_refused c.items v) h in
+    let two = both_none (scratch_refused c.scratch v) (objects_refused c.items v) one.1 in
     let t : IsTaken c.filespace c.items v = taken c.filespace c.items v one.0 two.1 in
     let parts = parts_of c v fit in
     let u : Inv = each make_scratch c.scratch v in
@@ -192,6 +186,4 @@ versions_come j c v valid tied o h sizes fit =
     let s : IsSteady (v.number + 1) [] u = scratch_steady (v.number + 1) c.scratch v two.0 parts.0 (steady_begins (v.number + 1) v f tied (before_next v.number)) in
     let a : AreToCome (v.number + 1) c.filespace u c.items = begin c.filespace c.items v u only.clients only.number o s t parts.1 in
     let done : IsSteady (v.number + 1) [] (each (back_up c.filespace) c.items u) = all_come (v.number + 1) c.filespace c.items u a in
-    let few : nat_le (length (versions (each (back_up c.filespace) c.items u))) most_versions ≡ true =
-    ap (λ (n : ℕ). nat_le n most_versions) (counted (v.number + 1) c.filespace c.items u a ∙ ap (λ (r : Rows). length (versions_of r.filespaces) + length c.items) only.clients) ∙ t.few in
-    data_ends (change.Backup c) v refl f done sizes (ap (λ (x : Inv). nat_le (length (versions x)) most_versions) (effect_of c v) ∙ few)
+    data_ends (change.Backup c) v refl f done sizes

@@ -2,13 +2,10 @@
 use Rattle.std.proofs.Common.{◌≡◌, ℕ, ◌+◌, Bool, true, false, cond, ◌||◌, is_some, List, [], ◌∷◌, ◌++◌, length, map, Option, Some, None, Ok, refl, sym, ap, ◌∙◌, arith}
 use Rattle.std.specs.Prelude.{nat_le}
 use Rattle.std.specs.BTreeMap.{insert_entry}
-use Rattle.std.specs.Cmp.{IsTotalOrder}
 use Rattle.std.specs.Cmp.Lexicographic.{slice_cmp, nat_list_cmp_total}
-use Rattle.std.specs.List.{AllByRecursion, list_any, sum_by}
-use Rattle.std.specs.List.Sorted.{IsStrictlySortedBy}
-use Rattle.std.specs.Map.{keys_of, lookup, set_value}
-use Rattle.std.specs.Ordering.{match_ordering, nat_cmp, ordering_reverse}
-use Rattle.std.specs.declared.cmp.Ordering.{Ordering}
+use Rattle.std.specs.List.{list_any, sum_by}
+use Rattle.std.specs.Map.{lookup, set_value}
+use Rattle.std.specs.Ordering.{match_ordering, nat_cmp}
 use Rattle.std.specs.declared.cmp.Ordering.TheVariants.{Less, Equal, Greater}
 use Rattle.std.proofs.lemmas.List.Sums.{sum_by-cons}
 use Rattle.std.proofs.lemmas.Map.Lookups.{exact_bytes}
@@ -27,6 +24,7 @@ use Rattle.inventory_rows.specs.version_groups.Versions.{has_active, retired, su
 use Rattle.inventory_rows.proofs.of_version_groups.Maps.{insert_present, lookup-set}
 use Rattle.inventory_rows.specs.object_rows.Filespaces.{at_number, filespace_after, filespace_at, filespaces_with, groups_in}
 use Rattle.inventory_rows.proofs.of_pool_tables.Names.{at_name}
+use Rattle.inventory_rows.proofs.of_policy_domains.Sorted.{sorted-insert}
 use Rattle.inventory_rows.specs.object_rows.Rows.{most_versions}
 use Rattle.inventory_rows.specs.Items.{count_items, items_of_filespace, items_of_group, items_of_version}
 use Rattle.inventory_rows.specs.Search as search
@@ -34,7 +32,7 @@ use Rattle.inventory_rows.specs.State.{Inv}
 use Rattle.inventory_rules.specs.Common.{each, or_same, this, with_filespaces}
 use Rattle.inventory_rules.specs.Segments.{make_scratch, scratch_refused}
 use Rattle.inventory_rules.specs.Transactions.{effect}
-use Rattle.inventory_rules.specs.Versions.{after_object, back_up, new_version, object_bounds, backup_refused, filespace_there, name_once, items_of_new, paths_added, AreGroupsOrdered}
+use Rattle.inventory_rules.specs.Versions.{after_object, back_up, new_version, objects_refused, backup_refused, filespace_there, name_once, items_of_new, paths_added, AreGroupsOrdered}
 use Rattle.kinds.specs.Refusals.{bad_value, unless}
 use Rattle.inventory_rules.proofs.Touched.{effect-data}
 use Rattle.inventory_laws.proofs.Absent.{unless_holds}
@@ -45,30 +43,6 @@ use Rattle.inventory_laws.proofs.Stays.{Scratched, Stays, data_more, put_stays, 
 use Rattle.inventory_laws.proofs.Weights.{rows, rows-inserted, rows-set, weigh, weigh-cons}
 
 -- ---- an entry that comes into its place
-
-module _ {K X : Type 0} {R : K → K → Ordering} (o : IsTotalOrder R) (k : K) (v : X) where
-  all_above : (x : K) (es : List (K × X)) → R x k ≡ Less → AllByRecursion (λ y. R x y ≡ Less) (keys_of es) → AllByRecursion (λ y. R x y ≡ Less) (keys_of (insert_entry R es k v))
-  all_above x [] p a = (p, tt)
-  all_above x (e ∷ es) p a =
-      elim (R k e.0) as (λ r. AllByRecursion (λ y. R x y ≡ Less) (keys_of (match_ordering r ((k, v) ∷ e ∷ es) ((e.0, v) ∷ es) (e ∷ insert_entry R es k v)))) [
-        | Less ↦ (p, a)
-        | Equal ↦ a
-        | Greater ↦ (a.0, all_above x es p a.1)
-      ]
-
-  all_below : (x : K) (ks : List K) → R k x ≡ Less → AllByRecursion (λ y. R x y ≡ Less) ks → AllByRecursion (λ y. R k y ≡ Less) ks
-  all_below x [] p a = tt
-  all_below x (y ∷ ks) p a = (o.trans k x y p a.0, all_below x ks p a.1)
-
-  pub sorted-inserted : (es : List (K × X)) → IsStrictlySortedBy R (keys_of es) → IsStrictlySortedBy R (keys_of (insert_entry R es k v))
-  unfolding IsStrictlySortedBy
-  sorted-inserted [] s = (tt, tt)
-  sorted-inserted (e ∷ es) s =
-      elim (R k e.0) as (λ r. R k e.0 ≡ r → IsStrictlySortedBy R (keys_of (match_ordering r ((k, v) ∷ e ∷ es) ((e.0, v) ∷ es) (e ∷ insert_entry R es k v)))) [
-        | Less ↦ λ p. ((p, all_below e.0 (keys_of es) p s.0), s)
-        | Equal ↦ λ p. s
-        | Greater ↦ λ p. (all_above e.0 es (o.antisymm e.0 k ∙ ap ordering_reverse p) s.0, sorted-inserted es s.1)
-      ] refl
 
 or_again : (b r : Bool) → (b || r) ≡ (b || (b || r))
 or_again true r = refl
@@ -166,7 +140,7 @@ came_in n f item v found sorted =
     record {
       filespace = g;
       there = ap (filespace_at n) now ∙ lookup-set (at_number n) f g (spaces v) found;
-      by_path = sorted-inserted nat_list_cmp_total item.path (group_with item.class w (group_at item.path f.groups)) f.groups sorted;
+      by_path = sorted-insert nat_list_cmp_total item.path (group_with item.class w (group_at item.path f.groups)) f.groups sorted;
       paths = λ q. there-inserted item.path q (group_with item.class w (group_at item.path f.groups)) f.groups;
       adds = ap (λ fs. rows items_of_filespace fs) now
           ∙ with_more (rows items_of_filespace (set_value (at_number n) (spaces v) g)) (items_of_filespace f) (rows items_of_filespace (spaces v)) (items_of_filespace g) (items_of_new item + one_unless (is_some (group_at item.path f.groups)))
@@ -208,14 +182,14 @@ or_none false = refl
 all_versions : (a f s w u v n : ℕ) → a ≡ f + s → w ≡ u → u ≡ n + v → a + w + 0 ≡ f + v + (n + s)
 all_versions a f s w u v n h g e = omega (arith, h, g, e)
 
-pub versions_counted : (c : NewVersions) (v : Inv) → AreGroupsOrdered v.clients.filespaces → backup_refused c.filespace c.items v ++ (scratch_refused c.scratch v ++ object_bounds c.items v) ≡ []
+pub versions_counted : (c : NewVersions) (v : Inv) → AreGroupsOrdered v.clients.filespaces → backup_refused c.filespace c.items v ++ (scratch_refused c.scratch v ++ objects_refused c.items v) ≡ []
     → count_items (effect (change.Backup c) v) + 0 ≡ count_items v + (length c.scratch + (sum_by items_of_new c.items + paths_added c.filespace [] c.items v))
 unfolding effect
 versions_counted c v o h =
     let n : ℕ = c.filespace in
     let u : Inv = each make_scratch c.scratch v in
-    let backup : backup_refused n c.items v ≡ [] = nothing_first (backup_refused n c.items v) (scratch_refused c.scratch v ++ object_bounds c.items v) h in
-    let made : scratch_refused c.scratch v ≡ [] = nothing_first (scratch_refused c.scratch v) (object_bounds c.items v) (nothing_then (backup_refused n c.items v) (scratch_refused c.scratch v ++ object_bounds c.items v) h) in
+    let backup : backup_refused n c.items v ≡ [] = nothing_first (backup_refused n c.items v) (scratch_refused c.scratch v ++ objects_refused c.items v) h in
+    let made : scratch_refused c.scratch v ≡ [] = nothing_first (scratch_refused c.scratch v) (objects_refused c.items v) (nothing_then (backup_refused n c.items v) (scratch_refused c.scratch v ++ objects_refused c.items v) h) in
     let s : Scratched (length c.scratch) v u = scratched c.scratch v made in
     let space : filespace_there n v ≡ [] =
     nothing_first (filespace_there n v) (unless (name_once (map (λ i. i.object) c.items)) bad_value ++ unless (nat_le (length (search.versions v) + length c.items) most_versions) refusal.InventoryFull) backup in

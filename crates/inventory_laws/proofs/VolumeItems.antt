@@ -32,6 +32,7 @@ use Rattle.inventory_laws.proofs.Coming.{come_one, come_reordered, come_swapped}
 use Rattle.inventory_laws.proofs.Keeping.{kept_same, kept_then, put_kept, take_all_kept, take_kept}
 use Rattle.inventory_laws.proofs.Orders.{reordered_first, reordered_front}
 use Rattle.inventory_laws.proofs.Swapping.{facts_swapped}
+use Rattle.inventory_laws.proofs.VersionsWhole.{elsewhere}
 
 -- ---- segments of one copy come
 
@@ -61,7 +62,7 @@ put-with_clients : (object : ℕ) (segments : List Segment) (fs : List (ℕ × F
 put-with_clients object [] fs next v = refl
 put-with_clients object (s ∷ segments) fs next v = put-with_clients object segments fs next (put object (s ∷ []) v)
 
-take-with_filespaces : (object : ℕ) (segments : List Segment) (fs : List (ℕ × Filespace)) (v : Inv) → take_away object segments (with_filespaces fs v) ≡ with_filespaces fs (take_away object segments v)
+pub take-with_filespaces : (object : ℕ) (segments : List Segment) (fs : List (ℕ × Filespace)) (v : Inv) → take_away object segments (with_filespaces fs v) ≡ with_filespaces fs (take_away object segments v)
 take-with_filespaces object [] fs v = refl
 take-with_filespaces object (s ∷ segments) fs v = take-with_filespaces object segments fs (take_away object (s ∷ []) v)
 
@@ -209,17 +210,4 @@ removes_kept filespace path object v =
 -- what is said of versions isn't of the rows of volumes
 pub versions_kept : (n : ℕ) (v w : Inv) → OnlyVolumes v w → VersionFacts n v → VersionFacts n w
 versions_kept n v w k f =
-    subst (VersionFacts n) (sym k.only)
-    (record {
-      cite = f.cite;
-      drawn = f.drawn;
-      names = f.names;
-      objects_drawn = f.objects_drawn;
-      objects_bounded = f.objects_bounded;
-      objects_apart = f.objects_apart;
-      in_pools = f.in_pools;
-      past = f.past;
-      orderly = f.orderly;
-      copied = f.copied;
-      by_today = f.by_today;
-    })
+    elsewhere n v w (clients_kept v w k) (ap (λ (x : Inv). x.next_filespace) k.only) (ap (λ (x : Inv). x.next_object) k.only) (ap (λ (x : Inv). x.stores.pools) k.only) (ap (λ (x : Inv). x.today) k.only) f

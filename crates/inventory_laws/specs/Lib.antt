@@ -1,3 +1,4 @@
+pub mod Chains
 pub mod Coming
 pub mod Kept
 pub mod Steady

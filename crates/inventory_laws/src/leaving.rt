@@ -1,4 +1,4 @@
-// What a legal transaction leaves, as a law. It stands on a function that does nothing.
+// What a legal transaction leaves, and that what leaves a valid database is legal, as laws. Each stands on a function that does nothing.
 ghost use Rattle.std.specs.Prelude.{◌≡◌, true, []};
 ghost use Rattle.std.specs.Map.{keys_of};
 ghost use Rattle.entries.specs.declared.change.Change.{Change};
@@ -14,4 +14,10 @@ ghost use Rattle.inventory_rules.specs.Ordered.{IsOrdered};
 /// day has to be one of the calendar.
 pub fn legal_stays_valid()
     ensures { (j : Journal) (c : Change) (v : Inv) → is_valid v ≡ true → IsTied v → IsOrdered v → are_apart (keys_of v.stores.pools) ≡ true → IsDayOf c → causes j c v ≡ [] → sizes_refused c v ≡ [] → parts_fit c v ≡ true → (is_valid (effect c v) ≡ true) × IsTied (effect c v) }
+{}
+
+/// What a transaction that no cause refuses brings fits where the database afterwards is valid. So the tests of what it brings, made on the
+/// database before it, are no stronger than validity asks.
+pub fn valid_means_fitting()
+    ensures { (j : Journal) (c : Change) (v : Inv) → is_valid v ≡ true → IsTied v → IsOrdered v → are_apart (keys_of v.stores.pools) ≡ true → causes j c v ≡ [] → is_valid (effect c v) ≡ true → parts_fit c v ≡ true }
 {}

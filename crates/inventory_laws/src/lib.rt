@@ -2,6 +2,7 @@
 //! step of a transaction does to them; so a legal transaction leaves a valid database, and can be made; and how many items it brings.
 #![tactic(auto)]
 
+pub mod by_kind;
 pub mod counting;
 pub mod leaving;
 pub mod making;

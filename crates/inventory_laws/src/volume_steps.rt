@@ -1,5 +1,5 @@
 // What the definitions mean, as laws. Each stands on a function that does nothing.
-ghost use Rattle.std.specs.Prelude.{◌≡◌, ℕ, ◌+◌, ◌-◌, ◌^◌, max, Bool, true, nat_lt, nat_le, is_some, List, [], ◌∷◌, ◌++◌, map, length, Some};
+ghost use Rattle.std.specs.Prelude.{◌≡◌, ℕ, ◌+◌, ◌-◌, ◌^◌, max, Bool, true, nat_lt, nat_le, is_some, List, [], ◌∷◌, ◌++◌, map, Some};
 ghost use Rattle.std.specs.List.{list_all, flat_map};
 ghost use Rattle.kinds.specs.declared.segment.Segment.{Segment};
 ghost use Rattle.entries.specs.change_items.declared.items.DroppedCopy.{DroppedCopy};
@@ -16,7 +16,6 @@ ghost use Rattle.inventory_rows.specs.volume_rows.Held.{held_of};
 ghost use Rattle.inventory_rows.specs.volume_rows.Volumes.{put_on, take_from};
 ghost use Rattle.inventory_rows.specs.pool_tables.Rows.{row_at};
 ghost use Rattle.inventory_rows.specs.pool_rows.PoolRows.{is_sequential, is_sequential_at};
-ghost use Rattle.inventory_rows.specs.object_rows.Rows.{most_versions};
 ghost use Rattle.inventory_rows.specs.Search.{copies, copy_in, pool, version, versions};
 ghost use Rattle.inventory_rows.specs.State.{Inv};
 ghost use Rattle.inventory_rules.specs.Common.{each, is_free_file};
@@ -102,7 +101,7 @@ pub fn volumes_alone_change()
 pub fn segments_may_come()
     ensures new_versions { (items : List NewVersion) (v : Inv) → items_fit new_version_fits (λ i. i.segments) items v ≡ true → MayCome [] v (in_pools (λ i. i.pool) (λ i. i.segments) items) }
     ensures new_copies { (items : List NewCopy) (v : Inv) → items_fit new_copy_fits (λ i. i.segments) items v ≡ true → MayCome [] v (in_pools (λ i. i.pool) (λ i. i.segments) items) }
-    ensures moved { (items : List MovedCopy) (v : Inv) → items_fit moved_copy_fits (λ i. i.segments) items v ≡ true → MayCome [] v (in_pools (λ i. i.pool) (λ i. i.segments) items) }
+    ensures moved { (items : List MovedCopy) (v : Inv) → items_fit (moved_copy_fits []) (λ i. i.segments) items v ≡ true → MayCome [] v (in_pools (λ i. i.pool) (λ i. i.segments) items) }
     ensures put { (p : List (ℕ × Segment)) (object n : ℕ) (segments : List Segment) (v : Inv) (rest : List (ℕ × Segment)) → VolumeFacts p v → MayCome p v (in_pool n segments ++ rest) → Came (of_object object segments ++ p) (put object segments v) rest }
     ensures put_moved { (p : List (ℕ × Segment)) (items : List MovedCopy) (v : Inv) (rest : List (ℕ × Segment)) → VolumeFacts p v → MayCome p v (in_pools (λ i. i.pool) (λ i. i.segments) items ++ rest) → Came (flat_map (λ i. of_object i.object i.segments) items ++ p) (each put_moved items v) rest }
     ensures swap { (a b : List (ℕ × CopyRow)) (p : List (ℕ × Segment)) (v w : Inv) (rest : List (ℕ × Segment)) → w.stores ≡ v.stores → IsReordered (a ++ copies v) (b ++ copies w) → MayCome (segments_of a ++ p) v rest → MayCome (segments_of b ++ p) w rest }
@@ -142,5 +141,5 @@ pub fn items_change_clients()
 /// What holds within a transaction on data holds of a valid database at the beginning, and at the end it makes one, if there is room.
 pub fn steady_from_valid_to_valid()
     ensures begins { (n : ℕ) (v : Inv) → Facts v → IsTied v → nat_le v.number n ≡ true → IsSteady n [] v }
-    ensures ends { (c : Change) (v : Inv) → is_of_data c ≡ true → Facts v → IsSteady (v.number + 1) [] (changed c v) → sizes_refused c v ≡ [] → nat_le (length (versions (effect c v))) most_versions ≡ true → (is_valid (effect c v) ≡ true) × IsTied (effect c v) }
+    ensures ends { (c : Change) (v : Inv) → is_of_data c ≡ true → Facts v → IsSteady (v.number + 1) [] (changed c v) → sizes_refused c v ≡ [] → (is_valid (effect c v) ≡ true) × IsTied (effect c v) }
 {}

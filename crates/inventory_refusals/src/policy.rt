@@ -6,9 +6,8 @@ ghost use Rattle.inventory_rows.specs.State.{inv_of};
 ghost use Rattle.inventory_rules.specs.Policy.{destination_refused, domain_used, policy_refused};
 
 use crate::rules::node_in;
-use inventory_rows::Tables;
 use inventory_rows::policy_domains::names_active;
-use item_refusals::is_primary;
+use inventory_rows::{Tables, is_primary};
 use kinds::{By, PolicyChange, Refusal, Verb, bad_value, sooner_of, unless};
 
 /// The destination of a copy group that is defined or replaced is not there, or no primary pool.

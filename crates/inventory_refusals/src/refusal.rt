@@ -4,7 +4,7 @@ ghost use Rattle.std.specs.Prelude.{◌≡◌, ◌++◌, nat_le};
 ghost use Rattle.kinds.specs.Refusals.{foremost, unless};
 ghost use Rattle.inventory_rows.specs.State.{inv_of};
 ghost use Rattle.inventory_rules.specs.Copies.{move_refused, copy_list_refused};
-ghost use Rattle.inventory_rules.specs.Versions.{backup_refused, object_bounds};
+ghost use Rattle.inventory_rules.specs.Versions.{backup_refused, objects_refused};
 ghost use Rattle.inventory_rules.specs.Segments.{scratch_refused};
 ghost use Rattle.inventory_rules.specs.Transactions.{causes};
 
@@ -33,7 +33,7 @@ fn day_refused(tables: &Tables, day: Day) -> Option<Refusal>
 #[tactic(auto, using(item_refusals::proofs::Foremost::foremost_append))]
 fn versions_refused(tables: &Tables, versions: &NewVersions) -> Option<Refusal>
     ensures { result ≡ foremost (backup_refused versions.now.filespace versions.now.items (inv_of tables.now)
-        ++ (scratch_refused versions.now.scratch (inv_of tables.now) ++ object_bounds versions.now.items (inv_of tables.now))) }
+        ++ (scratch_refused versions.now.scratch (inv_of tables.now) ++ objects_refused versions.now.items (inv_of tables.now))) }
 {
     let items = backup_refused(tables, versions.filespace, versions.items.as_slice());
     let scratch = scratch_refused(tables, versions.scratch.as_slice());

@@ -6,12 +6,12 @@ ghost use Rattle.kinds.specs.Refusals.{foremost};
 ghost use Rattle.kinds.specs.declared.pool.PoolRule.{PoolRule};
 ghost use Rattle.inventory_rows.specs.State.{inv_of};
 ghost use Rattle.inventory_rules.specs.Stores.{is_same_kind, stays, pool_by_name, destination_used, access_refused, pool_of_volume, store_bounds, store_refused};
-ghost use Rattle.inventory_rules.specs.Valid.{may_have};
 
 use crate::rules::is_destination;
-use inventory_rows::Tables;
 use inventory_rows::pool_tables::Pool;
-use item_refusals::{file_bound, file_refusal, full_at, is_primary_kind};
+use inventory_rows::{Tables, is_primary_kind};
+use inventory_rules::may_have;
+use item_refusals::{file_bound, file_refusal, full_at};
 use kinds::{Access, By, Name, PoolChange, PoolKind, Refusal, Verb, bad_value, sooner_of, unless};
 
 fn is_same_kind(a: PoolKind, b: PoolKind) -> bool
@@ -53,17 +53,6 @@ fn destination_use(tables: &Tables, name: &Name) -> Option<Refusal>
             !is_destination(tables, number),
             Refusal::InUse(By::Destination),
         ),
-    }
-}
-
-/// Whether a volume of a pool may have this access: OFFSITE in copy pools alone, DESTROYED in primary pools alone.
-fn may_have(access: Access, primary: bool) -> bool
-    ensures { result ≡ may_have access primary }
-{
-    match access {
-        Access::ReadWrite | Access::ReadOnly | Access::Unavailable => true,
-        Access::Offsite => !primary,
-        Access::Destroyed => primary,
     }
 }
 

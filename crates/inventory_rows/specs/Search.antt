@@ -22,6 +22,7 @@ use Rattle.object_rows.specs.Filespaces.{at_number, filespace_at, group_at, vers
 use Rattle.object_rows.specs.Held.{copies_in}
 use Rattle.object_rows.specs.Held as held
 use Rattle.object_rows.specs.Places.{place_of}
+use Rattle.object_rows.specs.Rows.{Rows}
 use Rattle.pool_tables.specs.declared.pool.Pool.{Pool}
 use Rattle.pool_rows.specs.PoolRows.{PoolRows}
 use Rattle.pool_tables.specs.Rows.{row_at, number_where}
@@ -64,16 +65,25 @@ abbrev pub is_primary : ℕ → Inv → Bool
 is_primary number v = option_map_or (λ p. is_primary_kind p.kind) (pool number v) false
 
 -- the name of the domain of a node
+abbrev pub node_domain : ℕ → Rows → Option (List ℕ)
+node_domain node clients = option_map (λ n. n.domain) (lookup (at_number node) clients.nodes)
+
 abbrev pub domain_of_node : ℕ → Inv → Option (List ℕ)
-domain_of_node node v = option_map (λ n. n.domain) (lookup (at_number node) v.clients.nodes)
+domain_of_node node v = node_domain node v.clients
 
 -- the name of the domain of a filespace's node
+abbrev pub filespace_domain : ℕ → Rows → Option (List ℕ)
+filespace_domain filespace clients = option_and_then (λ f. node_domain f.node clients) (filespace_at filespace clients.filespaces)
+
 abbrev pub domain_of : ℕ → Inv → Option (List ℕ)
-domain_of filespace v = option_and_then (λ f. domain_of_node f.node v) (filespace_at filespace v.clients.filespaces)
+domain_of filespace v = filespace_domain filespace v.clients
 
 -- the rule by which the versions of a class are kept in a filespace
+abbrev pub rule_for : ℕ → List ℕ → List (List ℕ × DomainRow) → Rows → Option RuleFound
+rule_for filespace class domains clients = option_and_then (λ domain. rule_of domains domain class) (filespace_domain filespace clients)
+
 abbrev pub rule_in : ℕ → List ℕ → Inv → Option RuleFound
-rule_in filespace class v = option_and_then (λ domain. rule_of v.domains domain class) (domain_of filespace v)
+rule_in filespace class v = rule_for filespace class v.domains v.clients
 
 -- the copy groups of a set
 abbrev pub rules_of_set : SetRow → List BackupRule

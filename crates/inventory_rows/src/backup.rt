@@ -10,13 +10,13 @@ use std::collections::BTreeMap;
 use std::marker::Model;
 
 /// The least REUSEDELAY of each of some pools, by the pools' numbers, in ascending order.
-#[derive(Debug, Drop)]
+#[derive(Drop)]
 pub struct Delays {
     map: BTreeMap<u32, Days>,
 }
 
-/// The lesser of two delays.
-fn lesser(first: Days, second: Days) -> Days
+/// The shorter of two delays.
+fn shorter(first: Days, second: Days) -> Days
     ensures { result ≡ min first second }
 {
     if second.count() < first.count() {
@@ -41,7 +41,7 @@ fn lower(map: &mut BTreeMap<u32, Days>, pool: u32, delay: Days)
 {
     let _len = map.len();
     match map.get(&pool).copied() {
-        Some(there) => set(map, pool, lesser(there, delay)),
+        Some(there) => set(map, pool, shorter(there, delay)),
         None => {}
     }
 }
@@ -98,7 +98,7 @@ impl Clone for Delays {
 }
 
 /// A database backup that is listed.
-#[derive(Debug, Drop)]
+#[derive(Drop)]
 pub struct Backup {
     /// The day on which it was taken.
     pub taken: Day,

@@ -5,6 +5,8 @@
 mod ascending;
 mod backup;
 mod items;
+mod primary;
+mod rules;
 mod tables;
 
 pub use ascending::are_ascending;
@@ -13,6 +15,8 @@ pub use object_rows;
 pub use policy_domains;
 pub use pool_rows;
 pub use pool_tables;
+pub use primary::{is_primary, is_primary_kind};
+pub use rules::{domain_of_node, rule_in, rule_of};
 pub use tables::Tables;
 pub use version_groups;
 pub use volume_rows;

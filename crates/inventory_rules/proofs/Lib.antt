@@ -1,6 +1,8 @@
 pub mod CopiedLists
 pub mod HeldTurns
+pub mod Journals
 pub mod KeptLaws
 pub mod MapValues
+pub mod OwedLaws
 pub mod Touched
 pub mod Turns

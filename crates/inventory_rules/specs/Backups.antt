@@ -4,7 +4,6 @@ use Rattle.std.specs.List.{flat_map}
 use Rattle.std.specs.Map.{lookup, set_value, remove_entry}
 use Rattle.std.specs.Ordering.{nat_cmp}
 use Rattle.std.specs.Prelude.{Bool, false, not, Option, Some, None, ℕ, ◌&&◌, if◌then◌else◌, List, [], ◌∷◌, true}
-use Rattle.inventory_rows.specs.pool_rows.Changed as stores
 use Rattle.inventory_rows.specs.pool_rows.PoolRows.{is_sequential}
 use Rattle.inventory_rows.specs.Search.{holds_copy}
 use Rattle.inventory_rows.specs.State.{Inv}

@@ -7,7 +7,6 @@ use Rattle.kinds.specs.declared.refusal.Refusal.TheVariants as refusal
 use Rattle.inventory_rows.specs.version_groups.Entries.{all_later}
 use Rattle.inventory_rows.specs.version_groups.declared.groups.Filespace.{Filespace}
 use Rattle.inventory_rows.specs.pool_tables.Rows.{row_at}
-use Rattle.inventory_rows.specs.pool_rows.Changed as stores
 use Rattle.inventory_rows.specs.pool_rows.PoolRows.{PoolRows}
 use Rattle.inventory_rows.specs.State.{Inv}
 

@@ -1,7 +1,7 @@
 -- Transactions that move copies, make copies, or take copies away. Each item is judged on the database before the transaction.
-use Rattle.std.specs.List.{flat_map, list_all}
+use Rattle.std.specs.List.{flat_map, list_all, list_any}
 use Rattle.std.specs.Option.{option_map_or}
-use Rattle.std.specs.Prelude.{ℕ, Option, Some, None, Bool, false, ◌==◌, List, ◌++◌, map, not, is_some, nat_le, length, if◌then◌else◌, [], ◌∷◌, ◌&&◌, ◌||◌, ◌≡◌, ◌+◌, ◌<◌, ◌^◌, true}
+use Rattle.std.specs.Prelude.{ℕ, Option, Some, None, Bool, false, ◌==◌, List, ◌++◌, map, not, is_some, length, if◌then◌else◌, [], ◌∷◌, ◌&&◌, ◌||◌, ◌≡◌, ◌+◌, ◌<◌, ◌^◌, true}
 use Rattle.kinds.specs.Refusals.{unless, bad_value}
 use Rattle.kinds.specs.declared.refusal.By.TheVariants as by
 use Rattle.kinds.specs.declared.refusal.Refusal.{Refusal}
@@ -26,7 +26,7 @@ use Rattle.inventory_rows.specs.Search.{version, copy_in, pool, is_primary, lies
 use Rattle.inventory_rows.specs.State.{Inv}
 use Rattle.inventory_rules.specs.Common.{or_same, with_filespaces, this, CanEach, each}
 use Rattle.inventory_rules.specs.Journal.{Journal}
-use Rattle.inventory_rules.specs.Segments.{put, take_away, copy_fits, CanPut, put_step}
+use Rattle.inventory_rules.specs.Segments.{put, take_away, copy_fits, copy_fits_after, CanPut, put_step}
 use Rattle.inventory_rules.specs.Valid.{primary_copies}
 use Rattle.inventory_rules.specs.Versions.{of_version, name_once}
 
@@ -74,17 +74,23 @@ abbrev pub lies_there : ℕ → Option CopyRow → Bool
 lies_there file None = false
 lies_there file (Some copy) = lies_on file copy
 
--- the copy that is named goes from a volume where it lies, while another copy stays
-abbrev pub named_drop_refused : DropReason → Inv → DroppedCopy → Version → List Refusal
-named_drop_refused reason v item w =
-    unless (lies_there (file_of reason) (copy_in item.pool w)) refusal.NotFound
-    ++ (unless (nat_le 2 (length w.copies)) (refusal.InUse (by.Object item.object))
-    ++ drop_reason_refused reason item.pool w.digest item.found v)
+-- the copy that is named has a segment on the volume; where the pool holds another copy, or none, that is not asked
+abbrev pub named_drop_refused : Journal → DropReason → DroppedCopy → Version → List Refusal
+named_drop_refused j reason item w =
+    if placed_by item.placed (copy_in item.pool w)
+    then unless (lies_there (file_of reason) (copy_in item.pool w)) refusal.NotFound
+    else stale_copy (j.copy_changed item.object item.pool) (copy_in item.pool w) ∷ []
 
--- where the pool holds another copy, or none, nothing else is asked
+-- one of the copies lies in another pool
+abbrev pub lies_elsewhere : ℕ → List CopyRow → Bool
+lies_elsewhere pool copies = list_any (λ c. not (c.pool == pool)) copies
+
+-- the copy is the one that is named, another copy of the version stays, and the reason holds
 abbrev pub version_drop_refused : Journal → DropReason → Inv → DroppedCopy → Version → List Refusal
 version_drop_refused j reason v item w =
-    if placed_by item.placed (copy_in item.pool w) then named_drop_refused reason v item w else stale_copy (j.copy_changed item.object item.pool) (copy_in item.pool w) ∷ []
+    named_drop_refused j reason item w
+    ++ (unless (lies_elsewhere item.pool w.copies) (refusal.InUse (by.Object item.object))
+    ++ drop_reason_refused reason item.pool w.digest item.found v)
 
 abbrev pub dropped_refused : Journal → DropReason → Inv → DroppedCopy → List Refusal
 dropped_refused j reason v item = of_version j item.object (version_drop_refused j reason v item) (version item.object v)
@@ -147,15 +153,15 @@ added_fits v item w =
 abbrev pub new_copy_fits : Inv → NewCopy → Bool
 new_copy_fits v item = option_map_or (λ w. added_fits v item w) (version item.object v) false
 
--- a copy that moves comes where no other copy lies; where that is a primary pool, no other copy lies in one
-abbrev pub replaced_fits : Inv → MovedCopy → Version → Bool
-replaced_fits v item w =
-    copy_fits v item.pool w.size item.segments
+-- a copy that moves, together with these, comes where no other copy lies; where that is a primary pool, no other copy lies in one
+abbrev pub replaced_fits : List MovedCopy → Inv → MovedCopy → Version → Bool
+replaced_fits moved v item w =
+    copy_fits_after moved v item.pool w.size item.segments
     && (not (has_copy item.pool (without_copy item.from w.copies))
     && (not (is_primary item.pool v) || list_all (λ c. c.pool == item.from) (primary_copies v w)))
 
-abbrev pub moved_copy_fits : Inv → MovedCopy → Bool
-moved_copy_fits v item = option_map_or (λ w. replaced_fits v item w) (version item.object v) false
+abbrev pub moved_copy_fits : List MovedCopy → Inv → MovedCopy → Bool
+moved_copy_fits moved v item = option_map_or (λ w. replaced_fits moved v item w) (version item.object v) false
 
 -- ---- items
 

@@ -1,14 +1,13 @@
 -- What a valid database says, fact by fact.
-use Rattle.std.specs.Prelude.{◌≡◌, ◌-◌, ◌^◌, true, nat_lt, nat_le, ◌&&◌, [], ◌∷◌, ◌++◌, map, length}
+use Rattle.std.specs.Prelude.{◌≡◌, ◌-◌, ◌^◌, true, nat_lt, nat_le, ◌&&◌, [], ◌∷◌, ◌++◌, map}
 use Rattle.std.specs.List.{list_all}
 use Rattle.std.specs.Map.{keys_of}
 use Rattle.std.specs.Option.{option_map_or}
 use Rattle.inventory_rows.specs.version_groups.Versions.{are_distinct}
-use Rattle.inventory_rows.specs.object_rows.Rows.{most_versions}
 use Rattle.inventory_rows.specs.Items.{count_items, most_items}
 use Rattle.inventory_rows.specs.Search.{versions, copies}
 use Rattle.inventory_rows.specs.State.{Inv}
-use Rattle.inventory_rules.specs.Valid.{are_apart, copies_cite, defaults_are_there, filespaces_apart, filespaces_cite, groups_are_orderly, is_named_soundly, lie_in, names_apart, no_ring, nodes_cite, pools_cite, rules_cite, versions_are_copied, volumes_are, volumes_cite}
+use Rattle.inventory_rules.specs.Valid.{are_apart, classes_are, copies_cite, defaults_are_there, filespaces_apart, filespaces_cite, groups_are_orderly, is_named_soundly, lie_in, names_apart, no_ring, nodes_cite, pools_cite, rules_cite, versions_are_copied, volumes_are, volumes_cite}
 
 -- the conditions under which a database is valid, each by itself
 pub record Facts (v : Inv) : Type 0 where
@@ -47,5 +46,5 @@ pub record Facts (v : Inv) : Type 0 where
   pub versions_by_today : list_all (λ version. nat_le version.stored v.today && option_map_or (λ day. nat_le day v.today) version.since true) (versions v) ≡ true
   pub backups_by_today : list_all (λ b. nat_le b.1.taken v.today) v.backups ≡ true
   pub volumes_by_today : list_all (λ f. option_map_or (λ day. nat_le day v.today) f.1.emptied true) v.stores.volumes ≡ true
-  pub few_versions : nat_le (length (versions v)) most_versions ≡ true
+  pub classes_are : classes_are v ≡ true
   pub few_items : nat_le (count_items v) most_items ≡ true

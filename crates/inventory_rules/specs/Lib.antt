@@ -8,8 +8,10 @@ pub mod Held
 pub mod Journal
 pub mod Kept
 pub mod Ordered
+pub mod Owed
 pub mod Policy
 pub mod Reordered
+pub mod Run
 pub mod Segments
 pub mod Stores
 pub mod Transactions

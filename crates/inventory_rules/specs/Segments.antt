@@ -1,9 +1,10 @@
 -- The segments and the scratch volumes of transactions on data: why the volumes are refused, where segments come and go, what has to fit, and what a step needs.
-use Rattle.std.specs.List.{flat_map, list_all, sum_by}
+use Rattle.std.specs.List.{flat_map, list_all, list_any, sum_by}
 use Rattle.std.specs.Option.{option_map_or}
 use Rattle.std.specs.Prelude.{List, ◌++◌, map, ℕ, [], ◌∷◌, Bool, ◌||◌, nat_le, ◌+◌, ◌%◌, false, ◌==◌, ◌&&◌, Option, Some, None, not, is_some, IsTrue, ◌≡◌, ◌<◌, ◌^◌}
 use Rattle.kinds.specs.declared.refusal.Refusal.{Refusal}
 use Rattle.kinds.specs.declared.segment.Segment.{Segment}
+use Rattle.entries.specs.change_items.declared.items.MovedCopy.{MovedCopy}
 use Rattle.entries.specs.change_items.declared.items.ScratchVolume.{ScratchVolume}
 use Rattle.inventory_rows.specs.version_groups.Entries.{all_later}
 use Rattle.inventory_rows.specs.version_groups.declared.copies.CopyRow.{CopyRow}
@@ -12,7 +13,6 @@ use Rattle.inventory_rows.specs.volume_rows.declared.held.HeldSegment.{HeldSegme
 use Rattle.inventory_rows.specs.volume_rows.declared.volume.Volume.{Volume}
 use Rattle.inventory_rows.specs.pool_tables.RowChanges.{scratch_volume}
 use Rattle.inventory_rows.specs.pool_tables.Rows.{with_row, row_at}
-use Rattle.inventory_rows.specs.pool_rows.Changed as stores
 use Rattle.inventory_rows.specs.pool_rows.PoolRows.{pool_capacity, is_sequential, is_sequential_at}
 use Rattle.inventory_rows.specs.pool_rows.Segments.{put_segment, take_segment}
 use Rattle.inventory_rows.specs.Search.{segments_on, pool}
@@ -59,20 +59,32 @@ lies_rightly sequential number s None = false
 lies_rightly sequential number s (Some volume) =
     volume.pool == number && (nat_le (s.offset + 32 + s.len) volume.capacity && (sequential || s.offset % 4096 == 0))
 
--- so lies a new segment, and it overlaps none that lies there
-abbrev pub segment_fits : Inv → ℕ → Segment → Bool
-segment_fits v number s =
+-- one of these copies that move is the object's copy in the pool
+abbrev pub leaves : List MovedCopy → ℕ → ℕ → Bool
+leaves moved pool object = list_any (λ i. object == i.object && pool == i.from) moved
+
+-- so lies a new segment, and it overlaps none that lies there, but for those of copies that move from there
+abbrev pub segment_fits_after : List MovedCopy → Inv → ℕ → Segment → Bool
+segment_fits_after moved v number s =
     lies_rightly (is_sequential number v.stores) number s (row_at s.file v.stores.volumes)
-    && list_all (λ e. are_clear (is_sequential number v.stores) s e.1) (segments_on s.file v)
+    && list_all (λ e. leaves moved number e.0 || are_clear (is_sequential number v.stores) s e.1) (segments_on s.file v)
+
+-- the same where none moves
+abbrev pub segment_fits : Inv → ℕ → Segment → Bool
+segment_fits v number s = segment_fits_after [] v number s
 
 -- no two of the new segments overlap
 abbrev pub are_all_clear : Inv → List Segment → Bool
 are_all_clear v segments = all_later (λ a b. not (a.file == b.file) || are_clear (is_sequential_at a.file v.stores) a b) segments
 
 -- a copy of so many bytes: its pool is there, its segments have the bytes, and each fits
+abbrev pub copy_fits_after : List MovedCopy → Inv → ℕ → ℕ → List Segment → Bool
+copy_fits_after moved v number size segments =
+    is_some (pool number v) && (sum_by (λ s. s.len) segments == size && list_all (segment_fits_after moved v number) segments)
+
+-- the same where none moves
 abbrev pub copy_fits : Inv → ℕ → ℕ → List Segment → Bool
-copy_fits v number size segments =
-    is_some (pool number v) && (sum_by (λ s. s.len) segments == size && list_all (segment_fits v number) segments)
+copy_fits v number size segments = copy_fits_after [] v number size segments
 
 -- scratch volumes are made for sequential pools
 abbrev pub scratch_fits : Inv → List ScratchVolume → Bool

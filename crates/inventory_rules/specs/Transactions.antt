@@ -8,7 +8,6 @@ use Rattle.entries.specs.declared.change.Change.{Change}
 use Rattle.entries.specs.declared.change.Change.TheVariants as change
 use Rattle.inventory_rows.specs.policy_domains.Changes as policy
 use Rattle.inventory_rows.specs.pool_tables.RowChanges.{reuse_volume}
-use Rattle.inventory_rows.specs.pool_rows.Changed as stores
 use Rattle.inventory_rows.specs.pool_rows.Segments.{may_reuse_at}
 use Rattle.inventory_rows.specs.Items.{count_items, most_items}
 use Rattle.inventory_rows.specs.State.{Inv}
@@ -21,7 +20,7 @@ use Rattle.inventory_rules.specs.Policy.{policy_refused, is_new_policy, policy_a
 use Rattle.inventory_rules.specs.Segments.{make_scratch, scratch_refused, scratch_fits, items_fit, CanScratch}
 use Rattle.inventory_rules.specs.Stores.{store_changed, store_refused, store_fits, is_new_store, CanStores, CanReuse}
 use Rattle.inventory_rules.specs.Valid.{is_valid}
-use Rattle.inventory_rules.specs.Versions.{back_up, rebind, mark_gone, expire, discard, backup_refused, rebind_refused, gone_refused, expire_refused, discard_refused, object_bounds, new_version_fits, paths_added, items_of_new, AreGroupsOrdered, CanBackUp, CanBeGone}
+use Rattle.inventory_rules.specs.Versions.{back_up, rebind, mark_gone, expire, discard, backup_refused, rebind_refused, gone_refused, expire_refused, discard_refused, objects_refused, new_version_fits, paths_added, items_of_new, AreGroupsOrdered, CanBackUp, CanBeGone}
 
 -- ---- effect
 
@@ -88,7 +87,7 @@ causes j (change.Policy c) v = policy_refused c v
 causes j (change.Object c) v = client_refused c v
 causes j (change.Pool c) v = store_refused c v
 causes j (change.Backup c) v =
-    backup_refused c.filespace c.items v ++ (scratch_refused c.scratch v ++ object_bounds c.items v)
+    backup_refused c.filespace c.items v ++ (scratch_refused c.scratch v ++ objects_refused c.items v)
 causes j (change.Rebind c) v = rebind_refused j c.filespace c.items v
 causes j (change.Gone c) v = gone_refused j c.filespace c.items v
 causes j (change.Move c) v = move_refused j c.items v ++ scratch_refused c.scratch v
@@ -126,7 +125,7 @@ parts_fit (change.Pool c) v = store_fits c v
 parts_fit (change.Backup c) v = scratch_fits v c.scratch && items_fit new_version_fits (λ i. i.segments) c.items (each make_scratch c.scratch v)
 parts_fit (change.Rebind c) v = true
 parts_fit (change.Gone c) v = true
-parts_fit (change.Move c) v = scratch_fits v c.scratch && items_fit moved_copy_fits (λ i. i.segments) c.items (each make_scratch c.scratch v)
+parts_fit (change.Move c) v = scratch_fits v c.scratch && items_fit (moved_copy_fits c.items) (λ i. i.segments) c.items (each make_scratch c.scratch v)
 parts_fit (change.Copy c) v = scratch_fits v c.scratch && items_fit new_copy_fits (λ i. i.segments) c.items (each make_scratch c.scratch v)
 parts_fit (change.DropCopies c) v = true
 parts_fit (change.Expire c) v = true

@@ -1,6 +1,6 @@
 -- Under which conditions a database is one: what cites something finds it, numbers and names are given once, and what the rows say of
 -- one another agrees.
-use Rattle.std.specs.Prelude.{ℕ, ◌+◌, ◌-◌, ◌*◌, ◌/◌, ◌%◌, ◌^◌, Bool, true, false, not, nat_lt, nat_le, ◌==◌, ◌&&◌, ◌||◌, is_some, is_none, if◌then◌else◌, List, [], ◌∷◌, ◌++◌, map, filter, length, Option, Some, None}
+use Rattle.std.specs.Prelude.{ℕ, ◌+◌, ◌-◌, ◌*◌, ◌/◌, ◌%◌, ◌^◌, Bool, true, false, not, nat_lt, nat_le, ◌==◌, ◌&&◌, ◌||◌, is_some, is_none, if◌then◌else◌, List, [], ◌∷◌, ◌++◌, map, filter, length, codes, Option, Some, None}
 use Rattle.std.specs.List.{list_all, sum_by}
 use Rattle.std.specs.Map.{keys_of, lookup}
 use Rattle.std.specs.Option.{option_map_or}
@@ -21,7 +21,6 @@ use Rattle.inventory_rows.specs.pool_rows.Hierarchy.{comes_to}
 use Rattle.kinds.specs.Names.{is_same_name}
 use Rattle.inventory_rows.specs.pool_tables.Rows.{named, row_at}
 use Rattle.inventory_rows.specs.pool_tables.Scratch.{scratch_name, is_scratch_name}
-use Rattle.inventory_rows.specs.object_rows.Rows.{most_versions}
 use Rattle.inventory_rows.specs.Items.{count_items, most_items}
 use Rattle.inventory_rows.specs.Search.{versions, copies, pool, rules, is_primary_kind, segments_on}
 use Rattle.inventory_rows.specs.State.{Inv}
@@ -211,6 +210,20 @@ volumes_are v = list_all (is_volume v) v.stores.volumes
 abbrev pub no_ring : Inv → Bool
 no_ring v = list_all (λ p. not (comes_to p.0 p.1.settings.next v.stores.pools)) v.stores.pools
 
+-- ---- device classes
+
+-- the class whose volumes are of random access
+abbrev pub disk : List ℕ
+disk = codes "DISK"
+
+-- a class gives a capacity for its volumes, but for DISK, whose volumes have one each
+abbrev pub is_class : List ℕ × Option ℕ → Bool
+is_class c = if is_same_name disk c.0 then is_none c.1 else is_some c.1
+
+-- the class DISK is there, and it alone has no capacity
+abbrev pub classes_are : Inv → Bool
+classes_are v = is_some (named disk v.stores.classes) && list_all is_class v.stores.classes
+
 -- ---- days
 
 -- no day that is kept lies behind today
@@ -226,4 +239,4 @@ is_valid v =
     nodes_cite v && (filespaces_cite v && (rules_cite v && (pools_cite v && (volumes_cite v && (copies_cite v
     && (are_drawn v && (are_bounded v && (are_numbered v && (are_past v && (are_named v && (defaults_are_there v
     && (groups_are_orderly v && (versions_are_copied v && (volumes_are v && (no_ring v && (are_by_today v
-    && (nat_le (length (versions v)) most_versions && nat_le (count_items v) most_items)))))))))))))))))
+    && (classes_are v && nat_le (count_items v) most_items)))))))))))))))))

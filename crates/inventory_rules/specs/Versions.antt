@@ -1,15 +1,12 @@
 -- Transactions that bring versions, bind paths to classes, or take versions away. Each item is judged on the database before the transaction.
 use Rattle.std.specs.Bool.{OnTrue}
-use Rattle.std.specs.List.{flat_map, find, list_all, list_any, AllByRecursion}
-use Rattle.std.specs.Option.{option_map_or}
+use Rattle.std.specs.List.{flat_map, list_all, list_any, AllByRecursion}
 use Rattle.std.specs.Prelude.{ℕ, Option, Some, None, Bool, not, ◌==◌, List, is_some, ◌+◌, nat_le, ◌++◌, length, map, ◌^◌, max, nat_lt, if◌then◌else◌, [], ◌∷◌, true, ◌&&◌, false, ◌||◌, ◌≡◌, ◌<◌, IsTrue}
 use Rattle.kinds.specs.Refusals.{unless, bad_value}
 use Rattle.kinds.specs.declared.refusal.By.TheVariants as by
 use Rattle.kinds.specs.declared.refusal.Refusal.{Refusal}
 use Rattle.kinds.specs.declared.refusal.Refusal.TheVariants as refusal
-use Rattle.kinds.specs.declared.rule.RuleFound.{RuleFound}
 use Rattle.kinds.specs.declared.segment.Digest.{Digest}
-use Rattle.copy_groups.specs.Retention.{retained}
 use Rattle.entries.specs.change_items.declared.items.DiscardedVersion.{DiscardedVersion}
 use Rattle.entries.specs.change_items.declared.items.NamedVersion.{NamedVersion}
 use Rattle.entries.specs.change_items.declared.items.NewVersion.{NewVersion}
@@ -19,9 +16,8 @@ use Rattle.entries.specs.change_items.declared.reasons.DiscardReason.TheVariants
 use Rattle.kinds.specs.Names.{is_same_name}
 use Rattle.inventory_rows.specs.version_groups.Entries.{all_later}
 use Rattle.inventory_rows.specs.version_groups.Groups.{AreByPath}
-use Rattle.inventory_rows.specs.version_groups.Versions.{is_active, has_active, has_object}
+use Rattle.inventory_rows.specs.version_groups.Versions.{is_active, has_object}
 use Rattle.inventory_rows.specs.version_groups.declared.copies.CopyRow.{CopyRow}
-use Rattle.inventory_rows.specs.version_groups.declared.group.Group.{Group}
 use Rattle.inventory_rows.specs.version_groups.declared.group.GroupChange.{GroupChange}
 use Rattle.inventory_rows.specs.version_groups.declared.group.GroupChange.TheVariants as group
 use Rattle.inventory_rows.specs.version_groups.declared.groups.Filespace.{Filespace}
@@ -29,10 +25,11 @@ use Rattle.inventory_rows.specs.version_groups.declared.versions.Version.{Versio
 use Rattle.inventory_rows.specs.object_rows.Filespaces.{filespace_at, versions_at, filespaces_with, filespaces_after, versions_of}
 use Rattle.inventory_rows.specs.object_rows.Rows.{IsNew, most_versions}
 use Rattle.inventory_rows.specs.object_rows.declared.place.Place.{Place}
-use Rattle.inventory_rows.specs.Search.{versions, group, rule_in, version, lies_on, is_primary, place, pool}
+use Rattle.inventory_rows.specs.Search.{versions, group, version, lies_on, is_primary, place}
 use Rattle.inventory_rows.specs.State.{Inv}
 use Rattle.inventory_rules.specs.Common.{this, or_same, with_filespaces, CanEach}
 use Rattle.inventory_rules.specs.Journal.{Journal}
+use Rattle.inventory_rules.specs.Owed.{is_retained}
 use Rattle.inventory_rules.specs.Segments.{put, take_all, copy_fits, CanPut, put_step}
 
 -- ---- what isn't as it was named
@@ -70,8 +67,16 @@ backup_refused filespace items v =
     ++ (unless (name_once (map (λ i. i.object) items)) bad_value
     ++ unless (nat_le (length (versions v) + length items) most_versions) refusal.InventoryFull)
 
-abbrev pub object_bounds : List NewVersion → Inv → List Refusal
-object_bounds items v = flat_map (λ i. unless (nat_lt (max v.next_object (i.object + 1)) (2 ^ 62)) refusal.InventoryFull) items
+-- a new version has an object number from 1 on that no version has
+abbrev pub is_new_object : Inv → ℕ → Bool
+is_new_object v object = nat_le 1 object && not (has_object object (versions v))
+
+-- the number of a new version's object is new, and the next number behind it is below its bound
+abbrev pub object_refused : Inv → ℕ → List Refusal
+object_refused v object = unless (is_new_object v object) bad_value ++ unless (nat_lt (max v.next_object (object + 1)) (2 ^ 62)) refusal.InventoryFull
+
+abbrev pub objects_refused : List NewVersion → Inv → List Refusal
+objects_refused items v = flat_map (λ i. object_refused v i.object) items
 
 -- a path that is bound to a class has a group
 abbrev pub rebinding_refused : Journal → ℕ → Inv → Rebinding → List Refusal
@@ -90,29 +95,7 @@ abbrev pub gone_refused : Journal → ℕ → List NamedVersion → Inv → List
 gone_refused j filespace items v =
     unless (name_once (map (λ i. i.object) items)) bad_value ++ flat_map (named_gone_refused j filespace v) items
 
--- where the object's version stands among those of its path, counted from 0
-abbrev pub place_among : ℕ → List Version → Option ℕ
-place_among object [] = None
-place_among object (w ∷ older) = if w.object == object then Some 0 else option_map_or (λ n. Some (n + 1)) (place_among object older) None
-
--- a version that isn't retained today
-abbrev pub is_retained : ℕ → List ℕ → ℕ → Inv → Bool
-is_retained filespace path object v =
-    retained_in (rule_of_group (group filespace path v)) (versions_at filespace path v.clients.filespaces) (place_among object (versions_at filespace path v.clients.filespaces))
-  where
-    rule_of_group : Option Group → Option RuleFound
-    rule_of_group None = None
-    rule_of_group (Some g) = rule_in filespace g.class v
-
-    since_of : ℕ → Option Version → ℕ
-    since_of object None = 0
-    since_of object (Some w) = option_map_or (λ day. day) w.since 0
-
-    retained_in : Option RuleFound → List Version → Option ℕ → Bool
-    retained_in None ws at = true
-    retained_in (Some rule) ws None = true
-    retained_in (Some rule) ws (Some at) = retained rule (has_active ws) (since_of object (find (λ w. w.object == object) ws)) v.today at
-
+-- an object that expires is one of the path's, and isn't retained today
 abbrev pub expired_refused : Journal → ℕ → Inv → NamedVersion → List Refusal
 expired_refused j filespace v item =
     if has_object item.object (versions_at filespace item.path v.clients.filespaces)
@@ -219,12 +202,9 @@ discard item v = discard_at item.object (place item.object v) v
 
 -- ---- fits
 
--- a new version has an object number from 1 on that no version has
-abbrev pub is_new_object : Inv → ℕ → Bool
-is_new_object v object = nat_le 1 object && not (has_object object (versions v))
-
+-- the copy of a new version
 abbrev pub new_version_fits : Inv → NewVersion → Bool
-new_version_fits v item = is_new_object v item.object && copy_fits v item.pool item.size item.segments
+new_version_fits v item = copy_fits v item.pool item.size item.segments
 
 -- ---- items
 

@@ -1,5 +1,5 @@
 // What the definitions mean, as laws. Each stands on a function that does nothing.
-ghost use Rattle.std.specs.Prelude.{◌≡◌, ℕ, ◌+◌, true, None};
+ghost use Rattle.std.specs.Prelude.{◌≡◌, ℕ, ◌+◌, true, None, List, []};
 ghost use Rattle.kinds.specs.declared.change.ObjectChange.{ObjectChange};
 ghost use Rattle.kinds.specs.declared.change.PolicyChange.{PolicyChange};
 ghost use Rattle.kinds.specs.declared.change.PoolChange.{PoolChange};
@@ -7,10 +7,12 @@ ghost use Rattle.entries.specs.declared.change.Change.{Change};
 ghost use Rattle.entries.specs.declared.change.Change.TheVariants.{Day, Policy, Object, Pool, DbBegin, DbEnd, DbDelete};
 ghost use Rattle.inventory_rows.specs.Fresh.{fresh};
 ghost use Rattle.inventory_rows.specs.State.{Inv};
-ghost use Rattle.inventory_rules.specs.Transactions.{effect, refused, is_of_data, OnlyData};
+ghost use Rattle.inventory_rules.specs.Run.{journal_of};
+ghost use Rattle.inventory_rules.specs.Transactions.{causes, effect, refused, is_of_data, OnlyData};
 ghost use Rattle.inventory_rules.specs.Held.{IsTied};
-ghost use Rattle.inventory_rules.specs.Journal.{Journal};
+ghost use Rattle.inventory_rules.specs.Journal.{Journal, no_journal};
 ghost use Rattle.inventory_rules.specs.Kept.{kept, kept_after};
+ghost use Rattle.inventory_rules.specs.Owed.{is_owed, is_retained};
 ghost use Rattle.inventory_rules.specs.Valid.{is_valid};
 
 /// The database of a server that was just formatted is valid, and the rows of its volumes hold the segments of its copies.
@@ -47,4 +49,18 @@ pub fn others_stay()
 /// volume doesn't change what is owed.
 pub fn kept_is_a_fold()
     ensures { (c : Change) (v : Inv) → kept (effect c v) ≡ kept_after c (kept v) }
+{}
+
+/// Which versions of a database are retained today is said of what it keeps for its clients: no copy, pool, volume or segment is looked at.
+pub fn retained_are_owed()
+    ensures { (filespace : ℕ) (path : List ℕ) (object : ℕ) (v : Inv) → is_owed filespace path object (kept v) ≡ is_retained filespace path object v }
+{}
+
+/// What no cause refuses with one journal, none refuses with another: a journal tells which refusal comes, not whether one does. So a run's
+/// transactions are legal also for a database that knows no journal, as it is when they are read again. A journal without transactions tells
+/// nothing.
+pub fn journals_agree()
+    ensures causes { (j k : Journal) (c : Change) (v : Inv) → causes j c v ≡ [] → causes k c v ≡ [] }
+    ensures refused { (j k : Journal) (c : Change) (v : Inv) → refused j c v ≡ None → refused k c v ≡ None }
+    ensures none { (base : Inv) → journal_of base [] ≡ no_journal }
 {}

@@ -15,6 +15,7 @@ use Rattle.inventory_work.specs.declared.copies.Where.{Where}
 use Rattle.inventory_work.specs.declared.copies.Where.TheVariants.{Pool, Volume}
 use Rattle.inventory_work.specs.declared.lines.CopyLine.{CopyLine}
 use Rattle.inventory_work.specs.declared.lines.MissingLine.{MissingLine}
+use Rattle.inventory_work.specs.ByObject.{by_object}
 use Rattle.inventory_work.specs.Lists.{only}
 
 -- the copy lies in the pool, or has a segment on the volume
@@ -38,7 +39,7 @@ copy_line node version copy = record {
 abbrev pub copy_lines : Where → ℕ → Version → CopyRow → List CopyLine
 copy_lines here node version copy = only (lies_there here copy) (copy_line node version copy)
 
--- the copies that lie there, of a version, of a path's versions, of a filespace's, and of all
+-- the copies that lie there, of a version, of a path's versions, and of a filespace's
 abbrev pub copies_of_version : Where → ℕ → Version → List CopyLine
 copies_of_version here node version = flat_map (copy_lines here node version) version.copies
 
@@ -48,8 +49,13 @@ copies_of_group here node group = flat_map (copies_of_version here node) group.v
 abbrev pub copies_of_filespace : Where → Filespace → List CopyLine
 copies_of_filespace here f = flat_map (λ g. copies_of_group here f.node g.1) f.groups
 
+-- of all filespaces
+abbrev pub copies_found : Where → Inv → List CopyLine
+copies_found here v = flat_map (λ f. copies_of_filespace here f.1) v.clients.filespaces
+
+-- the copies that lie there, in ascending order of their objects
 abbrev pub copies_where : Where → Inv → List CopyLine
-copies_where here v = flat_map (λ f. copies_of_filespace here f.1) v.clients.filespaces
+copies_where here v = by_object (λ line. line.object) (copies_found here v)
 
 -- the pool is there
 abbrev pub has_pool : ℕ → Inv → Bool
@@ -59,11 +65,11 @@ has_pool number v = is_some (pool number v)
 abbrev pub has_volume : ℕ → Inv → Bool
 has_volume file v = is_some (row_at file v.stores.volumes)
 
--- the copies in a pool, which has to be there
+-- the copies in a pool, which has to be there, in ascending order of their objects
 abbrev pub on_pool : ℕ → Inv → Result (List CopyLine) Refusal
 on_pool number v = if has_pool number v then Ok (copies_where (Pool number) v) else Err NotFound
 
--- the copies with a segment on a volume, which has to be there
+-- the copies with a segment on a volume, which has to be there, in ascending order of their objects
 abbrev pub on_volume : ℕ → Inv → Result (List CopyLine) Refusal
 on_volume file v = if has_volume file v then Ok (copies_where (Volume file) v) else Err NotFound
 
@@ -75,16 +81,20 @@ is_missing primary copy version = has_copy primary version.copies && not (has_co
 abbrev pub missing_lines : ℕ → ℕ → Version → List MissingLine
 missing_lines primary copy version = only (is_missing primary copy version) (record { object = version.object; size = version.size })
 
--- the versions whose copies are missing, of a path, of a filespace, and of all
+-- the versions whose copies are missing, of a path, of a filespace, and of all filespaces
 abbrev pub missing_of_group : ℕ → ℕ → Group → List MissingLine
 missing_of_group primary copy group = flat_map (missing_lines primary copy) group.versions
 
 abbrev pub missing_of_filespace : ℕ → ℕ → Filespace → List MissingLine
 missing_of_filespace primary copy f = flat_map (λ g. missing_of_group primary copy g.1) f.groups
 
-abbrev pub missing_in : ℕ → ℕ → Inv → List MissingLine
-missing_in primary copy v = flat_map (λ f. missing_of_filespace primary copy f.1) v.clients.filespaces
+abbrev pub missing_found : ℕ → ℕ → Inv → List MissingLine
+missing_found primary copy v = flat_map (λ f. missing_of_filespace primary copy f.1) v.clients.filespaces
 
--- the versions with a copy in the first pool and none in the second, which both have to be there
+-- the versions whose copies are missing, in ascending order of their objects
+abbrev pub missing_in : ℕ → ℕ → Inv → List MissingLine
+missing_in primary copy v = by_object (λ line. line.object) (missing_found primary copy v)
+
+-- the versions with a copy in the first pool and none in the second, which both have to be there, in ascending order of their objects
 abbrev pub missing : ℕ → ℕ → Inv → Result (List MissingLine) Refusal
 missing primary copy v = if has_pool primary v && has_pool copy v then Ok (missing_in primary copy v) else Err NotFound

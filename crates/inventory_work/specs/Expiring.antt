@@ -2,6 +2,7 @@
 use Rattle.std.specs.Prelude.{ℕ, Bool, not, List, reverse, Option}
 use Rattle.std.specs.List.{flat_map}
 use Rattle.kinds.specs.declared.rule.RuleFound.{RuleFound}
+use Rattle.copy_groups.specs.Retention.{is_owed}
 use Rattle.inventory_rows.specs.version_groups.declared.group.Group.{Group}
 use Rattle.inventory_rows.specs.version_groups.declared.groups.Filespace.{Filespace}
 use Rattle.inventory_rows.specs.version_groups.declared.versions.Version.{Version}
@@ -10,12 +11,11 @@ use Rattle.inventory_rows.specs.Search.{rule_in}
 use Rattle.inventory_rows.specs.State.{Inv}
 use Rattle.inventory_work.specs.declared.lines.UnretainedLine.{UnretainedLine}
 use Rattle.inventory_work.specs.Lists.{only, flat_from}
-use Rattle.inventory_work.specs.Owed.{is_owed}
 
 -- the version at this place of its group, where it is not retained
 abbrev pub unretained_lines : ℕ → List ℕ → Option RuleFound → Bool → ℕ → ℕ → Version → List UnretainedLine
 unretained_lines filespace path rule active today place version =
-    only (not (is_owed rule active today place version)) (record { filespace = filespace; path = path; object = version.object })
+    only (not (is_owed rule active version.since today place)) (record { filespace = filespace; path = path; object = version.object })
 
 -- the versions of a path that are not retained, the oldest first
 abbrev pub unretained_of_group : ℕ → List ℕ → Option RuleFound → ℕ → Group → List UnretainedLine

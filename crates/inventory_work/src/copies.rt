@@ -1,8 +1,9 @@
 // Stored copies.
-ghost use Rattle.std.specs.Prelude.{◌≡◌, ◌==◌};
+ghost use Rattle.std.specs.Prelude.{◌≡◌, ◌==◌, Ok};
 ghost use Rattle.std.specs.List.{flat_map, list_any};
-ghost use Rattle.kinds.specs.Answers.{Answers, AnswersBy};
+ghost use Rattle.kinds.specs.Answers.{Answers, AnswersBy, Becomes};
 ghost use Rattle.inventory_rows.specs.State.{inv_of};
+ghost use Rattle.inventory_work.specs.ByObject.{by_object};
 ghost use Rattle.inventory_work.specs.Lists.{Writes};
 ghost use Rattle.inventory_work.specs.Copies.{lies_there, copy_lines, copies_of_version, copies_of_filespace, copies_where, has_pool, has_volume, on_pool, on_volume, missing_lines, missing_of_filespace, missing_in, missing};
 
@@ -103,6 +104,14 @@ fn write_copies_of_filespace(
     Ok(())
 }
 
+/// Puts the lines in ascending order of their objects.
+fn sort_copies(lines: &mut Vec<CopyLine>) -> Result<(), Refusal>
+    ensures { Becomes result lines.old.items lines.new.items (Ok (by_object (λ line. line.object) lines.old.items)) }
+{
+    lines.sort_by_key(|line| line.object)?;
+    Ok(())
+}
+
 fn copies_where(alloc: Global, tables: &Tables, here: Where) -> Result<Listed<CopyLine>, Refusal>
     ensures { AnswersBy (λ lines. lines) result (copies_where here (inv_of tables.now)) }
 {
@@ -110,6 +119,7 @@ fn copies_where(alloc: Global, tables: &Tables, here: Where) -> Result<Listed<Co
     'filespaces: for (_, filespace) in tables.objects.filespaces() {
         write_copies_of_filespace(&mut lines, here, filespace)?;
     }
+    sort_copies(&mut lines)?;
     Ok(Listed::from_vec(lines))
 }
 
@@ -125,8 +135,8 @@ fn has_volume(tables: &Tables, file: u32) -> bool
     tables.pools.volumes().contains_key(&file)
 }
 
-/// The copies in a pool, in the order of filespaces, paths and versions, the newest first. `NotFound` where the pool is not
-/// there; else its one refusal is want of memory.
+/// The copies in a pool, in ascending order of their objects' numbers. `NotFound` where the pool is not there; else its one refusal is want of
+/// memory. It walks all versions, and sorts what it found.
 pub fn on_pool(alloc: Global, tables: &Tables, pool: u32) -> Result<Listed<CopyLine>, Refusal>
     ensures { Answers result (on_pool pool (inv_of tables.now)) }
 {
@@ -137,8 +147,8 @@ pub fn on_pool(alloc: Global, tables: &Tables, pool: u32) -> Result<Listed<CopyL
     }
 }
 
-/// The copies with a segment on a volume, in the order of filespaces, paths and versions, the newest first. `NotFound` where
-/// the volume is not there; else its one refusal is want of memory.
+/// The copies with a segment on a volume, in ascending order of their objects' numbers. `NotFound` where the volume is not there; else its one
+/// refusal is want of memory. It walks all versions, and sorts what it found.
 pub fn on_volume(alloc: Global, tables: &Tables, file: u32) -> Result<Listed<CopyLine>, Refusal>
     ensures { Answers result (on_volume file (inv_of tables.now)) }
 {
@@ -195,6 +205,14 @@ fn write_missing_of_filespace(
     Ok(())
 }
 
+/// Puts the lines in ascending order of their objects.
+fn sort_missing(lines: &mut Vec<MissingLine>) -> Result<(), Refusal>
+    ensures { Becomes result lines.old.items lines.new.items (Ok (by_object (λ line. line.object) lines.old.items)) }
+{
+    lines.sort_by_key(|line| line.object)?;
+    Ok(())
+}
+
 fn missing_in(
     alloc: Global,
     tables: &Tables,
@@ -207,11 +225,12 @@ fn missing_in(
     'filespaces: for (_, filespace) in tables.objects.filespaces() {
         write_missing_of_filespace(&mut lines, primary, copy, filespace)?;
     }
+    sort_missing(&mut lines)?;
     Ok(Listed::from_vec(lines))
 }
 
-/// The objects with a copy in the one pool and none in the other, in the order of filespaces, paths and versions, the newest
-/// first. `NotFound` where one of the pools is not there; else its one refusal is want of memory.
+/// The objects with a copy in the one pool and none in the other, in ascending order of their numbers. `NotFound` where one of the pools is not
+/// there; else its one refusal is want of memory. It walks all versions, and sorts what it found.
 pub fn missing(
     alloc: Global,
     tables: &Tables,

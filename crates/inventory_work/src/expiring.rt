@@ -7,9 +7,9 @@ ghost use Rattle.inventory_work.specs.Expiring.{unretained_lines, unretained_of_
 
 use crate::lines::UnretainedLine;
 use crate::listed::Listed;
-use crate::owed::{is_owed, place_of, rule_in};
-use inventory_rows::Tables;
+use copy_groups::is_owed;
 use inventory_rows::version_groups::{Filespace, Group, Version};
+use inventory_rows::{Tables, rule_in};
 use kinds::{Day, Path, Refusal, RuleFound};
 use std::alloc::Global;
 
@@ -25,8 +25,7 @@ fn write_unretained(
 ) -> Result<(), Refusal>
     ensures { Writes result lines.old.items lines.new.items (unretained_lines filespace path.now rule.now active today place version.now) }
 {
-    let place = place_of(place)?;
-    if is_owed(rule, active, today, place, version) {
+    if is_owed(rule, active, version.since, today, place) {
         return Ok(());
     }
     let path = path.clone()?;
@@ -95,7 +94,7 @@ fn write_filespace(
 }
 
 /// The versions that their rules do not retain today, in the order of filespaces and paths, of each path the oldest first.
-/// Its one refusal is want of memory; 2^32 versions of one path, which no memory holds, are that too.
+/// Its one refusal is want of memory.
 pub fn unretained(alloc: Global, tables: &Tables) -> Result<Listed<UnretainedLine>, Refusal>
     ensures { AnswersBy (λ lines. lines) result (unretained (inv_of tables.now)) }
 {

@@ -10,9 +10,8 @@ ghost use Rattle.inventory_work.specs.Rules.{class_rules, rules_of_set, active_i
 
 use crate::lines::{ClassRule, Rules};
 use crate::listed::Listed;
-use crate::owed::{domain_of_node, rule_of};
-use inventory_rows::Tables;
 use inventory_rows::policy_domains::{Domains, PolicySet};
+use inventory_rows::{Tables, domain_of_node, rule_of};
 use kinds::{Name, Refusal};
 use std::alloc::Global;
 

@@ -1,5 +1,4 @@
 pub mod Files
 pub mod Foremost
 pub mod Lists
-pub mod Places
 pub mod Standings

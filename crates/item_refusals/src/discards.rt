@@ -9,10 +9,9 @@ ghost use Rattle.item_refusals.specs.Standing.{is_number};
 
 use crate::causes::{gone_or_unknown, once};
 use crate::past::Past;
-use crate::primary::is_primary;
 use change_items::{DiscardReason, DiscardedVersion};
-use inventory_rows::Tables;
 use inventory_rows::version_groups::{CopyRow, Version};
+use inventory_rows::{Tables, is_primary};
 use kinds::{By, Digest, Refusal, bad_value, sooner_of, unless};
 
 /// Whether one of the copy's segments lies on the volume.

@@ -1,22 +1,22 @@
 //! Why copies don't go while other copies of their objects stay.
 
-ghost use Rattle.std.specs.Prelude.{◌≡◌, ◌++◌, length, nat_le};
+ghost use Rattle.std.specs.Prelude.{◌≡◌, ◌++◌, ◌==◌, not};
+ghost use Rattle.std.specs.List.{list_any};
 ghost use Rattle.std.specs.Option.{option_copied};
 ghost use Rattle.kinds.specs.Refusals.{foremost, unless};
 ghost use Rattle.kinds.specs.declared.refusal.Refusal.TheVariants.{NotFound};
 ghost use Rattle.inventory_rows.specs.Search.{copy_in};
 ghost use Rattle.inventory_rows.specs.State.{inv_of};
-ghost use Rattle.inventory_rules.specs.Copies.{file_of, drop_reason_refused, lies_there, named_drop_refused, version_drop_refused, dropped_refused, drop_refused};
+ghost use Rattle.inventory_rules.specs.Copies.{file_of, drop_reason_refused, lies_elsewhere, lies_there, named_drop_refused, version_drop_refused, dropped_refused, drop_refused};
 ghost use Rattle.inventory_rules.specs.Versions.{in_use};
 
 use crate::causes::{gone_or_unknown, once};
 use crate::copies::{copy_in, placed_by, stale_copy};
 use crate::discards::{in_use, lies_on};
 use crate::past::Past;
-use crate::primary::is_primary;
 use change_items::{DropReason, DroppedCopy};
-use inventory_rows::Tables;
 use inventory_rows::version_groups::{CopyRow, Version};
+use inventory_rows::{Tables, is_primary};
 use kinds::{Digest, Refusal, bad_value, sooner_of, unless};
 
 fn file_of(reason: DropReason) -> u32
@@ -56,24 +56,36 @@ fn lies_there(file: u32, copy: Option<&CopyRow>) -> bool
     }
 }
 
-/// The copy of this version that is named doesn't go.
-#[tactic(auto, using(crate::proofs::Foremost::foremost_append))]
-fn named_refusal(
-    tables: &Tables,
+/// The version's copy in the pool isn't the one that is named, or it has no segment on the volume.
+fn named_refusal<J: Past>(
+    past: &J,
     reason: DropReason,
     item: &DroppedCopy,
     version: &Version,
 ) -> Option<Refusal>
-    ensures { result ≡ foremost (named_drop_refused reason (inv_of tables.now) item.now version.now) }
+    ensures { result ≡ foremost (named_drop_refused (J.journal past.now) reason item.now version.now) }
 {
-    let lies = lies_there(file_of(reason), copy_in(item.pool, version));
-    let there = unless(lies, Refusal::NotFound);
-    let others = unless(version.copies.as_slice().len() >= 2, in_use(item.object));
-    let held = reason_refusal(tables, reason, item.pool, version.digest, item.found);
-    sooner_of(there, sooner_of(others, held))
+    let copy = copy_in(item.pool, version);
+    if placed_by(item.placed, copy) {
+        unless(lies_there(file_of(reason), copy), Refusal::NotFound)
+    } else {
+        Some(stale_copy(past.copy_changed(item.object, item.pool), copy))
+    }
+}
+
+/// Whether one of the copies lies in another pool.
+fn lies_elsewhere(pool: u32, version: &Version) -> bool
+    ensures { result ≡ lies_elsewhere pool version.now.copies }
+{
+    version
+        .copies
+        .as_slice()
+        .iter()
+        .any(|copy| copy.pool != pool)
 }
 
 /// A copy of this version doesn't go.
+#[tactic(auto, using(crate::proofs::Foremost::foremost_append))]
 fn version_refusal<J: Past>(
     past: &J,
     tables: &Tables,
@@ -83,12 +95,10 @@ fn version_refusal<J: Past>(
 ) -> Option<Refusal>
     ensures { result ≡ foremost (version_drop_refused (J.journal past.now) reason (inv_of tables.now) item.now version.now) }
 {
-    let copy = copy_in(item.pool, version);
-    if placed_by(item.placed, copy) {
-        named_refusal(tables, reason, item, version)
-    } else {
-        Some(stale_copy(past.copy_changed(item.object, item.pool), copy))
-    }
+    let named = named_refusal(past, reason, item, version);
+    let another = unless(lies_elsewhere(item.pool, version), in_use(item.object));
+    let held = reason_refusal(tables, reason, item.pool, version.digest, item.found);
+    sooner_of(named, sooner_of(another, held))
 }
 
 fn dropped_refusal<J: Past>(
@@ -106,9 +116,9 @@ fn dropped_refusal<J: Past>(
 }
 
 /// Why copies don't go while others stay: an object that is named twice is `BadValue`; one without a version is `Gone` or `NotFound`; of a
-/// version that is there, a copy that isn't the one that was named is `Stale`, or `NotFound` where nothing tells of it, and of the one that was
-/// named the least of these that hold: one without a segment on the reason's volume is `NotFound`, a version with fewer than two copies `InUse`, and after an audit a digest that is the kept one, or with a volume
-/// that is deleted a primary pool, `BadValue`. It takes no memory.
+/// version that is there the least of these that hold: a copy that isn't the one that was named is `Stale`, or `NotFound` where nothing tells
+/// of it; the one that was named, without a segment on the reason's volume, is `NotFound`; a version without a copy in another pool is `InUse`;
+/// and after an audit a digest that is the kept one, or with a volume that is deleted a primary pool, is `BadValue`. It takes no memory.
 pub fn drop_refused<J: Past>(
     past: &J,
     tables: &Tables,

@@ -7,8 +7,7 @@ ghost use Rattle.kinds.specs.Refusals.{foremost, unless};
 ghost use Rattle.inventory_rows.specs.State.{inv_of};
 ghost use Rattle.inventory_rules.specs.Common.{is_free_file, files_refused, file_bound};
 ghost use Rattle.inventory_rules.specs.Segments.{scratch_refused};
-ghost use Rattle.inventory_rules.specs.Versions.{object_bounds};
-ghost use Rattle.item_refusals.specs.Drawn.{object_bound};
+ghost use Rattle.inventory_rules.specs.Versions.{is_new_object, object_refused, objects_refused};
 
 use crate::apart::are_apart;
 use crate::numbers::{file_bound, is_free_file};
@@ -56,20 +55,25 @@ pub fn scratch_refused(tables: &Tables, scratch: &[ScratchVolume]) -> Option<Ref
     sooner_of(new, bounds)
 }
 
-fn object_bound(tables: &Tables, object: u64) -> Option<Refusal>
-    ensures { result ≡ foremost (object_bound (inv_of tables.now) object) }
+/// The number of a new object isn't new, or the next object number would reach its bound.
+#[tactic(auto, using(crate::proofs::Foremost::foremost_append))]
+fn object_refusal(tables: &Tables, object: u64) -> Option<Refusal>
+    ensures { result ≡ foremost (object_refused (inv_of tables.now) object) }
 {
+    let new = 1 <= object && !tables.objects.has_object(object);
     let next = (tables.next_object as u128).max(object as u128 + 1);
-    unless(next < 1 << 62, Refusal::InventoryFull)
+    let bound = unless(next < 1 << 62, Refusal::InventoryFull);
+    sooner_of(unless(new, bad_value()), bound)
 }
 
-/// Why the object numbers of new versions are refused: a next object number that would reach its bound is `InventoryFull`. It takes no memory.
+/// Why the object numbers of new versions are refused: one that is 0 or that a version has is `BadValue`, and a next object number that would
+/// reach its bound is `InventoryFull`. It takes no memory.
 pub fn objects_refused(tables: &Tables, items: &[NewVersion]) -> Option<Refusal>
-    ensures { result ≡ foremost (object_bounds items.now (inv_of tables.now)) }
+    ensures { result ≡ foremost (objects_refused items.now (inv_of tables.now)) }
 {
     let mut found = None;
     'items: for item in items {
-        found = sooner_of(found, object_bound(tables, item.object));
+        found = sooner_of(found, object_refusal(tables, item.object));
     }
     found
 }

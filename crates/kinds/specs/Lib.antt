@@ -1,5 +1,6 @@
 pub mod Answers
 pub mod Days
+pub mod Least
 pub mod Names
 pub mod Paths
 pub mod PoolForms

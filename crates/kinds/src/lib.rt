@@ -5,6 +5,7 @@
 mod change;
 mod day;
 mod forms;
+mod least;
 mod name;
 mod path;
 mod pool;
@@ -15,6 +16,7 @@ mod segment;
 pub use change::{DefineOrDelete, ObjectChange, PolicyChange, PoolChange, Verb};
 pub use day::{Day, Days};
 pub use forms::{Fitting, all_fit};
+pub use least::lesser;
 pub use name::{Name, NameOf, NodeName};
 pub use path::{FilespaceName, Path, PathOf};
 pub use pool::{Access, Capacity, PoolKind, PoolRule, PoolSettings, SizeLimit};

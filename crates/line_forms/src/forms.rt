@@ -9,7 +9,7 @@ use kinds::{Day, Name, NodeName};
 use std::alloc::{AllocError, Global};
 
 /// What a line asks for.
-#[derive(Debug, Drop)]
+#[derive(Drop)]
 pub enum Asked<'a> {
     /// `DAY d`: the server's day becomes this one.
     Day(Day),
@@ -26,7 +26,7 @@ pub enum Asked<'a> {
 }
 
 /// A file to be stored.
-#[derive(Debug, Drop)]
+#[derive(Drop)]
 pub struct PutAsked<'a> {
     /// The file's place.
     pub file: FileNamed,

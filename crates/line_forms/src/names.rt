@@ -7,7 +7,7 @@ use kinds::{FilespaceName, NameOf, NodeName, Path, PathOf, Refusal};
 use std::alloc::{AllocError, Global};
 
 /// A client file, by its node, its filespace and its path within that.
-#[derive(Debug, Drop)]
+#[derive(Drop)]
 pub struct FileNamed {
     /// The client node, in upper case.
     pub node: NodeName,

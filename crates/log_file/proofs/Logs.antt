@@ -10,9 +10,9 @@ use Rattle.store_api.proofs.Bytes.{Stands_fits}
 use Rattle.store_api.proofs.Standings.{leaves_firm, firm_settled}
 use Rattle.store_api.proofs.Runs.{now_image}
 use Rattle.store_api.proofs.Pieces.{firm_join, firm_left, firm_beside, firm_since}
-use Rattle.log_file.specs.Blocks.{Fits, block, blocks, LogEnds, EndsEither}
+use Rattle.log_file.specs.Blocks.{Fits, blocks, LogEnds, EndsEither}
 use Rattle.log_file.specs.Sure.{IsSure}
-use Rattle.log_file.proofs.RecordBytes.{length-block, blocks-append, fits-append}
+use Rattle.log_file.proofs.RecordBytes.{blocks-join, fits-join}
 
 -- bytes that begin with a piece are it and what follows
 stands_whole : (bytes piece : List ℕ) → Stands bytes 0 piece → bytes ≡ piece ++ drop (length piece) bytes
@@ -97,17 +97,17 @@ since_behind file at len end old new payloads lt within sure moment image from t
 Front : List ℕ → List ℕ → Type 0
 Front bytes piece = take (length piece) bytes ≡ piece
 
--- Records in front, then a gate, then all of a record but its gate and a closed gate: with the one gate open the record counts,
+-- Records in front, then a gate, then all that waited but its first gate and a closed gate: with the one gate open what waited counts,
 -- and else it doesn't.
-either : (bytes : List ℕ) (payloads : List (List ℕ)) (payload tail : List ℕ) → block payload ++ 0 ∷ [] ≡ 1 ∷ tail → Fits payload → AllByRecursion Fits payloads → Front bytes (blocks payloads) → Stands bytes (length (blocks payloads) + 1) tail → EndsEither bytes payloads payload
+either : (bytes : List ℕ) (payloads waiting : List (List ℕ)) (tail : List ℕ) → blocks waiting ++ 0 ∷ [] ≡ 1 ∷ tail → AllByRecursion Fits waiting → AllByRecursion Fits payloads → Front bytes (blocks payloads) → Stands bytes (length (blocks payloads) + 1) tail → EndsEither bytes payloads waiting
 unfolding Front
-either bytes payloads payload tail is fits all front s = elim (cases_eq gate 1) [
+either bytes payloads waiting tail is fits all front s = elim (cases_eq gate 1) [
   | inl open_gate ↦ inr (record {
     gate = 0;
     rest = more;
     whole = whole ∙ ap (λ (g : ℕ). blocks payloads ++ (g ∷ (tail ++ more))) open_gate ∙ regroup;
     closed = λ e. absurd (omega arith);
-    fits = fits-append payloads payload all fits;
+    fits = fits-join payloads waiting all fits;
   })
   | inr closed ↦ inl (record { gate = gate; rest = tail ++ more; whole = whole; closed = closed; fits = all })
 ]
@@ -130,10 +130,10 @@ either bytes payloads payload tail is fits all front s = elim (cases_eq gate 1) 
         ∙ ap (λ (l : List ℕ). blocks payloads ++ l) (drop-cons bytes (length (blocks payloads)) 0 long ∙ ap (λ (l : List ℕ). get_or bytes (length (blocks payloads)) 0 ∷ l)
         (ap (λ n. drop n bytes) (let e : suc (length (blocks payloads)) ≡ length (blocks payloads) + 1 = omega arith in e) ∙ sym (take-append-drop (length tail) (drop (length (blocks payloads) + 1) bytes)) ∙ ap (λ (l : List ℕ). l ++ drop (length tail) (drop (length (blocks payloads) + 1) bytes)) s.same))
 
-    regroup : blocks payloads ++ (1 ∷ (tail ++ more)) ≡ blocks (payloads ++ payload ∷ []) ++ (0 ∷ more)
+    regroup : blocks payloads ++ (1 ∷ (tail ++ more)) ≡ blocks (payloads ++ waiting) ++ (0 ∷ more)
     regroup =
-        ap (λ (l : List ℕ). blocks payloads ++ (l ++ more)) (sym is) ∙ ap (λ (l : List ℕ). blocks payloads ++ l) (append_assoc (block payload) (0 ∷ []) more)
-        ∙ sym (append_assoc (blocks payloads) (block payload) (0 ∷ more)) ∙ ap (λ (l : List ℕ). l ++ (0 ∷ more)) (sym (blocks-append payloads payload))
+        ap (λ (l : List ℕ). blocks payloads ++ (l ++ more)) (sym is) ∙ ap (λ (l : List ℕ). blocks payloads ++ l) (append_assoc (blocks waiting) (0 ∷ []) more)
+        ∙ sym (append_assoc (blocks payloads) (blocks waiting) (0 ∷ more)) ∙ ap (λ (l : List ℕ). l ++ (0 ∷ more)) (sym (blocks-join payloads waiting))
 
 -- the records in front of a sure log's gate, firm where there are any
 pub FirmFront : Standing → List ℕ → Type 0
@@ -165,37 +165,34 @@ unfolding FirmFront
 front_join file [] more f g = g
 front_join file (b ∷ piece) more f g = firm_join file 0 (b ∷ piece) more f (subst (λ n. Firm file n more) (let e : length (b ∷ piece) ≡ 0 + length (b ∷ piece) = omega arith in e) g)
 
--- All but the gate of a record is on the disk, with the next gate closed; then its gate is written.
-module _ (file at : ℕ) (payload tail : List ℕ) (is : block payload ++ 0 ∷ [] ≡ 1 ∷ tail) (fits : Fits payload) (mid new : History) (payloads : List (List ℕ)) (is_at : at ≡ length (blocks payloads)) (all : AllByRecursion Fits payloads)
+-- All that waited but its first gate is on the disk, with the next gate closed; then that gate is written.
+module _ (file at : ℕ) (waiting : List (List ℕ)) (tail : List ℕ) (is : blocks waiting ++ 0 ∷ [] ≡ 1 ∷ tail) (fits : AllByRecursion Fits waiting) (mid new : History) (payloads : List (List ℕ)) (is_at : at ≡ length (blocks payloads)) (all : AllByRecursion Fits payloads)
     (front : FirmFront (standing mid file) (blocks payloads)) (behind : Firm (standing mid file) (at + 1) tail) (within : WroteWithin file at 1 mid new) where
-  some : 0 < length tail
-  some = let long = ap length is in omega (arith, length-append (block payload) (0 ∷ []), length-block payload)
-
-  pub opened_since : EachImage (now mid) new (λ image. EndsEither (image file) payloads payload)
+  pub opened_since : EachImage (now mid) new (λ image. EndsEither (image file) payloads waiting)
   opened_since moment image from to here =
-      either (image file) payloads payload tail is fits all
+      either (image file) payloads waiting tail is fits all
       (front_since file at 1 mid new (blocks payloads) (omega arith) within front moment image from to here)
       (subst (λ n. Stands (image file) (n + 1) tail) is_at (within.since (at + 1) tail (inr (omega arith)) behind moment image from to here))
 
-  pub opened_left : (left : List ℕ) → Leaves (standing new file) left → EndsEither left payloads payload
+  pub opened_left : (left : List ℕ) → Leaves (standing new file) left → EndsEither left payloads waiting
   opened_left left leaves =
-      either left payloads payload tail is fits all
+      either left payloads waiting tail is fits all
       (front_left (standing new file) left (blocks payloads) leaves (front_within file at 1 mid new (blocks payloads) (omega arith) within front))
       (subst (λ n. Stands left (n + 1) tail) is_at (leaves_firm (standing new file) left (at + 1) tail leaves (within.firm (at + 1) tail (inr (omega arith)) behind)))
 
-  pub opened_sure : Firm (standing new file) at (1 ∷ []) → at + (5 + length payload) + 1 < 2 ^ 64 → IsSure new file (payloads ++ payload ∷ []) (at + (5 + length payload))
-  opened_sure gate small = record {
+  pub opened_sure : (end : ℕ) → Firm (standing new file) at (1 ∷ []) → end ≡ at + length (blocks waiting) → end + 1 < 2 ^ 64 → IsSure new file (payloads ++ waiting) end
+  opened_sure end gate is_end small = record {
     gate = 0;
     closed = λ e. absurd (omega arith);
     firm = subst (λ (l : List ℕ). Firm (standing new file) 0 l) regroup (front_join (standing new file) (blocks payloads) (1 ∷ tail) (front_within file at 1 mid new (blocks payloads) (omega arith) within front)
         (subst (λ n. Firm (standing new file) n (1 ∷ tail)) is_at (firm_join (standing new file) at (1 ∷ []) tail gate (within.firm (at + 1) tail (inr (omega arith)) behind))));
-    fits = fits-append payloads payload all fits;
-    is_end = is_at_end;
+    fits = fits-join payloads waiting all fits;
+    is_end = is_end ∙ is_at_end;
     room = small;
   }
     where
-      regroup : blocks payloads ++ (1 ∷ tail) ≡ blocks (payloads ++ payload ∷ []) ++ 0 ∷ []
-      regroup = ap (λ (l : List ℕ). blocks payloads ++ l) (sym is) ∙ sym (append_assoc (blocks payloads) (block payload) (0 ∷ [])) ∙ ap (λ (l : List ℕ). l ++ 0 ∷ []) (sym (blocks-append payloads payload))
+      regroup : blocks payloads ++ (1 ∷ tail) ≡ blocks (payloads ++ waiting) ++ 0 ∷ []
+      regroup = ap (λ (l : List ℕ). blocks payloads ++ l) (sym is) ∙ sym (append_assoc (blocks payloads) (blocks waiting) (0 ∷ [])) ∙ ap (λ (l : List ℕ). l ++ 0 ∷ []) (sym (blocks-join payloads waiting))
 
-      is_at_end : at + (5 + length payload) ≡ length (blocks (payloads ++ payload ∷ []))
-      is_at_end = sym (ap length (blocks-append payloads payload) ∙ length-append (blocks payloads) (block payload) ∙ ap (λ n. length (blocks payloads) + n) (length-block payload) ∙ ap (λ n. n + (5 + length payload)) (sym is_at))
+      is_at_end : at + length (blocks waiting) ≡ length (blocks (payloads ++ waiting))
+      is_at_end = sym (ap length (blocks-join payloads waiting) ∙ length-append (blocks payloads) (blocks waiting) ∙ ap (λ n. n + length (blocks waiting)) (sym is_at))

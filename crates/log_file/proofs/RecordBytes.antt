@@ -123,16 +123,19 @@ pub log_front : (bytes rest : List ℕ) (payloads others : List (List ℕ)) → 
 log_front bytes rest payloads others is fits e = front_blocks others payloads rest is.rest fits is.fits (sym e ∙ is.whole) (closed_none is.rest is.closed)
 
 -- a record more at the end
+pub blocks-join : (payloads more : List (List ℕ)) → blocks (payloads ++ more) ≡ blocks payloads ++ blocks more
+blocks-join [] more = refl
+blocks-join (p ∷ payloads) more = ap (λ (l : List ℕ). block p ++ l) (blocks-join payloads more) ∙ sym (append_assoc (block p) (blocks payloads) (blocks more))
+
 pub blocks-append : (payloads : List (List ℕ)) (payload : List ℕ) → blocks (payloads ++ payload ∷ []) ≡ blocks payloads ++ block payload
-blocks-append [] payload = refl_nil payload
-  where
-    refl_nil : (payload : List ℕ) → block payload ++ [] ≡ block payload
-    refl_nil payload = append-nil (block payload)
-blocks-append (p ∷ payloads) payload = ap (λ (l : List ℕ). block p ++ l) (blocks-append payloads payload) ∙ sym (append_assoc (block p) (blocks payloads) (block payload))
+blocks-append payloads payload = blocks-join payloads (payload ∷ []) ∙ ap (λ (l : List ℕ). blocks payloads ++ l) (append-nil (block payload))
+
+pub fits-join : (payloads more : List (List ℕ)) → AllByRecursion Fits payloads → AllByRecursion Fits more → AllByRecursion Fits (payloads ++ more)
+fits-join [] more all fits = fits
+fits-join (p ∷ payloads) more all fits = (all.0, fits-join payloads more all.1 fits)
 
 pub fits-append : (payloads : List (List ℕ)) (payload : List ℕ) → AllByRecursion Fits payloads → Fits payload → AllByRecursion Fits (payloads ++ payload ∷ [])
-fits-append [] payload all fits = (fits, tt)
-fits-append (p ∷ payloads) payload all fits = (all.0, fits-append payloads payload all.1 fits)
+fits-append payloads payload all fits = fits-join payloads (payload ∷ []) all (fits, tt)
 
 -- what four bytes and as many bytes as they say spell
 pub read_block : (bytes : List ℕ) (n : ℕ) → IsBytes bytes → 4 + n ≤ length bytes → n ≡ from_be_bytes w32 (take 4 bytes) → 1 ∷ bytes ≡ block (take n (drop 4 bytes)) ++ drop n (drop 4 bytes)

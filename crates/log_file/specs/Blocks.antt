@@ -48,6 +48,6 @@ pub record DamagedAt (bytes : List ℕ) (payloads : List (List ℕ)) (at : ℕ) 
   pub place : at ≡ length (blocks payloads) + 1
   pub broken : IsBroken rest
 
--- a log of these records that ends within the bytes, or of these and one more
-abbrev pub EndsEither : List ℕ → List (List ℕ) → List ℕ → Type 0
-EndsEither bytes payloads payload = LogEnds bytes payloads ⊎ LogEnds bytes (payloads ++ payload ∷ [])
+-- a log of these records that ends within the bytes, or of these and all that were waiting behind them
+abbrev pub EndsEither : List ℕ → List (List ℕ) → List (List ℕ) → Type 0
+EndsEither bytes payloads waiting = LogEnds bytes payloads ⊎ LogEnds bytes (payloads ++ waiting)

@@ -10,3 +10,11 @@ payload_of bytes = take (length bytes - 6) (drop 5 bytes)
 pub record IsFrame (bytes : List ℕ) : Type 0 where
   pub fits : Fits (payload_of bytes)
   pub whole : bytes ≡ block (payload_of bytes) ++ 0 ∷ []
+
+-- bytes without the last one
+abbrev pub without_last : List ℕ → List ℕ
+without_last bytes = take (length bytes - 1) bytes
+
+-- the last byte is a closed gate
+abbrev pub EndsClosed : List ℕ → Type 0
+EndsClosed bytes = bytes ≡ without_last bytes ++ 0 ∷ []

@@ -93,7 +93,7 @@ impl Records {
     /// The log behind the records that were read, to append to.
     pub fn finish(self) -> Log
         requires { IsTrue self.ended }
-        ensures { result ≡ record { file = self.held.file; end = self.at; doubt = None } }
+        ensures { result ≡ record { file = self.held.file; sure = self.at; end = self.at; doubt = None } }
     {
         Log::at(self.window.file(), self.at)
     }

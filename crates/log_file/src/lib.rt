@@ -2,6 +2,7 @@
 //! a cursor that reads them again.
 #![tactic(auto)]
 
+mod batch;
 mod cursor;
 mod found;
 mod frame;
@@ -11,6 +12,7 @@ mod reads;
 mod window;
 mod writer;
 
+pub use batch::Batch;
 pub use cursor::Records;
 pub use found::Record;
 pub use frame::Framed;

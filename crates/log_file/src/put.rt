@@ -1,49 +1,68 @@
-// The device calls that append a record: all but its gate, with the next gate closed; and then its gate.
-ghost use Rattle.std.specs.Prelude.{◌≡◌, ◌<◌, ◌≤◌, ◌^◌, ◌+◌, ◌-◌, min, length, drop, OnOk, OnErr};
+// The device calls that write a log: a record behind the last one, the gate of the first that waits, and records that are copied.
+ghost use Rattle.std.specs.Prelude.{ℕ, ◌≡◌, ◌≢◌, ◌<◌, ◌≤◌, ◌^◌, ◌+◌, length, OnOk, OnErr};
 ghost use Rattle.store_api.specs.Cause.{Rose, NoneFell};
 ghost use Rattle.store_api.specs.Told.{Told};
-ghost use Rattle.store_api.specs.Runs.{WroteSynced};
-ghost use Rattle.log_file.specs.Steps.{Appended};
+ghost use Rattle.log_file.specs.Steps.{Appended, Forced, Copied};
 
+use crate::batch::Batch;
 use crate::frame::Framed;
 use store_api::{Failed, Store, sync_within, write_synced};
 
-/// Writes all but the first byte behind the place, and makes it durable. Fails where that would end above 2^64 - 1.
-fn put_body<S: Store>(store: &mut S, file: u32, at: u64, bytes: &[u8]) -> Result<(), Failed>
-    requires time { S.moment_of store.old + 2 ≤ 2 ^ 62 }
-    requires some { 1 < length bytes.now }
-    ensures told { Told (S.told store.old) (S.told store.new) (WroteSynced file (min (at + 1) (2 ^ 64 - 1)) (drop 1 bytes.now) result) }
-    ensures fits { OnOk result (at + length bytes.now < 2 ^ 64) }
-    ensures time { S.moment_of store.new ≤ S.moment_of store.old + 2 }
-    ensures later { S.moment_of store.old ≤ S.moment_of store.new }
-    ensures counts { NoneFell (S.faults_of store.old) (S.faults_of store.new) }
-    ensures cause { OnErr result (Rose (S.faults_of store.old file) (S.faults_of store.new file)) }
-{
-    match store.write_at(file, at.saturating_add(1), &bytes[1..]) {
-        Ok(()) => sync_within(store, file),
-        Err(failed) => Err(failed),
-    }
-}
+const OPEN: [u8; 1] = [1];
 
-/// Puts a record with its gate at the place, where a closed gate is. Until all behind the gate is on the disk the gate
-/// stays closed.
+/// Puts a record at the place, with the next gate closed. Its own gate is written open; but where it is the first since the
+/// last force, its gate is the closed one that ends what is durable, and that is left as it is.
 pub(crate) fn put_record<S: Store>(
     store: &mut S,
     file: u32,
+    sure: u64,
     at: u64,
     framed: &Framed,
 ) -> Result<(), Failed>
-    requires { S.moment_of store.old + 4 ≤ 2 ^ 62 }
-    ensures told { Told (S.told store.old) (S.told store.new) (Appended file at framed.now result) }
+    requires { S.moment_of store.old + 1 ≤ 2 ^ 62 }
+    ensures told { Told (S.told store.old) (S.told store.new) (Appended file sure at framed.now result) }
     ensures fits { OnOk result (at + (5 + length framed.now) + 1 < 2 ^ 64) }
-    ensures time { S.moment_of store.new ≤ S.moment_of store.old + 4 }
+    ensures time { S.moment_of store.new ≤ S.moment_of store.old + 1 }
     ensures later { S.moment_of store.old ≤ S.moment_of store.new }
     ensures counts { NoneFell (S.faults_of store.old) (S.faults_of store.new) }
     ensures cause { OnErr result (Rose (S.faults_of store.old file) (S.faults_of store.new file)) }
 {
     let bytes = framed.bytes();
-    match put_body(store, file, at, bytes) {
-        Ok(()) => write_synced(store, file, at, &bytes[..1]),
+    if at == sure {
+        return store.write_at(file, at.saturating_add(1), &bytes[1..]);
+    }
+    store.write_at(file, at, bytes)
+}
+
+/// Makes durable what waits behind the closed gate at the place, and then opens that gate and makes it durable.
+pub(crate) fn open_first<S: Store>(store: &mut S, file: u32, sure: u64) -> Result<(), Failed>
+    requires { S.moment_of store.old + 3 ≤ 2 ^ 62 }
+    ensures told { Told (S.told store.old) (S.told store.new) (λ old new. (end : ℕ) → sure ≢ end → Forced file sure end result old new) }
+    ensures time { S.moment_of store.new ≤ S.moment_of store.old + 3 }
+    ensures later { S.moment_of store.old ≤ S.moment_of store.new }
+    ensures counts { NoneFell (S.faults_of store.old) (S.faults_of store.new) }
+    ensures cause { OnErr result (Rose (S.faults_of store.old file) (S.faults_of store.new file)) }
+{
+    match sync_within(store, file) {
+        Ok(()) => write_synced(store, file, sure, &OPEN),
         Err(failed) => Err(failed),
     }
+}
+
+/// Puts records at the place, each with its gate open, and the next gate, closed.
+pub(crate) fn put_batch<S: Store>(
+    store: &mut S,
+    file: u32,
+    at: u64,
+    batch: &Batch,
+) -> Result<(), Failed>
+    requires { S.moment_of store.old + 1 ≤ 2 ^ 62 }
+    ensures told { Told (S.told store.old) (S.told store.new) (Copied file at batch.now result) }
+    ensures fits { OnOk result (at + length batch.now + 1 < 2 ^ 64) }
+    ensures time { S.moment_of store.new ≤ S.moment_of store.old + 1 }
+    ensures later { S.moment_of store.old ≤ S.moment_of store.new }
+    ensures counts { NoneFell (S.faults_of store.old) (S.faults_of store.new) }
+    ensures cause { OnErr result (Rose (S.faults_of store.old file) (S.faults_of store.new file)) }
+{
+    store.write_at(file, at, batch.bytes())
 }

@@ -20,8 +20,11 @@ fn copy_from(bytes: &[u8], offset: usize, into: &mut [u8]) -> usize
 }
 
 impl Store for MemStore {
-    ghost use Rattle.std.specs.Prelude.{Some};
-    ghost use Rattle.mem_store.specs.Mem.{history_of, clock_of, faults_of};
+    ghost use Rattle.std.specs.Prelude.{Some, ◌≡◌, ◌↔◌, ◌+◌, ◌<◌, ◌^◌, IfOk, OnOk, OnErr, IsErr, Contains};
+    ghost use Rattle.store_api.specs.Cause.{Rose, NoneFell};
+    ghost use Rattle.store_api.specs.Disk.{idle, with_call, reads};
+    ghost use Rattle.store_api.specs.Told.{Adds, MayWrite, MayCut, MaySync};
+    ghost use Rattle.mem_store.specs.Mem.{history_of, moment_of, clock_of, faults_of, failing_of};
 
     ghost told = { λ m. Some (history_of m) };
 
@@ -43,7 +46,17 @@ impl Store for MemStore {
             .saturating_add(self.shared)
     }
 
-    fn len(&mut self, file: u32) -> Result<u64, Failed> {
+    /// Fails exactly where it is listed to.
+    fn len(&mut self, file: u32) -> Result<u64, Failed>
+        requires { moment_of self.old < 2 ^ 62 }
+        ensures told { Adds (λ call. call ≡ idle) (history_of self.old) (history_of self.new) }
+        ensures time { moment_of self.new ≡ moment_of self.old + 1 }
+        ensures counts { NoneFell (faults_of self.old) (faults_of self.new) }
+        ensures cause { OnErr result (Rose (faults_of self.old file) (faults_of self.new file)) }
+        ensures length { IfOk result (λ len. len ≡ length (reads (history_of self.old) file)) }
+        ensures listed { IsErr result ↔ Contains (failing_of self.old) (moment_of self.old) }
+        ensures set { failing_of self.new ≡ failing_of self.old }
+    {
         if self.is_listed() {
             return Err(self.fail(file));
         }
@@ -52,7 +65,18 @@ impl Store for MemStore {
         Ok(len)
     }
 
-    fn read_at(&mut self, file: u32, offset: u64, into: &mut [u8]) -> Result<usize, Failed> {
+    /// Fails exactly where it is listed to.
+    fn read_at(&mut self, file: u32, offset: u64, into: &mut [u8]) -> Result<usize, Failed>
+        requires { moment_of self.old < 2 ^ 62 }
+        ensures told { Adds (λ call. call ≡ idle) (history_of self.old) (history_of self.new) }
+        ensures time { moment_of self.new ≡ moment_of self.old + 1 }
+        ensures counts { NoneFell (faults_of self.old) (faults_of self.new) }
+        ensures cause { OnErr result (Rose (faults_of self.old file) (faults_of self.new file)) }
+        ensures bound { IfOk result (λ count. count ≤ length into.new) }
+        ensures bytes { IfOk result (λ count. ReadsFrom (reads (history_of self.old) file) offset into.new count) }
+        ensures listed { IsErr result ↔ Contains (failing_of self.old) (moment_of self.old) }
+        ensures set { failing_of self.new ≡ failing_of self.old }
+    {
         if self.is_listed() {
             return Err(self.fail(file));
         }
@@ -61,7 +85,18 @@ impl Store for MemStore {
         Ok(count)
     }
 
-    fn write_at(&mut self, file: u32, offset: u64, bytes: &[u8]) -> Result<(), Failed> {
+    /// Fails where it is listed to, where it would end above 2^64 - 1, and where it finds no memory, and then has no effect.
+    fn write_at(&mut self, file: u32, offset: u64, bytes: &[u8]) -> Result<(), Failed>
+        requires { moment_of self.old < 2 ^ 62 }
+        ensures told { Adds (MayWrite file offset bytes.now result) (history_of self.old) (history_of self.new) }
+        ensures time { moment_of self.new ≡ moment_of self.old + 1 }
+        ensures counts { NoneFell (faults_of self.old) (faults_of self.new) }
+        ensures cause { OnErr result (Rose (faults_of self.old file) (faults_of self.new file)) }
+        ensures fits { OnOk result (offset + length bytes.now < 2 ^ 64) }
+        ensures listed { Contains (failing_of self.old) (moment_of self.old) → IsErr result }
+        ensures unlisted { ¬ Contains (failing_of self.old) (moment_of self.old) → OnErr result (history_of self.new ≡ with_call idle (history_of self.old)) }
+        ensures set { failing_of self.new ≡ failing_of self.old }
+    {
         let at = offset as usize;
         if bytes.len() > usize::MAX - at {
             return Err(self.fail(file));
@@ -75,7 +110,17 @@ impl Store for MemStore {
         }
     }
 
-    fn cut(&mut self, file: u32, len: u64) -> Result<(), Failed> {
+    /// Fails where it is listed to, and where it finds no memory. A cut that fails has no effect.
+    fn cut(&mut self, file: u32, len: u64) -> Result<(), Failed>
+        requires { moment_of self.old < 2 ^ 62 }
+        ensures told { Adds (MayCut file len result) (history_of self.old) (history_of self.new) }
+        ensures time { moment_of self.new ≡ moment_of self.old + 1 }
+        ensures counts { NoneFell (faults_of self.old) (faults_of self.new) }
+        ensures cause { OnErr result (Rose (faults_of self.old file) (faults_of self.new file)) }
+        ensures listed { Contains (failing_of self.old) (moment_of self.old) → IsErr result }
+        ensures unlisted { ¬ Contains (failing_of self.old) (moment_of self.old) → OnErr result (history_of self.new ≡ with_call idle (history_of self.old)) }
+        ensures set { failing_of self.new ≡ failing_of self.old }
+    {
         if self.is_listed() {
             return Err(self.fail(file));
         }
@@ -85,7 +130,17 @@ impl Store for MemStore {
         }
     }
 
-    fn sync(&mut self, file: u32) -> Result<(), Failed> {
+    /// Fails where it is listed to, and where it finds no memory.
+    fn sync(&mut self, file: u32) -> Result<(), Failed>
+        requires { moment_of self.old < 2 ^ 62 }
+        ensures told { Adds (MaySync file result) (history_of self.old) (history_of self.new) }
+        ensures time { moment_of self.new ≡ moment_of self.old + 1 }
+        ensures counts { NoneFell (faults_of self.old) (faults_of self.new) }
+        ensures cause { OnErr result (Rose (faults_of self.old file) (faults_of self.new file)) }
+        ensures listed { Contains (failing_of self.old) (moment_of self.old) → IsErr result }
+        ensures unlisted { ¬ Contains (failing_of self.old) (moment_of self.old) → OnErr result (history_of self.new ≡ with_call idle (history_of self.old)) }
+        ensures set { failing_of self.new ≡ failing_of self.old }
+    {
         if self.is_listed() {
             return Err(self.fail(file));
         }

@@ -30,8 +30,7 @@ pub struct MemStore {
 }
 
 impl MemStore {
-    ghost use Rattle.std.specs.Prelude.{OnOk, OnErr, ◌==◌};
-    ghost use Rattle.std.specs.List.{list_any};
+    ghost use Rattle.std.specs.Prelude.{OnOk, OnErr, IsTrue, ◌↔◌, Contains};
     ghost use Rattle.store_api.specs.Cause.{Rose, NoneFell};
     ghost use Rattle.store_api.specs.Disk.{on, with_call, reads};
     ghost use Rattle.mem_store.specs.Entries.{change_of};
@@ -81,15 +80,16 @@ impl MemStore {
 
     // The call that begins now is to fail.
     pub(crate) fn is_listed(&self) -> bool
-        ensures { result ≡ list_any (λ m. m == moment_of self.now) (failing_of self.now) }
+        ensures { IsTrue result ↔ Contains (failing_of self.now) (moment_of self.now) }
     {
-        self.failing.contains(&self.moment)
+        self.failing.iter().any(|moment| *moment == self.moment)
     }
 
     // Counts a failure at a file, or where there is no memory for its count at each file.
     pub(crate) fn raise(&mut self, file: u32)
         ensures told { history_of self.new ≡ history_of self.old }
         ensures moment { moment_of self.new ≡ moment_of self.old }
+        ensures set { failing_of self.new ≡ failing_of self.old }
         ensures counts { NoneFell (faults_of self.old) (faults_of self.new) }
         ensures cause { Rose (faults_of self.old file) (faults_of self.new file) }
     {
@@ -104,6 +104,7 @@ impl MemStore {
         requires { moment_of self.old < 2 ^ 62 }
         ensures told { history_of self.new ≡ with_call idle (history_of self.old) }
         ensures moment { moment_of self.new ≡ moment_of self.old + 1 }
+        ensures set { failing_of self.new ≡ failing_of self.old }
         ensures counts { (file : ℕ) → faults_of self.new file ≡ faults_of self.old file }
     {
         self.idles += 1;
@@ -115,6 +116,7 @@ impl MemStore {
         requires { moment_of self.old < 2 ^ 62 }
         ensures told { history_of self.new ≡ with_call idle (history_of self.old) }
         ensures moment { moment_of self.new ≡ moment_of self.old + 1 }
+        ensures set { failing_of self.new ≡ failing_of self.old }
         ensures counts { NoneFell (faults_of self.old) (faults_of self.new) }
         ensures cause { Rose (faults_of self.old file) (faults_of self.new file) }
     {
@@ -135,6 +137,7 @@ impl MemStore {
         requires fits { reach at bytes.now < 2 ^ 64 }
         ensures told { OnOk result (history_of self.new ≡ with_call (on file (change_of kind at bytes.now)) (history_of self.old)) }
         ensures moment { OnOk result (moment_of self.new ≡ moment_of self.old + 1) }
+        ensures set { failing_of self.new ≡ failing_of self.old }
         ensures counts { (other : ℕ) → faults_of self.new other ≡ faults_of self.old other }
         ensures err { OnErr result ((history_of self.new ≡ history_of self.old) × (moment_of self.new ≡ moment_of self.old)) }
     {
@@ -163,6 +166,7 @@ impl MemStore {
         requires fits { at + length bytes.now < 2 ^ 64 }
         ensures told { Adds (MayFail file at bytes.now) (history_of self.old) (history_of self.new) }
         ensures moment { moment_of self.new ≡ moment_of self.old + 1 }
+        ensures set { failing_of self.new ≡ failing_of self.old }
         ensures counts { NoneFell (faults_of self.old) (faults_of self.new) }
         ensures cause { Rose (faults_of self.old file) (faults_of self.new file) }
     {

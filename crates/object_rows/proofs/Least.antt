@@ -1,20 +1,13 @@
 -- The least of some numbers, found in parts.
-use Rattle.std.proofs.Common.{◌≡◌, ℕ, ◌+◌, ◌<◌, List, [], ◌∷◌, ◌++◌, length, get_or, drop, map, min, Option, Some, None, refl, sym, ap, ◌∙◌, arith}
+use Rattle.std.proofs.Common.{◌≡◌, ℕ, ◌+◌, ◌<◌, List, [], ◌∷◌, ◌++◌, length, get_or, drop, map, Option, Some, None, refl, sym, ap, ◌∙◌, arith}
 use Rattle.std.proofs.lemmas.List.{map-append}
 use Rattle.version_groups.specs.declared.group.Group.{Group}
 use Rattle.version_groups.specs.declared.versions.Version.{Version}
 use Rattle.version_groups.proofs.Lists.{drop_at}
-use Rattle.object_rows.specs.Changes.{least, least_object, lesser}
+use Rattle.kinds.specs.Least.{lesser}
+use Rattle.kinds.proofs.LeastLaws.{lesser_assoc}
+use Rattle.object_rows.specs.Changes.{least, least_object}
 use Rattle.object_rows.specs.Filespaces.{versions_in}
-
-min_assoc : (n m k : ℕ) → min (min n m) k ≡ min n (min m k)
-min_assoc n m k = omega arith
-
-pub lesser_assoc : (a b c : Option ℕ) → lesser (lesser a b) c ≡ lesser a (lesser b c)
-lesser_assoc None b c = refl
-lesser_assoc (Some n) None c = refl
-lesser_assoc (Some n) (Some m) None = refl
-lesser_assoc (Some n) (Some m) (Some k) = ap Some (min_assoc n m k)
 
 pub least-append : (ns ms : List ℕ) → least (ns ++ ms) ≡ lesser (least ns) (least ms)
 least-append [] ms = refl

@@ -1,11 +1,12 @@
 -- What each change of nodes and filespaces makes of the rows, or how it is refused: what isn't there first, then what is there
 -- already, then what is used.
-use Rattle.std.specs.Prelude.{◌≡◌, ⊤, ℕ, false, min, List, [], ◌∷◌, map, Option, Some, None, is_some, Result, Ok, Err, if◌then◌else◌}
+use Rattle.std.specs.Prelude.{◌≡◌, ⊤, ℕ, false, List, [], ◌∷◌, map, Option, Some, None, is_some, Result, Ok, Err, if◌then◌else◌}
 use Rattle.std.specs.BTreeMap.{insert_entry}
 use Rattle.std.specs.Map.{lookup, remove_entry}
 use Rattle.std.specs.Ordering.{nat_cmp}
 use Rattle.kinds.specs.Answers.{Becomes, Makes}
 use Rattle.kinds.specs.declared.change.DefineOrDelete.TheVariants.{Define, Delete}
+use Rattle.kinds.specs.Least.{lesser}
 use Rattle.kinds.specs.declared.change.ObjectChange.{ObjectChange}
 use Rattle.kinds.specs.declared.change.ObjectChange.TheVariants as change
 use Rattle.kinds.specs.declared.refusal.By.{By}
@@ -19,12 +20,6 @@ use Rattle.object_rows.specs.declared.place.Node.{Node}
 use Rattle.object_rows.specs.Filespaces.{at_number, filespace_at, versions_in}
 use Rattle.object_rows.specs.Names.{filespace_named, filespace_of, node_named}
 use Rattle.object_rows.specs.Rows.{Rows, with_filespaces}
-
--- the lesser of two numbers, of which each may be missing
-abbrev pub lesser : Option ℕ → Option ℕ → Option ℕ
-lesser None b = b
-lesser (Some n) None = Some n
-lesser (Some n) (Some m) = Some (min n m)
 
 -- the least of some numbers
 abbrev pub least : List ℕ → Option ℕ

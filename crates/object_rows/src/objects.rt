@@ -33,7 +33,7 @@ use version_groups::{CopyChange, CopyRow, Filespace, Group, Version};
 const MOST_VERSIONS: usize = 1 << 20;
 
 /// The client nodes, their filespaces and the versions in them.
-#[derive(Debug, Drop)]
+#[derive(Drop)]
 pub struct Objects {
     alloc: Global,
     nodes: BTreeMap<u32, Node>,
@@ -264,7 +264,7 @@ impl Objects {
         }
     }
 
-    /// How a change would be refused, where it would. It takes no memory.
+    /// How `change` would refuse this change, where it would. It takes no memory.
     pub fn refusal(&self, change: &ObjectChange) -> Option<Refusal>
         ensures { (number : ℕ) → result ≡ result_err (rows_changed change.now number self.now) }
     {

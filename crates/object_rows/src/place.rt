@@ -4,7 +4,7 @@ use kinds::{Name, NodeName, Path};
 use std::alloc::AllocError;
 
 /// A client node.
-#[derive(Debug, Drop)]
+#[derive(Drop)]
 pub struct Node {
     /// The node's name.
     pub name: NodeName,
@@ -24,7 +24,7 @@ impl Clone for Node {
 }
 
 /// Where the version of an object stands.
-#[derive(Debug, Drop)]
+#[derive(Drop)]
 pub(crate) struct Place {
     pub(crate) filespace: u32,
     pub(crate) path: Path,

@@ -11,7 +11,7 @@ use std::marker::Model;
 use version_groups::{CopyRow, Filespace, Group, Version};
 
 /// How many copies lie in each pool in which one has lain, by the pools' numbers.
-#[derive(Debug, Drop)]
+#[derive(Drop)]
 pub(crate) struct PoolCounts {
     map: BTreeMap<u32, u64>,
 }

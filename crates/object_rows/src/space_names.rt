@@ -14,7 +14,7 @@ use std::collections::BTreeMap;
 use std::marker::Model;
 
 /// The number of each filespace of one node, by its name.
-#[derive(Debug, Drop)]
+#[derive(Drop)]
 pub(crate) struct SpaceNames {
     map: BTreeMap<FilespaceName, u32>,
 }

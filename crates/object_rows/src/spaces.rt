@@ -2,7 +2,7 @@ ghost use Rattle.std.specs.Prelude.{◌≡◌, ℕ, false, is_some, ◌∷◌, �
 ghost use Rattle.std.specs.Map.{lookup, remove_entry};
 ghost use Rattle.std.specs.Result.{result_err};
 ghost use Rattle.kinds.specs.Answers.{Becomes};
-ghost use Rattle.object_rows.specs.Changes.{lesser, least, least_object, filespaces_defined, filespaces_without};
+ghost use Rattle.object_rows.specs.Changes.{least, least_object, filespaces_defined, filespaces_without};
 ghost use Rattle.object_rows.specs.declared.place.Node.{Node};
 ghost use Rattle.object_rows.specs.Filespaces.{at_number, filespace_at};
 ghost use Rattle.object_rows.specs.Names.{filespace_named, filespace_of, SpacesIndexed};
@@ -13,7 +13,7 @@ ghost use Rattle.object_rows.specs.Tally.{IsCounted};
 use crate::place::Place;
 use crate::space_names;
 use crate::space_names::SpaceNames;
-use kinds::{FilespaceName, Path, Refusal};
+use kinds::{FilespaceName, Path, Refusal, lesser};
 use std::alloc::Global;
 use std::collections::BTreeMap;
 use version_groups::{Filespace, Group, Groups, Version};
@@ -56,17 +56,6 @@ pub(crate) fn of_node(
         return None;
     }
     least_of_node(filespaces, node)
-}
-
-/// The lesser of two numbers, of which each may be missing.
-fn lesser(a: Option<u64>, b: Option<u64>) -> Option<u64>
-    ensures { result ≡ lesser a b }
-{
-    match (a, b) {
-        (Some(a), Some(b)) => Some(a.min(b)),
-        (Some(a), None) => Some(a),
-        (None, b) => b,
-    }
 }
 
 /// The least object of the versions.

@@ -16,7 +16,7 @@ use std::collections::BTreeMap;
 use version_groups::{Filespace, Group, Version};
 
 /// What is counted beside the rows, so that it needs no walk.
-#[derive(Debug, Drop)]
+#[derive(Drop)]
 pub(crate) struct Tally {
     /// How many items the filespaces have: groups, versions, copies and segments; none once they would have been 2^128 or more.
     pub(crate) items: Option<u128>,

@@ -6,13 +6,12 @@ ghost use Rattle.std.specs.Ordering.{nat_cmp};
 ghost use Rattle.std.specs.Option.{option_copied, option_map};
 ghost use Rattle.inventory_rows.specs.policy_domains.Rows.{active_set, row_of};
 ghost use Rattle.inventory_rows.specs.policy_domains.Rules.{group_of};
-ghost use Rattle.inventory_rows.specs.Search.{domain_of_node};
 ghost use Rattle.inventory_rows.specs.State.{inv_of};
 ghost use Rattle.inventory_work.specs.Rules.{active_in};
 ghost use Rattle.placing.specs.Placing.{class_with_rule, default_of_set, default_in, default_rule};
 
-use inventory_rows::Tables;
 use inventory_rows::policy_domains::{Domains, PolicySet};
+use inventory_rows::{Tables, domain_of_node};
 use kinds::{BackupRule, Name};
 use std::collections::BTreeMap;
 
@@ -75,15 +74,6 @@ fn default_in<'a>(domains: &'a Domains, domain: &Name) -> Option<(&'a Name, Back
 {
     match active_in(domains, domain) {
         Some(set) => default_of_set(set),
-        None => None,
-    }
-}
-
-fn domain_of_node(tables: &Tables, node: u32) -> Option<&Name>
-    ensures { option_copied result ≡ domain_of_node node (inv_of tables.now) }
-{
-    match tables.objects.nodes().get(&node) {
-        Some(row) => Some(&row.domain),
         None => None,
     }
 }

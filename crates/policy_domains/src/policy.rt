@@ -14,7 +14,7 @@ use std::collections::BTreeMap;
 use std::marker::Model;
 
 /// A policy domain: BACKRETENTION, and its policy sets.
-#[derive(Debug, Drop)]
+#[derive(Drop)]
 pub struct PolicyDomain {
     back_retention: Days,
     sets: BTreeMap<Name, PolicySet>,

@@ -15,6 +15,7 @@ use crate::sets::PolicySet;
 use kinds::{CopyGroup, DefineOrDelete, Name, PolicyChange, Refusal, Verb};
 use std::collections::BTreeMap;
 
+/// How a change of the domain itself would be refused.
 pub(crate) fn of_domain(
     rows: &BTreeMap<Name, PolicyDomain>,
     verb: Verb,
@@ -32,6 +33,7 @@ pub(crate) fn of_domain(
     }
 }
 
+/// How a change of the policy set itself would be refused.
 fn set_in(sets: &BTreeMap<Name, PolicySet>, verb: DefineOrDelete, set: &Name) -> Option<Refusal>
     ensures { result ≡ result_err (set_changed verb set.now sets.now.entries) }
 {
@@ -41,6 +43,7 @@ fn set_in(sets: &BTreeMap<Name, PolicySet>, verb: DefineOrDelete, set: &Name) ->
     }
 }
 
+/// How a change of a domain's policy set itself would be refused.
 #[tactic(auto, using(crate::proofs::Errors::error_in_sets))]
 pub(crate) fn of_set(
     rows: &BTreeMap<Name, PolicyDomain>,

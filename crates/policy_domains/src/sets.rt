@@ -13,7 +13,7 @@ use std::collections::BTreeMap;
 use std::marker::Model;
 
 /// A policy set: its default management class, where it has one, and its classes, each with its backup copy group, where it has one.
-#[derive(Debug, Drop)]
+#[derive(Drop)]
 pub struct PolicySet {
     default_class: Option<Name>,
     classes: BTreeMap<Name, Option<CopyGroup>>,

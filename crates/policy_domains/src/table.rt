@@ -17,7 +17,7 @@ use std::collections::BTreeMap;
 use std::marker::Model;
 
 /// The policy domains of a server. They are seen as their rows in ascending order of the domains' names.
-#[derive(Debug, Drop)]
+#[derive(Drop)]
 pub struct Domains {
     alloc: Global,
     active: Name,
@@ -116,7 +116,7 @@ impl Domains {
         change_rows(self.alloc, &self.active, &mut self.rows, change)
     }
 
-    /// How a change would be refused, where it would. It takes no memory.
+    /// How `change` would refuse this change, where it would; one that names the set ACTIVE, which `change` doesn't take, is looked at as any other. It takes no memory.
     pub fn refusal(&self, change: &PolicyChange) -> Option<Refusal>
         ensures { result ≡ result_err (after change.now self.now) }
     {

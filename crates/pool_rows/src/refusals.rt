@@ -84,6 +84,7 @@ impl Pools {
         find::pool_before(self.pools.as_map(), pool)
     }
 
+    /// How the definition of this device class would be refused.
     fn class_define(&self, class: &Name) -> Option<Refusal>
         ensures { (capacity : ℕ) → result ≡ result_err (define_class class.now capacity self.now) }
     {
@@ -94,6 +95,7 @@ impl Pools {
         }
     }
 
+    /// How the deletion of this device class would be refused.
     fn class_delete(&self, class: &Name) -> Option<Refusal>
         ensures { result ≡ result_err (delete_class class.now self.now) }
     {
@@ -106,6 +108,7 @@ impl Pools {
         }
     }
 
+    /// How a change of this device class would be refused.
     fn of_class(&self, verb: DefineOrDelete, class: &Name) -> Option<Refusal>
         ensures { (capacity : ℕ) → result ≡ result_err (change_class verb class.now capacity self.now) }
     {
@@ -122,6 +125,7 @@ impl Pools {
         self.has_class(class) && self.is_next_there(next)
     }
 
+    /// How the definition of this pool would be refused.
     fn pool_define(
         &self,
         number: u32,
@@ -154,6 +158,7 @@ impl Pools {
         }
     }
 
+    /// How an update of this pool would be refused.
     fn pool_update(&self, name: &Name, settings: PoolSettings) -> Option<Refusal>
         ensures { result ≡ result_err (update_pool name.now settings self.now) }
     {
@@ -170,6 +175,7 @@ impl Pools {
         None
     }
 
+    /// How the deletion of this pool would be refused.
     fn pool_delete(&self, name: &Name) -> Option<Refusal>
         ensures { result ≡ result_err (delete_pool name.now self.now) }
     {
@@ -185,6 +191,7 @@ impl Pools {
         None
     }
 
+    /// How a change of this pool would be refused.
     fn of_pool(
         &self,
         verb: Verb,
@@ -203,6 +210,7 @@ impl Pools {
         }
     }
 
+    /// How the definition of this volume would be refused.
     fn volume_define(&self, name: &Name, pool: u32) -> Option<Refusal>
         ensures { (file capacity : ℕ) (access : Access) → result ≡ result_err (define_volume name.now pool file capacity access self.now) }
     {
@@ -215,6 +223,7 @@ impl Pools {
         None
     }
 
+    /// How an update of this volume would be refused.
     fn volume_update(&self, name: &Name) -> Option<Refusal>
         ensures { (access : Access) → result ≡ result_err (update_volume name.now access self.now) }
     {
@@ -234,6 +243,7 @@ impl Pools {
         }
     }
 
+    /// How the deletion of this volume would be refused.
     fn volume_delete(&self, name: &Name) -> Option<Refusal>
         ensures { result ≡ result_err (delete_volume name.now self.now) }
     {
@@ -246,6 +256,7 @@ impl Pools {
         }
     }
 
+    /// How a change of this volume would be refused.
     fn of_volume(&self, verb: Verb, name: &Name, pool: u32) -> Option<Refusal>
         ensures { (file capacity : ℕ) (access : Access) → result ≡ result_err (change_volume verb name.now pool file capacity access self.now) }
     {
@@ -256,7 +267,7 @@ impl Pools {
         }
     }
 
-    /// How a change would be refused, where it would; a pool that is defined would get `number`. It takes no memory.
+    /// How `change` would refuse this change, where it would; a pool that is defined would get `number`. It takes no memory.
     pub fn refusal(&self, change: &PoolChange, number: u32) -> Option<Refusal>
         ensures { result ≡ result_err (changed change.now number self.now) }
     {

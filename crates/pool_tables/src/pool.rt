@@ -4,7 +4,7 @@ use kinds::{Name, PoolKind, PoolSettings};
 use std::alloc::AllocError;
 
 /// A storage pool.
-#[derive(Debug, Drop)]
+#[derive(Drop)]
 pub struct Pool {
     pub name: Name,
     /// The name of its device class.

@@ -1,2 +1,3 @@
 pub mod Ledger
 pub mod Names
+pub mod Pool

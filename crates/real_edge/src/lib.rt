@@ -1,13 +1,17 @@
-//! The ends of the program that lie outside it: a folder of the system as a store, standard input as a source, standard output as a
-//! sink. Each meets its trait, and none of them tells which bytes it holds.
+//! The ends of the program that lie outside it: the files of a folder of the system, a folder's files as a store, standard input as a
+//! source, standard output as a sink. A source and a sink tell their bytes wherever the reader or the writer under them does; those of
+//! the system tell nothing, and neither do the files and the store.
 #![tactic(auto)]
 
 mod folder;
-mod handle;
 mod ledger;
 mod names;
+mod pieces;
+mod pool;
+mod real;
 mod store;
 mod streams;
 
+pub use real::RealFiles;
 pub use store::FolderStore;
 pub use streams::{StdSink, StdSource};

@@ -1,20 +1,20 @@
 // The names of the files in a folder.
-ghost use Rattle.std.specs.Prelude.{◌≡◌, ◌++◌, codes, IfOk, string_bytes};
+ghost use Rattle.std.specs.Prelude.{◌≡◌, IfOk, string_bytes};
 ghost use Rattle.real_edge.specs.Names.{file_name};
 
 use std::alloc::{AllocError, Global};
 use std::path::Path;
 
-// The path of a file by its number.
-pub(crate) fn path_of(alloc: Global, folder: &str, file: u32) -> Result<String, AllocError>
-    ensures { IfOk result (λ path. string_bytes path ≡ folder.now ++ (codes "/" ++ file_name file)) }
+// The name of a file by its number.
+pub(crate) fn name_of(alloc: Global, file: u32) -> Result<String, AllocError>
+    ensures { IfOk result (λ name. string_bytes name ≡ file_name file) }
 {
-    format!(in alloc; "{folder}/f{file:08}")
+    format!(in alloc; "f{file:08}")
 }
 
-// The path of the file that is locked while the folder is in use.
-pub(crate) fn lock_path(alloc: Global, folder: &str) -> Result<String, AllocError> {
-    format!(in alloc; "{folder}/lock")
+// The path of a file in a folder.
+pub(crate) fn path_of(alloc: Global, folder: &str, name: &str) -> Result<String, AllocError> {
+    format!(in alloc; "{folder}/{name}")
 }
 
 // The folder in which a folder lies; none for the root.

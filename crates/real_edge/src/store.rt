@@ -3,32 +3,31 @@ ghost use Rattle.std.specs.Prelude.{◌≡◌, ◌+◌, ◌<◌, ◌≤◌, ◌^
 ghost use Rattle.store_api.specs.Cause.{Rose, NoneFell};
 ghost use Rattle.real_edge.specs.Ledger.{faults_of, is_lost, StayLost};
 
-use crate::folder::{Folder, Waiting};
+use crate::folder::{Folder, mark};
 use crate::ledger::Ledger;
+use crate::pieces::{cut_to, has_room, read_from, write_all};
+use files_api::Files;
 use std::alloc::Global;
-use std::fs::File;
 use std::marker::Model;
-use std::rt::Files;
 use store_api::{Failed, Store};
 
-/// A folder of the system as a store: file n is the file whose name is `f` and n in at least eight decimal digits. It tells no
-/// bytes. Each call that meets an error of the system fails and raises the file's count of faults; the error itself is kept for
-/// nobody. One store has the folder at a time, under a lock that goes with the process; each call of a second one fails.
+/// The files of a folder as a store: file n is the file whose name is `f` and n in at least eight decimal digits. It tells no bytes.
+/// Each call that the system refuses fails and raises the file's count of faults. One store has the folder at a time, under a lock that
+/// goes with the process; each call of a second one fails.
 ///
 /// A file that is not there reads as empty, and a write makes it. It is synced when it is first opened in a run, since a run that
 /// was cut off may have left of it what no disk has, and the folder is synced with it where a file was made. A file of which a sync
 /// failed isn't used again: what it reads as may be what no stop leaves.
 ///
-/// The folder is made, opened and locked by the first call on the store, so a program that makes none leaves no folder behind.
+/// The folder is made and locked by the first call on the store, so a program that makes none leaves no folder behind.
 #[derive(Drop)]
-pub struct FolderStore<R: Files<File = File> + Drop> {
-    waiting: Option<Waiting<R>>,
-    folder: Option<Folder<R>>,
+pub struct FolderStore<F: Files + Drop> {
+    folder: Folder<F>,
     ledger: Ledger,
     moment: u64,
 }
 
-impl<R: Files<File = File> + Drop> Model for FolderStore<R> {
+impl<F: Files + Drop> Model for FolderStore<F> {
     ghost use Rattle.real_edge.specs.Ledger.{Kept};
 
     ghost Value = { Kept };
@@ -36,53 +35,45 @@ impl<R: Files<File = File> + Drop> Model for FolderStore<R> {
     ghost view = { λ s. record { moment = s.moment; faults = s.ledger } };
 }
 
-// Opens the folder, where no call has yet.
-fn enter<R: Files<File = File> + Drop>(
-    waiting: &mut Option<Waiting<R>>,
-    folder: &mut Option<Folder<R>>,
-    ledger: &mut Ledger,
-)
+// Enters the folder, where no call has yet. Where that fails no file is used.
+fn enter<F: Files + Drop>(folder: &mut Folder<F>, ledger: &mut Ledger)
     ensures counts { NoneFell (faults_of ledger.old) (faults_of ledger.new) }
     ensures stay { StayLost (is_lost ledger.old) (is_lost ledger.new) }
 {
-    if let Some(waiting) = waiting.take() {
-        match waiting.open() {
-            Ok(opened) => *folder = Some(opened),
-            Err(_) => ledger.lose_all(),
-        }
+    if !folder.is_entered && folder.enter().is_err() {
+        ledger.lose_all();
     }
 }
 
-// Opens a file, where it isn't open, and makes it where it is missing and is to be made. Answers whether it is there; it is then
-// the one that was used last.
-fn reach<R: Files<File = File> + Drop>(
-    folder: &mut Folder<R>,
+// Opens a file, and makes it where it is missing and is to be made. Answers none where there is no such file.
+fn reach<F: Files + Drop>(
+    folder: &mut Folder<F>,
     ledger: &mut Ledger,
     file: u32,
     is_made: bool,
-) -> Result<bool, Failed>
+) -> Result<Option<F::Handle>, Failed>
     ensures counts { NoneFell (faults_of ledger.old) (faults_of ledger.new) }
     ensures stay { StayLost (is_lost ledger.old) (is_lost ledger.new) }
 {
-    if folder.refer(file) {
-        return Ok(true);
+    if let Some(handle) = folder.pool.take(file) {
+        return Ok(Some(handle));
     }
     make_room(folder, ledger);
     match folder.fetch(file, is_made) {
-        Ok(true) => settle(folder, ledger, file),
-        Ok(false) => Ok(false),
+        Ok(Some(handle)) => settle(folder, ledger, file, handle),
+        Ok(None) => Ok(None),
         Err(_) => Err(Failed),
     }
 }
 
-// Closes the file that has been unused the longest, where as many are open as may be.
-fn make_room<R: Files<File = File> + Drop>(folder: &mut Folder<R>, ledger: &mut Ledger)
+// Closes the file that has been unused the longest, where as many are open as may be. It is synced before that where it was changed.
+fn make_room<F: Files + Drop>(folder: &mut Folder<F>, ledger: &mut Ledger)
     ensures counts { NoneFell (faults_of ledger.old) (faults_of ledger.new) }
     ensures stay { StayLost (is_lost ledger.old) (is_lost ledger.new) }
 {
-    if let Some(oldest) = folder.take_oldest() {
+    if let Some(oldest) = folder.pool.take_oldest() {
         let file = oldest.file;
-        if oldest.close().is_err() {
+        if !ledger.is_lost(file) && folder.sync_changed(file, &oldest.handle).is_err() {
             ledger.lose(file);
             ledger.raise(file);
         }
@@ -99,31 +90,35 @@ fn give_up(ledger: &mut Ledger, file: u32) -> Failed
     Failed
 }
 
-// Settles the file that was just opened, where this run has not done so yet.
-fn settle<R: Files<File = File> + Drop>(
-    folder: &mut Folder<R>,
+// Settles the file that was just opened, where this run has not done so yet: what a former run may have left of it in the system's
+// memory alone becomes durable.
+fn settle<F: Files + Drop>(
+    folder: &mut Folder<F>,
     ledger: &mut Ledger,
     file: u32,
-) -> Result<bool, Failed>
+    handle: F::Handle,
+) -> Result<Option<F::Handle>, Failed>
     ensures counts { NoneFell (faults_of ledger.old) (faults_of ledger.new) }
     ensures stay { StayLost (is_lost ledger.old) (is_lost ledger.new) }
     ensures failed { OnErr result (IsTrue (is_lost ledger.new file)) }
 {
-    if folder.is_settled(file) {
-        return Ok(true);
+    if folder.settled.contains(&file) {
+        return Ok(Some(handle));
     }
-    if folder.settle_newest(file).is_err() {
+    if folder.files.sync(&handle).is_err() {
         return Err(give_up(ledger, file));
     }
+    // With no memory for it the file is settled once more when it is next opened.
+    let _ = folder.settled.insert(file);
     match sync_names(folder, ledger, file) {
-        Ok(()) => Ok(true),
+        Ok(()) => Ok(Some(handle)),
         Err(failed) => Err(failed),
     }
 }
 
 // Makes the names of the folder's files durable. Where that fails no file may be used any more, this one with them.
-fn sync_names<R: Files<File = File> + Drop>(
-    folder: &mut Folder<R>,
+fn sync_names<F: Files + Drop>(
+    folder: &mut Folder<F>,
     ledger: &mut Ledger,
     file: u32,
 ) -> Result<(), Failed>
@@ -141,8 +136,8 @@ fn sync_names<R: Files<File = File> + Drop>(
 }
 
 // Looks how long a file is; one that is missing has no bytes.
-fn length_in<R: Files<File = File> + Drop>(
-    folder: &mut Folder<R>,
+fn length_in<F: Files + Drop>(
+    folder: &mut Folder<F>,
     ledger: &mut Ledger,
     file: u32,
 ) -> Result<u64, Failed>
@@ -150,18 +145,22 @@ fn length_in<R: Files<File = File> + Drop>(
     ensures stay { StayLost (is_lost ledger.old) (is_lost ledger.new) }
 {
     match reach(folder, ledger, file, false) {
-        Ok(true) => match folder.len_newest() {
-            Ok(len) => Ok(len),
-            Err(_) => Err(Failed),
-        },
-        Ok(false) => Ok(0),
+        Ok(Some(handle)) => {
+            let answer = folder.files.len(&handle);
+            folder.pool.keep(file, handle);
+            match answer {
+                Ok(len) => Ok(len),
+                Err(_) => Err(Failed),
+            }
+        }
+        Ok(None) => Ok(0),
         Err(failed) => Err(failed),
     }
 }
 
-// The call on a store: it fails where there is no folder, or where the file isn't used any more.
-fn measure<R: Files<File = File> + Drop>(
-    folder: &mut Option<Folder<R>>,
+// The call on a store: it fails where the file isn't used any more.
+fn measure<F: Files + Drop>(
+    folder: &mut Folder<F>,
     ledger: &mut Ledger,
     file: u32,
 ) -> Result<u64, Failed>
@@ -169,15 +168,16 @@ fn measure<R: Files<File = File> + Drop>(
     ensures stay { StayLost (is_lost ledger.old) (is_lost ledger.new) }
     ensures lost { IsTrue (is_lost ledger.old file) → IsErr result }
 {
-    match folder {
-        Some(folder) if !ledger.is_lost(file) => length_in(folder, ledger, file),
-        _ => Err(Failed),
+    enter(folder, ledger);
+    if ledger.is_lost(file) {
+        return Err(Failed);
     }
+    length_in(folder, ledger, file)
 }
 
 // Reads from a file; of one that is missing no byte stands.
-fn read_in<R: Files<File = File> + Drop>(
-    folder: &mut Folder<R>,
+fn read_in<F: Files + Drop>(
+    folder: &mut Folder<F>,
     ledger: &mut Ledger,
     file: u32,
     offset: u64,
@@ -188,18 +188,22 @@ fn read_in<R: Files<File = File> + Drop>(
     ensures bound { IfOk result (λ count. count ≤ length into.new) }
 {
     match reach(folder, ledger, file, false) {
-        Ok(true) => match folder.read_newest(offset, into) {
-            Ok(count) => Ok(count),
-            Err(_) => Err(Failed),
-        },
-        Ok(false) => Ok(0),
+        Ok(Some(handle)) => {
+            let answer = read_from(&mut folder.files, &handle, offset, into);
+            folder.pool.keep(file, handle);
+            match answer {
+                Ok(count) => Ok(count),
+                Err(_) => Err(Failed),
+            }
+        }
+        Ok(None) => Ok(0),
         Err(failed) => Err(failed),
     }
 }
 
 // The call on a store, likewise.
-fn read<R: Files<File = File> + Drop>(
-    folder: &mut Option<Folder<R>>,
+fn read<F: Files + Drop>(
+    folder: &mut Folder<F>,
     ledger: &mut Ledger,
     file: u32,
     offset: u64,
@@ -210,15 +214,38 @@ fn read<R: Files<File = File> + Drop>(
     ensures lost { IsTrue (is_lost ledger.old file) → IsErr result }
     ensures bound { IfOk result (λ count. count ≤ length into.new) }
 {
-    match folder {
-        Some(folder) if !ledger.is_lost(file) => read_in(folder, ledger, file, offset, into),
-        _ => Err(Failed),
+    enter(folder, ledger);
+    if ledger.is_lost(file) {
+        return Err(Failed);
+    }
+    read_in(folder, ledger, file, offset, into)
+}
+
+// Writes to an open file, after which it counts as changed.
+fn write_open<F: Files + Drop>(
+    folder: &mut Folder<F>,
+    file: u32,
+    handle: F::Handle,
+    offset: u64,
+    bytes: &[u8],
+) -> Result<(), Failed>
+    requires { offset + length bytes.now < 2 ^ 63 }
+{
+    if mark(&mut folder.changed, file).is_err() {
+        folder.pool.keep(file, handle);
+        return Err(Failed);
+    }
+    let answer = write_all(&mut folder.files, &handle, offset, bytes);
+    folder.pool.keep(file, handle);
+    match answer {
+        Ok(()) => Ok(()),
+        Err(_) => Err(Failed),
     }
 }
 
 // Writes to a file, and makes it where it is missing and there is something to write.
-fn write_in<R: Files<File = File> + Drop>(
-    folder: &mut Folder<R>,
+fn write_in<F: Files + Drop>(
+    folder: &mut Folder<F>,
     ledger: &mut Ledger,
     file: u32,
     offset: u64,
@@ -228,19 +255,19 @@ fn write_in<R: Files<File = File> + Drop>(
     ensures stay { StayLost (is_lost ledger.old) (is_lost ledger.new) }
     ensures fits { OnOk result (offset + length bytes.now < 2 ^ 64) }
 {
+    if !has_room(offset, bytes) {
+        return Err(Failed);
+    }
     match reach(folder, ledger, file, !bytes.is_empty()) {
-        Ok(true) => match folder.write_newest(offset, bytes) {
-            Ok(()) => Ok(()),
-            Err(_) => Err(Failed),
-        },
-        Ok(false) if bytes.is_empty() => Ok(()),
+        Ok(Some(handle)) => write_open(folder, file, handle, offset, bytes),
+        Ok(None) if bytes.is_empty() => Ok(()),
         _ => Err(Failed),
     }
 }
 
 // The call on a store, likewise.
-fn write<R: Files<File = File> + Drop>(
-    folder: &mut Option<Folder<R>>,
+fn write<F: Files + Drop>(
+    folder: &mut Folder<F>,
     ledger: &mut Ledger,
     file: u32,
     offset: u64,
@@ -251,15 +278,35 @@ fn write<R: Files<File = File> + Drop>(
     ensures lost { IsTrue (is_lost ledger.old file) → IsErr result }
     ensures fits { OnOk result (offset + length bytes.now < 2 ^ 64) }
 {
-    match folder {
-        Some(folder) if !ledger.is_lost(file) => write_in(folder, ledger, file, offset, bytes),
-        _ => Err(Failed),
+    enter(folder, ledger);
+    if ledger.is_lost(file) {
+        return Err(Failed);
+    }
+    write_in(folder, ledger, file, offset, bytes)
+}
+
+// Cuts an open file, after which it counts as changed.
+fn cut_open<F: Files + Drop>(
+    folder: &mut Folder<F>,
+    file: u32,
+    handle: F::Handle,
+    len: u64,
+) -> Result<(), Failed> {
+    if mark(&mut folder.changed, file).is_err() {
+        folder.pool.keep(file, handle);
+        return Err(Failed);
+    }
+    let answer = cut_to(&mut folder.files, &handle, len);
+    folder.pool.keep(file, handle);
+    match answer {
+        Ok(()) => Ok(()),
+        Err(_) => Err(Failed),
     }
 }
 
 // Cuts a file; one that is missing has nothing to lose.
-fn cut_in<R: Files<File = File> + Drop>(
-    folder: &mut Folder<R>,
+fn cut_in<F: Files + Drop>(
+    folder: &mut Folder<F>,
     ledger: &mut Ledger,
     file: u32,
     len: u64,
@@ -268,18 +315,15 @@ fn cut_in<R: Files<File = File> + Drop>(
     ensures stay { StayLost (is_lost ledger.old) (is_lost ledger.new) }
 {
     match reach(folder, ledger, file, false) {
-        Ok(true) => match folder.cut_newest(len) {
-            Ok(()) => Ok(()),
-            Err(_) => Err(Failed),
-        },
-        Ok(false) => Ok(()),
+        Ok(Some(handle)) => cut_open(folder, file, handle, len),
+        Ok(None) => Ok(()),
         Err(failed) => Err(failed),
     }
 }
 
 // The call on a store, likewise.
-fn cut<R: Files<File = File> + Drop>(
-    folder: &mut Option<Folder<R>>,
+fn cut<F: Files + Drop>(
+    folder: &mut Folder<F>,
     ledger: &mut Ledger,
     file: u32,
     len: u64,
@@ -288,15 +332,31 @@ fn cut<R: Files<File = File> + Drop>(
     ensures stay { StayLost (is_lost ledger.old) (is_lost ledger.new) }
     ensures lost { IsTrue (is_lost ledger.old file) → IsErr result }
 {
-    match folder {
-        Some(folder) if !ledger.is_lost(file) => cut_in(folder, ledger, file, len),
-        _ => Err(Failed),
+    enter(folder, ledger);
+    if ledger.is_lost(file) {
+        return Err(Failed);
+    }
+    cut_in(folder, ledger, file, len)
+}
+
+// Syncs an open file, where it was changed. Where that fails it is closed.
+fn sync_open<F: Files + Drop>(
+    folder: &mut Folder<F>,
+    file: u32,
+    handle: F::Handle,
+) -> Result<(), Failed> {
+    match folder.sync_changed(file, &handle) {
+        Ok(()) => {
+            folder.pool.keep(file, handle);
+            Ok(())
+        }
+        Err(_) => Err(Failed),
     }
 }
 
 // Syncs a file and the folder's names. Nothing of a file that is missing can be taken away.
-fn sync_in<R: Files<File = File> + Drop>(
-    folder: &mut Folder<R>,
+fn sync_in<F: Files + Drop>(
+    folder: &mut Folder<F>,
     ledger: &mut Ledger,
     file: u32,
 ) -> Result<(), Failed>
@@ -304,18 +364,18 @@ fn sync_in<R: Files<File = File> + Drop>(
     ensures stay { StayLost (is_lost ledger.old) (is_lost ledger.new) }
 {
     match reach(folder, ledger, file, false) {
-        Ok(true) => match folder.sync_newest() {
+        Ok(Some(handle)) => match sync_open(folder, file, handle) {
             Ok(()) => sync_names(folder, ledger, file),
-            Err(_) => Err(Failed),
+            Err(failed) => Err(failed),
         },
-        Ok(false) => Ok(()),
+        Ok(None) => Ok(()),
         Err(failed) => Err(failed),
     }
 }
 
 // The call on a store, likewise. Where it fails the file isn't used again.
-fn sync<R: Files<File = File> + Drop>(
-    folder: &mut Option<Folder<R>>,
+fn sync<F: Files + Drop>(
+    folder: &mut Folder<F>,
     ledger: &mut Ledger,
     file: u32,
 ) -> Result<(), Failed>
@@ -324,25 +384,25 @@ fn sync<R: Files<File = File> + Drop>(
     ensures lost { IsTrue (is_lost ledger.old file) → IsErr result }
     ensures failed { OnErr result (IsTrue (is_lost ledger.new file)) }
 {
-    match folder {
-        Some(folder) if !ledger.is_lost(file) => match sync_in(folder, ledger, file) {
-            Ok(()) => Ok(()),
-            Err(_) => Err(give_up(ledger, file)),
-        },
-        _ => Err(give_up(ledger, file)),
+    enter(folder, ledger);
+    if ledger.is_lost(file) {
+        return Err(give_up(ledger, file));
+    }
+    match sync_in(folder, ledger, file) {
+        Ok(()) => Ok(()),
+        Err(_) => Err(give_up(ledger, file)),
     }
 }
 
-impl<R: Files<File = File> + Drop> FolderStore<R> {
-    /// The store in the folder at a path, which the first call on it makes where it is missing; the folder that it lies in must be
-    /// there. Where it can't be made, opened or locked, each call on the store fails.
-    pub fn new(files: R, alloc: Global, path: &'static str) -> FolderStore<R>
+impl<F: Files + Drop> FolderStore<F> {
+    /// The store over the files of a folder, which the first call on it makes where it is missing. Where it can't be made, opened or
+    /// locked, each call on the store fails.
+    pub fn new(files: F, alloc: Global) -> FolderStore<F>
         ensures moment { result.moment ≡ 0 }
         ensures faults { (file : ℕ) → faults_of result.faults file ≡ 0 }
     {
         FolderStore {
-            waiting: Some(Waiting { files, alloc, path }),
-            folder: None,
+            folder: Folder::new(files, alloc),
             ledger: Ledger::new(alloc),
             moment: 0,
         }
@@ -365,7 +425,7 @@ impl<R: Files<File = File> + Drop> FolderStore<R> {
     }
 }
 
-impl<R: Files<File = File> + Drop> Store for FolderStore<R> {
+impl<F: Files + Drop> Store for FolderStore<F> {
     ghost use Rattle.std.specs.Prelude.{None};
 
     ghost told = { λ _. None };
@@ -392,7 +452,6 @@ impl<R: Files<File = File> + Drop> Store for FolderStore<R> {
         ensures stay { StayLost (is_lost self.old.faults) (is_lost self.new.faults) }
         ensures lost { IsTrue (is_lost self.old.faults file) → IsErr result }
     {
-        enter(&mut self.waiting, &mut self.folder, &mut self.ledger);
         let answer = measure(&mut self.folder, &mut self.ledger, file);
         self.end(file, answer)
     }
@@ -406,7 +465,6 @@ impl<R: Files<File = File> + Drop> Store for FolderStore<R> {
         ensures stay { StayLost (is_lost self.old.faults) (is_lost self.new.faults) }
         ensures lost { IsTrue (is_lost self.old.faults file) → IsErr result }
     {
-        enter(&mut self.waiting, &mut self.folder, &mut self.ledger);
         let answer = read(&mut self.folder, &mut self.ledger, file, offset, into);
         self.end(file, answer)
     }
@@ -420,7 +478,6 @@ impl<R: Files<File = File> + Drop> Store for FolderStore<R> {
         ensures stay { StayLost (is_lost self.old.faults) (is_lost self.new.faults) }
         ensures lost { IsTrue (is_lost self.old.faults file) → IsErr result }
     {
-        enter(&mut self.waiting, &mut self.folder, &mut self.ledger);
         let answer = write(&mut self.folder, &mut self.ledger, file, offset, bytes);
         self.end(file, answer)
     }
@@ -433,7 +490,6 @@ impl<R: Files<File = File> + Drop> Store for FolderStore<R> {
         ensures stay { StayLost (is_lost self.old.faults) (is_lost self.new.faults) }
         ensures lost { IsTrue (is_lost self.old.faults file) → IsErr result }
     {
-        enter(&mut self.waiting, &mut self.folder, &mut self.ledger);
         let answer = cut(&mut self.folder, &mut self.ledger, file, len);
         self.end(file, answer)
     }
@@ -447,7 +503,6 @@ impl<R: Files<File = File> + Drop> Store for FolderStore<R> {
         ensures lost { IsTrue (is_lost self.old.faults file) → IsErr result }
         ensures failed { OnErr result (IsTrue (is_lost self.new.faults file)) }
     {
-        enter(&mut self.waiting, &mut self.folder, &mut self.ledger);
         let answer = sync(&mut self.folder, &mut self.ledger, file);
         self.end(file, answer)
     }

@@ -1,10 +1,10 @@
-// The standard streams as a source and a sink. They tell nothing of their content.
-ghost use Rattle.std.specs.Prelude.{None};
+// A source over single reads, and a sink over single writes. They tell their bytes wherever the reader or the writer tells them.
+ghost use Rattle.std.specs.Prelude.{◌≡◌};
 
 use std::io::{Read, Write};
 use tree_api::{Failed, Sink, Source};
 
-/// A source that reads.
+/// A source over a reader: each call is one read. It has the bytes that the reader still gives, where the reader tells them.
 #[derive(Drop)]
 pub struct StdSource<R: Read + Drop> {
     reader: R,
@@ -12,13 +12,17 @@ pub struct StdSource<R: Read + Drop> {
 }
 
 impl<R: Read + Drop> StdSource<R> {
-    pub fn new(reader: R) -> Self {
+    /// No read has failed.
+    pub fn new(reader: R) -> Self
+        ensures left { ⟦<StdSource<R> as Source>⟧.left result ≡ R.remaining reader }
+        ensures faults { ⟦<StdSource<R> as Source>⟧.fault_count result ≡ 0 }
+    {
         StdSource { reader, faults: 0 }
     }
 }
 
 impl<R: Read + Drop> Source for StdSource<R> {
-    ghost left = { λ _. None };
+    ghost left = { λ source. R.remaining source.reader };
 
     ghost fault_count = { λ source. source.faults };
 
@@ -37,7 +41,8 @@ impl<R: Read + Drop> Source for StdSource<R> {
     }
 }
 
-/// A sink that writes. Each piece is handed on at once.
+/// A sink over a writer: each call is one write, of which no byte is kept back. It has taken what the writer has, where the writer
+/// tells it.
 #[derive(Drop)]
 pub struct StdSink<W: Write + Drop> {
     writer: W,
@@ -45,13 +50,17 @@ pub struct StdSink<W: Write + Drop> {
 }
 
 impl<W: Write + Drop> StdSink<W> {
-    pub fn new(writer: W) -> Self {
+    /// No write has failed.
+    pub fn new(writer: W) -> Self
+        ensures contents { ⟦<StdSink<W> as Sink>⟧.contents result ≡ W.contents writer }
+        ensures faults { ⟦<StdSink<W> as Sink>⟧.fault_count result ≡ 0 }
+    {
         StdSink { writer, faults: 0 }
     }
 }
 
 impl<W: Write + Drop> Sink for StdSink<W> {
-    ghost contents = { λ _. None };
+    ghost contents = { λ sink. W.contents sink.writer };
 
     ghost fault_count = { λ sink. sink.faults };
 

@@ -1,5 +1,5 @@
 -- What a checkpoint leaves of a server, by how it ended.
-use Rattle.std.proofs.Common.{◌≡◌, inl, inr, ℕ, true, List, [], reverse, Option, None, Result, Ok, Err, refl, sym, ap, subst}
+use Rattle.std.proofs.Common.{◌≡◌, inl, inr, ℕ, ◌+◌, true, List, [], reverse, Option, None, Result, Ok, Err, refl, sym, ap, subst, arith}
 use Rattle.store_api.specs.Disk.{History}
 use Rattle.store_api.specs.Told.{Told}
 use Rattle.store_api.proofs.Runs.{told_map}
@@ -39,6 +39,7 @@ module _ {S : Type 0} (told : S → Option History) (moment : S → ℕ) (faults
       adds = adds_none (ap (λ (v : State Inv). v.database) is) (ap (λ (v : State Inv). v.journal) is);
       stamped = refl;
       sure = ap (λ (v : State Inv). v.fault) is;
+      log = inr (let higher : next.generation ≡ state.generation + 1 = ap (λ (v : State Inv). v.generation) is in omega (arith, higher));
       files = told_map (told a) (told b) _ _ (λ before after step. stepped_checkpoint state next done before after valid (ap (λ (v : State Inv). v.database) is) step) files;
       later = later;
     })
@@ -50,7 +51,7 @@ module _ {S : Type 0} (told : S → Option History) (moment : S → ℕ) (faults
     ends_faulted : (T U : Type 0) (refusal : Refusal) → Faults state (faults a) (faults b) refusal next → (let result : Result U Refusal = Err refusal in Told (told a) (told b) (vault.Checkpointed meaning state result next)) → Ends T (stop_of refusal)
     ends_faulted T U refusal broke files =
         let result : Result U Refusal = Err refusal in
-        let is = broke.1.4 in
+        let is = broke.1.4.2 in
         subst (λ (r : Refusal). Ends T (stop_of r)) (sym broke.1.2) (record {
           adds = adds_none (ap (λ (v : State Inv). v.database) is) (ap (λ (v : State Inv). v.journal) is);
           stamped = inl refl;

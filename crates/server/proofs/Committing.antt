@@ -126,6 +126,7 @@ module _ {S : Type 0} (told : S → Option History) (moment : S → ℕ) (faults
           short,
           adds_one (moment b ∷ []) database (ap (λ (v : State Inv). v.journal) is) (omega arith, later),
           ap (λ (v : State Inv). v.fault) is,
+          (ap (λ (v : State Inv). v.generation) is, ap (λ (v : State Inv). v.end) is),
           told_timed (told a) (told b) (moment b) _ _ clock (λ before after at step. committed state next k before after valid valid_after database number (moment b) (sym at) step) files,
         ))
 
@@ -135,10 +136,10 @@ module _ {S : Type 0} (told : S → Option History) (moment : S → ℕ) (faults
     ends_doubted : (T : Type 0) (refusal : Refusal) → Doubts meaning state k.entry (faults a) (faults b) refusal next
         → (let result : Result ℕ Refusal = Err refusal in Told (told a) (told b) (vault.Committed meaning state k.entry result next)) → Ends T (stop_of refusal)
     ends_doubted T refusal doubts files =
-        let database : next.database ≡ effect k.entry.change state.database = ap (λ (v : State Inv). v.database) doubts.3 in
+        let database : next.database ≡ effect k.entry.change state.database = ap (λ (v : State Inv). v.database) doubts.3.1 in
         subst (λ (r : Refusal). Ends T (stop_of r)) (sym doubts.1) (
           (log_ours state.generation, doubts.2),
-          adds_one [] database (ap (λ (v : State Inv). v.journal) doubts.3) later,
+          adds_one [] database (ap (λ (v : State Inv). v.journal) doubts.3.1) later,
           told_map (told a) (told b) _ _ (λ before after step. doubted state next k before after valid valid_after database refusal step) files,
         )
 

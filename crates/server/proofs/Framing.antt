@@ -14,7 +14,8 @@ use Rattle.inventory_rows.specs.State.{Inv}
 use Rattle.inventory_rules.specs.Versions.{new_version}
 use Rattle.inventory_rules.specs.Valid.{is_valid}
 use Rattle.inventory_rules.specs.Segments.{are_clear}
-use Rattle.inventory_rules.specs.Transactions.{parts_fit}
+use Rattle.inventory_rules.specs.Journal.{Journal}
+use Rattle.inventory_rules.specs.Transactions.{causes, parts_fit}
 use Rattle.inventory_rows.specs.Ascending.{AreAscending}
 use Rattle.contents.specs.Contents.{FramesHave, HasVersion, InStore, IsKept, frame}
 use Rattle.contents.proofs.Kept.{beside_kept, written_since}
@@ -86,9 +87,9 @@ module _ (state : State Inv) (valid : is_valid state.database ≡ true) (f : Fil
   }
 
   -- so the database with the version is kept there already
-  pub kept_ahead : AreAscending state.database → (o : Option Segment) → parts_fit (backed_up filespace (item_of f object class pool (listed o))) state.database ≡ true → (h : History) → HasVersion (InStore h) f.text (new_version state.database (item_of f object class pool (listed o)))
+  pub kept_ahead : (j : Journal) → AreAscending state.database → (o : Option Segment) → causes j (backed_up filespace (item_of f object class pool (listed o))) state.database ≡ [] → (h : History) → HasVersion (InStore h) f.text (new_version state.database (item_of f object class pool (listed o)))
       → (contents : ℕ → List ℕ) → IsKept contents h state.database
       → IsKept (contents_after contents (kept (backed_up filespace (item_of f object class pool (listed o))) f.text ∷ [])) h (database_after state.database (kept (backed_up filespace (item_of f object class pool (listed o))) f.text ∷ []))
-  kept_ahead order o fit h has contents here =
+  kept_ahead j order o caused h has contents here =
       let item : NewVersion = item_of f object class pool (listed o) in
-      have_more (InStore h) contents f.text (record { filespace = filespace; scratch = []; items = item ∷ [] }) item state.database order fit refl refl here has
+      have_more (InStore h) j contents f.text (record { filespace = filespace; scratch = []; items = item ∷ [] }) item state.database order caused refl refl here has

@@ -14,7 +14,7 @@ use Rattle.server.specs.declared.get.Shown.{Shown}
 use Rattle.server.specs.declared.stop.Stop.{Stop}
 use Rattle.server.specs.declared.stop.Stop.TheVariants.{Refused, LogFault, RunFull, Memory}
 use Rattle.server.specs.Outcomes.{Leaves}
-use Rattle.server.specs.Reads.{EndsVersion, LookedAt, ReadsVersion, version_found}
+use Rattle.server.specs.Reads.{EndsVersion, LookedAt, ReadsVersion, StandIn, version_found}
 use Rattle.server.specs.Requests.{Shows}
 use Rattle.server.specs.Running.{Running, IsGood, IsSure}
 use Rattle.server.specs.Steps.{Later}
@@ -38,9 +38,9 @@ sure_bytes contents state (Some h) (Some n) node filespace path version shown fo
 module _ {S : Type 0} (told : S → Option History) (moment : S → ℕ) (faults : S → ℕ → ℕ) (old : Running S) (store : S) (version : Version) where
   -- the version that was found and read
   pub version_shown : (contents : ℕ → List ℕ) (node filespace path : List ℕ) (result : Result Shown Stop) → version_found node filespace path old.vault.database ≡ Some version → ReadsVersion told moment faults old.vault.database version result old.store store
-      → Shows (λ file. Rose (faults old.store file) (faults store file)) (2 ^ 62 - 2 ^ 24 ≤ moment store) (IsSure contents old.vault (told old.store)) contents old.vault.database version result
+      → Shows (λ file. Rose (faults old.store file) (faults store file)) (2 ^ 62 - 2 ^ 24 ≤ moment store) (IsSure contents old.vault (told old.store)) contents (StandIn (told old.store)) old.vault.database version result
   version_shown contents node filespace path (Ok shown) found read =
-      (read.ends.0, read.ends.1, read.ends.2, (λ sure. sure_bytes contents old.vault (told old.store) (told store) node filespace path version shown found read.looked sure), read.ends.3)
+      (read.ends.0, read.ends.1, read.ends.2, (λ sure. sure_bytes contents old.vault (told old.store) (told store) node filespace path version shown found read.looked sure), read.from)
   version_shown contents node filespace path (Err (Refused why)) found read = read.ends
   version_shown contents node filespace path (Err (LogFault file)) found read = read.ends
   version_shown contents node filespace path (Err RunFull) found read = read.ends

@@ -1,5 +1,5 @@
 -- What a call of the server leaves: a look, and a step behind another.
-use Rattle.std.proofs.Common.{◌≡◌, ⊎_elim, inl, inr, ℕ, Option, None, Some, Result, Ok, Err, List, [], ◌++◌, reverse, refl, sym, ◌∙◌, ap, arith, append_assoc, length-append}
+use Rattle.std.proofs.Common.{◌≡◌, ⊎_elim, inl, inr, ℕ, ◌+◌, Option, None, Some, Result, Ok, Err, List, [], ◌∷◌, ◌++◌, length, reverse, refl, sym, ◌∙◌, ap, arith, append_assoc, length-append}
 use Rattle.std.specs.Prelude.{IfSome}
 use Rattle.std.proofs.lemmas.List.{map-append}
 use Rattle.store_api.specs.Disk.{History, now}
@@ -13,7 +13,9 @@ use Rattle.server.specs.declared.stop.Stop.{Stop}
 use Rattle.server.specs.declared.stop.Stop.TheVariants.{Refused, LogFault, RunFull, Memory}
 use Rattle.server.specs.Outcomes.{Leaves}
 use Rattle.server.specs.Running.{Running}
-use Rattle.server.specs.Steps.{Later, Adds, Went, Stepped, Does, Breaks}
+use Rattle.server.specs.Steps.{Later, Adds, Went, Stepped, LogGrows, log_after, Does, Breaks}
+use Rattle.vault.specs.Vaults.{State}
+use Rattle.entries.specs.EntryForm.{entry}
 use Rattle.server.specs.World.{Kept, entry_of, entries_of, database_after}
 use Rattle.server.proofs.Following.{database_append, went_then, stepped_then}
 use Rattle.server.proofs.Safety.{timely_append}
@@ -27,6 +29,17 @@ told_timed (Some a) None z mid last late R Q P at end timely f t u = absurd t
 told_timed (Some a) (Some b) None mid last late R Q P at end timely f t u = u
 told_timed (Some a) (Some b) (Some c) mid last late R Q P at end timely f t u = f a b c (rw at (rw end timely)) t u
 
+-- the log grows by the records of these, and then of those
+pub log_append : (end : ℕ) (first second : List Kept) → log_after (log_after end first) second ≡ log_after end (second ++ first)
+log_append end first [] = refl
+log_append end first (newest ∷ earlier) = ap (λ n. n + (5 + length (entry.spell newest.entry))) (log_append end first earlier)
+
+log_then : (old mid new : State Inv) (first second : List Kept) → LogGrows first old mid → LogGrows second mid new → LogGrows (second ++ first) old new
+log_then old mid new first second (inl one) (inl two) = inl (two.0 ∙ one.0, two.1 ∙ ap (λ n. log_after n second) one.1 ∙ log_append old.end first second)
+log_then old mid new first second (inl one) (inr later) = inr (omega (arith, one.0, later))
+log_then old mid new first second (inr later) (inl two) = inr (omega (arith, later, two.0))
+log_then old mid new first second (inr later) (inr last) = inr (omega (arith, later, last))
+
 module _ {S : Type 0} (told : S → Option History) (moment : S → ℕ) (faults : S → ℕ → ℕ) where
   pub later_then : (a b c : S) → Later moment faults a b → Later moment faults b c → Later moment faults a c
   later_then a b c first second = record { counts = λ file. omega (arith, first.counts file, second.counts file); time = omega (arith, first.time, second.time) }
@@ -38,6 +51,7 @@ module _ {S : Type 0} (told : S → Option History) (moment : S → ℕ) (faults
     adds = record { database = refl; journal = refl; stamps = refl; timely = later.time };
     stamped = refl;
     sure = sure;
+    log = inl (refl, refl);
     files = files;
     later = later;
   }
@@ -68,6 +82,7 @@ module _ {S : Type 0} (told : S → Option History) (moment : S → ℕ) (faults
       adds = adds_then next.adds;
       stamped = omega (arith, done.stamped, next.stamped, length-append late early, length-append second first);
       sure = next.sure;
+      log = log_then old.vault mid.vault new.vault first second done.log next.log;
       files = told_timed (told old.store) (told mid.store) (told new.store) (moment mid.store) (moment new.store) late (Stepped old.vault mid.vault first early) (Stepped mid.vault new.vault second late) (Stepped old.vault new.vault (second ++ first) (late ++ early)) (clock mid.store) (clock new.store) next.adds.timely
           (λ a b c timely one two. stepped_then old.vault mid.vault first second early late a b c done.adds.database done.stamped timely one new.vault two) done.files next.files;
       later = later_then old.store mid.store new.store done.later next.later;

@@ -1,7 +1,9 @@
 -- How the bytes of a version come from its copies, and why a copy isn't read.
-use Rattle.std.proofs.Common.{◌≡◌, inl, inr, ℕ, zero, suc, ◌+◌, ◌-◌, ◌^◌, ◌<◌, ◌≤◌, eqb, Bool, true, false, ◌&&◌, ◌||◌, nat_lt, List, [], ◌∷◌, ◌++◌, length, take, get_or, Option, Result, Ok, Err, refl, sym, ap, subst, ◌∙◌, arith}
+use Rattle.std.proofs.Common.{◌≡◌, inl, inr, ℕ, zero, suc, ◌+◌, ◌-◌, ◌^◌, ◌<◌, ◌≤◌, eqb, Bool, true, false, ◌&&◌, ◌||◌, List, [], ◌∷◌, ◌++◌, length, take, get_or, Option, None, Some, Result, Ok, Err, refl, sym, ap, subst, ◌∙◌, arith}
+use Rattle.std.specs.Prelude.{IfSome}
 use Rattle.std.specs.List.{AllByRecursion, list_all, list_any}
-use Rattle.std.proofs.lemmas.Bool.{eqb-true, ltb-true, ltb-false}
+use Rattle.std.specs.Option.{option_map_or}
+use Rattle.std.proofs.lemmas.Bool.{eqb-true}
 use Rattle.std.proofs.lemmas.List.{take_all, take_more}
 use Rattle.std.proofs.lemmas.List.Folds.{list_any_at}
 use Rattle.store_api.specs.Cause.{Rose}
@@ -13,6 +15,8 @@ use Rattle.kinds.specs.declared.segment.Segment.{Segment}
 use Rattle.vault.proofs.of_log_file.Told.{told_same}
 use Rattle.inventory_rows.specs.version_groups.declared.copies.CopyRow.{CopyRow}
 use Rattle.inventory_rows.specs.version_groups.declared.versions.Version.{Version}
+use Rattle.inventory_rows.specs.volume_rows.declared.volume.Volume.{Volume}
+use Rattle.inventory_rows.specs.pool_tables.Rows.{row_at}
 use Rattle.inventory_rows.specs.State.{Inv}
 use Rattle.contents.specs.Contents.{FramesHave, InImage}
 use Rattle.contents.specs.Reading.{MayLack, ReadCopy, lies_in_file}
@@ -20,20 +24,17 @@ use Rattle.contents.specs.declared.frames.Unread.{Unread}
 use Rattle.contents.specs.declared.frames.Unread.TheVariants as unread
 use Rattle.contents.proofs.Looking.{looked_reads}
 use Rattle.contents.proofs.Segments.{Carries, all_of, all_weaker, each_passes, frames_carried}
-use Rattle.placing.specs.Placing.{can_read, is_readable}
+use Rattle.placing.specs.Placing.{can_read, is_readable, may_be_read}
 use Rattle.server.specs.declared.get.Shown.{Shown}
 use Rattle.server.specs.declared.stop.Stop.{Stop}
 use Rattle.server.specs.declared.stop.Stop.TheVariants.{Refused, LogFault, RunFull, Memory}
-use Rattle.server.specs.Reads.{AreBytes, EndsReading, LookedAt, OnlyLooked, ReadsAny, ReadsVersion}
-use Rattle.server.specs.Requests.{IsUnread}
+use Rattle.server.specs.Reads.{AreBytes, EndsReading, EndsWithin, LookedAt, OnlyLooked, ReadsAny, ReadsVersion, StandIn}
+use Rattle.server.specs.Requests.{IsUnread, IsAmong, IsFrom}
 use Rattle.server.specs.Steps.{Later}
 use Rattle.server.proofs.Joining.{later_then}
 use Rattle.server.proofs.Stepping.{later_same}
 
 -- ---- why a copy isn't read
-
-far : (offset : ℕ) → nat_lt (offset + 32) (2 ^ 64) ≡ false → 2 ^ 64 ≤ offset + 32
-far offset h = ltb-false (offset + 32) (2 ^ 64) h
 
 module _ (rose : ℕ → Type 0) (v : Inv) where
   on_unreadable : (segments : List Segment) → list_all (λ s. is_readable s.file v) segments ≡ false → IsUnread rose v segments
@@ -44,33 +45,20 @@ module _ (rose : ℕ → Type 0) (v : Inv) where
         | false ↦ λ e t. inl (inl e)
       ] refl h
 
-  too_far : (segments : List Segment) → list_all (λ s. nat_lt (s.offset + 32) (2 ^ 64)) segments ≡ false → IsUnread rose v segments
-  too_far [] h = absurd cc
-  too_far (s ∷ segments) h =
-      elim (nat_lt (s.offset + 32) (2 ^ 64)) as (λ b. nat_lt (s.offset + 32) (2 ^ 64) ≡ b → (b && list_all (λ x. nat_lt (x.offset + 32) (2 ^ 64)) segments) ≡ false → IsUnread rose v (s ∷ segments)) [
-        | true ↦ λ e t. inr (too_far segments t)
-        | false ↦ λ e t. inl (inr (inr (far s.offset e)))
-      ] refl h
-
   in_faulty : (file : ℕ) (segments : List Segment) → rose file → lies_in_file segments file ≡ true → IsUnread rose v segments
   in_faulty file [] risen h = absurd cc
   in_faulty file (s ∷ segments) risen h =
       elim (eqb s.file file) as (λ b. eqb s.file file ≡ b → (b || lies_in_file segments file) ≡ true → IsUnread rose v (s ∷ segments)) [
-        | true ↦ λ e t. inl (inr (inl (subst rose (sym (eqb-true s.file file e)) risen)))
+        | true ↦ λ e t. inl (inr (subst rose (sym (eqb-true s.file file e)) risen))
         | false ↦ λ e t. inr (in_faulty file segments risen t)
       ] refl h
 
 unread_still : (rose more : ℕ → Type 0) (v : Inv) (segments : List Segment) → ((file : ℕ) → rose file → more file) → IsUnread rose v segments → IsUnread more v segments
 unread_still rose more v [] f h = absurd h
 unread_still rose more v (s ∷ segments) f h = elim h [
-  | inl here ↦ inl (elim here [ inl volume ↦ inl volume | inr other ↦ inr (elim other [ inl risen ↦ inl (f s.file risen) | inr behind ↦ inr behind ]) ])
+  | inl here ↦ inl (elim here [ inl volume ↦ inl volume | inr risen ↦ inr (f s.file risen) ])
   | inr there ↦ inr (unread_still rose more v segments f there)
 ]
-
--- where each segment begins near enough
-pub near_places : (segments : List Segment) → list_all (λ s. nat_lt (s.offset + 32) (2 ^ 64)) segments ≡ true → AllByRecursion (λ (s : Segment). s.offset + 32 < 2 ^ 64) segments
-near_places segments h =
-    all_weaker (λ (s : Segment). nat_lt (s.offset + 32) (2 ^ 64) ≡ true) (λ (s : Segment). s.offset + 32 < 2 ^ 64) (λ s e. ltb-true (s.offset + 32) (2 ^ 64) e) segments (each_passes (λ (s : Segment). nat_lt (s.offset + 32) (2 ^ 64)) segments h)
 
 -- ---- one copy, and the next
 
@@ -82,6 +70,24 @@ pub all_at : {X : Type 0} (P : X → Type 0) (xs : List X) (i : ℕ) (d : X) →
 all_at P [] i d lt all = absurd (omega (arith, lt))
 all_at P (x ∷ xs) zero d lt all = all.0
 all_at P (x ∷ xs) (suc i) d lt all = all_at P xs i d (omega (arith, lt)) all.1
+
+-- a segment on a volume that may be read, and so is there, begins below 2^64 bytes
+near_on : (o : Option Volume) (s : Segment) → option_map_or (λ (volume : Volume). may_be_read volume.access) o false ≡ true → IfSome o (λ volume. s.offset + 32 + s.len ≤ volume.capacity) → IfSome o (λ volume. volume.capacity ≤ 2 ^ 40) → s.offset + 32 < 2 ^ 64
+near_on None s there within bounded = absurd cc
+near_on (Some volume) s there within bounded = omega (arith, within, bounded)
+
+-- the same of one more of some segments
+pub near_more : (v : Inv) (segments : List Segment) (i : ℕ) (d : Segment) → i < length segments → list_all (λ x. is_readable x.file v) segments ≡ true → AllByRecursion (EndsWithin v) segments
+    → IfSome (row_at (get_or segments i d).file v.stores.volumes) (λ volume. volume.capacity ≤ 2 ^ 40) → AllByRecursion (λ (x : Segment). x.offset + 32 < 2 ^ 64) (take i segments) → AllByRecursion (λ (x : Segment). x.offset + 32 < 2 ^ 64) (take (i + 1) segments)
+near_more v segments i d lt readable within bounded near =
+    let s = get_or segments i d in
+    let there = all_at (λ (x : Segment). is_readable x.file v ≡ true) segments i d lt (each_passes (λ (x : Segment). is_readable x.file v) segments readable) in
+    subst (λ (l : List Segment). AllByRecursion (λ (x : Segment). x.offset + 32 < 2 ^ 64) l) (sym (take_more segments i d lt))
+    (all_more (λ (x : Segment). x.offset + 32 < 2 ^ 64) (take i segments) s near (near_on (row_at s.file v.stores.volumes) s there (all_at (EndsWithin v) segments i d lt within) bounded))
+
+-- and of all of them
+pub near_all : (segments : List Segment) (i : ℕ) → length segments ≤ i → AllByRecursion (λ (x : Segment). x.offset + 32 < 2 ^ 64) (take i segments) → AllByRecursion (λ (x : Segment). x.offset + 32 < 2 ^ 64) segments
+near_all segments i le near = subst (λ (l : List Segment). AllByRecursion (λ (x : Segment). x.offset + 32 < 2 ^ 64) l) (take_all i segments le) near
 
 -- frames stand where they stood, after a look
 frames_still : (old new : History) (object number : ℕ) (segments : List Segment) (bytes : List ℕ) → GoesOn (λ f. ⊥) old new → FramesHave (InImage (reads old)) object number segments bytes → FramesHave (InImage (reads new)) object number segments bytes
@@ -98,6 +104,47 @@ rose_still before mid after le rose = omega (arith, rose)
 can_read_first : (b : Bool) → (b || false) ≡ true → b ≡ true
 can_read_first true h = refl
 can_read_first false h = h
+
+-- a copy that is taken by its place is one of them
+among_at : (copies : List CopyRow) (i : ℕ) (copy : CopyRow) → i < length copies → copy ≡ get_or copies i copy → IsAmong copy copies
+among_at [] i copy lt at = absurd (omega (arith, lt))
+among_at (c ∷ copies) zero copy lt at = inl (sym at)
+among_at (c ∷ copies) (suc i) copy lt at = inr (among_at copies i copy (omega (arith, lt)) at)
+
+-- frames that stood before a look stand after it
+stand_still : (x y : Option History) (object : ℕ) (segments : List Segment) (bytes : List ℕ) → Told x y (GoesOn (λ f. ⊥)) → StandIn x object segments bytes → StandIn y object segments bytes
+stand_still None y object segments bytes goes stands = absurd stands
+stand_still (Some a) None object segments bytes goes stands = absurd goes
+stand_still (Some a) (Some b) object segments bytes goes stands = frames_still a b object 0 segments bytes goes stands
+
+only_one : (copy other : CopyRow) → IsAmong other (copy ∷ []) → copy ≡ other
+only_one copy other (inl is) = is
+only_one copy other (inr none) = absurd none
+
+-- what comes from the one copy that is read comes from the copies among which it is
+from_more : (copy : CopyRow) (copies : List CopyRow) (i : ℕ) {v : Inv} (into : List ℕ) (object : ℕ) (x y : Option History) → i < length copies → copy ≡ get_or copies i copy → Told x y (GoesOn (λ f. ⊥))
+    → IsFrom (StandIn y object) v (copy ∷ []) into → IsFrom (StandIn x object) v copies into
+from_more copy copies i into object x y lt at goes from = record {
+  copy = from.copy;
+  among = subst (λ (c : CopyRow). IsAmong c copies) (only_one copy from.copy from.among) (among_at copies i copy lt at);
+  readable = from.readable;
+  same = λ whole stands. from.same whole (stand_still x y object from.copy.segments whole goes stands);
+}
+
+-- what was read of a copy comes from it
+pub from_read : {T : Type 0} (done : T) (copy : CopyRow) (segments : List Segment) {v : Inv} (into : List ℕ) (object : ℕ) (x y : Option History) → segments ≡ copy.segments → can_read copy v ≡ true
+    → (let read : Result T Unread = Ok done in Told x y (ReadCopy segments into read)) → IsFrom (StandIn x object) v (copy ∷ []) into
+from_read {T} done copy segments {v} into object x y same readable read = record {
+  copy = copy;
+  among = inl refl;
+  readable = readable;
+  same = λ whole stands. by x y read (subst (λ (l : List Segment). StandIn x object l whole) (sym same) stands);
+}
+  where
+    by : {whole : List ℕ} (x y : Option History) → (let read : Result T Unread = Ok done in Told x y (ReadCopy segments into read)) → StandIn x object segments whole → into ≡ whole
+    by None y read stands = absurd stands
+    by (Some a) None read stands = absurd read
+    by {whole} (Some a) (Some b) read stands = read.bytes object 0 whole stands
 
 module _ {S : Type 0} (told : S → Option History) (moment : S → ℕ) (faults : S → ℕ → ℕ) (v : Inv) where
   -- these copies couldn't be read, and nothing else was done
@@ -118,6 +165,7 @@ module _ {S : Type 0} (told : S → Option History) (moment : S → ℕ) (faults
   none_read copies into old new tried = record {
     looked = told_map (told old) (told new) (GoesOn (λ f. ⊥)) (OnlyLooked copies into (let result : Result Bool Stop = Ok false in result ≡ Ok true)) (λ h n goes. record { goes = goes; bytes = λ e. absurd cc }) tried.looked;
     ends = tried.unread;
+    from = λ e. absurd cc;
   }
 
   -- this one wasn't tried
@@ -126,10 +174,6 @@ module _ {S : Type 0} (told : S → Option History) (moment : S → ℕ) (faults
 
   pub one_unreadable : (copy : CopyRow) (into : List ℕ) (s : S) → can_read copy v ≡ false → (let result : Result Bool Stop = Ok false in ReadsAny told moment faults v (copy ∷ []) into result s s)
   one_unreadable copy into s unfit = untried copy into s (on_unreadable (λ file. Rose (faults s file) (faults s file)) v copy.segments unfit)
-
-  pub one_far : (copy : CopyRow) (segments : List Segment) (into : List ℕ) (s : S) → segments ≡ copy.segments → list_all (λ x. nat_lt (x.offset + 32) (2 ^ 64)) segments ≡ false → (let result : Result Bool Stop = Ok false in ReadsAny told moment faults v (copy ∷ []) into result s s)
-  one_far copy segments into s same behind =
-      untried copy into s (subst (λ (l : List Segment). IsUnread (λ file. Rose (faults s file) (faults s file)) v l) same (too_far (λ file. Rose (faults s file) (faults s file)) v segments behind))
 
   -- a call on a file of one of its segments failed
   pub one_failed : (copy : CopyRow) (segments : List Segment) (into : List ℕ) (why : Unread) (file : ℕ) (old new : S) → segments ≡ copy.segments → why ≡ unread.Fault file → Later moment faults old new → MayLack segments (faults old) (faults new) (moment new) why
@@ -176,6 +220,7 @@ module _ {S : Type 0} (told : S → Option History) (moment : S → ℕ) (faults
               (frames_still a b object 0 copy.segments bytes goes (subst (λ (x : CopyRow). FramesHave (InImage (reads a)) object 0 x.segments bytes) (sym at) (all_at (λ (x : CopyRow). FramesHave (InImage (reads a)) object 0 x.segments bytes) copies i copy lt all)), tt);
         }) tried.looked one.looked;
     ends = list_any_at (λ c. can_read c v) copies i copy lt (subst (λ (x : CopyRow). can_read x v ≡ true) at (can_read_first (can_read copy v) ends));
+    from = λ e object. (let one_from = one.from (ap (λ (b : Bool). Ok b) is) object in from_more copy copies i into object (told old) (told mid) lt at tried.looked one_from);
   }
     where
       ends : EndsReading (λ file. Rose (faults mid file) (faults new file)) (2 ^ 62 - 2 ^ 24 ≤ moment new) v (copy ∷ []) (Ok true)
@@ -187,6 +232,7 @@ module _ {S : Type 0} (told : S → Option History) (moment : S → ℕ) (faults
     looked = told_then (told old) (told mid) (told new) (GoesOn (λ f. ⊥)) (OnlyLooked (copy ∷ []) into (let result : Result Bool Stop = Err stop in result ≡ Ok true)) (OnlyLooked copies into (let result : Result Bool Stop = Err stop in result ≡ Ok true))
         (λ a b c goes looked. record { goes = goes_then (λ f. ⊥) a b c goes looked.goes; bytes = λ e. absurd cc }) tried.looked one.looked;
     ends = only_full stop one.ends;
+    from = λ e. absurd cc;
   }
     where
       only_full : (stop : Stop) → EndsReading (λ file. Rose (faults mid file) (faults new file)) (2 ^ 62 - 2 ^ 24 ≤ moment new) v (copy ∷ []) (Err stop) → EndsReading (λ file. Rose (faults old file) (faults new file)) (2 ^ 62 - 2 ^ 24 ≤ moment new) v copies (Err stop)
@@ -209,6 +255,7 @@ module _ {S : Type 0} (told : S → Option History) (moment : S → ℕ) (faults
           bytes = subst (λ (l : List ℕ). AreBytes (reads h) version.copies l) (sym bytes) (subst (λ (l : List CopyRow). AreBytes (reads h) l into) same (looked.bytes (ap (λ (b : Bool). Ok b) is)));
         }) read.looked;
     ends = (object, size, ap (λ (l : List ℕ). length l) bytes ∙ long, subst (λ (l : List CopyRow). list_any (λ c. can_read c v) l ≡ true) same ends);
+    from = subst (λ (l : List ℕ). IsFrom (StandIn (told old) version.object) v version.copies l) (sym bytes) (subst (λ (l : List CopyRow). IsFrom (StandIn (told old) version.object) v l into) same (read.from (ap (λ (b : Bool). Ok b) is) version.object));
   }
     where
       ends : EndsReading (λ file. Rose (faults old file) (faults new file)) (2 ^ 62 - 2 ^ 24 ≤ moment new) v copies (Ok true)

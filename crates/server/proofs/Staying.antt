@@ -1,5 +1,5 @@
 -- Transactions of rows other than versions, from how they were committed to what the server's call leaves.
-use Rattle.std.proofs.Common.{◌≡◌, inr, ℕ, ◌^◌, ◌-◌, ◌<◌, ◌≤◌, true, if◌then◌else◌, List, [], ◌∷◌, length, Option, Some, None, Result, Ok, Err, refl, sym, ◌∙◌, ap, subst}
+use Rattle.std.proofs.Common.{◌≡◌, inl, inr, ℕ, ◌^◌, ◌-◌, ◌<◌, ◌≤◌, true, if◌then◌else◌, List, [], ◌∷◌, length, Option, Some, None, Result, Ok, Err, refl, sym, ◌∙◌, ap, subst}
 use Rattle.std.specs.Option.{option_or}
 use Rattle.std.proofs.lemmas.Bool.{lt-ltb, le-ltb}
 use Rattle.store_api.specs.Cause.{Rose}
@@ -14,10 +14,9 @@ use Rattle.inventory_rows.specs.version_groups.declared.versions.Version.{Versio
 use Rattle.contents.specs.Contents.{HaveAll, InStore, IsKept}
 use Rattle.inventory_rows.specs.Search.{versions}
 use Rattle.inventory_rows.specs.State.{Inv}
-use Rattle.inventory_rules.specs.Transactions.{effect}
+use Rattle.inventory_rules.specs.Transactions.{effect, refused}
 use Rattle.inventory_rules.specs.Journal.{no_journal}
 use Rattle.inventory_rules.specs.Valid.{is_valid}
-use Rattle.inventory.specs.Legal.{refused}
 use Rattle.inventory.proofs.Nothing.{is_free}
 use Rattle.contents.proofs.Stayed.{day_same, policy_same, caused_same, stores_same}
 use Rattle.server.specs.declared.stop.Stop.{Stop}
@@ -104,7 +103,8 @@ module _ {S : Type 0} (told : S → Option History) (moment : S → ℕ) (faults
           adds = made.1;
           stamped = refl;
           sure = made.2;
-          files = told_map (told old.store) (told new.store) (Committed old.vault new.vault (kept c []) (moment new.store ∷ [])) _ (λ before after step. stepped_committed old.vault new.vault (kept c []) (moment new.store ∷ []) before after (stays before) step) made.3;
+          log = inl made.3;
+          files = told_map (told old.store) (told new.store) (Committed old.vault new.vault (kept c []) (moment new.store ∷ [])) _ (λ before after step. stepped_committed old.vault new.vault (kept c []) (moment new.store ∷ []) before after (stays before) step) made.4;
           later = later;
         },
         (why_none c old.vault.database legal made.0, refl),

@@ -1,5 +1,5 @@
 -- Steps that leave the database as it is, and steps that follow one another.
-use Rattle.std.proofs.Common.{◌≡◌, ℕ, ◌<◌, true, List, [], ◌∷◌, Option, Some, None, Result, Ok, refl, sym, subst, arith}
+use Rattle.std.proofs.Common.{◌≡◌, inl, ℕ, ◌<◌, true, List, [], ◌∷◌, Option, Some, None, Result, Ok, refl, sym, subst, arith}
 use Rattle.store_api.specs.Disk.{History, now}
 use Rattle.store_api.specs.Runs.{GoesOn, EachImage}
 use Rattle.store_api.specs.Told.{Told}
@@ -79,6 +79,7 @@ does_none told moment faults r sure = record {
   adds = record { database = refl; journal = refl; stamps = refl; timely = omega arith };
   stamped = refl;
   sure = sure;
+  log = inl (refl, refl);
   files = told_same (told r.store) r.vault;
   later = later_same moment faults r.store;
 }

@@ -16,13 +16,14 @@ use Rattle.entries.specs.declared.entry.Entry.{Entry}
 use Rattle.entries.specs.EntryForm.{entry as entry_form}
 use Rattle.inventory_rows.specs.object_rows.Names.{filespace_named, node_named}
 use Rattle.inventory_rows.specs.State.{Inv}
-use Rattle.inventory_rules.specs.Transactions.{effect}
+use Rattle.inventory_rules.specs.Transactions.{effect, refused}
 use Rattle.inventory_rules.specs.Versions.{new_version}
+use Rattle.inventory_rules.specs.Held.{IsTied}
 use Rattle.inventory_rules.specs.Journal.{no_journal}
 use Rattle.inventory_rules.specs.Valid.{is_valid}
 use Rattle.inventory_rows.specs.Ascending.{AreAscending}
-use Rattle.inventory.specs.Legal.{refused}
 use Rattle.inventory.proofs.Nothing.{is_free}
+use Rattle.inventory.proofs.Stays.{legal_fits}
 use Rattle.contents.specs.Contents.{HasVersion, InStore, IsKept}
 use Rattle.placing.specs.Placing.{default_rule, segments_for}
 use Rattle.server.specs.declared.stop.Stop.{Stop}
@@ -94,7 +95,7 @@ module _ {S : Type 0} (told : S → Option History) (moment : S → ℕ) (faults
       let why = refuses_err (refused no_journal c server.vault.database) stop illegal in
       subst (λ (s : Stop). let result : Result T Stop = Err s in Stored segments c text result server server) (sym why.2) ([], [], does_none told moment faults server sure, inr (refused_so c server.vault.database why.0 why.1, refl))
 
-  module _ (old : Running S) (store : S) (f : File) (filespace object : ℕ) (class : List ℕ) (pool : ℕ) (o : Option Segment) (sure : old.vault.fault ≡ None) (valid : is_valid old.vault.database ≡ true) (legal : refused no_journal (backed_up filespace (item_of f object class pool (listed o))) old.vault.database ≡ None) (long : IsAsLong o (length f.text)) (later : Later moment faults old.store store) where
+  module _ (old : Running S) (store : S) (f : File) (filespace object : ℕ) (class : List ℕ) (pool : ℕ) (o : Option Segment) (sure : old.vault.fault ≡ None) (valid : is_valid old.vault.database ≡ true) (tied : IsTied old.vault.database) (order : AreAscending old.vault.database) (legal : refused no_journal (backed_up filespace (item_of f object class pool (listed o))) old.vault.database ≡ None) (long : IsAsLong o (length f.text)) (later : Later moment faults old.store store) where
     abbrev Its : Change
     Its = backed_up filespace (item_of f object class pool (listed o))
 
@@ -110,21 +111,21 @@ module _ {S : Type 0} (told : S → Option History) (moment : S → ℕ) (faults
           [],
           [],
           does_beside told moment faults old store sure later (told_map (told old.store) (told store) (let done : Result (Unit {0}) Stop = Err stop in PutsFrame o (frame_in o object f.text) done) (Stepped old.vault old.vault [] [])
-              (λ h n p. frame_failed old.vault valid f filespace object class pool stop o h n (is_free no_journal Its old.vault.database legal).fit long p) put),
+              (λ h n p. frame_failed old.vault valid f filespace object class pool stop o h n (legal_fits no_journal Its old.vault.database valid tied order legal) long p) put),
           inl (s.file, refl, subst (λ (x : Option Segment). IsIn s.file (listed x)) (sym cause.1) (inl refl), cause.3, refl),
         )
 
-    module _ (clock : (s : S) → IfSome (told s) (λ h. now h ≡ moment s)) (order : AreAscending old.vault.database) (new : Running S) (put : Unit {0}) (wrote : let result : Result (Unit {0}) Stop = Ok put in Told (told old.store) (told store) (PutsFrame o (frame_in o object f.text) result)) where
+    module _ (clock : (s : S) → IfSome (told s) (λ h. now h ≡ moment s)) (new : Running S) (put : Unit {0}) (wrote : let result : Result (Unit {0}) Stop = Ok put in Told (told old.store) (told store) (PutsFrame o (frame_in o object f.text) result)) where
       framed : Told (told old.store) (told store) (Framed old.vault valid f filespace object class pool o)
       framed =
           told_map (told old.store) (told store) (let result : Result (Unit {0}) Stop = Ok put in PutsFrame o (frame_in o object f.text) result) (Framed old.vault valid f filespace object class pool o)
-          (λ h n p. frame_written old.vault valid f filespace object class pool Stop put o h n (is_free no_journal Its old.vault.database legal).fit long p) wrote
+          (λ h n p. frame_written old.vault valid f filespace object class pool Stop put o h n (legal_fits no_journal Its old.vault.database valid tied order legal) long p) wrote
 
       beside : Does told moment faults [] [] old Beside
       beside = does_beside told moment faults old store sure later (told_map (told old.store) (told store) (Framed old.vault valid f filespace object class pool o) (Stepped old.vault old.vault [] []) (λ h n p. p.stepped) framed)
 
       ahead : (h : History) → HasVersion (InStore h) f.text (new_version old.vault.database (item_of f object class pool (listed o))) → (contents : ℕ → List ℕ) → IsKept contents h old.vault.database → IsKept (contents_after contents (kept Its f.text ∷ [])) h (database_after old.vault.database (kept Its f.text ∷ []))
-      ahead = kept_ahead old.vault valid f filespace object class pool order o (is_free no_journal Its old.vault.database legal).fit
+      ahead = kept_ahead old.vault valid f filespace object class pool no_journal order o (is_free no_journal Its old.vault.database legal).causes
 
       -- its frame stands, and the transaction was tried
       pub stored_tried : {T : Type 0} (result : Result T Stop) → Later moment faults store new.store → CommitsEntry told moment faults (kept Its f.text) result Beside new → Stored (listed o) Its f.text result old new
@@ -135,8 +136,9 @@ module _ {S : Type 0} (told : S → Option History) (moment : S → ℕ) (faults
           adds = commits.1;
           stamped = refl;
           sure = commits.2;
+          log = inl commits.3;
           files = told_since (told old.store) (told store) (told new.store) (Framed old.vault valid f filespace object class pool o) (Committed old.vault new.vault (kept Its f.text) (moment new.store ∷ [])) (Stepped old.vault new.vault (kept Its f.text ∷ []) (moment new.store ∷ []))
-              (λ a b c p q. stepped_committed old.vault new.vault (kept Its f.text) (moment new.store ∷ []) b c (ahead b p.has) q) framed commits.3;
+              (λ a b c p q. stepped_committed old.vault new.vault (kept Its f.text) (moment new.store ∷ []) b c (ahead b p.has) q) framed commits.4;
           later = after;
         }),
         inr (length_only Its old.vault.database legal ∙ short_enough (entry Its) commits.0, refl),
@@ -325,4 +327,7 @@ module _ {S : Type 0} (told : S → Option History) (moment : S → ℕ) (faults
   put_unbound f node server sure named none = ([], [], does_none told moment faults server sure, inr (puts_by f server server node None (Err (Refused NoBackupGroup)) [] named none (refl, refl)))
 
   pub put_unmade : (f : File) (server : Running S) → server.vault.fault ≡ None → PutAs f (Err Memory) server server
-  put_unmade f server sure = ([], [], does_none told moment faults server sure, inl (refl, refl))
+  put_unmade f server sure = ([], [], does_none told moment faults server sure, inl (inr refl, refl))
+
+  pub put_full : (f : File) (stop : Stop) (server : Running S) → server.vault.fault ≡ None → (stop ≡ RunFull) × (2 ^ 62 - 2 ^ 24 ≤ moment server.store) → PutAs f (Err stop) server server
+  put_full f stop server sure full = subst (λ (s : Stop). PutAs f (Err s) server server) (sym full.0) ([], [], does_none told moment faults server sure, inl (inl (refl, full.1), refl))

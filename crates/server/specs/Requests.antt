@@ -1,6 +1,6 @@
 -- What is asked of a server: which transactions it makes and what it is answered, without any file or log.
 use Rattle.std.specs.Prelude.{◌≡◌, ◌⊎◌, ℕ, ◌+◌, ◌*◌, ◌^◌, ◌<◌, ◌≤◌, nat_lt, false, true, if◌then◌else◌, Option, Some, None, List, [], ◌∷◌, ◌++◌, length, Result, Ok, Err, codes}
-use Rattle.std.specs.List.{AllByRecursion, list_any}
+use Rattle.std.specs.List.{AllByRecursion}
 use Rattle.std.specs.Option.{option_or}
 use Rattle.sha2.specs.Sha256.{sha256}
 use Rattle.kinds.specs.declared.change.DefineOrDelete.TheVariants as two
@@ -23,10 +23,9 @@ use Rattle.inventory_rows.specs.version_groups.declared.versions.Version.{Versio
 use Rattle.inventory_rows.specs.object_rows.Names.{node_named, filespace_named}
 use Rattle.inventory_rows.specs.pool_rows.PoolRows.{pool_named}
 use Rattle.inventory_rows.specs.State.{Inv}
-use Rattle.inventory_rules.specs.Transactions.{effect}
+use Rattle.inventory_rules.specs.Transactions.{effect, refused}
 use Rattle.inventory_rules.specs.Journal.{no_journal}
 use Rattle.placing.specs.Placing.{segments_for, default_rule, active_version, is_readable, can_read}
-use Rattle.inventory.specs.Legal.{refused}
 use Rattle.server.specs.declared.get.Shown.{Shown}
 use Rattle.server.specs.declared.stop.Stop.{Stop}
 use Rattle.server.specs.declared.stop.Stop.TheVariants.{Refused, LogFault, RunFull, Memory}
@@ -149,44 +148,60 @@ abbrev pub PutsOf : (rose : ℕ → Type 0) → (full : Type 0) → Option ℕ �
 PutsOf rose full None f v result added = (result ≡ Err (Refused NotFound)) × (added ≡ [])
 PutsOf rose full (Some node) f v result added = PutsBy rose full (default_rule node v) f node v result added
 
--- A file is put: its node has to be there, and the default class of the node's domain has to have a copy group. Memory may be wanted before
--- anything is made.
+-- nothing was begun: the moment is all but the last, or memory was wanted
+abbrev pub BeginsNot : {T : Type 0} → (full : Type 0) → Result T Stop → List Kept → Type 0
+BeginsNot full result added = (((result ≡ Err RunFull) × full) ⊎ (result ≡ Err Memory)) × (added ≡ [])
+
+-- A file is put: its node has to be there, and the default class of the node's domain has to have a copy group; where nothing was begun, nothing is
+-- looked for.
 abbrev pub Puts : (rose : ℕ → Type 0) → (full : Type 0) → File → Inv → Result ℕ Stop → List Kept → Type 0
-Puts rose full f v result added = ((result ≡ Err Memory) × (added ≡ [])) ⊎ PutsOf rose full (node_named f.node v.clients.nodes) f v result added
+Puts rose full f v result added = BeginsNot full result added ⊎ PutsOf rose full (node_named f.node v.clients.nodes) f v result added
 
 -- ---- a file that is read
 
--- a copy couldn't be read: one of its segments lies on a volume that can't be read, or whose count rose; or it lies behind 2^64 bytes, where
--- no volume has room
+-- a copy couldn't be read: one of its segments lies on a volume that can't be read, or whose count rose
 abbrev pub IsUnread : (rose : ℕ → Type 0) → Inv → List Segment → Type 0
 IsUnread rose v [] = ⊥
-IsUnread rose v (s ∷ segments) = ((is_readable s.file v ≡ false) ⊎ (rose s.file ⊎ (2 ^ 64 ≤ s.offset + 32))) ⊎ IsUnread rose v segments
+IsUnread rose v (s ∷ segments) = ((is_readable s.file v ≡ false) ⊎ rose s.file) ⊎ IsUnread rose v segments
+
+-- the copy is one of these
+abbrev pub IsAmong : CopyRow → List CopyRow → Type 0
+IsAmong copy [] = ⊥
+IsAmong copy (c ∷ copies) = (c ≡ copy) ⊎ IsAmong copy copies
+
+-- The bytes come from one of the copies, each of whose volumes may be read: where the frames of its segments stand with an object's bytes, they are those. `stands` says
+-- that frames stand with these bytes in the store's files.
+pub record IsFrom (stands : List Segment → List ℕ → Type 0) (v : Inv) (copies : List CopyRow) (bytes : List ℕ) : Type 0 where
+  pub copy : CopyRow
+  pub among : IsAmong copy copies
+  pub readable : can_read copy v ≡ true
+  pub same : (whole : List ℕ) → stands copy.segments whole → bytes ≡ whole
 
 -- A version is shown: as many bytes as it has, and where `sure` those of its object, from a copy that can be read; or none of its copies can.
-abbrev pub Shows : (rose : ℕ → Type 0) → (full sure : Type 0) → (contents : ℕ → List ℕ) → Inv → Version → Result Shown Stop → Type 0
-Shows rose full sure contents v version (Ok shown) =
+abbrev pub Shows : (rose : ℕ → Type 0) → (full sure : Type 0) → (contents : ℕ → List ℕ) → (stands : ℕ → List Segment → List ℕ → Type 0) → Inv → Version → Result Shown Stop → Type 0
+Shows rose full sure contents stands v version (Ok shown) =
     (shown.object ≡ version.object) × (shown.size ≡ version.size) × (length shown.bytes.items ≡ version.size) × (sure → shown.bytes.items ≡ contents version.object)
-    × (list_any (λ c. can_read c v) version.copies ≡ true)
-Shows rose full sure contents v version (Err (Refused why)) = (why ≡ Unavailable) × AllByRecursion (λ (copy : CopyRow). IsUnread rose v copy.segments) version.copies
-Shows rose full sure contents v version (Err (LogFault file)) = ⊥
-Shows rose full sure contents v version (Err RunFull) = full
-Shows rose full sure contents v version (Err Memory) = Unit {0}
+    × IsFrom (stands version.object) v version.copies shown.bytes.items
+Shows rose full sure contents stands v version (Err (Refused why)) = (why ≡ Unavailable) × AllByRecursion (λ (copy : CopyRow). IsUnread rose v copy.segments) version.copies
+Shows rose full sure contents stands v version (Err (LogFault file)) = ⊥
+Shows rose full sure contents stands v version (Err RunFull) = full
+Shows rose full sure contents stands v version (Err Memory) = Unit {0}
 
-abbrev pub ShowsFound : (rose : ℕ → Type 0) → (full sure : Type 0) → (contents : ℕ → List ℕ) → Inv → Option Version → Result Shown Stop → Type 0
-ShowsFound rose full sure contents v None result = result ≡ Err (Refused NotFound)
-ShowsFound rose full sure contents v (Some version) result = Shows rose full sure contents v version result
+abbrev pub ShowsFound : (rose : ℕ → Type 0) → (full sure : Type 0) → (contents : ℕ → List ℕ) → (stands : ℕ → List Segment → List ℕ → Type 0) → Inv → Option Version → Result Shown Stop → Type 0
+ShowsFound rose full sure contents stands v None result = result ≡ Err (Refused NotFound)
+ShowsFound rose full sure contents stands v (Some version) result = Shows rose full sure contents stands v version result
 
-abbrev pub GetsUnder : (rose : ℕ → Type 0) → (full sure : Type 0) → (contents : ℕ → List ℕ) → Inv → Option ℕ → (path : List ℕ) → Result Shown Stop → Type 0
-GetsUnder rose full sure contents v None path result = result ≡ Err (Refused NotFound)
-GetsUnder rose full sure contents v (Some filespace) path result = ShowsFound rose full sure contents v (active_version filespace path v) result
+abbrev pub GetsUnder : (rose : ℕ → Type 0) → (full sure : Type 0) → (contents : ℕ → List ℕ) → (stands : ℕ → List Segment → List ℕ → Type 0) → Inv → Option ℕ → (path : List ℕ) → Result Shown Stop → Type 0
+GetsUnder rose full sure contents stands v None path result = result ≡ Err (Refused NotFound)
+GetsUnder rose full sure contents stands v (Some filespace) path result = ShowsFound rose full sure contents stands v (active_version filespace path v) result
 
-abbrev pub GetsOf : (rose : ℕ → Type 0) → (full sure : Type 0) → (contents : ℕ → List ℕ) → Inv → Option ℕ → (filespace path : List ℕ) → Result Shown Stop → Type 0
-GetsOf rose full sure contents v None filespace path result = result ≡ Err (Refused NotFound)
-GetsOf rose full sure contents v (Some node) filespace path result = GetsUnder rose full sure contents v (filespace_named node filespace v.clients.filespaces) path result
+abbrev pub GetsOf : (rose : ℕ → Type 0) → (full sure : Type 0) → (contents : ℕ → List ℕ) → (stands : ℕ → List Segment → List ℕ → Type 0) → Inv → Option ℕ → (filespace path : List ℕ) → Result Shown Stop → Type 0
+GetsOf rose full sure contents stands v None filespace path result = result ≡ Err (Refused NotFound)
+GetsOf rose full sure contents stands v (Some node) filespace path result = GetsUnder rose full sure contents stands v (filespace_named node filespace v.clients.filespaces) path result
 
--- A file is read: its node, its filespace and an active version of its path have to be there.
-abbrev pub Gets : (rose : ℕ → Type 0) → (full sure : Type 0) → (contents : ℕ → List ℕ) → Inv → (node filespace path : List ℕ) → Result Shown Stop → Type 0
-Gets rose full sure contents v node filespace path result = GetsOf rose full sure contents v (node_named node v.clients.nodes) filespace path result
+-- A file is read: its node, its filespace and an active version of its path have to be there. Where the moment is all but the last, nothing is looked for.
+abbrev pub Gets : (rose : ℕ → Type 0) → (full sure : Type 0) → (contents : ℕ → List ℕ) → (stands : ℕ → List Segment → List ℕ → Type 0) → Inv → (node filespace path : List ℕ) → Result Shown Stop → Type 0
+Gets rose full sure contents stands v node filespace path result = ((result ≡ Err RunFull) × full) ⊎ GetsOf rose full sure contents stands v (node_named node v.clients.nodes) filespace path result
 
 -- ---- a checkpoint
 
@@ -197,3 +212,14 @@ Checkpoints rose full generation next (Err (Refused why)) = (why ≡ InventoryFu
 Checkpoints rose full generation next (Err (LogFault file)) = RoseOfVault rose file × (next ≡ generation)
 Checkpoints rose full generation next (Err RunFull) = full × (next ≡ generation)
 Checkpoints rose full generation next (Err Memory) = next ≡ generation
+
+-- how long a log is behind which a checkpoint is made unasked: 4 MiB
+abbrev pub long_log : ℕ
+long_log = 2 ^ 22
+
+-- Behind a log that ends there a checkpoint is made where it is long, by which the newest image has the next generation and its log is empty; none is made
+-- where it is short, and none can be where the moment is all but the last (`full`), or the newest image of the last generation.
+abbrev pub Follows : (full : Type 0) → (generation end next left : ℕ) → Type 0
+Follows full generation end next left =
+    ((long_log ≤ end) × (next ≡ generation + 1) × (left ≡ 0))
+    ⊎ (((end < long_log) ⊎ (full ⊎ (2 ^ 62 ≤ generation + 1))) × (next ≡ generation) × (left ≡ end))

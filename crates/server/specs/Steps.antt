@@ -58,11 +58,21 @@ pub record Committed (old new : State Inv) (k : Kept) (fresh : List ℕ) (before
   pub good : (contents : ℕ → List ℕ) → IsGood contents old before → IsKept (contents_after contents (k ∷ [])) before (database_after old.database (k ∷ []))
       → IsGood (contents_after contents (k ∷ [])) new after
 
+-- where a log that ended there ends behind the records of these transactions: 5 bytes and the spelling of each
+abbrev pub log_after : ℕ → List Kept → ℕ
+log_after end [] = end
+log_after end (newest ∷ earlier) = log_after end earlier + (5 + length (entry.spell newest.entry))
+
+-- While the newest image stays, its log grows by the records of the transactions that are made; or a later image is the newest.
+abbrev pub LogGrows : List Kept → State Inv → State Inv → Type 0
+LogGrows added old new = ((new.generation ≡ old.generation) × (new.end ≡ log_after old.end added)) ⊎ (old.generation < new.generation)
+
 -- A step made these transactions, and each is durable.
 pub record Does {S : Type 0} (told : S → Option History) (moment : S → ℕ) (faults : S → ℕ → ℕ) (added : List Kept) (fresh : List ℕ) (old new : Running S) : Type 0 where
   pub adds : Adds moment added fresh old new
   pub stamped : length fresh ≡ length added
   pub sure : new.vault.fault ≡ None
+  pub log : LogGrows added old.vault new.vault
   pub files : Told (told old.store) (told new.store) (Stepped old.vault new.vault added fresh)
   pub later : Later moment faults old.store new.store
 
@@ -77,6 +87,7 @@ pub record Breaks {S : Type 0} (told : S → Option History) (moment : S → ℕ
 abbrev pub CommitsEntry : {S T : Type 0} → (told : S → Option History) → (moment : S → ℕ) → (faults : S → ℕ → ℕ) → Kept → Result T Stop → Running S → Running S → Type 0
 CommitsEntry told moment faults k (Ok done) old new =
     (length (entry.spell k.entry) ≤ 2 ^ 24) × Adds moment (k ∷ []) (moment new.store ∷ []) old new × (new.vault.fault ≡ None)
+    × ((new.vault.generation ≡ old.vault.generation) × (new.vault.end ≡ log_after old.vault.end (k ∷ [])))
     × Told (told old.store) (told new.store) (Committed old.vault new.vault k (moment new.store ∷ []))
 CommitsEntry told moment faults k (Err (Refused why)) old new = (why ≡ refusal.RecordFull) × (2 ^ 24 < length (entry.spell k.entry)) × (new ≡ old)
 CommitsEntry told moment faults k (Err (LogFault file)) old new =

@@ -16,9 +16,9 @@ abbrev pub refuses : Option Refusal → Result (Unit {0}) Stop
 refuses None = Ok tt
 refuses (Some why) = Err (Refused why)
 
--- the one way to end: a fault of an image or a log whose count rose
-abbrev pub OnlyFaults : (rose : ℕ → Type 0) → Stop → Type 0
-OnlyFaults rose (Refused why) = ⊥
-OnlyFaults rose (LogFault file) = (file < 4) × rose file
-OnlyFaults rose RunFull = ⊥
-OnlyFaults rose Memory = ⊥
+-- how a checkpoint behind a line ends the run: by a fault of an image or a log whose count rose, or for want of memory
+abbrev pub HaltsBehind : (rose : ℕ → Type 0) → Stop → Type 0
+HaltsBehind rose (Refused why) = ⊥
+HaltsBehind rose (LogFault file) = (file < 4) × rose file
+HaltsBehind rose RunFull = ⊥
+HaltsBehind rose Memory = Unit {0}

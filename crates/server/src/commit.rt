@@ -1,13 +1,13 @@
 // How a transaction is made.
-ghost use Rattle.std.specs.Prelude.{◌≡◌, ◌⊎◌, ◌+◌, ◌-◌, ◌<◌, ◌≤◌, ◌^◌, ◌∷◌, [], List, ℕ, length, drop, reverse, None, Ok, OnOk, IfErr};
+ghost use Rattle.std.specs.Prelude.{◌≡◌, ◌⊎◌, ◌+◌, ◌-◌, ◌<◌, ◌≤◌, ◌^◌, ◌∷◌, [], List, ℕ, length, drop, reverse, None, Ok, Err, OnOk, OnErr, IfErr};
 ghost use Rattle.store_api.specs.Cause.{Rose};
 ghost use Rattle.inventory_rules.specs.Journal.{no_journal};
-ghost use Rattle.inventory.specs.Legal.{refused};
+ghost use Rattle.inventory_rules.specs.Transactions.{refused};
 ghost use Rattle.server.specs.declared.stop.Stop.TheVariants.{RunFull};
 ghost use Rattle.server.specs.World.{Kept};
-ghost use Rattle.server.specs.Stops.{stop_of, refuses, OnlyFaults};
+ghost use Rattle.server.specs.Stops.{stop_of, refuses, HaltsBehind};
 ghost use Rattle.server.specs.Steps.{Later, CommitsEntry};
-ghost use Rattle.server.specs.Requests.{Commits, Checkpoints, kept};
+ghost use Rattle.server.specs.Requests.{Commits, Checkpoints, Follows, kept};
 ghost use Rattle.server.specs.Outcomes.{Leaves, LeavesVersions};
 
 use crate::server::Server;
@@ -47,8 +47,8 @@ fn set_last(stamps: &mut Vec<u64>, moment: u64)
 }
 
 impl<S: Store> Server<S> {
-    /// Refused where the store's moment is all but the last.
-    pub(crate) fn ready(&self) -> Result<(), Stop>
+    /// Refused where the store's moment is 2^62 - 2^24 or more: from then on no step is begun.
+    pub fn ready(&self) -> Result<(), Stop>
         ensures ok { OnOk result (S.moment_of self.now.store < 2 ^ 62 - 2 ^ 24) }
         ensures full { IfErr result (λ stop. (stop ≡ RunFull) × (2 ^ 62 - 2 ^ 24 ≤ S.moment_of self.now.store)) }
     {
@@ -87,7 +87,7 @@ impl<S: Store> Server<S> {
                 return Err(Stop::Memory);
             }
         }
-        match self.vault.commit(alloc, &mut self.store, entry) {
+        match self.vault.commit_forced(alloc, &mut self.store, entry) {
             Ok(_) => {
                 let moment = self.store.moment();
                 set_last(&mut self.stamps, moment);
@@ -109,6 +109,7 @@ impl<S: Store> Server<S> {
         ensures commits { (added : List Kept) × (fresh : List ℕ) × Leaves S.told S.moment_of S.faults_of result added fresh self.old self.new
             × Commits (λ file. Rose (S.faults_of self.old.store file) (S.faults_of self.new.store file)) (2 ^ 62 - 2 ^ 24 ≤ S.moment_of self.new.store) change [] self.old.vault.database result added }
         ensures generation { self.new.vault.generation ≡ self.old.vault.generation }
+        ensures late { 2 ^ 62 - 2 ^ 24 ≤ S.moment_of self.old.store → (result ≡ Err RunFull) × (self.new ≡ self.old) }
         ensures time { S.moment_of self.new.store ≤ S.moment_of self.old.store + 4 }
     {
         let entry = Entry { actor: 0, change };
@@ -138,6 +139,8 @@ impl<S: Store> Server<S> {
         ensures answer { Checkpoints (λ file. Rose (S.faults_of self.old.store file) (S.faults_of self.new.store file)) (2 ^ 62 - 2 ^ 24 ≤ S.moment_of self.new.store)
             self.old.vault.generation self.new.vault.generation result }
         ensures short { OnOk result (self.new.vault.end ≡ 0) }
+        ensures stays { OnErr result (self.new.vault.end ≡ self.old.vault.end) }
+        ensures late { 2 ^ 62 - 2 ^ 24 ≤ S.moment_of self.old.store → (result ≡ Err RunFull) × (self.new ≡ self.old) }
     {
         match self.ready() {
             Ok(()) => {}
@@ -154,24 +157,25 @@ impl<S: Store> Server<S> {
         Ok(())
     }
 
-    /// Makes a checkpoint where the log has 4 MiB or more, and does nothing where it has less. Where none can be made now, but for a fault,
-    /// the log goes on.
+    /// Makes a checkpoint where the log has 4 MiB or more, and does nothing where it has less. Where the moment is all but the last, or the newest image
+    /// of the last generation, the log goes on. It fails for a fault, and with `Memory` where that was wanted.
     pub fn checkpoint_where_long(&mut self, alloc: Global) -> Result<(), Stop>
         requires sure { self.old.vault.fault ≡ None }
         ensures leaves { Leaves S.told S.moment_of S.faults_of result [] [] self.old self.new }
-        ensures halts { IfErr result (OnlyFaults (λ file. Rose (S.faults_of self.old.store file) (S.faults_of self.new.store file))) }
-        ensures generation { (self.new.vault.generation ≡ self.old.vault.generation) ⊎ (self.new.vault.generation ≡ self.old.vault.generation + 1) }
+        ensures halts { IfErr result (HaltsBehind (λ file. Rose (S.faults_of self.old.store file) (S.faults_of self.new.store file))) }
+        ensures stays { OnErr result (self.new.vault.generation ≡ self.old.vault.generation) }
         ensures short { self.old.vault.end < 2 ^ 22 → (result ≡ Ok tt) × (self.new ≡ self.old) }
+        ensures follows { OnOk result (Follows (2 ^ 62 - 2 ^ 24 ≤ S.moment_of self.new.store) self.old.vault.generation self.old.vault.end self.new.vault.generation self.new.vault.end) }
     {
-        if self.vault.log_end() < LONG {
+        if self.vault.log_length() < LONG {
             return Ok(());
         }
         match self.checkpoint(alloc) {
             Ok(()) => Ok(()),
             Err(Stop::LogFault(file)) => Err(Stop::LogFault(file)),
+            Err(Stop::Memory) => Err(Stop::Memory),
             Err(Stop::Refused(_)) => Ok(()),
             Err(Stop::RunFull) => Ok(()),
-            Err(Stop::Memory) => Ok(()),
         }
     }
 }

@@ -12,7 +12,7 @@ ghost use Rattle.kinds.specs.declared.refusal.Refusal.TheVariants.{WriteFault};
 ghost use Rattle.kinds.specs.declared.segment.Segment.{Segment};
 ghost use Rattle.entries.specs.declared.change.Change.TheVariants as change;
 ghost use Rattle.placing.specs.Placing.{segments_for};
-ghost use Rattle.server.specs.declared.stop.Stop.TheVariants.{Refused};
+ghost use Rattle.server.specs.declared.stop.Stop.TheVariants.{Refused, RunFull};
 ghost use Rattle.server.specs.World.{Kept};
 ghost use Rattle.server.specs.Putting.{file_of, listed, frame_in, IsAsLong, PutsFrame, CommitsFile};
 ghost use Rattle.server.specs.Requests.{File, entry, item_of, backed_up, filespace_defined, Stores, DefinesAndStores, Puts};
@@ -210,14 +210,20 @@ fn put_frame<S: Store>(store: &mut S, segment: Option<Segment>, frame: &[u8]) ->
 
 impl<S: Store> Server<S> {
     /// Stores a file under its path: on return it stands in its frame on a volume, and its transaction is durable. Answers the object's
-    /// number. It makes at most 10 device calls.
+    /// number. It makes at most 10 device calls, and none where the moment is 2^62 - 2^24 or more, which it looks at first.
     pub fn put(&mut self, alloc: Global, file: NewFile<'_>) -> Result<u64, Stop>
         requires sure { self.old.vault.fault ≡ None }
         requires short { length file.text.now < 2 ^ 32 }
         ensures puts { (added : List Kept) × (fresh : List ℕ) × Leaves S.told S.moment_of S.faults_of result added fresh self.old self.new
             × Puts (λ f. Rose (S.faults_of self.old.store f) (S.faults_of self.new.store f)) (2 ^ 62 - 2 ^ 24 ≤ S.moment_of self.new.store) (file_of file.entry) self.old.vault.database result added }
         ensures generation { self.new.vault.generation ≡ self.old.vault.generation }
+        ensures late { 2 ^ 62 - 2 ^ 24 ≤ S.moment_of self.old.store → (result ≡ Err RunFull) × (self.new ≡ self.old) }
+        ensures time { S.moment_of self.new.store ≤ S.moment_of self.old.store + 10 }
     {
+        match self.ready() {
+            Ok(()) => {}
+            Err(stop) => return Err(stop),
+        }
         let tables = self.vault.database().tables();
         let Some(node) = tables.objects.node_named(file.node) else {
             return refused(Refusal::NotFound);
@@ -258,6 +264,7 @@ impl<S: Store> Server<S> {
         ensures puts { (added : List Kept) × (fresh : List ℕ) × Leaves S.told S.moment_of S.faults_of result added fresh self.old self.new
             × DefinesAndStores (λ f. Rose (S.faults_of self.old.store f) (S.faults_of self.new.store f)) (2 ^ 62 - 2 ^ 24 ≤ S.moment_of self.new.store) (filespace_defined node file.entry.filespace.now self.old.vault.database) (file_of file.entry) class pool self.old.vault.database result added }
         ensures generation { self.new.vault.generation ≡ self.old.vault.generation }
+        ensures time { S.moment_of self.new.store ≤ S.moment_of self.old.store + 10 }
     {
         let filespace = self.vault.database().tables().next_filespace;
         let change = match filespace_defined(node, file.filespace, filespace) {
@@ -286,6 +293,7 @@ impl<S: Store> Server<S> {
         ensures puts { (added : List Kept) × (fresh : List ℕ) × Leaves S.told S.moment_of S.faults_of result added fresh self.old self.new
             × Stores (λ f. Rose (S.faults_of self.old.store f) (S.faults_of self.new.store f)) (2 ^ 62 - 2 ^ 24 ≤ S.moment_of self.new.store) (file_of file.entry) home.filespace home.class home.pool self.old.vault.database result added }
         ensures generation { self.new.vault.generation ≡ self.old.vault.generation }
+        ensures time { S.moment_of self.new.store ≤ S.moment_of self.old.store + 6 }
     {
         let tables = self.vault.database().tables();
         let object = tables.next_object;
@@ -321,6 +329,7 @@ impl<S: Store> Server<S> {
             → (added : List Kept) × (fresh : List ℕ) × Leaves S.told S.moment_of S.faults_of result added fresh self.old self.new
             × CommitsFile (λ file. Rose (S.faults_of self.old.store file) (S.faults_of self.new.store file)) (2 ^ 62 - 2 ^ 24 ≤ S.moment_of self.new.store) (listed segment) (backed_up filespace (item_of f object class pool (listed segment))) f.text self.old.vault.database result added }
         ensures generation { self.new.vault.generation ≡ self.old.vault.generation }
+        ensures time { S.moment_of self.new.store ≤ S.moment_of self.old.store + 6 }
     {
         are_ascending(self.vault.database().tables());
         match self.ready() {

@@ -1,7 +1,7 @@
 //! The program: a script of commands on standard input, answers on standard output, an exit status, and a folder as the store.
 #![tactic(auto)]
 
-use real_edge::{FolderStore, StdSink, StdSource};
+use real_edge::{FolderStore, RealFiles, StdSink, StdSource};
 use std::alloc::Global;
 use std::env::Env;
 use std::process::ExitCode;
@@ -20,7 +20,7 @@ const NO_MEMORY: u8 = 8;
 
 fn main(rt: HostRuntime) -> ExitCode {
     let alloc = rt.alloc();
-    let store = FolderStore::new(rt, alloc, FOLDER);
+    let store = FolderStore::new(RealFiles::new(rt, alloc, FOLDER), alloc);
     let mut out = StdSink::new(io::writer(&rt));
     let words = match words(&rt) {
         Ok(words) => words,

@@ -1,5 +1,5 @@
 -- A run that a fault of an image or a log halted: the count of that file's faults rose.
-use Rattle.std.proofs.Common.{◌≡◌, ⊎_elim, inl, inr, ℕ, ◌-◌, ◌<◌, ◌≤◌, ◌^◌, Bool, true, false, if◌then◌else◌, Option, None, Some, List, [], length, Result, Ok, Err, sym, ◌∙◌, arith}
+use Rattle.std.proofs.Common.{◌≡◌, ⊎_elim, inl, inr, ℕ, ◌+◌, ◌<◌, ◌≤◌, Bool, true, false, if◌then◌else◌, Option, None, Some, List, [], ◌∷◌, length, Result, Ok, Err, sym, ◌∙◌, subst, arith}
 use Rattle.store_api.specs.Cause.{Rose, NoneFell}
 use Rattle.store_api.specs.Disk.{History}
 use Rattle.kinds.specs.declared.refusal.OpenRefused.TheVariants as refused
@@ -14,19 +14,20 @@ use Rattle.entries.specs.declared.entry.Entry.{Entry}
 use Rattle.placing.specs.Placing.{segments_for, default_rule, active_version}
 use Rattle.line_forms.specs.Line.{Request, day, put, get, register, define_volume, checkpoint, asked}
 use Rattle.script_loop.specs.Ends.{status_of}
-use Rattle.script_loop.specs.Runs.{Prints, Halts}
+use Rattle.script_loop.specs.Runs.{Runs, Prints, Halts}
+use Rattle.script_loop.specs.declared.tally.Tally.{Tally}
 use Rattle.script_loop.specs.declared.ends.Halt.TheVariants as halt
 use Rattle.script_loop.specs.declared.ends.End.{End}
 use Rattle.script_loop.specs.declared.ends.End.TheVariants.{Done, SourceFault, SinkFault, Halted, TooLong}
 use Rattle.server.specs.declared.get.Shown.{Shown}
 use Rattle.server.specs.declared.stop.Stop.{Stop}
 use Rattle.server.specs.declared.stop.Stop.TheVariants.{Refused, LogFault, RunFull, Memory}
-use Rattle.server.specs.Requests.{File, RoseOfVault, Commits, volume_defined, DefinesVolumeIn, filespace_defined, StoresIn, DefinesAndStores, PutsUnder, PutsBy, PutsOf, ShowsFound, GetsUnder, GetsOf, backed_up, item_of}
+use Rattle.server.specs.Requests.{File, RoseOfVault, Commits, BeginsNot, volume_defined, DefinesVolumeIn, filespace_defined, StoresIn, DefinesAndStores, PutsUnder, PutsBy, PutsOf, ShowsFound, GetsUnder, GetsOf, backed_up, item_of}
 use Rattle.server.specs.World.{Kept, database_after, contents_after}
 use Rattle.tsm_top.specs.Answers.{lines_of, Halted as HaltedSo}
 use Rattle.tsm_top.specs.Asking.{Asks, EndsAt, file_put}
-use Rattle.tsm_top.specs.Machine.{Site, RepliesAt, StopsAt}
-use Rattle.tsm_top.specs.Serve.{Command, Closing, no_command, formatted, exists, refused_opening, closing_status, Shuts, Sure, RanScript, RoseBetween}
+use Rattle.tsm_top.specs.Machine.{Site, RoseFrom, IsLate, StoodAt, RepliesAt, StopsAt}
+use Rattle.tsm_top.specs.Serve.{Command, Closing, no_command, formatted, exists, refused_opening, closing_status, Shuts, RanScript}
 
 -- the count of some image's or log's file rose
 abbrev pub Some_rose : (rose : ℕ → Type 0) → Type 0
@@ -73,71 +74,92 @@ module _ (rose : ℕ → Type 0) (full sure : Type 0) (file : ℕ) where
   puts_rose None f v made added is puts = absurd (cc (is, puts.0))
   puts_rose (Some node) f v made added is puts = by_rose (default_rule node v) f node v made added is puts
 
-  module _ (contents : ℕ → List ℕ) (v : Inv) where
-    found_rose : (version : Option Version) (made : Result Shown Stop) → made ≡ Err (LogFault file) → ShowsFound rose full sure contents v version made → RoseOfVault rose file
+  -- nothing was begun
+  not_begun : {T : Type 0} (made : Result T Stop) (added : List Kept) → made ≡ Err (LogFault file) → BeginsNot full made added → ⊥
+  not_begun made added is (inl run_full, none) = absurd (cc (is, run_full.0))
+  not_begun made added is (inr memory, none) = absurd (cc (is, memory))
+
+  module _ (contents : ℕ → List ℕ) (stands : ℕ → List Segment → List ℕ → Type 0) (v : Inv) where
+    found_rose : (version : Option Version) (made : Result Shown Stop) → made ≡ Err (LogFault file) → ShowsFound rose full sure contents stands v version made → RoseOfVault rose file
     found_rose None made is shows = absurd (cc (is, shows))
     found_rose (Some version) made is shows = absurd (rw is at shows)
 
-    shows_rose : (filespace : Option ℕ) (path : List ℕ) (made : Result Shown Stop) → made ≡ Err (LogFault file) → GetsUnder rose full sure contents v filespace path made → RoseOfVault rose file
+    shows_rose : (filespace : Option ℕ) (path : List ℕ) (made : Result Shown Stop) → made ≡ Err (LogFault file) → GetsUnder rose full sure contents stands v filespace path made → RoseOfVault rose file
     shows_rose None path made is gets = absurd (cc (is, gets))
     shows_rose (Some filespace) path made is gets = found_rose (active_version filespace path v) made is gets
 
-    gets_rose : (node : Option ℕ) (filespace path : List ℕ) (made : Result Shown Stop) → made ≡ Err (LogFault file) → GetsOf rose full sure contents v node filespace path made → RoseOfVault rose file
+    gets_rose : (node : Option ℕ) (filespace path : List ℕ) (made : Result Shown Stop) → made ≡ Err (LogFault file) → GetsOf rose full sure contents stands v node filespace path made → RoseOfVault rose file
     gets_rose None filespace path made is gets = absurd (cc (is, gets))
     gets_rose (Some node) filespace path made is gets = shows_rose (filespace_named node filespace v.clients.filespaces) path made is gets
 
-    asks_rose : (generation : ℕ) (request : Request) (said : Result (List (List ℕ)) Stop) (added : List Kept) (next : ℕ) → said ≡ Err (LogFault file) → Asks rose full sure contents v generation request said added next → RoseOfVault rose file
+    asks_rose : (generation : ℕ) (request : Request) (said : Result (List (List ℕ)) Stop) (added : List Kept) (next : ℕ) → said ≡ Err (LogFault file) → Asks rose full sure contents stands v generation request said added next → RoseOfVault rose file
     asks_rose generation (day number) said added next is (made, commits, lines, same) = commits_rose _ [] v made added (lines_fault _ made said file is lines) commits
     asks_rose generation (put node filespace path mtime text) said added next is (made, puts, lines, same) =
         let fault = lines_fault _ made said file is lines in
-        ⊎_elim (λ none. absurd (cc (fault, none.0))) (λ done. puts_rose (node_named node v.clients.nodes) (file_put node filespace path mtime text) v made added fault done) puts
-    asks_rose generation (get node filespace path) said added next is (made, gets, lines, none, same) = gets_rose (node_named node v.clients.nodes) filespace path made (lines_fault _ made said file is lines) gets
+        ⊎_elim (λ none. absurd (not_begun made added fault none)) (λ done. puts_rose (node_named node v.clients.nodes) (file_put node filespace path mtime text) v made added fault done) puts
+    asks_rose generation (get node filespace path) said added next is (made, gets, lines, none, same) =
+        let fault = lines_fault _ made said file is lines in
+        ⊎_elim (λ run_full. absurd (cc (fault, run_full.0))) (λ done. gets_rose (node_named node v.clients.nodes) filespace path made fault done) gets
     asks_rose generation (register node) said added next is (made, commits, lines, same) = commits_rose _ [] v made added (lines_fault _ made said file is lines) commits
     asks_rose generation (define_volume name mebibytes) said added next is (made, defines, lines, same) =
         let fault = lines_fault _ made said file is lines in
-        ⊎_elim (λ none. absurd (cc (fault, none.0))) (λ done. volume_rose _ name mebibytes v made added fault done) defines
+        ⊎_elim (λ none. absurd (not_begun made added fault none)) (λ done. volume_rose _ name mebibytes v made added fault done) defines
     asks_rose generation checkpoint said added next is (made, checkpoints, lines, none) =
         let fault = lines_fault _ made said file is lines in
         (rw fault at checkpoints).0
 
-    ends_rose : (generation : ℕ) (request : Option Request) (added : List Kept) (next : ℕ) → EndsAt rose full sure contents v generation request (halt.LogFault file) added next → Some_rose rose
-    ends_rose generation None added next ends = absurd (cc (ends.0))
-    ends_rose generation (Some request) added next (inl ends) = absurd (cc (ends.0))
-    ends_rose generation (Some request) added next (inr (said, mid, asks, inl halted, follows)) = (file, asks_rose generation request said added mid (said_fault said file halted) asks)
-    ends_rose generation (Some request) added next (inr (said, mid, asks, inr (answer, answered, other, is, there), follows)) = (other, there)
+    ends_rose : (late : Type 0) (generation : ℕ) (request : Option Request) (added : List Kept) (next : ℕ) → EndsAt rose late full sure contents stands v generation request (halt.LogFault file) added next → Some_rose rose
+    ends_rose late generation None added next (inl memory, none, same) = absurd (cc (memory))
+    ends_rose late generation None added next (inr (other, is, there), none, same) = (other, there)
+    ends_rose late generation (Some request) added next (inl ends) = absurd (cc (ends.0))
+    ends_rose late generation (Some request) added next (inr (said, asks, full_said, inl halted)) = (file, asks_rose generation request said added next (said_fault said file halted) asks)
+    ends_rose late generation (Some request) added next (inr (said, asks, full_said, inr (answer, answered, (other, is, there)))) = (other, there)
 
-  module _ (base : Inv) (first : ℕ → List ℕ) where
-    stops_rose : (old : Site) (line : List ℕ) (new : Site) → StopsAt rose full sure base first old line (halt.LogFault file) new → Some_rose rose
-    stops_rose old line new (added, stops, kept, stamped) = ends_rose (contents_after first old.kept) (database_after base old.kept) old.generation (asked line) added new.generation stops
+module _ (sure : Type 0) (told : Option History) (base : Inv) (first : ℕ → List ℕ) where
+  -- counts don't fall in a line, nor over lines
+  runs_counts : (lines : List (List ℕ)) (n : ℕ) (old new : Site) (text : List ℕ) (tally : Tally) → Runs (RepliesAt sure told base first) n old lines text tally new → NoneFell old.faults new.faults
+  runs_counts [] n old new text tally run = subst (λ (s : Site). NoneFell old.faults s.faults) (sym run.2) (λ file. omega arith)
+  runs_counts (line ∷ more) n old new text tally (answer, mid, rest, others, is, text_is, tally_is, run) =
+      let here : NoneFell old.faults mid.faults = is.2.counts in
+      let after = runs_counts more (n + 1) mid new rest others run in
+      λ file. omega (arith, here file, after file)
 
-    halts_rose : (script : Option (List ℕ)) (taken : List (List ℕ)) (mid new : Site) → Halts (RepliesAt rose full sure base first) (StopsAt rose full sure base first) script taken mid (halt.LogFault file) new → Some_rose rose
+  module _ (file : ℕ) where
+    stops_rose : (old : Site) (line : List ℕ) (new : Site) → StopsAt sure told base first old line (halt.LogFault file) new → Some_rose (RoseFrom old new)
+    stops_rose old line new (added, stops, grows, stamped, there) =
+        ends_rose (RoseFrom old new) (IsLate new) sure file (contents_after first old.kept) (StoodAt told old.moment) (database_after base old.kept) (IsLate old) old.generation (asked line) added new.generation stops
+
+    halts_rose : (script : Option (List ℕ)) (taken : List (List ℕ)) (mid new : Site) → Halts (RepliesAt sure told base first) (StopsAt sure told base first) script taken mid (halt.LogFault file) new → Some_rose (RoseFrom mid new)
     halts_rose script taken mid new (inl (line, front, stops)) = stops_rose mid line new stops
     halts_rose script taken mid new (inr (inl memory)) = absurd (cc (memory.0))
     halts_rose script taken mid new (inr (inr memory)) = absurd (cc (memory.0))
 
-    pub prints_rose : (old new : Site) (script : Option (List ℕ)) (put : List ℕ) → Prints (RepliesAt rose full sure base first) (StopsAt rose full sure base first) old script (Halted (halt.LogFault file)) put new → Some_rose rose
-    prints_rose old new script printed (text, whole, (taken, tally, mid, run, halts)) = halts_rose script taken mid new halts
+    pub prints_rose : (old new : Site) (script : Option (List ℕ)) (put : List ℕ) → Prints (RepliesAt sure told base first) (StopsAt sure told base first) old script (Halted (halt.LogFault file)) put new → Some_rose (RoseFrom old new)
+    prints_rose old new script printed (text, whole, (taken, tally, mid, run, halts)) =
+        let rose = halts_rose script taken mid new halts in
+        let before = runs_counts taken 1 old mid text tally run in
+        (rose.0, (rose.1.0, omega (arith, before rose.0, rose.1.1)))
 
 done_not : (b : Bool) → ◌≡◌ {A = ℕ} (if b then 0 else 1) 6 → ⊥
 done_not true is = absurd (omega (arith, is))
 done_not false is = absurd (omega (arith, is))
 
 -- a status of 6 is that of a halt by the fault of a file
-pub status_fault : (rose : ℕ → Type 0) (full sure : Type 0) (base : Inv) (first : ℕ → List ℕ) (old new : Site) (script : Option (List ℕ)) (end : End) (put : List ℕ) → status_of end ≡ 6 → Prints (RepliesAt rose full sure base first) (StopsAt rose full sure base first) old script end put new → Some_rose rose
-status_fault rose full sure base first old new script (Done tally) printed is run = absurd (done_not _ is)
-status_fault rose full sure base first old new script SourceFault printed is run = absurd (omega (arith, is))
-status_fault rose full sure base first old new script SinkFault printed is run = absurd (omega (arith, is))
-status_fault rose full sure base first old new script (Halted (halt.LogFault file)) printed is run = prints_rose rose full sure file base first old new script printed run
-status_fault rose full sure base first old new script (Halted halt.RunFull) printed is run = absurd (omega (arith, is))
-status_fault rose full sure base first old new script (Halted halt.Memory) printed is run = absurd (omega (arith, is))
-status_fault rose full sure base first old new script (TooLong n) printed is run = absurd (omega (arith, is))
+pub status_fault : (sure : Type 0) (told : Option History) (base : Inv) (first : ℕ → List ℕ) (old new : Site) (script : Option (List ℕ)) (end : End) (put : List ℕ) → status_of end ≡ 6 → Prints (RepliesAt sure told base first) (StopsAt sure told base first) old script end put new → Some_rose (RoseFrom old new)
+status_fault sure told base first old new script (Done tally) printed is run = absurd (done_not _ is)
+status_fault sure told base first old new script SourceFault printed is run = absurd (omega (arith, is))
+status_fault sure told base first old new script SinkFault printed is run = absurd (omega (arith, is))
+status_fault sure told base first old new script (Halted (halt.LogFault file)) printed is run = prints_rose sure told base first file old new script printed run
+status_fault sure told base first old new script (Halted halt.RunFull) printed is run = absurd (omega (arith, is))
+status_fault sure told base first old new script (Halted halt.Memory) printed is run = absurd (omega (arith, is))
+status_fault sure told base first old new script (TooLong n) printed is run = absurd (omega (arith, is))
 
 -- a script's run that ended with that status had a fault since the call began
 pub ran_fault : (command : Command) (told left_told : Option History) (before mid after : ℕ → ℕ) (opened last : ℕ) (end : End) (status : ℕ) (journal : List Entry) (stamps : List ℕ) (base : Option Inv) (generation : ℕ) (script left was is : Option (List ℕ)) → NoneFell before mid →
-    RanScript command told left_told (RoseBetween mid after) opened last end status journal stamps base generation script left was is → status ≡ 6 → (file : ℕ) × (file < 4) × Rose (before file) (after file)
+    RanScript command told left_told mid after opened last end status journal stamps base generation script left was is → status ≡ 6 → (file : ℕ) × (file < 4) × Rose (before file) (after file)
 ran_fault command told left_told before mid after opened last end status journal stamps base generation script left was is none ran six =
-    let said = (ran.runs (λ number. [])).says in
-    let rose = status_fault (RoseBetween mid after) (2 ^ 62 - 2 ^ 24 ≤ last) (Sure command (λ number. []) told) ran.database (λ number. []) (record { kept = []; generation = ran.start; stamped = 0 }) (record { kept = ran.kept; generation = generation; stamped = length stamps }) script end said.0 (sym ran.code ∙ six) said.2 in
+    let over = ran.runs (λ number. []) in
+    let rose = status_fault _ left_told ran.database (λ number. []) _ _ script end over.says.0 (sym ran.code ∙ six) over.says.2 in
     (rose.0, rose.1.0, omega (arith, none rose.0, rose.1.1))
 
 not_six : (why : Closing) → closing_status why ≡ 6 → ⊥

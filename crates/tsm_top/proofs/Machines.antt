@@ -1,8 +1,12 @@
 -- A run of the server is a run of the machine over what it keeps.
-use Rattle.std.proofs.Common.{◌≡◌, ◌⊎◌, inl, inr, ℕ, ◌+◌, ◌-◌, ◌≤◌, ◌^◌, Option, None, Some, IfSome, List, [], ◌∷◌, ◌++◌, length, refl, sym, subst, arith, length-append}
+use Rattle.std.proofs.Common.{◌≡◌, ◌⊎◌, ⊎_elim, inl, inr, ℕ, ◌+◌, ◌-◌, ◌≤◌, ◌^◌, Option, None, Some, IfSome, List, [], ◌∷◌, ◌++◌, length, refl, sym, ◌∙◌, ap, subst, arith, append-nil, length-append}
 use Rattle.store_api.specs.Cause.{Rose}
-use Rattle.store_api.specs.Disk.{History, now}
+use Rattle.store_api.specs.Disk.{History, now, back, ImageAt}
+use Rattle.store_api.specs.Runs.{GoesOn, with_calls}
 use Rattle.store_api.specs.Told.{Told}
+use Rattle.store_api.proofs.Runs.{told_map, told_then, back_calls, back_now, goes_image_before, goes_none, goes_then}
+use Rattle.kinds.specs.declared.segment.Segment.{Segment}
+use Rattle.inventory.specs.Meant.{meaning}
 use Rattle.inventory_rows.specs.State.{Inv}
 use Rattle.script_loop.specs.Reply.{Answer}
 use Rattle.script_loop.specs.Runs.{Runs, Halts, Answers, Allows, Prints, Says}
@@ -11,26 +15,25 @@ use Rattle.script_loop.specs.declared.ends.Halt.{Halt}
 use Rattle.script_loop.specs.declared.ends.Halt.TheVariants.{LogFault, RunFull, Memory}
 use Rattle.script_loop.specs.declared.ends.End.{End}
 use Rattle.script_loop.specs.declared.ends.End.TheVariants.{Done, SourceFault, SinkFault, Halted, TooLong}
+use Rattle.vault.specs.Recovery.{RecoversWithin, records_of}
 use Rattle.vault.specs.Vaults.{State}
+use Rattle.vault.specs.log_file.Blocks.{blocks}
 use Rattle.vault.specs.log_file.Safety.{acknowledged}
+use Rattle.vault.proofs.Goodness.{whole_image}
+use Rattle.vault.proofs.of_log_file.Told.{told_same}
 use Rattle.server.specs.Left.{HasFirst}
+use Rattle.server.specs.Reads.{StandIn}
 use Rattle.server.specs.Running.{Running, IsSure}
 use Rattle.server.specs.Steps.{Later, Adds, Went, Stepped, Does, Breaks}
-use Rattle.server.specs.World.{Kept, contents_after}
+use Rattle.server.specs.World.{Kept, contents_after, database_after, GivesBack}
 use Rattle.server.proofs.Left.{ended_first}
 use Rattle.tsm_top.specs.declared.session.Session.{Session}
 use Rattle.tsm_top.specs.Asking.{Replies, Stops}
-use Rattle.tsm_top.specs.Machine.{Site, HaltStamps, RepliesAt, StopsAt, AllSafe}
+use Rattle.tsm_top.specs.Machine.{Site, HaltStamps, HaltThere, AllStamped, Grows, IsThere, RoseFrom, IsLate, StoodAt, RepliesAt, StopsAt, AllSafe}
 use Rattle.tsm_top.specs.Session.{ServesLine, HaltsLine, LeavesHalted}
-use Rattle.server.proofs.Joining.{does_then, breaks_then, later_then}
-use Rattle.server.proofs.Stepping.{later_same}
-use Rattle.tsm_top.proofs.Answering.{rise_more, rise_since}
+use Rattle.server.proofs.Joining.{does_then, breaks_then}
+use Rattle.server.proofs.Stepping.{stepped_none}
 use Rattle.tsm_top.proofs.Weaker.{replies, stops}
-
--- where no transaction was made, none lacks its stamp
-none_lacks : (stamps fresh : List ℕ) (kept : List Kept) → length fresh ≡ length kept → (length stamps ≡ 0) ⊎ (length stamps + 1 ≡ 0) → length (stamps ++ fresh) ≡ length kept
-none_lacks stamps fresh kept is (inl none) = omega (arith, is, none, length-append stamps fresh)
-none_lacks stamps fresh kept is (inr fewer) = absurd (omega (arith, fewer))
 
 -- a good server is good after what was done since
 sure_after : (first : ℕ → List ℕ) (state new : State Inv) (kept : List Kept) (stamps : List ℕ) (x y : Option History) → Told x y (Stepped state new kept stamps) → IsSure first state x → IsSure (contents_after first kept) new y
@@ -49,17 +52,58 @@ left_after first state kept stamps last None y at went sure = absurd sure
 left_after first state kept stamps last (Some a) None at went sure = absurd went
 
 went_of : (state new : State Inv) (kept : List Kept) (stamps : List ℕ) (x y : Option History) → Told x y (Stepped state new kept stamps) → Told x y (Went state kept stamps)
-went_of state new kept stamps None None step = tt
-went_of state new kept stamps (Some a) (Some b) step = step.went
-went_of state new kept stamps None (Some b) step = absurd step
-went_of state new kept stamps (Some a) None step = absurd step
+went_of state new kept stamps x y step = told_map x y (Stepped state new kept stamps) (Went state kept stamps) (λ a b s. s.went) step
 
-module _ {S : Type 0} (told : S → Option History) (moment : S → ℕ) (faults : S → ℕ → ℕ) (clock : (s : S) → IfSome (told s) (λ h. now h ≡ moment s)) (start : Running S) where
+-- a store's history goes on
+abbrev pub Onward : Option History → Option History → Type 0
+Onward x y = Told x y (GoesOn (λ f. Unit {0}))
+
+onward_then : (x y z : Option History) → Onward x y → Onward y z → Onward x z
+onward_then x y z first second = told_then x y z (GoesOn (λ f. Unit {0})) (GoesOn (λ f. Unit {0})) (GoesOn (λ f. Unit {0})) (λ a b c one two. goes_then (λ f. Unit {0}) a b c one two) first second
+
+onward_here : (x : Option History) → Onward x x
+onward_here x = told_same x (GoesOn (λ f. Unit {0})) (goes_none (λ f. Unit {0}))
+
+-- what stood at a moment is what stood in the files then
+stood_then : (x y : Option History) (moment object : ℕ) (segments : List Segment) (bytes : List ℕ) → IfSome x (λ h. now h ≡ moment) → Onward x y → StoodAt y moment object segments bytes → StandIn x object segments bytes
+stood_then x None moment object segments bytes at goes stood = absurd stood
+stood_then None (Some b) moment object segments bytes at goes stood = absurd goes
+stood_then (Some a) (Some b) moment object segments bytes at goes stood =
+    let past : back b (now a) ≡ a = ap (λ (h : History). back h (now a)) goes.grew ∙ back_calls goes.calls a (now a) (omega arith) ∙ back_now a in
+    let same : back b moment ≡ a = subst (λ (n : ℕ). back b n ≡ a) at past in
+    subst (λ (h : History). StandIn (Some h) object segments bytes) same stood
+
+-- of no transactions the first ones are none
+nothing_made : (later earlier : List Kept) → [] ≡ later ++ earlier → earlier ≡ []
+nothing_made [] earlier parts = sym parts
+nothing_made (newest ∷ later) earlier parts = absurd cc
+
+-- each image of a moment at which the server was good gives back the site
+there_then : (base : Inv) (first : ℕ → List ℕ) (site : Site) (state : State Inv) (x y : Option History) → state.database ≡ database_after base site.kept → state.generation ≡ site.generation → state.end ≡ site.log → IfSome x (λ h. now h ≡ site.moment) → Onward x y → IsSure (contents_after first site.kept) state x → IsThere y base first site
+there_then base first site state None y database generation end at goes good = absurd good
+there_then base first site state (Some a) None database generation end at goes good = absurd goes
+there_then base first site state (Some a) (Some b) database generation end at goes good = λ image here.
+    let past : ImageAt a (now a) image = goes_image_before (λ f. Unit {0}) a b (now a) image goes (omega arith) (subst (λ (n : ℕ). ImageAt b n image) (sym at) here) in
+    let whole = whole_image meaning state a image good.vault past in
+    let parts = subst (λ (v : Inv). (r : RecoversWithin meaning image v) × (r.generation ≡ site.generation) × (length (blocks (records_of r.entries)) ≡ site.log)) database (whole.recovers, whole.by_image ∙ generation, whole.log ∙ end) in
+    let safe = (stepped_none state a).went.since (contents_after first site.kept) good (now a) image (omega arith) (omega arith) past in
+    let here_now = subst (λ (l : List Kept). GivesBack state.database (contents_after first site.kept) l image) (nothing_made safe.later safe.earlier safe.parts) safe.gives in
+    let whole_now = subst (λ (v : Inv). GivesBack v (contents_after first site.kept) [] image) database here_now in
+    record {
+      gives = record { recovers = parts.0; holds = whole_now.holds };
+      by_image = parts.1;
+      log = parts.2;
+    }
+
+module _ {S : Type 0} (told : S → Option History) (moment : S → ℕ) (faults : S → ℕ → ℕ) (clock : (s : S) → IfSome (told s) (λ h. now h ≡ moment s)) (start : Running S) (none : start.stamps ≡ []) where
+  -- the site of a server that made these transactions
+  abbrev pub site_of : List Kept → Running S → Site
+  site_of kept server = record { kept = kept; stamps = server.stamps; generation = server.vault.generation; log = server.vault.end; moment = moment server.store; faults = faults server.store }
+
   -- what the server has done since the start
-  pub record Sim (server : Running S) (site : Site) (fresh : List ℕ) : Type 0 where
-    pub does : Does told moment faults site.kept fresh start server
-    pub generation : server.vault.generation ≡ site.generation
-    pub stamped : site.stamped ≡ length fresh
+  pub record Sim (server : Running S) (kept : List Kept) : Type 0 where
+    pub fresh : List ℕ
+    pub does : Does told moment faults kept fresh start server
 
   abbrev pub Serves : Session S → List ℕ → Answer → Session S → Type 0
   Serves old line answer new = ServesLine told moment faults old.server line answer new.server
@@ -67,125 +111,142 @@ module _ {S : Type 0} (told : S → Option History) (moment : S → ℕ) (faults
   abbrev pub Stopped : Session S → List ℕ → Halt → Session S → Type 0
   Stopped old line how new = HaltsLine told moment faults old.server line how new.server
 
-  -- the site after so many transactions more, with these stamps in all
-  abbrev pub site_after : Site → List Kept → List ℕ → Running S → Site
-  site_after site added stamps new = record { kept = added ++ site.kept; generation = new.vault.generation; stamped = length stamps }
+  does_goes : (old new : Running S) (added : List Kept) (fresh : List ℕ) → Does told moment faults added fresh old new → Onward (told old.store) (told new.store)
+  does_goes old new added fresh does = told_map (told old.store) (told new.store) (Stepped old.vault new.vault added fresh) (GoesOn (λ f. Unit {0})) (λ a b step. step.went.goes) does.files
 
-  halt_stamps : (how : Halt) (old new : Running S) (site : Site) (fresh : List ℕ) → Sim old site fresh → (added : List Kept) (stamps : List ℕ) → LeavesHalted told moment faults how added stamps old new → HaltStamps how added (site_after site added (stamps ++ fresh) new)
-  halt_stamps (LogFault file) old new site fresh sim [] stamps breaks = none_lacks stamps fresh site.kept sim.does.stamped breaks.stamped
-  halt_stamps (LogFault file) old new site fresh sim (newest ∷ earlier) stamps breaks = (breaks_then told moment faults clock start old new site.kept (newest ∷ earlier) fresh stamps sim.does breaks).stamped
-  halt_stamps RunFull old new site fresh sim added stamps does = (does_then told moment faults clock start old new site.kept added fresh stamps sim.does does).stamped
-  halt_stamps Memory old new site fresh sim added stamps does = (does_then told moment faults clock start old new site.kept added fresh stamps sim.does does).stamped
+  sim_then : (old new : Running S) (kept added : List Kept) (fresh : List ℕ) → Sim old kept → Does told moment faults added fresh old new → Sim new (added ++ kept)
+  sim_then old new kept added fresh sim does = record { fresh = fresh ++ sim.fresh; does = does_then told moment faults clock start old new kept added sim.fresh fresh sim.does does }
+
+  all_stamped : (server : Running S) (kept : List Kept) → Sim server kept → AllStamped (site_of kept server)
+  all_stamped server kept sim = ap length (sim.does.adds.stamps ∙ ap (λ (l : List ℕ). sim.fresh ++ l) none ∙ append-nil sim.fresh) ∙ sim.does.stamped
+
+  grows : (old new : Running S) (kept added : List Kept) (fresh : List ℕ) → Adds moment added fresh old new → Later moment faults old.store new.store → Grows added (site_of kept old) (site_of (added ++ kept) new)
+  grows old new kept added fresh adds later = record { kept = refl; fresh = fresh; stamps = adds.stamps; timely = adds.timely; counts = later.counts }
+
+  abbrev pub Known : (ℕ → List ℕ) → Type 0
+  Known first = IsSure first start.vault (told start.store)
+
+  good_now : (first : ℕ → List ℕ) (server : Running S) (kept : List Kept) → Sim server kept → Known first → IsSure (contents_after first kept) server.vault (told server.store)
+  good_now first server kept sim known = sure_after first start.vault server.vault kept sim.fresh (told start.store) (told server.store) sim.does.files known
+
+  pub there : (first : ℕ → List ℕ) (server : Running S) (kept : List Kept) (last : S) → Sim server kept → Onward (told server.store) (told last) → Known first → IsThere (told last) start.vault.database first (site_of kept server)
+  there first server kept last sim goes known = there_then start.vault.database first (site_of kept server) server.vault (told server.store) (told last) sim.does.adds.database refl refl (clock server.store) goes (good_now first server kept sim known)
+
+  halt_stamps : (how : Halt) (old new : Running S) (kept : List Kept) → Sim old kept → (added : List Kept) (fresh : List ℕ) → LeavesHalted told moment faults how added fresh old new → HaltStamps how added (site_of (added ++ kept) new)
+  halt_stamps (LogFault file) old new kept sim [] fresh breaks =
+      let all : length new.stamps ≡ length fresh + length old.stamps = ap length breaks.adds.stamps ∙ length-append fresh old.stamps in
+      ⊎_elim (λ is. omega (arith, is, all, all_stamped old kept sim)) (λ fewer. absurd (omega (arith, fewer))) breaks.stamped
+  halt_stamps (LogFault file) old new kept sim (newest ∷ earlier) fresh breaks =
+      let all : length new.stamps ≡ length fresh + length old.stamps = ap length breaks.adds.stamps ∙ length-append fresh old.stamps in
+      let whole : length ((newest ∷ earlier) ++ kept) ≡ length (newest ∷ earlier) + length kept = length-append (newest ∷ earlier) kept in
+      ⊎_elim (λ is. inl (omega (arith, is, all, whole, all_stamped old kept sim))) (λ is. inr (omega (arith, is, all, whole, all_stamped old kept sim))) breaks.stamped
+  halt_stamps RunFull old new kept sim added fresh does = all_stamped new (added ++ kept) (sim_then old new kept added fresh sim does)
+  halt_stamps Memory old new kept sim added fresh does = all_stamped new (added ++ kept) (sim_then old new kept added fresh sim does)
+
+  halt_there : (how : Halt) (first : ℕ → List ℕ) (old new : Running S) (kept : List Kept) → Sim old kept → (added : List Kept) (fresh : List ℕ) → LeavesHalted told moment faults how added fresh old new → Known first → HaltThere how (told new.store) start.vault.database first (site_of (added ++ kept) new)
+  halt_there (LogFault file) first old new kept sim added fresh breaks known = tt
+  halt_there RunFull first old new kept sim added fresh does known = there first new (added ++ kept) new.store (sim_then old new kept added fresh sim does) (onward_here (told new.store)) known
+  halt_there Memory first old new kept sim added fresh does known = there first new (added ++ kept) new.store (sim_then old new kept added fresh sim does) (onward_here (told new.store)) known
+
+  halt_adds : (how : Halt) (old new : Running S) (added : List Kept) (fresh : List ℕ) → LeavesHalted told moment faults how added fresh old new → Adds moment added fresh old new
+  halt_adds (LogFault file) old new added fresh breaks = breaks.adds
+  halt_adds RunFull old new added fresh does = does.adds
+  halt_adds Memory old new added fresh does = does.adds
+
+  halt_later : (how : Halt) (old new : Running S) (added : List Kept) (fresh : List ℕ) → LeavesHalted told moment faults how added fresh old new → Later moment faults old.store new.store
+  halt_later (LogFault file) old new added fresh breaks = breaks.later
+  halt_later RunFull old new added fresh does = does.later
+  halt_later Memory old new added fresh does = does.later
+
+  halt_goes : (how : Halt) (old new : Running S) (added : List Kept) (fresh : List ℕ) → LeavesHalted told moment faults how added fresh old new → Onward (told old.store) (told new.store)
+  halt_goes (LogFault file) old new added fresh breaks = told_map (told old.store) (told new.store) (Went old.vault added fresh) (GoesOn (λ f. Unit {0})) (λ a b went. went.goes) breaks.files
+  halt_goes RunFull old new added fresh does = does_goes old new added fresh does
+  halt_goes Memory old new added fresh does = does_goes old new added fresh does
 
   module _ (last : S) where
-    abbrev pub Rise : ℕ → Type 0
-    Rise file = Rose (faults start.store file) (faults last file)
-
-    abbrev pub Full : Type 0
-    Full = 2 ^ 62 - 2 ^ 24 ≤ moment last
-
-    abbrev pub Known : (ℕ → List ℕ) → Type 0
-    Known first = IsSure first start.vault (told start.store)
-
     abbrev pub Machine : (ℕ → List ℕ) → Site → List ℕ → Answer → Site → Type 0
-    Machine first = RepliesAt Rise Full (Known first) start.vault.database first
+    Machine first = RepliesAt (Known first) (told last) start.vault.database first
 
     abbrev pub Ending : (ℕ → List ℕ) → Site → List ℕ → Halt → Site → Type 0
-    Ending first = StopsAt Rise Full (Known first) start.vault.database first
+    Ending first = StopsAt (Known first) (told last) start.vault.database first
 
-    rises : (old new : Running S) → Later moment faults start.store old.store → Later moment faults new.store last → (file : ℕ) → Rose (faults old.store file) (faults new.store file) → Rise file
-    rises old new before after file rose =
-        rise_since (faults start.store file) (faults old.store file) (faults last file) (before.counts file) (rise_more (faults old.store file) (faults new.store file) (faults last file) (after.counts file) rose)
+    stood : (old : Running S) → Onward (told old.store) (told last) → (object : ℕ) (segments : List Segment) (bytes : List ℕ) → StoodAt (told last) (moment old.store) object segments bytes → StandIn (told old.store) object segments bytes
+    stood old goes object segments bytes is = stood_then (told old.store) (told last) (moment old.store) object segments bytes (clock old.store) goes is
 
-    fills : (new : Running S) → Later moment faults new.store last → 2 ^ 62 - 2 ^ 24 ≤ moment new.store → Full
-    fills new after full = let late : moment new.store ≤ moment last = after.time in omega (arith, full, late)
+    step : (first : ℕ → List ℕ) (old new : Running S) (line : List ℕ) (answer : Answer) (kept : List Kept) → Sim old kept → Onward (told new.store) (told last) → (serves : ServesLine told moment faults old line answer new) → Machine first (site_of kept old) line answer (site_of (serves.0 ++ kept) new)
+    step first old new line answer kept sim after (added, fresh, does, says) =
+        let begun : Site = site_of kept old in
+        let left : Site = site_of (added ++ kept) new in
+        let goes = onward_then (told old.store) (told new.store) (told last) (does_goes old new added fresh does) after in
+        let is = replies (RoseFrom begun left) (RoseFrom begun left) (IsLate left) (IsLate left) (IsSure (contents_after first kept) old.vault (told old.store)) (Known first) (StandIn (told old.store)) (StoodAt (told last) (moment old.store)) (λ file rose. rose) (λ full. full) (good_now first old kept sim) (stood old goes) (contents_after first kept) old.vault.database (IsLate begun) old.vault.generation old.vault.end line answer added new.vault.generation new.vault.end (says (contents_after first kept)) in
+        let sim_new = sim_then old new kept added fresh sim does in (
+          added,
+          subst (λ (v : Inv). Replies (RoseFrom begun left) (IsLate begun) (IsLate left) (Known first) (contents_after first kept) (StoodAt (told last) (moment old.store)) v old.vault.generation old.vault.end line answer added new.vault.generation new.vault.end) sim.does.adds.database is,
+          grows old new kept added fresh does.adds does.later,
+          all_stamped new (added ++ kept) sim_new,
+          λ known. there first new (added ++ kept) last sim_new after known,
+        )
 
-    step : (first : ℕ → List ℕ) (old new : Running S) (line : List ℕ) (answer : Answer) (site : Site) (fresh : List ℕ) → Sim old site fresh → Later moment faults new.store last → (serves : ServesLine told moment faults old line answer new) → Machine first site line answer (site_after site serves.0 (serves.1 ++ fresh) new)
-    step first old new line answer site fresh sim after (added, stamps, does, says) =
-        let is = replies (λ file. Rose (faults old.store file) (faults new.store file)) Rise (2 ^ 62 - 2 ^ 24 ≤ moment new.store) Full (IsSure (contents_after first site.kept) old.vault (told old.store)) (Known first) (rises old new sim.does.later after) (fills new after) (sure_after first start.vault old.vault site.kept fresh (told start.store) (told old.store) sim.does.files) (contents_after first site.kept) old.vault.database old.vault.generation line answer added new.vault.generation (says (contents_after first site.kept)) in
-        let there = subst (λ (n : ℕ). Replies Rise Full (Known first) (contents_after first site.kept) old.vault.database n line answer added new.vault.generation) sim.generation is in
-        let whole = does_then told moment faults clock start old new site.kept added fresh stamps sim.does does in
-        (added, subst (λ (v : Inv). Replies Rise Full (Known first) (contents_after first site.kept) v site.generation line answer added new.vault.generation) sim.does.adds.database there, refl, whole.stamped)
-
-    halt : (first : ℕ → List ℕ) (old new : Running S) (line : List ℕ) (how : Halt) (site : Site) (fresh : List ℕ) → Sim old site fresh → Later moment faults new.store last → (halts : HaltsLine told moment faults old line how new) → Ending first site line how (site_after site halts.0 (halts.1 ++ fresh) new)
-    halt first old new line how site fresh sim after (added, stamps, leaves, says) =
-        let is = stops (λ file. Rose (faults old.store file) (faults new.store file)) Rise (2 ^ 62 - 2 ^ 24 ≤ moment new.store) Full (IsSure (contents_after first site.kept) old.vault (told old.store)) (Known first) (rises old new sim.does.later after) (fills new after) (sure_after first start.vault old.vault site.kept fresh (told start.store) (told old.store) sim.does.files) (contents_after first site.kept) old.vault.database old.vault.generation line how added new.vault.generation (says (contents_after first site.kept)) in
-        let there = subst (λ (n : ℕ). Stops Rise Full (Known first) (contents_after first site.kept) old.vault.database n line how added new.vault.generation) sim.generation is in
-        (added, subst (λ (v : Inv). Stops Rise Full (Known first) (contents_after first site.kept) v site.generation line how added new.vault.generation) sim.does.adds.database there, refl, halt_stamps how old new site fresh sim added stamps leaves)
-
-  sim_after : (old new : Running S) (line : List ℕ) (answer : Answer) (site : Site) (fresh : List ℕ) → Sim old site fresh → (serves : ServesLine told moment faults old line answer new) → Sim new (site_after site serves.0 (serves.1 ++ fresh) new) (serves.1 ++ fresh)
-  sim_after old new line answer site fresh sim (added, stamps, does, says) = record {
-    does = does_then told moment faults clock start old new site.kept added fresh stamps sim.does does;
-    generation = refl;
-    stamped = refl;
-  }
+  -- the last line that halted the run
+  halt : (first : ℕ → List ℕ) (old new : Running S) (line : List ℕ) (how : Halt) (kept : List Kept) → Sim old kept → (halts : HaltsLine told moment faults old line how new) → Ending new.store first (site_of kept old) line how (site_of (halts.0 ++ kept) new)
+  halt first old new line how kept sim (added, fresh, leaves, says) =
+      let begun : Site = site_of kept old in
+      let left : Site = site_of (added ++ kept) new in
+      let goes = halt_goes how old new added fresh leaves in
+      let is = stops (RoseFrom begun left) (RoseFrom begun left) (IsLate left) (IsLate left) (IsSure (contents_after first kept) old.vault (told old.store)) (Known first) (StandIn (told old.store)) (StoodAt (told new.store) (moment old.store)) (λ file rose. rose) (λ full. full) (good_now first old kept sim) (stood new.store old goes) (contents_after first kept) old.vault.database (IsLate begun) old.vault.generation line how added new.vault.generation (says (contents_after first kept)) in (
+        added,
+        subst (λ (v : Inv). Stops (RoseFrom begun left) (IsLate begun) (IsLate left) (Known first) (contents_after first kept) (StoodAt (told new.store) (moment old.store)) v old.vault.generation line how added new.vault.generation) sim.does.adds.database is,
+        grows old new kept added fresh (halt_adds how old new added fresh leaves) (halt_later how old new added fresh leaves),
+        halt_stamps how old new kept sim added fresh leaves,
+        λ known. halt_there how first old new kept sim added fresh leaves known,
+      )
 
   -- some lines were run
-  pub record Ran (n : ℕ) (old new : Session S) (lines : List (List ℕ)) (text : List ℕ) (tally : Tally) (site : Site) : Type 0 where
-    pub after : Site
-    pub fresh : List ℕ
-    pub sim : Sim new.server after fresh
-    pub later : Later moment faults old.server.store new.server.store
-    pub run : (last : S) → Later moment faults new.server.store last → (first : ℕ → List ℕ) → Runs (Machine last first) n site lines text tally after
+  pub record Ran (n : ℕ) (old new : Session S) (lines : List (List ℕ)) (text : List ℕ) (tally : Tally) (kept : List Kept) : Type 0 where
+    pub after : List Kept
+    pub sim : Sim new.server after
+    pub goes : Onward (told old.server.store) (told new.server.store)
+    pub run : (last : S) → Onward (told new.server.store) (told last) → (first : ℕ → List ℕ) → Runs (Machine last first) n (site_of kept old.server) lines text tally (site_of after new.server)
 
-  runs : (lines : List (List ℕ)) (n : ℕ) (old new : Session S) (text : List ℕ) (tally : Tally) (site : Site) (fresh : List ℕ) → Sim old.server site fresh → Runs Serves n old lines text tally new → Ran n old new lines text tally site
-  runs [] n old new text tally site fresh sim run = record {
-    after = site;
-    fresh = fresh;
-    sim = subst (λ (s : Session S). Sim s.server site fresh) (sym run.2) sim;
-    later = subst (λ (s : Session S). Later moment faults old.server.store s.server.store) (sym run.2) (later_same moment faults old.server.store);
-    run = λ last later first. (run.0, run.1, refl);
+  runs : (lines : List (List ℕ)) (n : ℕ) (old new : Session S) (text : List ℕ) (tally : Tally) (kept : List Kept) → Sim old.server kept → Runs Serves n old lines text tally new → Ran n old new lines text tally kept
+  runs [] n old new text tally kept sim run = record {
+    after = kept;
+    sim = subst (λ (s : Session S). Sim s.server kept) (sym run.2) sim;
+    goes = subst (λ (s : Session S). Onward (told old.server.store) (told s.server.store)) (sym run.2) (onward_here (told old.server.store));
+    run = λ last goes first. (run.0, run.1, ap (λ (s : Session S). site_of kept s.server) run.2);
   }
-  runs (line ∷ more) n old new text tally site fresh sim (answer, mid, rest, others, serves, is, counts, run) =
-      let next = runs more (n + 1) mid new rest others (site_after site serves.0 (serves.1 ++ fresh) mid.server) (serves.1 ++ fresh) (sim_after old.server mid.server line answer site fresh sim serves) run in
+  runs (line ∷ more) n old new text tally kept sim (answer, mid, rest, others, serves, is, counts, run) =
+      let next = runs more (n + 1) mid new rest others (serves.0 ++ kept) (sim_then old.server mid.server kept serves.0 serves.1 sim serves.2) run in
       record {
         after = next.after;
-        fresh = next.fresh;
         sim = next.sim;
-        later = later_then told moment faults old.server.store mid.server.store new.server.store serves.2.later next.later;
-        run = λ last later first. (answer, site_after site serves.0 (serves.1 ++ fresh) mid.server, rest, others, step last first old.server mid.server line answer site fresh sim (later_then told moment faults mid.server.store new.server.store last next.later later) serves, is, counts, next.run last later first);
+        goes = onward_then (told old.server.store) (told mid.server.store) (told new.server.store) (does_goes old.server mid.server serves.0 serves.1 serves.2) next.goes;
+        run = λ last goes first. (answer, site_of (serves.0 ++ kept) mid.server, rest, others, step last first old.server mid.server line answer kept sim (onward_then (told mid.server.store) (told new.server.store) (told last) next.goes goes) serves, is, counts, next.run last goes first);
       }
 
   -- what is left of the server
-  pub record Left (new : Running S) (site : Site) (fresh : List ℕ) : Type 0 where
-    pub adds : Adds moment site.kept fresh start new
-    pub generation : new.vault.generation ≡ site.generation
-    pub stamped : site.stamped ≡ length fresh
-    pub files : Told (told start.store) (told new.store) (Went start.vault site.kept fresh)
+  pub record Left (new : Running S) (kept : List Kept) : Type 0 where
+    pub fresh : List ℕ
+    pub adds : Adds moment kept fresh start new
+    pub files : Told (told start.store) (told new.store) (Went start.vault kept fresh)
     pub later : Later moment faults start.store new.store
 
-  left_does : (new : Running S) (site : Site) (fresh : List ℕ) → Sim new site fresh → Left new site fresh
-  left_does new site fresh sim = record {
-    adds = sim.does.adds;
-    generation = sim.generation;
-    stamped = sim.stamped;
-    files = went_of start.vault new.vault site.kept fresh (told start.store) (told new.store) sim.does.files;
-    later = sim.does.later;
-  }
+  left_does : (new : Running S) (kept : List Kept) → Sim new kept → Left new kept
+  left_does new kept sim = record { fresh = sim.fresh; adds = sim.does.adds; files = went_of start.vault new.vault kept sim.fresh (told start.store) (told new.store) sim.does.files; later = sim.does.later }
 
-  left_breaks : (new : Running S) (site : Site) (fresh : List ℕ) → Breaks told moment faults site.kept fresh start new → new.vault.generation ≡ site.generation → site.stamped ≡ length fresh → Left new site fresh
-  left_breaks new site fresh breaks same number = record { adds = breaks.adds; generation = same; stamped = number; files = breaks.files; later = breaks.later }
+  left_breaks : (new : Running S) (kept : List Kept) (fresh : List ℕ) → Breaks told moment faults kept fresh start new → Left new kept
+  left_breaks new kept fresh breaks = record { fresh = fresh; adds = breaks.adds; files = breaks.files; later = breaks.later }
 
-  stopped_later : (how : Halt) (old new : Running S) (line : List ℕ) → HaltsLine told moment faults old line how new → Later moment faults old.store new.store
-  stopped_later (LogFault file) old new line stopped = stopped.2.later
-  stopped_later RunFull old new line stopped = stopped.2.later
-  stopped_later Memory old new line stopped = stopped.2.later
-
-  -- the last line that halted the run
-  halted : (how : Halt) (old new : Running S) (line : List ℕ) (site : Site) (fresh : List ℕ) → Sim old site fresh → (halts : HaltsLine told moment faults old line how new) → Left new (site_after site halts.0 (halts.1 ++ fresh) new) (halts.1 ++ fresh)
-  halted (LogFault file) old new line site fresh sim (added, stamps, breaks, says) =
-      left_breaks new (site_after site added (stamps ++ fresh) new) (stamps ++ fresh) (breaks_then told moment faults clock start old new site.kept added fresh stamps sim.does breaks) refl refl
-  halted RunFull old new line site fresh sim (added, stamps, does, says) =
-      left_does new (site_after site added (stamps ++ fresh) new) (stamps ++ fresh) (record { does = does_then told moment faults clock start old new site.kept added fresh stamps sim.does does; generation = refl; stamped = refl })
-  halted Memory old new line site fresh sim (added, stamps, does, says) =
-      left_does new (site_after site added (stamps ++ fresh) new) (stamps ++ fresh) (record { does = does_then told moment faults clock start old new site.kept added fresh stamps sim.does does; generation = refl; stamped = refl })
+  halted : (how : Halt) (old new : Running S) (kept added : List Kept) (fresh : List ℕ) → Sim old kept → LeavesHalted told moment faults how added fresh old new → Left new (added ++ kept)
+  halted (LogFault file) old new kept added fresh sim breaks = left_breaks new (added ++ kept) (fresh ++ sim.fresh) (breaks_then told moment faults clock start old new kept added sim.fresh fresh sim.does breaks)
+  halted RunFull old new kept added fresh sim does = left_does new (added ++ kept) (sim_then old new kept added fresh sim does)
+  halted Memory old new kept added fresh sim does = left_does new (added ++ kept) (sim_then old new kept added fresh sim does)
 
   -- how a run ended
   pub record Ended (new : Session S) (P : (ℕ → List ℕ) → Site → Type 0) : Type 0 where
-    pub after : Site
-    pub fresh : List ℕ
-    pub left : Left new.server after fresh
-    pub run : (first : ℕ → List ℕ) → P first after
+    pub after : List Kept
+    pub left : Left new.server after
+    pub run : (first : ℕ → List ℕ) → P first (site_of after new.server)
 
   abbrev pub M : Session S → (ℕ → List ℕ) → Site → List ℕ → Answer → Site → Type 0
   M new first = Machine new.server.store first
@@ -193,64 +254,61 @@ module _ {S : Type 0} (told : S → Option History) (moment : S → ℕ) (faults
   abbrev pub E : Session S → (ℕ → List ℕ) → Site → List ℕ → Halt → Site → Type 0
   E new first = Ending new.server.store first
 
-  later_here : (new : Session S) → Later moment faults new.server.store new.server.store
-  later_here new = later_same moment faults new.server.store
+  goes_here : (new : Session S) → Onward (told new.server.store) (told new.server.store)
+  goes_here new = onward_here (told new.server.store)
 
-  halts : (script : Option (List ℕ)) (taken : List (List ℕ)) (tally : Tally) (text : List ℕ) (old mid new : Session S) (how : Halt) (site : Site) → Ran 1 old mid taken text tally site → Halts Serves Stopped script taken mid how new → Ended new (λ first after. Answers (M new first) (E new first) site script (Halted how) text after)
-  halts script taken tally text old mid new how site ran (inl (line, front, stopped)) =
-      let later : Later moment faults mid.server.store new.server.store = stopped_later how mid.server new.server line stopped in
+  halts : (script : Option (List ℕ)) (taken : List (List ℕ)) (tally : Tally) (text : List ℕ) (old mid new : Session S) (how : Halt) (kept : List Kept) → Ran 1 old mid taken text tally kept → Halts Serves Stopped script taken mid how new → Ended new (λ first after. Answers (M new first) (E new first) (site_of kept old.server) script (Halted how) text after)
+  halts script taken tally text old mid new how kept ran (inl (line, front, stopped)) =
+      let goes = halt_goes how mid.server new.server stopped.0 stopped.1 stopped.2 in
       record {
-        after = site_after ran.after stopped.0 (stopped.1 ++ ran.fresh) new.server;
-        fresh = stopped.1 ++ ran.fresh;
-        left = halted how mid.server new.server line ran.after ran.fresh ran.sim stopped;
-        run = λ first. (taken, tally, ran.after, ran.run new.server.store later first, inl (line, front, halt new.server.store first mid.server new.server line how ran.after ran.fresh ran.sim (later_here new) stopped));
+        after = stopped.0 ++ ran.after;
+        left = halted how mid.server new.server ran.after stopped.0 stopped.1 ran.sim stopped.2;
+        run = λ first. (taken, tally, site_of ran.after mid.server, ran.run new.server.store goes first, inl (line, front, halt first mid.server new.server line how ran.after ran.sim stopped));
       }
-  halts script taken tally text old mid new how site ran (inr (inl (is, front, same))) = record {
+  halts script taken tally text old mid new how kept ran (inr (inl (is, front, same))) = record {
     after = ran.after;
-    fresh = ran.fresh;
-    left = subst (λ (s : Session S). Left s.server ran.after ran.fresh) (sym same) (left_does mid.server ran.after ran.fresh ran.sim);
-    run = λ first. (taken, tally, ran.after, ran.run new.server.store (subst (λ (s : Session S). Later moment faults mid.server.store s.server.store) (sym same) (later_here mid)) first, inr (inl (is, front, refl)));
+    left = subst (λ (s : Session S). Left s.server ran.after) (sym same) (left_does mid.server ran.after ran.sim);
+    run = λ first. (taken, tally, site_of ran.after mid.server, ran.run new.server.store (subst (λ (s : Session S). Onward (told mid.server.store) (told s.server.store)) (sym same) (goes_here mid)) first, inr (inl (is, front, ap (λ (s : Session S). site_of ran.after s.server) same)));
   }
-  halts script taken tally text old mid new how site ran (inr (inr (is, line, answer, front, serves))) =
-      let sim = sim_after mid.server new.server line answer ran.after ran.fresh ran.sim serves in
+  halts script taken tally text old mid new how kept ran (inr (inr (is, line, answer, front, serves))) =
+      let goes = does_goes mid.server new.server serves.0 serves.1 serves.2 in
       record {
-        after = site_after ran.after serves.0 (serves.1 ++ ran.fresh) new.server;
-        fresh = serves.1 ++ ran.fresh;
-        left = left_does new.server (site_after ran.after serves.0 (serves.1 ++ ran.fresh) new.server) (serves.1 ++ ran.fresh) sim;
-        run = λ first. (taken, tally, ran.after, ran.run new.server.store serves.2.later first, inr (inr (is, line, answer, front, step new.server.store first mid.server new.server line answer ran.after ran.fresh ran.sim (later_here new) serves)));
+        after = serves.0 ++ ran.after;
+        left = left_does new.server (serves.0 ++ ran.after) (sim_then mid.server new.server ran.after serves.0 serves.1 ran.sim serves.2);
+        run = λ first. (taken, tally, site_of ran.after mid.server, ran.run new.server.store goes first, inr (inr (is, line, answer, front, step new.server.store first mid.server new.server line answer ran.after ran.sim (goes_here new) serves)));
       }
 
-  answers : (end : End) (script : Option (List ℕ)) (text : List ℕ) (old new : Session S) (site : Site) (fresh : List ℕ) → Sim old.server site fresh → Answers Serves Stopped old script end text new → Ended new (λ first after. Answers (M new first) (E new first) site script end text after)
-  answers (Done tally) script text old new site fresh sim (taken, run, whole) =
-      let ran = runs taken 1 old new text tally site fresh sim run in
-      record { after = ran.after; fresh = ran.fresh; left = left_does new.server ran.after ran.fresh ran.sim; run = λ first. (taken, ran.run new.server.store (later_here new) first, whole) }
-  answers SourceFault script text old new site fresh sim (taken, tally, run, front) =
-      let ran = runs taken 1 old new text tally site fresh sim run in
-      record { after = ran.after; fresh = ran.fresh; left = left_does new.server ran.after ran.fresh ran.sim; run = λ first. (taken, tally, ran.run new.server.store (later_here new) first, front) }
-  answers SinkFault script text old new site fresh sim none = absurd none
-  answers (Halted how) script text old new site fresh sim (taken, tally, mid, run, is) = halts script taken tally text old mid new how site (runs taken 1 old mid text tally site fresh sim run) is
-  answers (TooLong n) script text old new site fresh sim (taken, tally, run, exceeds) =
-      let ran = runs taken 1 old new text tally site fresh sim run in
-      record { after = ran.after; fresh = ran.fresh; left = left_does new.server ran.after ran.fresh ran.sim; run = λ first. (taken, tally, ran.run new.server.store (later_here new) first, exceeds) }
+  answers : (end : End) (script : Option (List ℕ)) (text : List ℕ) (old new : Session S) (kept : List Kept) → Sim old.server kept → Answers Serves Stopped old script end text new → Ended new (λ first after. Answers (M new first) (E new first) (site_of kept old.server) script end text after)
+  answers (Done tally) script text old new kept sim (taken, run, whole) =
+      let ran = runs taken 1 old new text tally kept sim run in
+      record { after = ran.after; left = left_does new.server ran.after ran.sim; run = λ first. (taken, ran.run new.server.store (goes_here new) first, whole) }
+  answers SourceFault script text old new kept sim (taken, tally, run, front) =
+      let ran = runs taken 1 old new text tally kept sim run in
+      record { after = ran.after; left = left_does new.server ran.after ran.sim; run = λ first. (taken, tally, ran.run new.server.store (goes_here new) first, front) }
+  answers SinkFault script text old new kept sim none = absurd none
+  answers (Halted how) script text old new kept sim (taken, tally, mid, run, is) = halts script taken tally text old mid new how kept (runs taken 1 old mid text tally kept sim run) is
+  answers (TooLong n) script text old new kept sim (taken, tally, run, exceeds) =
+      let ran = runs taken 1 old new text tally kept sim run in
+      record { after = ran.after; left = left_does new.server ran.after ran.sim; run = λ first. (taken, tally, ran.run new.server.store (goes_here new) first, exceeds) }
 
-  allows : (end : End) (script : Option (List ℕ)) (whole : List ℕ) (old new : Session S) (site : Site) (fresh : List ℕ) → Sim old.server site fresh → Allows Serves Stopped old script end whole new → Ended new (λ first after. Allows (M new first) (E new first) site script end whole after)
-  allows end script whole old new site fresh sim (text, is, run) =
-      let ran = answers end script text old new site fresh sim run in
-      record { after = ran.after; fresh = ran.fresh; left = ran.left; run = λ first. (text, is, ran.run first) }
+  allows : (end : End) (script : Option (List ℕ)) (whole : List ℕ) (old new : Session S) (kept : List Kept) → Sim old.server kept → Allows Serves Stopped old script end whole new → Ended new (λ first after. Allows (M new first) (E new first) (site_of kept old.server) script end whole after)
+  allows end script whole old new kept sim (text, is, run) =
+      let ran = answers end script text old new kept sim run in
+      record { after = ran.after; left = ran.left; run = λ first. (text, is, ran.run first) }
 
   -- what the sink has of a run
-  abbrev pub Printed : Session S → (site : Site) → (script : Option (List ℕ)) → End → (put : List ℕ) → Type 0
+  abbrev pub Printed : Session S → Site → (script : Option (List ℕ)) → End → (put : List ℕ) → Type 0
   Printed new site script end put = Ended new (λ first after. Prints (M new first) (E new first) site script end put after)
 
-  prints : (end : End) (script : Option (List ℕ)) (put : List ℕ) (old new : Session S) (site : Site) (fresh : List ℕ) → Sim old.server site fresh → Prints Serves Stopped old script end put new → Printed new site script end put
-  prints (Done tally) script put old new site fresh sim run = allows (Done tally) script put old new site fresh sim run
-  prints SourceFault script put old new site fresh sim run = allows SourceFault script put old new site fresh sim run
-  prints SinkFault script put old new site fresh sim (other, whole, run, front) =
-      let ran = allows other script whole old new site fresh sim run in
-      record { after = ran.after; fresh = ran.fresh; left = ran.left; run = λ first. (other, whole, ran.run first, front) }
-  prints (Halted how) script put old new site fresh sim run = allows (Halted how) script put old new site fresh sim run
-  prints (TooLong n) script put old new site fresh sim run = allows (TooLong n) script put old new site fresh sim run
+  prints : (end : End) (script : Option (List ℕ)) (put : List ℕ) (old new : Session S) (kept : List Kept) → Sim old.server kept → Prints Serves Stopped old script end put new → Printed new (site_of kept old.server) script end put
+  prints (Done tally) script put old new kept sim run = allows (Done tally) script put old new kept sim run
+  prints SourceFault script put old new kept sim run = allows SourceFault script put old new kept sim run
+  prints SinkFault script put old new kept sim (other, whole, run, front) =
+      let ran = allows other script whole old new kept sim run in
+      record { after = ran.after; left = ran.left; run = λ first. (other, whole, ran.run first, front) }
+  prints (Halted how) script put old new kept sim run = allows (Halted how) script put old new kept sim run
+  prints (TooLong n) script put old new kept sim run = allows (TooLong n) script put old new kept sim run
 
   -- what the server's run says, the machine's says
-  pub says : (end : End) (script before after : Option (List ℕ)) (old new : Session S) (site : Site) (fresh : List ℕ) → Sim old.server site fresh → (said : Says Serves Stopped old new script before after end) → Printed new site script end said.0
-  says end script before after old new site fresh sim (put, appends, run) = prints end script put old new site fresh sim run
+  pub says : (end : End) (script before after : Option (List ℕ)) (old new : Session S) (kept : List Kept) → Sim old.server kept → (said : Says Serves Stopped old new script before after end) → Printed new (site_of kept old.server) script end said.0
+  says end script before after old new kept sim (put, appends, run) = prints end script put old new kept sim run

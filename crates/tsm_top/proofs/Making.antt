@@ -1,9 +1,10 @@
 -- A new database is made, and perhaps a script is run over it; and how all of a call ended.
-use Rattle.std.proofs.Common.{◌≡◌, ◌⊎◌, ⊎_elim, inl, inr, ℕ, ◌<◌, Bool, false, Option, None, Some, is_some, IfSome, List, Result, Ok, refl, sym, ◌∙◌, subst, arith, reverse}
+use Rattle.std.proofs.Common.{◌≡◌, ◌⊎◌, ⊎_elim, inl, inr, ℕ, ◌<◌, ◌≤◌, Bool, false, Option, None, Some, is_some, IfSome, List, Result, Ok, refl, sym, ◌∙◌, subst, arith, reverse}
 use Rattle.store_api.specs.Cause.{NoneFell}
 use Rattle.store_api.specs.Disk.{History, now, reads}
 use Rattle.store_api.specs.Told.{Told}
 use Rattle.store_api.proofs.Pieces.{image_reads}
+use Rattle.store_api.proofs.Runs.{goes_later}
 use Rattle.kinds.specs.declared.refusal.OpenRefused.{OpenRefused}
 use Rattle.kinds.specs.declared.refusal.OpenRefused.TheVariants as refused
 use Rattle.entries.specs.declared.entry.Entry.{Entry}
@@ -12,12 +13,12 @@ use Rattle.inventory.specs.Meaningful.{is_meaning}
 use Rattle.inventory_rows.specs.Fresh.{fresh}
 use Rattle.inventory_rows.specs.State.{Inv}
 use Rattle.script_loop.specs.declared.ends.End.{End}
-use Rattle.vault.specs.Openings.{is_formatted as has_gate, Formatted, SaysWhy, MayRefuseLooking, MayRefuseFormatting}
+use Rattle.vault.specs.Openings.{Calm, is_formatted as has_gate, Formatted, SaysWhy, MayRefuseLooking, MayRefuseFormatting}
 use Rattle.vault.specs.Recovery.{RecoversWithin, IsBase}
 use Rattle.vault.proofs.Sounding.{newest_one}
 use Rattle.vault.proofs.Unique.{one_database, is_formatted, not_damaged_there}
 use Rattle.server.proofs.Soundness.{within_recovers, new_sound}
-use Rattle.tsm_top.specs.Serve.{Command, format, run, fresh_run, Closing, no_command, formatted, exists, refused_opening, HasCause, OpensNot, IsNone, IsNew, HasImage, RunsOver, StartsAt, Sure, RanScript, RoseBetween}
+use Rattle.tsm_top.specs.Serve.{Command, format, run, fresh_run, Closing, no_command, formatted, exists, refused_opening, HasCause, OpensNot, IsNone, IsNew, HasImage, RunsOver, StartsAt, Sure, Spares, Opens, RanScript, RoseBetween}
 use Rattle.tsm_top.proofs.Saying.{ran_over}
 
 -- files that hold a new database recover to it alone
@@ -63,10 +64,16 @@ new_starts (Some a) (Some h) start same new starts =
     let base = new_base h new in
     (newest_one (reads h) start base.recovers.generation starts.0 (meaning.spelled base.recovers.base) starts.1 base.recovers.newest).0 ∙ base.by_image
 
+pub tells_on : (R : History → History → Type 0) (x y : Option History) → Told x y R → is_some y ≡ is_some x
+tells_on R None None t = refl
+tells_on R (Some a) (Some b) t = refl
+tells_on R None (Some b) t = absurd t
+tells_on R (Some a) None t = absurd t
+
 -- a script that was run over it
-pub new_script : (x y left_told : Option History) (rose : ℕ → Type 0) (opened last : ℕ) (end : End) (status : ℕ) (journal : List Entry) (stamps : List ℕ) (base : Option Inv) (generation : ℕ) (script left before after : Option (List ℕ)) → is_some y ≡ is_some x → HasImage false x → IsNew y →
-    RanScript run y left_told rose opened last end status journal stamps base generation script left before after → RanScript fresh_run x left_told rose opened last end status journal stamps base generation script left before after
-new_script x y left_told rose opened last end status journal stamps base generation script left before after same had new ran = record {
+pub new_script : (x y left_told : Option History) (before after : ℕ → ℕ) (opened last : ℕ) (end : End) (status : ℕ) (journal : List Entry) (stamps : List ℕ) (base : Option Inv) (generation : ℕ) (script left was is : Option (List ℕ)) → is_some y ≡ is_some x → HasImage false x → IsNew y →
+    RanScript run y left_told before after opened last end status journal stamps base generation script left was is → RanScript fresh_run x left_told before after opened last end status journal stamps base generation script left was is
+new_script x y left_told before after opened last end status journal stamps base generation script left was is same had new ran = record {
   code = ran.code;
   database = ran.database;
   base_is = ran.base_is;
@@ -77,16 +84,30 @@ new_script x y left_told rose opened last end status journal stamps base generat
   timely = ran.timely;
   start = ran.start;
   begins = new_starts x y ran.start same new ran.begins;
-  runs = λ first. ran_over (Sure run first y) (Sure fresh_run first x) rose first ran.database _ _ opened last left_told end (reverse stamps) script before after (λ known. new_sure first x y same new known) (ran.runs first);
+  log = ran.log;
+  left_log = ran.left_log;
+  runs = λ first. ran_over (Sure run first y) (Sure fresh_run first x) first ran.database _ _ left_told end script was is (λ known. new_sure first x y same new known) (ran.runs first);
 }
 
--- ---- how a database is made
+-- what is new stays so while it is opened
+calm_new : (x y : Option History) → Told x y Calm → IsNew x → IsNew y
+calm_new None None calm new = tt
+calm_new None (Some b) calm new = absurd calm
+calm_new (Some a) None calm new = absurd calm
+calm_new (Some a) (Some b) calm new = λ moment files from to here. new (now a) files (omega arith) (omega arith) (calm.images moment files (later_now a b calm from) to here)
+  where
+    later_now : (a b : History) → Calm a b → {moment : ℕ} → now b ≤ moment → now a ≤ moment
+    later_now a b calm le = (let grew : now a ≤ now b = goes_later (λ f. f < 4) a b calm.goes in omega (arith, grew, le))
 
-pub tells_on : (R : History → History → Type 0) (x y : Option History) → Told x y R → is_some y ≡ is_some x
-tells_on R None None t = refl
-tells_on R (Some a) (Some b) t = refl
-tells_on R None (Some b) t = absurd t
-tells_on R (Some a) None t = absurd t
+-- a new database was made, and then opened
+pub opens_new : (x y z : Option History) → is_some y ≡ is_some x → HasImage false x → IsNew y → Told y z Calm → Opens fresh_run x z
+opens_new x y z same had new calm = (had, tells_on Calm y z calm ∙ same, calm_new y z calm new)
+
+-- a new database that couldn't be opened
+pub refused_spares : (x y z : Option History) → is_some y ≡ is_some x → HasImage false x → Told y z Calm → Spares fresh_run x z
+refused_spares x y z same had calm = inr (had, tells_on Calm y z calm ∙ same)
+
+-- ---- how a database is made
 
 pub is_new : (T E : Type 0) (done : T) (made : Inv) (x y : Option History) → made ≡ fresh → (let result : Result T E = Ok done in Told x y (Formatted meaning made result)) → IsNew y
 is_new T E done made x None is t = tt
@@ -116,6 +137,6 @@ has_image b (Some h) is = sym is
 -- what caused a call's end, where one command is asked, is what did where the words ask it
 pub asked_one : (one : Command) (asked : Command → Type 0) → asked one → (why : Closing) (told left : Option History) (last : ℕ) (rose : ℕ → Type 0) → HasCause (λ command. command ≡ one) why told left last rose → HasCause asked why told left last rose
 asked_one one asked is no_command told left last rose cause = absurd (cause.0 one refl)
-asked_one one asked is formatted told left last rose (same, had, new) = (subst (λ (c : Command). asked c) (sym same) is, had, new)
+asked_one one asked is formatted told left last rose (same, had, tells, new) = (subst (λ (c : Command). asked c) (sym same) is, had, tells, new)
 asked_one one asked is exists told left last rose (same, had, looked) = (⊎_elim (λ first. inl (subst (λ (c : Command). asked c) (sym first) is)) (λ second. inr (subst (λ (c : Command). asked c) (sym second) is)) same, had, looked)
 asked_one one asked is (refused_opening why) told left last rose (command, same, not, spares) = (command, subst (λ (c : Command). asked c) (sym same) is, not, spares)

@@ -1,6 +1,5 @@
 -- A script is run over a vault that was opened, over what the store holds or over a database that was just put there.
 use Rattle.std.proofs.Common.{◌≡◌, ℕ, Option, None, Some, IfSome, List, [], ◌++◌, length, Result, Ok, Err, reverse, refl, sym, ◌∙◌, ap, subst, append-nil}
-use Rattle.std.proofs.lemmas.List.{length-reverse}
 use Rattle.store_api.specs.Disk.{History, now}
 use Rattle.store_api.specs.Told.{Told}
 use Rattle.store_api.specs.Runs.{GoesOn}
@@ -10,7 +9,7 @@ use Rattle.kinds.specs.declared.refusal.OpenRefused.TheVariants as refused
 use Rattle.entries.specs.declared.entry.Entry.{Entry}
 use Rattle.inventory.specs.Meant.{meaning}
 use Rattle.inventory_rows.specs.State.{Inv}
-use Rattle.vault.specs.log_file.Safety.{Timely}
+use Rattle.vault.specs.log_file.Safety.{Timely, acknowledged}
 use Rattle.script_loop.specs.Runs.{Says}
 use Rattle.script_loop.specs.Ends.{DoneAtEnd, status_of}
 use Rattle.script_loop.specs.declared.ends.End.{End}
@@ -18,58 +17,75 @@ use Rattle.vault.specs.Openings.{Opened, Calm, MayRefuseOpening}
 use Rattle.vault.specs.Vaults.{State}
 use Rattle.server.specs.Running.{Running, IsSure}
 use Rattle.server.specs.Steps.{Later, Went}
-use Rattle.server.specs.World.{entries_of}
+use Rattle.server.specs.Left.{HasFirst}
+use Rattle.server.specs.World.{Kept, entries_of}
 use Rattle.server.proofs.Soundness.{opened_good}
 use Rattle.tsm_top.specs.declared.session.Session.{Session}
-use Rattle.tsm_top.specs.Machine.{Site}
-use Rattle.tsm_top.specs.Serve.{run, OpensNot, IsOurFile, IsNone, RunsOver, StartsAt, Sure, RanOver, RanScript, RanFrom, RoseBetween}
+use Rattle.tsm_top.specs.Machine.{Site, IsThere, AllSafe}
+use Rattle.tsm_top.specs.Serve.{run, OpensNot, IsOurFile, IsNone, RunsOver, StartsAt, Sure, RanOver, opened_site, RanScript, RanFrom, RoseBetween}
 use Rattle.tsm_top.specs.Session.{ServesLine, HaltsLine}
-use Rattle.tsm_top.proofs.Machines.{Sim, says, safe_after, left_after}
+use Rattle.tsm_top.proofs.Machines.{Sim, site_of, there, says, safe_after, left_after}
 use Rattle.tsm_top.proofs.Saying.{ran_over}
 use Rattle.server.proofs.Stepping.{does_none}
 
-same_site : (a : Site) (generation stamped : ℕ) → a.generation ≡ generation → a.stamped ≡ stamped → a ≡ record { kept = a.kept; generation = generation; stamped = stamped }
-same_site a generation stamped number count = rw (sym number) (rw (sym count) refl)
-
 module _ {S : Type 0} (told : S → Option History) (moment : S → ℕ) (faults : S → ℕ → ℕ) (clock : (s : S) → IfSome (told s) (λ h. now h ≡ moment s)) (start : Running S) (none : start.stamps ≡ []) (begun : start.vault.journal ≡ []) (sure : start.vault.fault ≡ None) where
-  abbrev site : Site
-  site = record { kept = []; generation = start.vault.generation; stamped = 0 }
+  begins : (old : Session S) → old.server ≡ start → Sim told moment faults clock start none old.server []
+  begins old is = subst (λ (server : Running S). Sim told moment faults clock start none server []) (sym is) (record { fresh = []; does = does_none told moment faults start sure })
 
-  begins : (old : Session S) → old.server ≡ start → Sim told moment faults clock start old.server site []
-  begins old is = subst (λ (server : Running S). Sim told moment faults clock start server site []) (sym is) (record { does = does_none told moment faults start sure; generation = refl; stamped = refl })
+  -- the site of the server at the start
+  abbrev site : Site
+  site = opened_site start.vault.generation start.vault.end (moment start.store) (faults start.store)
+
+  site_is : (server : Running S) → server ≡ start → site_of told moment faults clock start none [] server ≡ site
+  site_is server is = rw is (ap (λ (l : List ℕ). let s : Site = record { kept = []; stamps = l; generation = start.vault.generation; log = start.vault.end; moment = moment start.store; faults = faults start.store } in s) none)
+
+  -- the site at the return, by what `close` gives
+  abbrev site_left : Running S → List Kept → List ℕ → ℕ → Site
+  site_left server kept stamps generation = record { kept = kept; stamps = stamps; generation = generation; log = server.vault.end; moment = moment server.store; faults = faults server.store }
+
+  left_is : (server : Running S) (kept : List Kept) (stamps : List ℕ) (generation : ℕ) → stamps ≡ server.stamps → generation ≡ server.vault.generation → site_of told moment faults clock start none kept server ≡ site_left server kept stamps generation
+  left_is server kept stamps generation same number = ap (λ (l : List ℕ). site_left server kept l server.vault.generation) (sym same) ∙ ap (λ (n : ℕ). site_left server kept stamps n) (sym number)
 
   -- what a run of the server leaves
   pub record Whole (last : S) (end : End) (status : ℕ) (journal : List Entry) (stamps : List ℕ) (generation : ℕ) (script left before after : Option (List ℕ)) : Type 0 where
-    pub from : RanFrom start.vault (told start.store) (told last) (RoseBetween (faults start.store) (faults last)) (moment start.store) (moment last) end status journal stamps generation script left before after
+    pub from : RanFrom start.vault (told start.store) (told last) (faults start.store) (faults last) (moment start.store) (moment last) end status journal stamps generation script left before after
     pub later : Later moment faults start.store last
     pub goes : Told (told start.store) (told last) (GoesOn (λ file. Unit {0}))
 
   ran_there : (end : End) (status : ℕ) (journal : List Entry) (stamps : List ℕ) (generation : ℕ) (script left before after : Option (List ℕ)) (old new : Session S) → old.server ≡ start → Says (λ a line answer b. ServesLine told moment faults a.server line answer b.server) (λ a line how b. HaltsLine told moment faults a.server line how b.server) old new script before after end →
       status ≡ status_of end → journal ≡ new.server.vault.journal → reverse stamps ≡ new.server.stamps → generation ≡ new.server.vault.generation → DoneAtEnd end left → Whole new.server.store end status journal stamps generation script left before after
   ran_there end status journal stamps generation script left before after old new is said code journal_is stamps_are generation_is rest =
-      let all = says told moment faults clock start end script before after old new site [] (begins old is) said in
+      let sim = begins old is in
+      let all = says told moment faults clock start none end script before after old new [] sim said in
       let last = all.left in
-      let fresh_is : reverse stamps ≡ all.fresh = stamps_are ∙ last.adds.stamps ∙ ap (λ (l : List ℕ). all.fresh ++ l) none ∙ append-nil all.fresh in
-      let there = same_site all.after generation (length stamps) (sym last.generation ∙ sym generation_is) (last.stamped ∙ ap length (sym fresh_is) ∙ length-reverse stamps) in
-      let rose : ℕ → Type 0 = RoseBetween (faults start.store) (faults new.server.store) in
-      let over : (first : ℕ → List ℕ) → RanOver (IsSure first start.vault (told start.store)) rose first start.vault.database site all.after (moment start.store) (moment new.server.store) (told new.server.store) end all.fresh script before after = λ first. record {
+      let fresh_is : new.server.stamps ≡ last.fresh = last.adds.stamps ∙ ap (λ (l : List ℕ). last.fresh ++ l) none ∙ append-nil last.fresh in
+      let there = left_is new.server all.after (reverse stamps) generation stamps_are generation_is in
+      let final : Site = site_of told moment faults clock start none all.after new.server in
+      let over : (first : ℕ → List ℕ) → RanOver (IsSure first start.vault (told start.store)) first start.vault.database (site_of told moment faults clock start none [] old.server) final (told new.server.store) end script before after = λ first. record {
+        begins = λ known. begins_there first old new is known all.after last.fresh last.files;
         says = (said.0, said.1, all.run first);
-        left = λ known. left_after first start.vault all.after.kept all.fresh (moment new.server.store) (told start.store) (told new.server.store) (clock new.server.store) last.files known;
-        images = λ known. safe_after first start.vault (moment start.store) all.after.kept all.fresh (told start.store) (told new.server.store) (clock start.store) last.files known;
+        images = λ known. subst (λ (l : List ℕ). IfSome (told new.server.store) (AllSafe start.vault.database first (moment old.server.store) all.after l)) (sym fresh_is) (safe_after first start.vault (moment old.server.store) all.after last.fresh (told start.store) (told new.server.store) (subst (λ (r : Running S). IfSome (told start.store) (λ h. now h ≡ moment r.store)) (sym is) (clock start.store)) last.files known);
+        left = λ known. subst (λ (l : List ℕ). IfSome (told new.server.store) (HasFirst start.vault.database first all.after (acknowledged (moment new.server.store) l))) (sym fresh_is) (left_after first start.vault all.after last.fresh (moment new.server.store) (told start.store) (told new.server.store) (clock new.server.store) last.files known);
       } in
       record {
         from = record {
           code = code;
-          kept = all.after.kept;
-          journal_is = ap reverse journal_is ∙ last.adds.journal ∙ ap (λ (l : List Entry). entries_of all.after.kept ++ reverse l) begun ∙ append-nil (entries_of all.after.kept);
+          kept = all.after;
+          journal_is = ap reverse journal_is ∙ last.adds.journal ∙ ap (λ (l : List Entry). entries_of all.after ++ reverse l) begun ∙ append-nil (entries_of all.after);
           rest = rest;
-          timely = subst (λ (l : List ℕ). Timely (moment start.store) (moment new.server.store) l) (sym fresh_is) last.adds.timely;
-          runs = λ first. subst (λ (l : List ℕ). RanOver (IsSure first start.vault (told start.store)) rose first start.vault.database site (record { kept = all.after.kept; generation = generation; stamped = length stamps }) (moment start.store) (moment new.server.store) (told new.server.store) end l script before after) (sym fresh_is)
-              (subst (λ (s : Site). RanOver (IsSure first start.vault (told start.store)) rose first start.vault.database site s (moment start.store) (moment new.server.store) (told new.server.store) end all.fresh script before after) there (over first));
+          timely = subst (λ (l : List ℕ). Timely (moment start.store) (moment new.server.store) l) (sym (stamps_are ∙ fresh_is)) last.adds.timely;
+          left_log = new.server.vault.end;
+          runs = λ first. subst (λ (s : Site). RanOver (IsSure first start.vault (told start.store)) first start.vault.database s (site_left new.server all.after (reverse stamps) generation) (told new.server.store) end script before after) (site_is old.server is)
+              (subst (λ (s : Site). RanOver (IsSure first start.vault (told start.store)) first start.vault.database (site_of told moment faults clock start none [] old.server) s (told new.server.store) end script before after) there (over first));
         };
         later = last.later;
-        goes = told_map (told start.store) (told new.server.store) (Went start.vault all.after.kept all.fresh) (GoesOn (λ file. Unit {0})) (λ a b went. went.goes) last.files;
+        goes = told_map (told start.store) (told new.server.store) (Went start.vault all.after last.fresh) (GoesOn (λ file. Unit {0})) (λ a b went. went.goes) last.files;
       }
+    where
+      begins_there : (first : ℕ → List ℕ) (old new : Session S) → old.server ≡ start → IsSure first start.vault (told start.store) → (kept : List Kept) (fresh : List ℕ) → Told (told start.store) (told new.server.store) (Went start.vault kept fresh) → IsThere (told new.server.store) start.vault.database first (site_of told moment faults clock start none [] old.server)
+      begins_there first old new is known kept fresh files =
+          there told moment faults clock start none first old.server [] new.server.store (begins old is)
+          (subst (λ (r : Running S). Told (told r.store) (told new.server.store) (GoesOn (λ f. Unit {0}))) (sym is) (told_map (told start.store) (told new.server.store) (Went start.vault kept fresh) (GoesOn (λ f. Unit {0})) (λ a b went. went.goes) files)) known
 
   pub ran : (end : End) (status : ℕ) (journal : List Entry) (stamps : List ℕ) (generation : ℕ) (script left before after : Option (List ℕ)) (old new : Session S) (last : S) → last ≡ new.server.store → old.server ≡ start → Says (λ a line answer b. ServesLine told moment faults a.server line answer b.server) (λ a line how b. HaltsLine told moment faults a.server line how b.server) old new script before after end →
       status ≡ status_of end → journal ≡ new.server.vault.journal → reverse stamps ≡ new.server.stamps → generation ≡ new.server.vault.generation → DoneAtEnd end left → Whole last end status journal stamps generation script left before after
@@ -117,11 +133,11 @@ module _ (x y : Option History) (state : State Inv) (opened : (let result : Resu
   starts_at (Some a) (Some b) is = (is.images.payload, is.images.newest)
   starts_at (Some a) None is = absurd is
 
-  pub script : (left_told : Option History) (rose : ℕ → Type 0) (first_moment last : ℕ) (end : End) (status : ℕ) (journal : List Entry) (stamps : List ℕ) (base : Option Inv) (generation : ℕ) (text left before after : Option (List ℕ)) → base ≡ Some state.database → RanFrom state y left_told rose first_moment last end status journal stamps generation text left before after → RanScript run x left_told rose first_moment last end status journal stamps base generation text left before after
-  script left_told rose first_moment last end status journal stamps base generation text left before after is from = record {
+  pub script : (left_told : Option History) (before after : ℕ → ℕ) (first_moment last : ℕ) (end : End) (status : ℕ) (journal : List Entry) (stamps : List ℕ) (base : Option Inv) (generation : ℕ) (text left was is : Option (List ℕ)) → base ≡ Some state.database → RanFrom state y left_told before after first_moment last end status journal stamps generation text left was is → RanScript run x left_told before after first_moment last end status journal stamps base generation text left was is
+  script left_told before after first_moment last end status journal stamps base generation text left was is base_is from = record {
     code = from.code;
     database = state.database;
-    base_is = is;
+    base_is = base_is;
     over = runs_over x y opened;
     kept = from.kept;
     journal_is = from.journal_is;
@@ -129,5 +145,7 @@ module _ (x y : Option History) (state : State Inv) (opened : (let result : Resu
     timely = from.timely;
     start = state.generation;
     begins = starts_at x y opened;
-    runs = λ first. ran_over (IsSure first state y) (Sure run first x) rose first state.database _ _ first_moment last left_told end (reverse stamps) text before after (λ known. sure_opened first x y opened known) (from.runs first);
+    log = state.end;
+    left_log = from.left_log;
+    runs = λ first. ran_over (IsSure first state y) (Sure run first x) first state.database _ _ left_told end text was is (λ known. sure_opened first x y opened known) (from.runs first);
   }

@@ -1,5 +1,5 @@
 -- A run that one machine may make is one that another may, where each of its lines is.
-use Rattle.std.proofs.Common.{inl, inr, ℕ, ◌+◌, ◌≤◌, ◌^◌, ◌-◌, Option, List, [], ◌∷◌}
+use Rattle.std.proofs.Common.{inl, inr, ℕ, ◌+◌, Option, List, [], ◌∷◌}
 use Rattle.store_api.specs.Disk.{History}
 use Rattle.inventory_rows.specs.State.{Inv}
 use Rattle.script_loop.specs.Reply.{Answer}
@@ -8,7 +8,7 @@ use Rattle.script_loop.specs.declared.tally.Tally.{Tally}
 use Rattle.script_loop.specs.declared.ends.Halt.{Halt}
 use Rattle.script_loop.specs.declared.ends.End.{End}
 use Rattle.script_loop.specs.declared.ends.End.TheVariants.{Done, SourceFault, SinkFault, Halted, TooLong}
-use Rattle.tsm_top.specs.Machine.{Site, RepliesAt, StopsAt}
+use Rattle.tsm_top.specs.Machine.{Site, RoseFrom, IsLate, StoodAt, RepliesAt, StopsAt}
 use Rattle.tsm_top.specs.Serve.{RanOver}
 use Rattle.tsm_top.proofs.Weaker.{replies, stops}
 
@@ -40,20 +40,20 @@ module _ {S : Type 0} (serves others : S → List ℕ → Answer → S → Type 
   prints_map (TooLong n) script put old new run = allows_map (TooLong n) script put old new run
 
 -- What a run kept, as it is said under one premise, is so under a stronger one.
-module _ (sure known : Type 0) (rose : ℕ → Type 0) (full : Type 0) (base : Inv) (first : ℕ → List ℕ) (knows : known → sure) where
-  replies_at : (old : Site) (line : List ℕ) (answer : Answer) (new : Site) → RepliesAt rose full sure base first old line answer new → RepliesAt rose full known base first old line answer new
-  replies_at old line answer new (added, is, kept, stamped) = (added, replies rose rose full full sure known (λ file is. is) (λ is. is) knows _ _ old.generation line answer added new.generation is, kept, stamped)
+module _ (sure known : Type 0) (told : Option History) (base : Inv) (first : ℕ → List ℕ) (knows : known → sure) where
+  replies_at : (old : Site) (line : List ℕ) (answer : Answer) (new : Site) → RepliesAt sure told base first old line answer new → RepliesAt known told base first old line answer new
+  replies_at old line answer new (added, is, grows, stamped, there) =
+      (added, replies (RoseFrom old new) (RoseFrom old new) (IsLate new) (IsLate new) sure known (StoodAt told old.moment) (StoodAt told old.moment) (λ file rose. rose) (λ full. full) knows (λ object segments bytes stands. stands) _ _ (IsLate old) old.generation old.log line answer added new.generation new.log is, grows, stamped, λ k. there (knows k))
 
-  stops_at : (old : Site) (line : List ℕ) (how : Halt) (new : Site) → StopsAt rose full sure base first old line how new → StopsAt rose full known base first old line how new
-  stops_at old line how new (added, is, kept, stamped) = (added, stops rose rose full full sure known (λ file is. is) (λ is. is) knows _ _ old.generation line how added new.generation is, kept, stamped)
+  stops_at : (old : Site) (line : List ℕ) (how : Halt) (new : Site) → StopsAt sure told base first old line how new → StopsAt known told base first old line how new
+  stops_at old line how new (added, is, grows, stamped, there) =
+      (added, stops (RoseFrom old new) (RoseFrom old new) (IsLate new) (IsLate new) sure known (StoodAt told old.moment) (StoodAt told old.moment) (λ file rose. rose) (λ full. full) knows (λ object segments bytes stands. stands) _ _ (IsLate old) old.generation line how added new.generation is, grows, stamped, λ k. there (knows k))
 
-pub ran_over : (sure known : Type 0) (rose : ℕ → Type 0) (first : ℕ → List ℕ) (base : Inv) (old new : Site) (opened last : ℕ) (told : Option History) (end : End) (stamps : List ℕ) (script before after : Option (List ℕ)) → (known → sure) →
-    RanOver sure rose first base old new opened last told end stamps script before after → RanOver known rose first base old new opened last told end stamps script before after
-ran_over sure known rose first base old new opened last told end stamps script before after knows ran =
-    let full : Type 0 = 2 ^ 62 - 2 ^ 24 ≤ last in
-    let run = prints_map (RepliesAt rose full sure base first) (RepliesAt rose full known base first) (StopsAt rose full sure base first) (StopsAt rose full known base first) (replies_at sure known rose full base first knows) (stops_at sure known rose full base first knows) end script ran.says.0 old new ran.says.2 in
-    record {
-      says = (ran.says.0, ran.says.1, run);
-      images = λ k. ran.images (knows k);
-      left = λ k. ran.left (knows k);
-    }
+pub ran_over : (sure known : Type 0) (first : ℕ → List ℕ) (base : Inv) (old new : Site) (told : Option History) (end : End) (script before after : Option (List ℕ)) → (known → sure) →
+    RanOver sure first base old new told end script before after → RanOver known first base old new told end script before after
+ran_over sure known first base old new told end script before after knows ran = record {
+  begins = λ k. ran.begins (knows k);
+  says = (ran.says.0, ran.says.1, prints_map (RepliesAt sure told base first) (RepliesAt known told base first) (StopsAt sure told base first) (StopsAt known told base first) (replies_at sure known told base first knows) (stops_at sure known told base first knows) end script ran.says.0 old new ran.says.2);
+  images = λ k. ran.images (knows k);
+  left = λ k. ran.left (knows k);
+}

@@ -16,17 +16,24 @@ use Rattle.script_loop.specs.declared.ends.Halt.{Halt}
 use Rattle.server.specs.declared.get.Shown.{Shown}
 use Rattle.server.specs.declared.stop.Stop.{Stop}
 use Rattle.server.specs.declared.stop.Stop.TheVariants.{Refused, LogFault, RunFull, Memory}
-use Rattle.server.specs.Requests.{File, Commits, volume_defined, DefinesVolumeIn, filespace_defined, StoresIn, DefinesAndStores, PutsUnder, PutsBy, PutsOf, Puts, IsUnread, Shows, ShowsFound, GetsUnder, GetsOf, Checkpoints, backed_up, item_of}
+use Rattle.server.specs.Requests.{File, Commits, volume_defined, DefinesVolumeIn, filespace_defined, StoresIn, DefinesAndStores, PutsUnder, PutsBy, PutsOf, Puts, BeginsNot, Follows, IsFrom, IsUnread, Shows, ShowsFound, GetsUnder, GetsOf, Checkpoints, backed_up, item_of}
 use Rattle.server.specs.World.{Kept}
-use Rattle.tsm_top.specs.Asking.{Asks, RepliesTo, Replies, EndsAt, Stops, HaltedBy, file_put}
+use Rattle.tsm_top.specs.Asking.{Asks, RepliesTo, Replies, EndsAt, Stops, HaltedBy, FaultBehind, file_put}
 
-module _ (rose more : ℕ → Type 0) (full late sure known : Type 0) (rises : (file : ℕ) → rose file → more file) (fills : full → late) (knows : known → sure) where
+module _ (rose more : ℕ → Type 0) (full late sure known : Type 0) (stands there : ℕ → List Segment → List ℕ → Type 0) (rises : (file : ℕ) → rose file → more file) (fills : full → late) (knows : known → sure) (stood : (object : ℕ) (segments : List Segment) (bytes : List ℕ) → there object segments bytes → stands object segments bytes) where
   pub commits : {T : Type 0} (c : Change) (text : List ℕ) (v : Inv) (result : Result T Stop) (added : List Kept) → Commits rose full c text v result added → Commits more late c text v result added
   commits c text v (Ok done) added is = is
   commits c text v (Err (Refused why)) added is = is
   commits c text v (Err (LogFault file)) added is = ((is.0.0, rises file is.0.1), is.1, is.2)
   commits c text v (Err RunFull) added is = (fills is.0, is.1)
   commits c text v (Err Memory) added is = is
+
+  begins_not : {T : Type 0} (result : Result T Stop) (added : List Kept) → BeginsNot full result added → BeginsNot late result added
+  begins_not result added is = (⊎_elim (λ run_full. inl (run_full.0, fills run_full.1)) (λ memory. inr memory) is.0, is.1)
+
+  follows : (generation end next left : ℕ) → Follows full generation end next left → Follows late generation end next left
+  follows generation end next left (inl made) = inl made
+  follows generation end next left (inr (why, stays, same)) = inr (⊎_elim (λ short. inl short) (λ not. inr (⊎_elim (λ run_full. inl (fills run_full)) (λ last. inr last) not)) why, stays, same)
 
   defines_in : {T : Type 0} (pool : Option ℕ) (name : List ℕ) (mebibytes : ℕ) (v : Inv) (result : Result T Stop) (added : List Kept) → DefinesVolumeIn rose full pool name mebibytes v result added → DefinesVolumeIn more late pool name mebibytes v result added
   defines_in None name mebibytes v result added is = is
@@ -56,13 +63,12 @@ module _ (rose more : ℕ → Type 0) (full late sure known : Type 0) (rises : (
   puts_of (Some node) f v result added is = puts_by (default_rule node v) f node v result added is
 
   puts : (f : File) (v : Inv) (result : Result ℕ Stop) (added : List Kept) → Puts rose full f v result added → Puts more late f v result added
-  puts f v result added is = ⊎_elim (λ none. inl none) (λ done. inr (puts_of (node_named f.node v.clients.nodes) f v result added done)) is
+  puts f v result added is = ⊎_elim (λ none. inl (begins_not result added none)) (λ done. inr (puts_of (node_named f.node v.clients.nodes) f v result added done)) is
 
   unread : (v : Inv) (segments : List Segment) → IsUnread rose v segments → IsUnread more v segments
   unread v [] is = is
   unread v (s ∷ segments) (inl (inl far)) = inl (inl far)
-  unread v (s ∷ segments) (inl (inr (inl rose_there))) = inl (inr (inl (rises s.file rose_there)))
-  unread v (s ∷ segments) (inl (inr (inr behind))) = inl (inr (inr behind))
+  unread v (s ∷ segments) (inl (inr rose_there)) = inl (inr (rises s.file rose_there))
   unread v (s ∷ segments) (inr is) = inr (unread v segments is)
 
   all_unread : (v : Inv) (copies : List CopyRow) → AllByRecursion (λ (c : CopyRow). IsUnread rose v c.segments) copies → AllByRecursion (λ (c : CopyRow). IsUnread more v c.segments) copies
@@ -70,22 +76,25 @@ module _ (rose more : ℕ → Type 0) (full late sure known : Type 0) (rises : (
   all_unread v (c ∷ copies) is = (unread v c.segments is.0, all_unread v copies is.1)
 
   module _ (contents : ℕ → List ℕ) (v : Inv) where
-    shows : (version : Version) (result : Result Shown Stop) → Shows rose full sure contents v version result → Shows more late known contents v version result
-    shows version (Ok file) is = (is.0, is.1, is.2, λ k. is.3 (knows k), is.4)
+    from_there : (version : Version) (file : Shown) → IsFrom (stands version.object) v version.copies file.bytes.items → IsFrom (there version.object) v version.copies file.bytes.items
+    from_there version file from = record { copy = from.copy; among = from.among; readable = from.readable; same = λ whole is. from.same whole (stood version.object from.copy.segments whole is) }
+
+    shows : (version : Version) (result : Result Shown Stop) → Shows rose full sure contents stands v version result → Shows more late known contents there v version result
+    shows version (Ok file) is = (is.0, is.1, is.2, λ k. is.3 (knows k), from_there version file is.4)
     shows version (Err (Refused why)) is = (is.0, all_unread v version.copies is.1)
     shows version (Err (LogFault file)) is = absurd is
     shows version (Err RunFull) is = fills is
     shows version (Err Memory) is = is
 
-    shows_found : (version : Option Version) (result : Result Shown Stop) → ShowsFound rose full sure contents v version result → ShowsFound more late known contents v version result
+    shows_found : (version : Option Version) (result : Result Shown Stop) → ShowsFound rose full sure contents stands v version result → ShowsFound more late known contents there v version result
     shows_found None result is = is
     shows_found (Some version) result is = shows version result is
 
-    gets_under : (filespace : Option ℕ) (path : List ℕ) (result : Result Shown Stop) → GetsUnder rose full sure contents v filespace path result → GetsUnder more late known contents v filespace path result
+    gets_under : (filespace : Option ℕ) (path : List ℕ) (result : Result Shown Stop) → GetsUnder rose full sure contents stands v filespace path result → GetsUnder more late known contents there v filespace path result
     gets_under None path result is = is
     gets_under (Some filespace) path result is = shows_found (active_version filespace path v) result is
 
-    gets_of : (node : Option ℕ) (filespace path : List ℕ) (result : Result Shown Stop) → GetsOf rose full sure contents v node filespace path result → GetsOf more late known contents v node filespace path result
+    gets_of : (node : Option ℕ) (filespace path : List ℕ) (result : Result Shown Stop) → GetsOf rose full sure contents stands v node filespace path result → GetsOf more late known contents there v node filespace path result
     gets_of None filespace path result is = is
     gets_of (Some node) filespace path result is = gets_under (filespace_named node filespace v.clients.filespaces) path result is
 
@@ -96,29 +105,32 @@ module _ (rose more : ℕ → Type 0) (full late sure known : Type 0) (rises : (
     checkpoints generation next (Err RunFull) is = (fills is.0, is.1)
     checkpoints generation next (Err Memory) is = is
 
-    pub asks : (generation : ℕ) (request : Request) (said : Result (List (List ℕ)) Stop) (added : List Kept) (next : ℕ) → Asks rose full sure contents v generation request said added next → Asks more late known contents v generation request said added next
+    pub asks : (generation : ℕ) (request : Request) (said : Result (List (List ℕ)) Stop) (added : List Kept) (next : ℕ) → Asks rose full sure contents stands v generation request said added next → Asks more late known contents there v generation request said added next
     asks generation (day number) said added next (made, is, lines, same) = (made, commits _ [] v made added is, lines, same)
     asks generation (put node filespace path mtime text) said added next (made, is, lines, same) = (made, puts (file_put node filespace path mtime text) v made added is, lines, same)
-    asks generation (get node filespace path) said added next (made, is, lines, none, same) = (made, gets_of (node_named node v.clients.nodes) filespace path made is, lines, none, same)
+    asks generation (get node filespace path) said added next (made, is, lines, none, same) = (made, ⊎_elim (λ run_full. inl (run_full.0, fills run_full.1)) (λ done. inr (gets_of (node_named node v.clients.nodes) filespace path made done)) is, lines, none, same)
     asks generation (register node) said added next (made, is, lines, same) = (made, commits _ [] v made added is, lines, same)
-    asks generation (define_volume name mebibytes) said added next (made, is, lines, same) = (made, ⊎_elim (λ none. inl none) (λ done. inr (defines_in _ name mebibytes v made added done)) is, lines, same)
+    asks generation (define_volume name mebibytes) said added next (made, is, lines, same) = (made, ⊎_elim (λ none. inl (begins_not made added none)) (λ done. inr (defines_in _ name mebibytes v made added done)) is, lines, same)
     asks generation checkpoint said added next (made, is, lines, none) = (made, checkpoints generation next made is, lines, none)
 
-    replies_to : (generation : ℕ) (request : Option Request) (answer : Answer) (added : List Kept) (next : ℕ) → RepliesTo rose full sure contents v generation request answer added next → RepliesTo more late known contents v generation request answer added next
-    replies_to generation None answer added next is = is
-    replies_to generation (Some request) answer added next (said, mid, is, answered, follows) = (said, mid, asks generation request said added mid is, answered, follows)
+    replies_to : (begun : Type 0) (generation log : ℕ) (request : Option Request) (answer : Answer) (added : List Kept) (next left : ℕ) → RepliesTo rose begun full sure contents stands v generation log request answer added next left → RepliesTo more begun late known contents there v generation log request answer added next left
+    replies_to begun generation log None answer added next left is = (is.0, is.1, follows generation log next left is.2)
+    replies_to begun generation log (Some request) answer added next left (said, mid, end, is, early, ends, answered, behind) = (said, mid, end, asks generation request said added mid is, early, ends, answered, follows mid end next left behind)
 
-    pub replies : (generation : ℕ) (line : List ℕ) (answer : Answer) (added : List Kept) (next : ℕ) → Replies rose full sure contents v generation line answer added next → Replies more late known contents v generation line answer added next
-    replies generation line answer added next is = replies_to generation (asked line) answer added next is
+    pub replies : (begun : Type 0) (generation log : ℕ) (line : List ℕ) (answer : Answer) (added : List Kept) (next left : ℕ) → Replies rose begun full sure contents stands v generation log line answer added next left → Replies more begun late known contents there v generation log line answer added next left
+    replies begun generation log line answer added next left is = replies_to begun generation log (asked line) answer added next left is
+
+    fault_behind : (how : Halt) → FaultBehind rose how → FaultBehind more how
+    fault_behind how (file, by, rose_there) = (file, by, (rose_there.0, rises file rose_there.1))
 
     halted_by : (said : Result (List (List ℕ)) Stop) (how : Halt) → HaltedBy rose said how → HaltedBy more said how
     halted_by said how (inl is) = inl is
-    halted_by said how (inr (answer, is, file, by, rose_there)) = inr (answer, is, file, by, (rose_there.0, rises file rose_there.1))
+    halted_by said how (inr (answer, is, behind)) = inr (answer, is, fault_behind how behind)
 
-    ends_at : (generation : ℕ) (request : Option Request) (how : Halt) (added : List Kept) (next : ℕ) → EndsAt rose full sure contents v generation request how added next → EndsAt more late known contents v generation request how added next
-    ends_at generation None how added next is = is
-    ends_at generation (Some request) how added next (inl is) = inl is
-    ends_at generation (Some request) how added next (inr (said, mid, is, by, follows)) = inr (said, mid, asks generation request said added mid is, halted_by said how by, follows)
+    ends_at : (begun : Type 0) (generation : ℕ) (request : Option Request) (how : Halt) (added : List Kept) (next : ℕ) → EndsAt rose begun full sure contents stands v generation request how added next → EndsAt more begun late known contents there v generation request how added next
+    ends_at begun generation None how added next is = (⊎_elim (λ memory. inl memory) (λ behind. inr (fault_behind how behind)) is.0, is.1, is.2)
+    ends_at begun generation (Some request) how added next (inl is) = inl is
+    ends_at begun generation (Some request) how added next (inr (said, is, early, by)) = inr (said, asks generation request said added next is, early, halted_by said how by)
 
-    pub stops : (generation : ℕ) (line : List ℕ) (how : Halt) (added : List Kept) (next : ℕ) → Stops rose full sure contents v generation line how added next → Stops more late known contents v generation line how added next
-    stops generation line how added next is = ends_at generation (asked line) how added next is
+    pub stops : (begun : Type 0) (generation : ℕ) (line : List ℕ) (how : Halt) (added : List Kept) (next : ℕ) → Stops rose begun full sure contents stands v generation line how added next → Stops more begun late known contents there v generation line how added next
+    stops begun generation line how added next is = ends_at begun generation (asked line) how added next is

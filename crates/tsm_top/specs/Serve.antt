@@ -26,7 +26,7 @@ use Rattle.server.specs.World.{Kept, entries_of}
 use Rattle.vault.specs.Vaults.{State}
 use Rattle.tsm_top.specs.declared.top.NotMade.{NotMade}
 use Rattle.tsm_top.specs.declared.top.NotMade.TheVariants.{Exists, Refused}
-use Rattle.tsm_top.specs.Machine.{Site, RepliesAt, StopsAt, AllSafe}
+use Rattle.tsm_top.specs.Machine.{Site, RepliesAt, StopsAt, IsThere, AllSafe}
 
 -- what the words ask
 pub data Command : Type 0 where
@@ -112,17 +112,28 @@ HasImage is told = IfSome told (λ h. is_formatted (reads h) ≡ is)
 abbrev pub IsNew : Option History → Type 0
 IsNew told = IfSome told (λ h. EachImage (now h) h (IsBase meaning 0 fresh))
 
+-- a store that told its bytes tells them still, and no other does
+abbrev pub StillTells : (told left : Option History) → Type 0
+StillTells told left = is_some left ≡ is_some told
+
 -- What opening took from the files: nothing. Where they were opened, nothing that is read changed, and an image since is one that a stop might have left
 -- at the start; where a database was to be made, the files were only looked at, or no image had an open gate.
 abbrev pub Spares : Command → (told left : Option History) → Type 0
-Spares format told left = Told told left Looked ⊎ HasImage false told
+Spares format told left = Told told left Looked ⊎ (HasImage false told × StillTells told left)
 Spares run told left = Told told left Calm
-Spares fresh_run told left = Told told left Looked ⊎ HasImage false told
+Spares fresh_run told left = Told told left Looked ⊎ (HasImage false told × StillTells told left)
+
+-- What the store is when a script begins: of a database that was opened, what it was, as `Spares` says; of a new one, a store each of whose images of then is
+-- that database, where no image had an open gate.
+abbrev pub Opens : Command → (told left : Option History) → Type 0
+Opens format told left = ⊥
+Opens run told left = Told told left Calm
+Opens fresh_run told left = HasImage false told × StillTells told left × IsNew left
 
 -- The cause of it, where what is asked is one of these commands, and what it left of the files.
 abbrev pub HasCause : (asked : Command → Type 0) → Closing → (told left : Option History) → (last : ℕ) → (rose : ℕ → Type 0) → Type 0
 HasCause asked no_command told left last rose = ((command : Command) → asked command → ⊥) × (left ≡ told)
-HasCause asked formatted told left last rose = asked format × HasImage false told × IsNew left
+HasCause asked formatted told left last rose = asked format × HasImage false told × StillTells told left × IsNew left
 HasCause asked exists told left last rose = (asked format ⊎ asked fresh_run) × HasImage true told × Told told left Looked
 HasCause asked (refused_opening why) told left last rose = (command : Command) × asked command × OpensNot command told last rose why × Spares command told left
 
@@ -159,7 +170,7 @@ IsOurClosing (Refused why) = IsOurFile why
 -- why no database was made
 abbrev pub MakesNot : (told left : Option History) → (last : ℕ) → (rose : ℕ → Type 0) → NotMade → Type 0
 MakesNot told left last rose Exists = HasImage true told × Told told left Looked
-MakesNot told left last rose (Refused why) = OpensNot format told last rose why × (Told told left Looked ⊎ HasImage false told)
+MakesNot told left last rose (Refused why) = OpensNot format told last rose why × Spares format told left
 
 -- What a script runs over: `run`, over what the files recover to at the start; `fresh`, over a new server's database, where no image had an open gate.
 abbrev pub RunsOver : Command → (told : Option History) → (base : Inv) → Type 0
@@ -180,16 +191,21 @@ Sure run first None = ⊥
 Sure run first (Some h) = IsSound first h
 Sure fresh_run first told = is_some told ≡ true
 
--- What a run kept, over the bytes that the objects had at the opening: what was put and made, what each image since gives back, and what the store has at the return. `rose` says of a file that its count of faults rose since then; `opened` and `last` are the moments at the end of opening
+-- What a run kept, over the bytes that the objects had at the opening: what was put and made, what each image since gives back, and what the store has at the return. The sites are those at the end of opening
 -- and at the return.
-pub record RanOver (sure : Type 0) (rose : ℕ → Type 0) (first : ℕ → List ℕ) (base : Inv) (old new : Site) (opened last : ℕ) (told : Option History) (end : End) (stamps : List ℕ) (script before after : Option (List ℕ)) : Type 0 where
-  pub says : Says (RepliesAt rose (2 ^ 62 - 2 ^ 24 ≤ last) sure base first) (StopsAt rose (2 ^ 62 - 2 ^ 24 ≤ last) sure base first) old new script before after end
-  pub images : sure → IfSome told (AllSafe base first opened new.kept stamps)
-  pub left : sure → IfSome told (HasFirst base first new.kept (acknowledged last stamps))
+pub record RanOver (sure : Type 0) (first : ℕ → List ℕ) (base : Inv) (old new : Site) (told : Option History) (end : End) (script before after : Option (List ℕ)) : Type 0 where
+  pub begins : sure → IsThere told base first old
+  pub says : Says (RepliesAt sure told base first) (StopsAt sure told base first) old new script before after end
+  pub images : sure → IfSome told (AllSafe base first old.moment new.kept new.stamps)
+  pub left : sure → IfSome told (HasFirst base first new.kept (acknowledged new.moment new.stamps))
 
--- A script was run over a database. `told` is what the store told at the start, and `left_told` what it tells at the return. As many transactions are known to be
--- durable as have their stamps.
-pub record RanScript (command : Command) (told left_told : Option History) (rose : ℕ → Type 0) (opened last : ℕ) (end : End) (status : ℕ) (journal : List Entry) (stamps : List ℕ) (base : Option Inv) (generation : ℕ) (script left before after : Option (List ℕ)) : Type 0 where
+-- the site at the end of opening: nothing was made yet
+abbrev pub opened_site : (generation log moment : ℕ) → (faults : ℕ → ℕ) → Site
+opened_site generation log moment faults = record { kept = []; stamps = []; generation = generation; log = log; moment = moment; faults = faults }
+
+-- A script was run over a database. `told` is what the store told at the start, and `left_told` what it tells at the return; `opened` and `last` are the moments, and `before` and `after` the counts of faults, at the
+-- end of opening and at the return. As many transactions are known to be durable as have their stamps.
+pub record RanScript (command : Command) (told left_told : Option History) (before after : ℕ → ℕ) (opened last : ℕ) (end : End) (status : ℕ) (journal : List Entry) (stamps : List ℕ) (base : Option Inv) (generation : ℕ) (script left was is : Option (List ℕ)) : Type 0 where
   pub code : status ≡ status_of end
   pub database : Inv
   pub base_is : base ≡ Some database
@@ -200,13 +216,18 @@ pub record RanScript (command : Command) (told left_told : Option History) (rose
   pub timely : Timely opened last (reverse stamps)
   pub start : ℕ
   pub begins : StartsAt command told start
-  pub runs : (first : ℕ → List ℕ) → RanOver (Sure command first told) rose first database (record { kept = []; generation = start; stamped = 0 }) (record { kept = kept; generation = generation; stamped = length stamps }) opened last left_told end (reverse stamps) script before after
+  pub log : ℕ
+  pub left_log : ℕ
+  pub runs : (first : ℕ → List ℕ) → RanOver (Sure command first told) first database (opened_site start log opened before)
+      (record { kept = kept; stamps = reverse stamps; generation = generation; log = left_log; moment = last; faults = after }) left_told end script was is
 
 -- The same over a vault that was opened.
-pub record RanFrom (vault : State Inv) (told left_told : Option History) (rose : ℕ → Type 0) (opened last : ℕ) (end : End) (status : ℕ) (journal : List Entry) (stamps : List ℕ) (generation : ℕ) (script left before after : Option (List ℕ)) : Type 0 where
+pub record RanFrom (vault : State Inv) (told left_told : Option History) (before after : ℕ → ℕ) (opened last : ℕ) (end : End) (status : ℕ) (journal : List Entry) (stamps : List ℕ) (generation : ℕ) (script left was is : Option (List ℕ)) : Type 0 where
   pub code : status ≡ status_of end
   pub kept : List Kept
   pub journal_is : reverse journal ≡ entries_of kept
   pub rest : DoneAtEnd end left
   pub timely : Timely opened last (reverse stamps)
-  pub runs : (first : ℕ → List ℕ) → RanOver (IsSure first vault told) rose first vault.database (record { kept = []; generation = vault.generation; stamped = 0 }) (record { kept = kept; generation = generation; stamped = length stamps }) opened last left_told end (reverse stamps) script before after
+  pub left_log : ℕ
+  pub runs : (first : ℕ → List ℕ) → RanOver (IsSure first vault told) first vault.database (opened_site vault.generation vault.end opened before)
+      (record { kept = kept; stamps = reverse stamps; generation = generation; log = left_log; moment = last; faults = after }) left_told end script was is

@@ -1,11 +1,11 @@
 // A session of the server, and how it answers a line.
 ghost use Rattle.std.specs.Prelude.{◌≡◌, ◌*◌, ◌^◌, IfOk, IfErr, ℕ, List, Result, None};
-ghost use Rattle.line_forms.specs.Line.{AskedFits, ContentFits, IsVolumeSize, asked_view, register, define_volume, get};
+ghost use Rattle.line_forms.specs.Line.{asked, AskedFits, ContentFits, IsVolumeSize, asked_view, register, define_volume, get};
 ghost use Rattle.server.specs.declared.stop.Stop.{Stop};
 ghost use Rattle.server.specs.declared.stop.Stop.TheVariants.{Memory};
 ghost use Rattle.tsm_top.specs.Answers.{lines_of, ok_line, stored_line, shown_lines, Ends};
 ghost use Rattle.tsm_top.specs.Asking.{standard, backup_pool, put_view};
-ghost use Rattle.tsm_top.specs.Session.{Made};
+ghost use Rattle.tsm_top.specs.Session.{Made, DoesAsked};
 
 use crate::reply::{fixed, shown, stored, unknown};
 use entries::Change;
@@ -81,6 +81,10 @@ impl<S: Store> Session<S> {
         requires size { IsVolumeSize mebibytes }
         ensures made { Made S.told S.moment_of S.faults_of self.old.server (define_volume volume mebibytes) (lines_of (λ done. ok_line) result) self.new.server }
     {
+        match self.server.ready() {
+            Ok(()) => {}
+            Err(stop) => return Err(stop),
+        }
         let name = match backup_pool(alloc) {
             Ok(name) => name,
             Err(stop) => return Err(stop),
@@ -159,6 +163,18 @@ impl<S: Store> Session<S> {
             }
         }
     }
+
+    /// Does what a line asks, and answers it. A line that asks nothing is refused.
+    fn answer_asked(&mut self, alloc: Global, line: &[u8]) -> Result<Reply, Halt>
+        requires sure { self.old.server.vault.fault ≡ None }
+        ensures asked { DoesAsked S.told S.moment_of S.faults_of self.old.server (asked line.now) result self.new.server }
+    {
+        match read_line(alloc, line) {
+            Ok(Some(asked)) => self.ask(alloc, asked),
+            Ok(None) => unknown(alloc),
+            Err(_) => Err(Halt::Memory),
+        }
+    }
 }
 
 /// What a line asks is done and answered; behind it a checkpoint is made where the log is long.
@@ -173,21 +189,16 @@ impl<S: Store> Answerer for Session<S> {
     ghost can_take = { λ session lines. session.server.vault.fault ≡ None };
 
     fn answer(&mut self, alloc: Global, line: &[u8], left: u32) -> Result<Reply, Halt> {
-        let asked = match read_line(alloc, line) {
-            Ok(Some(asked)) => asked,
-            Ok(None) => return unknown(alloc),
-            Err(_) => return Err(Halt::Memory),
-        };
-        let reply = match self.ask(alloc, asked) {
+        let reply = match self.answer_asked(alloc, line) {
             Ok(reply) => reply,
             Err(halt) => return Err(halt),
         };
         match self.server.checkpoint_where_long(alloc) {
             Ok(()) => Ok(reply),
             Err(Stop::LogFault(file)) => Err(Halt::LogFault(file)),
+            Err(Stop::Memory) => Err(Halt::Memory),
             Err(Stop::Refused(_)) => unreachable!(),
             Err(Stop::RunFull) => unreachable!(),
-            Err(Stop::Memory) => unreachable!(),
         }
     }
 }

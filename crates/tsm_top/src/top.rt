@@ -11,7 +11,7 @@ ghost use Rattle.script_loop.specs.Ends.{SourceCause, SinkCause};
 ghost use Rattle.vault.specs.log_file.Cursor.{Looked};
 ghost use Rattle.vault.specs.Openings.{Calm};
 ghost use Rattle.server.specs.Steps.{Later};
-ghost use Rattle.tsm_top.specs.Serve.{IsOnly, Asks, Command, format, run, fresh_run, Closing, no_command, formatted, exists, refused_opening, closing_line, closing_status, HasCauseOf, HasCause, Shuts, OpensNot, PutsLine, RoseBetween, IsOurFile, IsOurClosing, closing_of, HasImage, Spares, IsNew, MakesNot, RanScript, RanFrom};
+ghost use Rattle.tsm_top.specs.Serve.{IsOnly, Asks, Command, format, run, fresh_run, Closing, no_command, formatted, exists, refused_opening, closing_line, closing_status, HasCauseOf, HasCause, Shuts, OpensNot, PutsLine, RoseBetween, IsOurFile, IsOurClosing, closing_of, HasImage, Opens, IsNew, StillTells, MakesNot, RanScript, RanFrom};
 
 use crate::session::Session;
 use entries::{Database, Entry};
@@ -80,8 +80,8 @@ pub fn serve<S: Store, I: Source, O: Sink>(
     // What was put, what is in the journal, and what images of the store give back, by how the call ended.
     ensures outcome { ((why : Closing) × HasCauseOf why words.now (S.told store) (S.told result.store) (S.moment_of result.store) (RoseBetween (S.faults_of store) (S.faults_of result.store))
         × Shuts why (O.contents out.old) (O.contents out.new) (RoseIn (O.fault_count out.old) (O.fault_count out.new)) result.status result.journal.items result.stamps.items result.base result.generation result.opened (S.moment_of result.store) × (script.new ≡ script.old))
-        ⊎ ((command : Command) × Asks words.now command × (end : End) × (opening : S) × (S.moment_of opening ≡ result.opened) × Later S.moment_of S.faults_of store opening × Later S.moment_of S.faults_of opening result.store × Spares command (S.told store) (S.told opening) × Told (S.told opening) (S.told result.store) (GoesOn (λ file. Unit {0}))
-        × RanScript command (S.told store) (S.told result.store) (RoseBetween (S.faults_of opening) (S.faults_of result.store)) result.opened (S.moment_of result.store) end result.status result.journal.items result.stamps.items result.base result.generation (I.left script.old) (I.left script.new) (O.contents out.old) (O.contents out.new)
+        ⊎ ((command : Command) × Asks words.now command × (end : End) × (opening : S) × (S.moment_of opening ≡ result.opened) × Later S.moment_of S.faults_of store opening × Later S.moment_of S.faults_of opening result.store × Opens command (S.told store) (S.told opening) × Told (S.told opening) (S.told result.store) (GoesOn (λ file. Unit {0}))
+        × RanScript command (S.told store) (S.told result.store) (S.faults_of opening) (S.faults_of result.store) result.opened (S.moment_of result.store) end result.status result.journal.items result.stamps.items result.base result.generation (I.left script.old) (I.left script.new) (O.contents out.old) (O.contents out.new)
         × SourceCause end (I.fault_count script.old) (I.fault_count script.new) × SinkCause end (O.fault_count out.old) (O.fault_count out.new)) }
 
     // Each status by its cause.
@@ -229,7 +229,7 @@ fn has_none<S: Store>(store: &mut S) -> Result<(), NotMade>
 fn make<S: Store>(alloc: Global, store: &mut S) -> Result<(), NotMade>
     ensures made { OnOk result (HasImage false (S.told store.old)) }
     ensures new { OnOk result (IsNew (S.told store.new)) }
-    ensures tells { is_some (S.told store.new) ≡ is_some (S.told store.old) }
+    ensures tells { StillTells (S.told store.old) (S.told store.new) }
     ensures not_made { IfErr result (λ why. MakesNot (S.told store.old) (S.told store.new) (S.moment_of store.new) (RoseBetween (S.faults_of store.old) (S.faults_of store.new)) why) }
     ensures later { Later S.moment_of S.faults_of store.old store.new }
 {
@@ -268,8 +268,8 @@ fn format_and_run<S: Store, I: Source, O: Sink>(
     out: &mut O,
 ) -> Ended<S>
     ensures outcome { ((why : Closing) × HasCause (λ command. command ≡ fresh_run) why (S.told store) (S.told result.store) (S.moment_of result.store) (RoseBetween (S.faults_of store) (S.faults_of result.store)) × Shuts why (O.contents out.old) (O.contents out.new) (RoseIn (O.fault_count out.old) (O.fault_count out.new)) result.status result.journal.items result.stamps.items result.base result.generation result.opened (S.moment_of result.store) × (script.new ≡ script.old))
-        ⊎ ((end : End) × (opening : S) × (S.moment_of opening ≡ result.opened) × Later S.moment_of S.faults_of store opening × Later S.moment_of S.faults_of opening result.store × Spares fresh_run (S.told store) (S.told opening) × Told (S.told opening) (S.told result.store) (GoesOn (λ file. Unit {0}))
-        × RanScript fresh_run (S.told store) (S.told result.store) (RoseBetween (S.faults_of opening) (S.faults_of result.store)) result.opened (S.moment_of result.store) end result.status result.journal.items result.stamps.items result.base result.generation (I.left script.old) (I.left script.new) (O.contents out.old) (O.contents out.new)
+        ⊎ ((end : End) × (opening : S) × (S.moment_of opening ≡ result.opened) × Later S.moment_of S.faults_of store opening × Later S.moment_of S.faults_of opening result.store × Opens fresh_run (S.told store) (S.told opening) × Told (S.told opening) (S.told result.store) (GoesOn (λ file. Unit {0}))
+        × RanScript fresh_run (S.told store) (S.told result.store) (S.faults_of opening) (S.faults_of result.store) result.opened (S.moment_of result.store) end result.status result.journal.items result.stamps.items result.base result.generation (I.left script.old) (I.left script.new) (O.contents out.old) (O.contents out.new)
         × SourceCause end (I.fault_count script.old) (I.fault_count script.new) × SinkCause end (O.fault_count out.old) (O.fault_count out.new)) }
     ensures later { Later S.moment_of S.faults_of store result.store }
     ensures opened { (S.moment_of store ≤ result.opened) × (result.opened ≤ S.moment_of result.store) }
@@ -289,8 +289,8 @@ fn open<S: Store, I: Source, O: Sink>(
     out: &mut O,
 ) -> Ended<S>
     ensures outcome { ((why : OpenRefused) × OpensNot run (S.told store) (S.moment_of result.store) (RoseBetween (S.faults_of store) (S.faults_of result.store)) why × Told (S.told store) (S.told result.store) Calm × Shuts (refused_opening why) (O.contents out.old) (O.contents out.new) (RoseIn (O.fault_count out.old) (O.fault_count out.new)) result.status result.journal.items result.stamps.items result.base result.generation result.opened (S.moment_of result.store) × (script.new ≡ script.old))
-        ⊎ ((end : End) × (opening : S) × (S.moment_of opening ≡ result.opened) × Later S.moment_of S.faults_of store opening × Later S.moment_of S.faults_of opening result.store × Told (S.told store) (S.told opening) Calm × Told (S.told opening) (S.told result.store) (GoesOn (λ file. Unit {0}))
-        × RanScript run (S.told store) (S.told result.store) (RoseBetween (S.faults_of opening) (S.faults_of result.store)) result.opened (S.moment_of result.store) end result.status result.journal.items result.stamps.items result.base result.generation (I.left script.old) (I.left script.new) (O.contents out.old) (O.contents out.new)
+        ⊎ ((end : End) × (opening : S) × (S.moment_of opening ≡ result.opened) × Later S.moment_of S.faults_of store opening × Later S.moment_of S.faults_of opening result.store × Opens run (S.told store) (S.told opening) × Told (S.told opening) (S.told result.store) (GoesOn (λ file. Unit {0}))
+        × RanScript run (S.told store) (S.told result.store) (S.faults_of opening) (S.faults_of result.store) result.opened (S.moment_of result.store) end result.status result.journal.items result.stamps.items result.base result.generation (I.left script.old) (I.left script.new) (O.contents out.old) (O.contents out.new)
         × SourceCause end (I.fault_count script.old) (I.fault_count script.new) × SinkCause end (O.fault_count out.old) (O.fault_count out.new)) }
     ensures later { Later S.moment_of S.faults_of store result.store }
     ensures opened { (S.moment_of store ≤ result.opened) × (result.opened ≤ S.moment_of result.store) }
@@ -318,7 +318,7 @@ fn run_script<S: Store, I: Source, O: Sink>(
 ) -> Ended<S>
     requires begun { vault.journal ≡ [] }
     requires sure { vault.fault ≡ None }
-    ensures ran { (end : End) × RanFrom vault (S.told store) (S.told result.store) (RoseBetween (S.faults_of store) (S.faults_of result.store)) result.opened (S.moment_of result.store) end result.status result.journal.items result.stamps.items result.generation (I.left script.old) (I.left script.new) (O.contents out.old) (O.contents out.new)
+    ensures ran { (end : End) × RanFrom vault (S.told store) (S.told result.store) (S.faults_of store) (S.faults_of result.store) result.opened (S.moment_of result.store) end result.status result.journal.items result.stamps.items result.generation (I.left script.old) (I.left script.new) (O.contents out.old) (O.contents out.new)
         × SourceCause end (I.fault_count script.old) (I.fault_count script.new) × SinkCause end (O.fault_count out.old) (O.fault_count out.new) }
     ensures base { result.base ≡ Some base }
     ensures goes { Told (S.told store) (S.told result.store) (GoesOn (λ file. Unit {0})) }

@@ -11,7 +11,7 @@ use Rattle.log_file.specs.Steps.{Created}
 use Rattle.db_image.specs.Steps.{FirmShut, Shut}
 use Rattle.db_image.proofs.One.{can_shut}
 use Rattle.entries.specs.Meaning.{Meaning}
-use Rattle.vault.specs.Files.{image_file, log_file, IsOurs, IsOf}
+use Rattle.vault.specs.Files.{image_file, IsOurs, IsOf}
 use Rattle.vault.specs.Recovery.{IsBase}
 use Rattle.vault.specs.Images.{IsImage, Replaced}
 use Rattle.vault.specs.Vaults.{Holds}

@@ -6,6 +6,7 @@ use Rattle.store_api.proofs.Runs.{goes_images, now_image}
 use Rattle.store_api.proofs.Pieces.{firm_beside}
 use Rattle.store_api.proofs.Standings.{leaves_firm}
 use Rattle.log_file.proofs.Logs.{sure_left, sure_beside}
+use Rattle.log_file.proofs.Appending.{waiting_beside}
 use Rattle.db_image.specs.declared.mark.Mark.TheVariants.{Server}
 use Rattle.db_image.specs.Images.{image_bytes, HasImage}
 use Rattle.db_image.specs.Steps.{FirmShut}
@@ -15,7 +16,7 @@ use Rattle.entries.specs.Meaning.{Meaning}
 use Rattle.vault.specs.Files.{image_file, log_file, IsOurs}
 use Rattle.vault.specs.Recovery.{Older, Newest, records_of, after_all, RecoversWithin}
 use Rattle.vault.specs.Images.{IsImage, StaysOlder}
-use Rattle.vault.specs.Vaults.{State, Holds, IsGood}
+use Rattle.vault.specs.Vaults.{State, Holds, IsGood, IsHeld, IsLeft, RecoversAs}
 use Rattle.vault.proofs.Replacing.{shut_left}
 
 -- the vault's files
@@ -99,7 +100,49 @@ module _ {D : Type 0} (m : Meaning D) where
     entries = good.entries;
     holds = holds_beside theirs old new goes m vault.generation good.base good.entries vault.end (apart (image_file vault.generation) (image_ours vault.generation)) (apart (image_file (vault.generation + 1)) (image_ours (vault.generation + 1))) (apart (log_file vault.generation) (log_ours vault.generation)) good.holds;
     gives = good.gives;
+    none = good.none;
+    all = good.all;
   }
+
+  -- the same of the database that was forced
+  pub held_left : (vault : State D) (durable : D) (h : History) (files : ℕ → List ℕ) → IsHeld m vault durable h → LeftOf vault.generation h files → RecoversWithin m files durable
+  held_left vault durable h files held left = subst (RecoversWithin m files) (sym held.gives) (holds_left vault.generation held.base held.entries vault.sure h files held.holds left)
+
+  pub held_is : (vault : State D) (durable : D) (h : History) → IsHeld m vault durable h → IsLeft (λ files. RecoversWithin m files durable) h
+  held_is vault durable h held files left = held_left vault durable h files held (record {
+    image = left (image_file vault.generation) (image_ours vault.generation);
+    other = left (image_file (vault.generation + 1)) (image_ours (vault.generation + 1));
+    log = left (log_file vault.generation) (log_ours vault.generation);
+  })
+
+  pub held_since : (theirs : ℕ → Type 0) (vault : State D) (durable : D) (old new : History) → ((file : ℕ) → IsOurs file → ¬ theirs file) → GoesOn theirs old new → IsHeld m vault durable old → EachImage (now old) new (λ files. RecoversWithin m files durable)
+  held_since theirs vault durable old new apart goes held moment files from to here =
+      held_left vault durable old files held
+      (record {
+        image = goes_images theirs old new (image_file vault.generation) (apart (image_file vault.generation) (image_ours vault.generation)) goes moment files from to here;
+        other = goes_images theirs old new (image_file (vault.generation + 1)) (apart (image_file (vault.generation + 1)) (image_ours (vault.generation + 1))) goes moment files from to here;
+        log = goes_images theirs old new (log_file vault.generation) (apart (log_file vault.generation) (log_ours vault.generation)) goes moment files from to here;
+      })
+
+  pub held_image : (vault : State D) (durable : D) (h : History) (files : ℕ → List ℕ) → IsHeld m vault durable h → ImageAt h (now h) files → RecoversWithin m files durable
+  held_image vault durable h files held here =
+      held_left vault durable h files held (record { image = now_image h files here (image_file vault.generation); other = now_image h files here (image_file (vault.generation + 1)); log = now_image h files here (log_file vault.generation) })
+
+  pub held_beside : (theirs : ℕ → Type 0) (vault : State D) (durable : D) (old new : History) → ((file : ℕ) → IsOurs file → ¬ theirs file) → GoesOn theirs old new → IsHeld m vault durable old → IsHeld m vault durable new
+  held_beside theirs vault durable old new apart goes held =
+      let holds = holds_beside theirs old new goes m vault.generation held.base held.entries vault.sure (apart (image_file vault.generation) (image_ours vault.generation)) (apart (image_file (vault.generation + 1)) (image_ours (vault.generation + 1))) (apart (log_file vault.generation) (log_ours vault.generation)) held.holds in
+      record {
+        base = held.base;
+        entries = held.entries;
+        waiting = held.waiting;
+        holds = holds;
+        gives = held.gives;
+        log = waiting_beside theirs old new (log_file vault.generation) (records_of held.entries) (records_of held.waiting) vault.sure vault.end (apart (log_file vault.generation) (log_ours vault.generation)) goes holds.log held.log;
+        legal = held.legal;
+        all = held.all;
+        are = held.are;
+        within = held.within;
+      }
 
   pub good_since : (theirs : ℕ → Type 0) (vault : State D) (old new : History) → ((file : ℕ) → IsOurs file → ¬ theirs file) → GoesOn theirs old new → IsGood m vault old → EachImage (now old) new (λ files. RecoversWithin m files vault.database)
   good_since theirs vault old new apart goes good moment files from to here =
@@ -113,3 +156,22 @@ module _ {D : Type 0} (m : Meaning D) where
   pub good_image : (vault : State D) (h : History) (files : ℕ → List ℕ) → IsGood m vault h → ImageAt h (now h) files → RecoversWithin m files vault.database
   good_image vault h files good here =
       good_left vault h files good (record { image = now_image h files here (image_file vault.generation); other = now_image h files here (image_file (vault.generation + 1)); log = now_image h files here (log_file vault.generation) })
+
+  -- and by which image and which log
+  pub whole_image : (vault : State D) (h : History) (files : ℕ → List ℕ) → IsGood m vault h → ImageAt h (now h) files → RecoversAs m vault files
+  whole_image vault h files good here =
+      let holds = good.holds in
+      record {
+        recovers = record {
+          generation = vault.generation;
+          base = good.base;
+          entries = good.entries;
+          valid = holds.valid;
+          newest = newest_left vault.generation good.base good.entries vault.end h files holds (now_image h files here (image_file vault.generation)) (older_left vault.generation (image_file (vault.generation + 1)) h (files (image_file (vault.generation + 1))) holds.other (now_image h files here (image_file (vault.generation + 1))));
+          log = sure_left h (log_file vault.generation) (records_of good.entries) vault.end (files (log_file vault.generation)) holds.log (now_image h files here (log_file vault.generation));
+          legal = holds.legal;
+          gives = good.gives;
+        };
+        by_image = refl;
+        log = sym holds.log.is_end;
+      }

@@ -1,5 +1,5 @@
 -- A database is put in the place of what files recover to.
-use Rattle.std.proofs.Common.{◌≡◌, ◌⊎◌, ⊎_elim, inl, inr, ℕ, ◌+◌, ◌<◌, ◌≤◌, ◌^◌, List, [], Option, None, Some, Result, Ok, Err, OnOk, refl, sym, subst, arith}
+use Rattle.std.proofs.Common.{◌≡◌, ◌⊎◌, ⊎_elim, inl, inr, ℕ, ◌+◌, ◌<◌, ◌^◌, List, Option, None, Some, Result, Ok, Err, OnOk, refl, sym, subst, arith}
 use Rattle.std.proofs.lemmas.Bool.{cases_lt}
 use Rattle.store_api.specs.Disk.{History, reads, standing, settled, now, ImageAt}
 use Rattle.store_api.specs.Runs.{GoesOn, EachImage, Firm}

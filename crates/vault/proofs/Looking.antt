@@ -1,5 +1,5 @@
 -- Looking at the gates of both images.
-use Rattle.std.proofs.Common.{◌≡◌, ℕ, ◌+◌, ◌-◌, ◌<◌, ◌≤◌, ◌^◌, Bool, true, false, ◌||◌, List, Option, Some, None, IfSome, Result, Ok, Err, IfOk, IfErr, sym, ◌∙◌, ap, subst, arith}
+use Rattle.std.proofs.Common.{◌≡◌, ℕ, ◌<◌, ◌≤◌, Bool, false, ◌||◌, Option, IfSome, Result, Ok, Err, IfOk, IfErr, sym, ◌∙◌, ap, arith}
 use Rattle.store_api.specs.Cause.{Rose, NoneFell}
 use Rattle.store_api.specs.Disk.{History, reads}
 use Rattle.store_api.specs.Told.{Told}

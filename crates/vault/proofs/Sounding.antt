@@ -200,8 +200,8 @@ module _ {D : Type 0} (m : Meaning D) where
             subst (IsSure new (log_file generation) (records_of replayed.replays.entries)) (sym replayed.replays.is_end) (subst (λ (n : ℕ). IsSure new n (records_of replayed.replays.entries) (length (blocks (records_of replayed.replays.entries)))) is_log
             (replayed.sure (records_of replayed.replays.entries) (subst (λ (bytes : List ℕ). LogEnds bytes (records_of replayed.replays.entries)) (sym (based.below.calm.same file)) (subst (λ (n : ℕ). LogEnds (reads old n) (records_of replayed.replays.entries)) (sym is_log) ends_there))))
 
-        good_there : (vault : State D) → vault.generation ≡ generation → vault.database ≡ d → vault.end ≡ end.end → IsGood m vault new
-        good_there vault at has ends = record {
+        good_there : (vault : State D) → vault.generation ≡ generation → vault.database ≡ d → vault.end ≡ end.end → vault.sure ≡ vault.end → vault.forced ≡ length vault.journal → IsGood m vault new
+        good_there vault at has ends none all = record {
           base = base;
           entries = replayed.replays.entries;
           holds = subst (λ (k : ℕ). Holds m k base replayed.replays.entries vault.end new) (sym at) (subst (λ (e : ℕ). Holds m generation base replayed.replays.entries e new) (sym ends) (record {
@@ -212,10 +212,12 @@ module _ {D : Type 0} (m : Meaning D) where
             legal = replayed.replays.legal;
           }));
           gives = has ∙ replayed.replays.gives;
+          none = none;
+          all = all;
         }
 
-      pub is_opened : (vault : State D) → vault.generation ≡ generation → vault.database ≡ d → vault.end ≡ end.end → (let result : Result (State D) OpenRefused = Ok vault in Opened m result old new)
-      is_opened vault at has ends = record {
+      pub is_opened : (vault : State D) → vault.generation ≡ generation → vault.database ≡ d → vault.end ≡ end.end → vault.sure ≡ vault.end → vault.forced ≡ length vault.journal → (let result : Result (State D) OpenRefused = Ok vault in Opened m result old new)
+      is_opened vault at has ends none all = record {
         calm = calm_new (Ok end) replayed;
         recovers = record {
           generation = generation;
@@ -229,5 +231,5 @@ module _ {D : Type 0} (m : Meaning D) where
         };
         images = subst (λ (k : ℕ). ImagesAre k old new) (sym at) (record { payload = m.spelled base; newest = based.newest; durable = λ n lt. there n (omega (arith, lt)) (λ e. absurd (omega (arith, lt, e, is_log))) });
         says = tt;
-        good = λ sound. good_there sound vault at has ends;
+        good = λ sound. good_there sound vault at has ends none all;
       }

@@ -1,10 +1,10 @@
 -- The vault as a value, what no stop takes away from it, and what its calls do.
-use Rattle.std.specs.Prelude.{◌≡◌, ◌⊎◌, ℕ, ◌+◌, ◌<◌, ◌^◌, List, [], ◌∷◌, ◌++◌, length, Option, None, Some, Result, OnOk}
+use Rattle.std.specs.Prelude.{◌≡◌, ◌⊎◌, ℕ, ◌+◌, ◌<◌, ◌≤◌, ◌^◌, List, [], ◌∷◌, ◌++◌, length, drop, reverse, Option, None, Some, Result, OnOk}
 use Rattle.store_api.specs.Cause.{Rose}
 use Rattle.store_api.specs.Disk.{History, now}
 use Rattle.store_api.specs.Runs.{GoesOn, EachImage, LeftNow}
-use Rattle.log_file.specs.Blocks.{LogEnds}
-use Rattle.log_file.specs.Sure.{IsSure}
+use Rattle.log_file.specs.Blocks.{blocks, LogEnds}
+use Rattle.log_file.specs.Sure.{IsSure, HasWaiting}
 use Rattle.log_file.specs.Sure as log
 use Rattle.kinds.specs.declared.refusal.Refusal.{Refusal}
 use Rattle.kinds.specs.declared.refusal.Refusal.TheVariants.{LogFault, RecordFull, Memory}
@@ -15,12 +15,15 @@ use Rattle.vault.specs.Files.{image_file, log_file, IsOurs}
 use Rattle.vault.specs.Recovery.{Newest, records_of, after_all, AllLegal, RecoversWithin}
 use Rattle.vault.specs.Images.{IsImage, StaysOlder}
 
--- The generation of the newest image; the database; the entries that were committed since the opening, oldest first; where the
--- log ends; and after a fault the file and the count to which its faults had risen.
+-- The generation of the newest image; the database; the entries that were committed since the opening, oldest first, and how many of
+-- them are forced; where the gate lies behind the records of the log that are forced, and where behind all of them; and after a fault the
+-- file and the count to which its faults had risen.
 pub record State (D : Type 0) : Type 0 where
   pub generation : ℕ
   pub database : D
   pub journal : List Entry
+  pub forced : ℕ
+  pub sure : ℕ
   pub end : ℕ
   pub fault : Option (ℕ × ℕ)
 
@@ -37,40 +40,102 @@ pub record IsWhole (generation : ℕ) (log : log.State) (fault : Option (ℕ × 
   pub file : log.file ≡ log_file generation
   pub sure : fault ≡ None → log.doubt ≡ None
 
--- Whatever a stop leaves, it recovers to the vault's database.
+-- Whatever a stop leaves, it recovers to the vault's database: nothing that was committed waits for a force.
 pub record IsGood {D : Type 0} (m : Meaning D) (vault : State D) (h : History) : Type 0 where
   pub base : D
   pub entries : List Entry
   pub holds : Holds m vault.generation base entries vault.end h
   pub gives : vault.database ≡ after_all m base entries
+  pub none : vault.sure ≡ vault.end
+  pub all : vault.forced ≡ length vault.journal
 
--- the vault with an entry more, where the log ends behind it
-abbrev pub with_entry : {D : Type 0} → Meaning D → State D → Entry → State D
-with_entry m vault e = record {
+-- The files recover to the vault's database, by a newest image of its generation and a log that ends where the vault's does.
+pub record RecoversAs {D : Type 0} (m : Meaning D) (vault : State D) (files : ℕ → List ℕ) : Type 0 where
+  pub recovers : RecoversWithin m files vault.database
+  pub by_image : recovers.generation ≡ vault.generation
+  pub log : length (blocks (records_of recovers.entries)) ≡ vault.end
+
+-- Whatever a stop leaves, it recovers to the database `durable`, which has all that was forced and nothing of what wasn't. The vault's
+-- database is that one after the entries that wait for a force: those of the journal behind the first `forced`.
+pub record IsHeld {D : Type 0} (m : Meaning D) (vault : State D) (durable : D) (h : History) : Type 0 where
+  pub base : D
+  pub entries : List Entry
+  pub waiting : List Entry
+  pub holds : Holds m vault.generation base entries vault.sure h
+  pub gives : durable ≡ after_all m base entries
+  pub log : HasWaiting h (log_file vault.generation) (records_of entries) (records_of waiting) vault.sure vault.end
+  pub legal : AllLegal m durable waiting
+  pub all : vault.database ≡ after_all m durable waiting
+  pub are : waiting ≡ reverse (drop vault.forced vault.journal)
+  pub within : vault.forced ≤ length vault.journal
+
+-- the vault with an entry more, which waits for a force
+abbrev pub with_waiting : {D : Type 0} → Meaning D → State D → Entry → State D
+with_waiting m vault e = record {
   generation = vault.generation;
   database = m.after vault.database e;
   journal = vault.journal ++ e ∷ [];
+  forced = vault.forced;
+  sure = vault.sure;
   end = vault.end + (5 + length (entry.spell e));
   fault = None;
 }
 
--- the same where the entry is in doubt
-abbrev pub in_doubt : {D : Type 0} → Meaning D → State D → Entry → ℕ → ℕ → State D
-in_doubt m vault e file count = record {
+-- the vault where nothing waits any more
+abbrev pub all_forced : {D : Type 0} → State D → State D
+all_forced vault = record {
+  generation = vault.generation;
+  database = vault.database;
+  journal = vault.journal;
+  forced = length vault.journal;
+  sure = vault.end;
+  end = vault.end;
+  fault = None;
+}
+
+-- the vault with an entry more, which is forced with all that waited
+abbrev pub with_entry : {D : Type 0} → Meaning D → State D → Entry → State D
+with_entry m vault e = all_forced (with_waiting m vault e)
+
+-- the vault with an entry that is in doubt, where its log ends there
+abbrev pub in_doubt : {D : Type 0} → Meaning D → State D → Entry → (end file count : ℕ) → State D
+in_doubt m vault e end file count = record {
   generation = vault.generation;
   database = m.after vault.database e;
   journal = vault.journal ++ e ∷ [];
+  forced = vault.forced;
+  sure = vault.sure;
+  end = end;
+  fault = Some (file, count);
+}
+
+-- the vault after a fault that put no further entry in doubt, where so many of its entries are forced, up to a place of its log
+abbrev pub halted_at : {D : Type 0} → State D → (forced sure file count : ℕ) → State D
+halted_at vault forced sure file count = record {
+  generation = vault.generation;
+  database = vault.database;
+  journal = vault.journal;
+  forced = forced;
+  sure = sure;
   end = vault.end;
   fault = Some (file, count);
 }
 
--- the vault after a fault that left no entry in doubt
-abbrev pub with_fault : {D : Type 0} → State D → ℕ → ℕ → State D
-with_fault vault file count = record { generation = vault.generation; database = vault.database; journal = vault.journal; end = vault.end; fault = Some (file, count) }
+-- the same where no force was made in it
+abbrev pub with_fault : {D : Type 0} → State D → (file count : ℕ) → State D
+with_fault vault file count = halted_at vault vault.forced vault.sure file count
 
 -- the vault after a checkpoint
 abbrev pub at_next : {D : Type 0} → State D → State D
-at_next vault = record { generation = vault.generation + 1; database = vault.database; journal = vault.journal; end = 0; fault = None }
+at_next vault = record {
+  generation = vault.generation + 1;
+  database = vault.database;
+  journal = vault.journal;
+  forced = length vault.journal;
+  sure = 0;
+  end = 0;
+  fault = None;
+}
 
 -- A refusal without a device call: a fault had halted the vault earlier.
 abbrev pub Halted : {D : Type 0} → State D → Refusal → Type 0
@@ -79,7 +144,7 @@ Halted vault refusal = (file : ℕ) × (count : ℕ) × (vault.fault ≡ Some (f
 -- A call on the log failed, and so its entry is in doubt.
 abbrev pub Doubts : {D : Type 0} → Meaning D → State D → Entry → (before after : ℕ → ℕ) → Refusal → State D → Type 0
 Doubts m vault e before after refusal next = (vault.fault ≡ None) × (refusal ≡ LogFault (log_file vault.generation) (after (log_file vault.generation)))
-    × Rose (before (log_file vault.generation)) (after (log_file vault.generation)) × (next ≡ in_doubt m vault e (log_file vault.generation) (after (log_file vault.generation)))
+    × Rose (before (log_file vault.generation)) (after (log_file vault.generation)) × ((end : ℕ) × (next ≡ in_doubt m vault e end (log_file vault.generation) (after (log_file vault.generation))))
 
 -- the files recover to one of two databases
 abbrev pub RecoversToEither : {D : Type 0} → Meaning D → (before after : D) → (ℕ → List ℕ) → Type 0
@@ -89,7 +154,23 @@ RecoversToEither m before after files = RecoversWithin m files before ⊎ Recove
 abbrev pub IsLeft : ((ℕ → List ℕ) → Type 0) → History → Type 0
 IsLeft P h = (files : ℕ → List ℕ) → LeftNow IsOurs h files → P files
 
--- An entry was committed. On Ok the vault is good with it. Whatever came of it, each image since recovers to the database before it or
+-- An entry was committed, and waits for a force. Whatever came of it, each image since recovers to the database with all that was forced
+-- before, and so does whatever a stop leaves of the vault's files right after: nothing that waits is there.
+pub record Waits {D T E : Type 0} (m : Meaning D) (vault : State D) (e : Entry) (result : Result T E) (next : State D) (old new : History) : Type 0 where
+  pub goes : GoesOn (λ file. file ≡ log_file vault.generation) old new
+  pub held : OnOk result ((durable : D) → IsHeld m vault durable old → IsHeld m next durable new)
+  pub since : (durable : D) → IsHeld m vault durable old → EachImage (now old) new (λ files. RecoversWithin m files durable)
+  pub left : (durable : D) → IsHeld m vault durable old → IsLeft (λ files. RecoversWithin m files durable) new
+
+-- What waited was forced. On Ok the vault is good. Whatever came of it, each image since recovers to the database with nothing of what
+-- waited or to that with all of it, and so does whatever a stop leaves of the vault's files right after.
+pub record Forces {D T E : Type 0} (m : Meaning D) (vault : State D) (result : Result T E) (next : State D) (old new : History) : Type 0 where
+  pub goes : GoesOn (λ file. file ≡ log_file vault.generation) old new
+  pub good : OnOk result ((durable : D) → IsHeld m vault durable old → IsGood m next new)
+  pub since : (durable : D) → IsHeld m vault durable old → EachImage (now old) new (RecoversToEither m durable vault.database)
+  pub left : (durable : D) → IsHeld m vault durable old → IsLeft (RecoversToEither m durable vault.database) new
+
+-- An entry was committed and forced. On Ok the vault is good with it. Whatever came of it, each image since recovers to the database before it or
 -- after it, and so does whatever a stop leaves of the vault's files right after.
 pub record Committed {D T E : Type 0} (m : Meaning D) (vault : State D) (e : Entry) (result : Result T E) (next : State D) (old new : History) : Type 0 where
   pub goes : GoesOn IsOurs old new
@@ -101,9 +182,22 @@ pub record Committed {D T E : Type 0} (m : Meaning D) (vault : State D) (e : Ent
 abbrev pub IsFresh : {D : Type 0} → Meaning D → State D → (ℕ → List ℕ) → Type 0
 IsFresh m vault files = Newest files vault.generation (m.spelled vault.database) × LogEnds (files (log_file vault.generation)) []
 
--- A checkpoint was made. On Ok the vault is good, and the newest image of each image of now is the database and its log is empty.
--- Whatever came of it, each image since recovers to the database, and so does whatever a stop leaves of the vault's files right after.
+-- A checkpoint was made, after what waited was forced. On Ok the vault is good, and the newest image of each image of now is the database and its log is empty.
+-- Whatever came of it, each image since recovers to the database with nothing of what waited or to that with all of it, and so does whatever a stop leaves of the vault's files right
+-- after; where nothing waited, to the database.
 pub record Checkpointed {D T E : Type 0} (m : Meaning D) (vault : State D) (result : Result T E) (next : State D) (old new : History) : Type 0 where
+  pub goes : GoesOn IsOurs old new
+  pub good : OnOk result (IsGood m vault old → IsGood m next new)
+  pub fresh : OnOk result (IsGood m vault old → EachImage (now new) new (IsFresh m next))
+  pub since : IsGood m vault old → EachImage (now old) new (λ files. RecoversWithin m files vault.database)
+  pub left : IsGood m vault old → IsLeft (λ files. RecoversWithin m files vault.database) new
+  pub held_good : OnOk result ((durable : D) → IsHeld m vault durable old → IsGood m next new)
+  pub held_fresh : OnOk result ((durable : D) → IsHeld m vault durable old → EachImage (now new) new (IsFresh m next))
+  pub held_since : (durable : D) → IsHeld m vault durable old → EachImage (now old) new (RecoversToEither m durable vault.database)
+  pub held_left : (durable : D) → IsHeld m vault durable old → IsLeft (RecoversToEither m durable vault.database) new
+
+-- The same of a vault in which nothing waits.
+pub record Written {D T E : Type 0} (m : Meaning D) (vault : State D) (result : Result T E) (next : State D) (old new : History) : Type 0 where
   pub goes : GoesOn IsOurs old new
   pub good : OnOk result (IsGood m vault old → IsGood m next new)
   pub fresh : OnOk result (IsGood m vault old → EachImage (now new) new (IsFresh m next))
@@ -112,7 +206,7 @@ pub record Checkpointed {D T E : Type 0} (m : Meaning D) (vault : State D) (resu
 
 -- a call on an image or a log of the vault failed, and it takes no more
 abbrev pub Faults : {D : Type 0} → State D → (before after : ℕ → ℕ) → Refusal → State D → Type 0
-Faults vault before after refusal next = (vault.fault ≡ None) × ((file : ℕ) × IsOurs file × (refusal ≡ LogFault file (after file)) × Rose (before file) (after file) × (next ≡ with_fault vault file (after file)))
+Faults vault before after refusal next = (vault.fault ≡ None) × ((file : ℕ) × IsOurs file × (refusal ≡ LogFault file (after file)) × Rose (before file) (after file) × ((forced : ℕ) × (sure : ℕ) × (next ≡ halted_at vault forced sure file (after file))))
 
 -- Why an entry wasn't committed. It has too many bytes, or memory was wanted, or the vault is halted: then nothing changed. Or a call on
 -- the log failed, and the entry is in doubt.
@@ -120,6 +214,13 @@ abbrev pub RefusesCommit : {D : Type 0} → Meaning D → State D → Entry → 
 RefusesCommit m vault e before after refusal next same =
     (((refusal ≡ Memory) ⊎ (((refusal ≡ RecordFull) × (2 ^ 24 < length (entry.spell e))) ⊎ Halted vault refusal)) × (next ≡ vault) × same)
     ⊎ Doubts m vault e before after refusal next
+
+-- Why what waits wasn't forced. The vault is halted: then nothing changed. Or a call on the log failed.
+abbrev pub RefusesForce : {D : Type 0} → State D → (before after : ℕ → ℕ) → Refusal → State D → (same : Type 0) → Type 0
+RefusesForce vault before after refusal next same =
+    (Halted vault refusal × (next ≡ vault) × same)
+    ⊎ ((vault.fault ≡ None) × (refusal ≡ LogFault (log_file vault.generation) (after (log_file vault.generation)))
+    × Rose (before (log_file vault.generation)) (after (log_file vault.generation)) × (next ≡ with_fault vault (log_file vault.generation) (after (log_file vault.generation))))
 
 -- Why no checkpoint was made. Memory was wanted, or the vault is halted: then nothing changed. Or a call on a file of the vault failed.
 abbrev pub RefusesCheckpoint : {D : Type 0} → State D → (before after : ℕ → ℕ) → Refusal → State D → (same : Type 0) → Type 0

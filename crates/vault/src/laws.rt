@@ -3,13 +3,25 @@ ghost use Rattle.std.specs.Prelude.{◌≡◌, ℕ, ◌≤◌, Bool, IsTrue, Lis
 ghost use Rattle.store_api.specs.Disk.{History, now, ImageAt};
 ghost use Rattle.store_api.specs.Runs.{GoesOn, EachImage};
 ghost use Rattle.vault.specs.Recovery.{NotFormatted, IsDamaged, Recovers, RecoversWithin};
-ghost use Rattle.vault.specs.Vaults.{State, IsGood, IsLeft, RecoversToEither};
+ghost use Rattle.vault.specs.Vaults.{State, IsGood, IsHeld, IsLeft, RecoversAs, RecoversToEither};
 
 use entries::Database;
 
-/// Whatever a stop right now leaves of a good vault's files recovers to its database.
+/// Whatever a stop right now leaves of a good vault's files recovers to its database, by an image of its generation and a log that ends where its log does.
 pub fn good_is_left<D: Database>()
-    ensures { (vault : State D) (h : History) (files : ℕ → List ℕ) → IsGood D.meaning vault h → ImageAt h (now h) files → RecoversWithin D.meaning files vault.database }
+    ensures database { (vault : State D) (h : History) (files : ℕ → List ℕ) → IsGood D.meaning vault h → ImageAt h (now h) files → RecoversWithin D.meaning files vault.database }
+    ensures whole { (vault : State D) (h : History) (files : ℕ → List ℕ) → IsGood D.meaning vault h → ImageAt h (now h) files → RecoversAs D.meaning vault files }
+{}
+
+/// In a good vault nothing waits for a force. What a stop right now leaves of a vault in which something may wait recovers to the
+/// database that was forced; and over a run on files from 4 on that stays so.
+pub fn held<D: Database>()
+    ensures good { (vault : State D) (h : History) → IsGood D.meaning vault h → IsHeld D.meaning vault vault.database h }
+    ensures left { (vault : State D) (durable : D) (h : History) → IsHeld D.meaning vault durable h → IsLeft (λ files. RecoversWithin D.meaning files durable) h }
+    ensures stays { (theirs : ℕ → Bool) (vault : State D) (durable : D) (old new : History) → ((file : ℕ) → IsTrue (theirs file) → 4 ≤ file) → GoesOn (λ f. IsTrue (theirs f)) old new →
+        IsHeld D.meaning vault durable old → IsHeld D.meaning vault durable new }
+    ensures images { (theirs : ℕ → Bool) (vault : State D) (durable : D) (old new : History) → ((file : ℕ) → IsTrue (theirs file) → 4 ≤ file) → GoesOn (λ f. IsTrue (theirs f)) old new →
+        IsHeld D.meaning vault durable old → EachImage (now old) new (λ files. RecoversWithin D.meaning files durable) }
 {}
 
 /// A run on files from 4 on keeps a vault good, and each image since recovers to its database.

@@ -182,7 +182,7 @@ fn replay<D: Database, S: Store>(
 ) -> Result<Log, OpenRefused>
     requires ours { file < 4 }
     ensures told { Told (S.told store.old) (S.told store.new) (Replayed D.meaning database.old file result database.new) }
-    ensures log { IfOk result (λ log. (log.file ≡ file) × (log.doubt ≡ None)) }
+    ensures log { IfOk result (λ log. (log.file ≡ file) × (log.sure ≡ log.end) × (log.doubt ≡ None)) }
     ensures refused { IfErr result (MayRefuseOpening (S.faults_of store.old) (S.faults_of store.new) (S.moment_of store.new)) }
     ensures onward { Onward (S.moment_of store.old) (S.moment_of store.new) (S.faults_of store.old) (S.faults_of store.new) }
 {

@@ -65,7 +65,7 @@ pub(crate) fn put_generation<S: Store>(
     requires short { length payload.items < 2 ^ 36 }
     requires time { S.moment_of store.old + (2 ^ 23 + 96) ≤ 2 ^ 62 }
     ensures told { Told (S.told store.old) (S.told store.new) (Replaced generation payload.items result) }
-    ensures log { IfOk result (λ log. log ≡ record { file = log_file generation; end = 0; doubt = None }) }
+    ensures log { IfOk result (λ log. log ≡ record { file = log_file generation; sure = 0; end = 0; doubt = None }) }
     ensures cause { IfErr result (λ file. IsOf generation file × Rose (S.faults_of store.old file) (S.faults_of store.new file)) }
     ensures time { S.moment_of store.new ≤ S.moment_of store.old + (2 ^ 23 + 64) }
     ensures later { S.moment_of store.old ≤ S.moment_of store.new }

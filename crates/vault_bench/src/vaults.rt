@@ -1,7 +1,7 @@
 //! Makes steps on a vault of the inventory over a store in memory, so that they can be timed. The first number is how many transactions are
 //! committed, or how many versions the inventory is filled with, and the second one which steps are made: 1 formats the store and opens it, 2 commits
-//! too, 3 opens it once more, with a log of so many records; 4 fills an inventory, 5 installs it in an empty store too, 6 opens that, 7 makes a
-//! checkpoint. It prints the number of the last transaction, the generation of the newest image, how many bytes the newest image and its log have, and
+//! too, each forced by itself, 3 opens it once more, with a log of so many records; 4 fills an inventory, 5 installs it in an empty store too, 6 opens
+//! that, 7 makes a checkpoint; 8 does as 2 does, with one force behind them all. It prints the number of the last transaction, the generation of the newest image, how many bytes the newest image and its log have, and
 //! how many calls the store was given.
 
 use crate::filling::fill;
@@ -59,11 +59,12 @@ fn state_of<D: Database>(vault: &Vault<D>) -> Shown {
     }
 }
 
-/// Commits a transaction that brings the first day, where the database takes it.
+/// Commits a transaction that brings the first day, where the database takes it, and forces it or leaves it waiting.
 fn commit_day<D: Database>(
     alloc: Global,
     vault: &mut Vault<D>,
     store: &mut MemStore,
+    forced: bool,
 ) -> Result<u64, Refusal> {
     let entry = Entry {
         actor: 0,
@@ -78,23 +79,38 @@ fn commit_day<D: Database>(
     if store.moment() >= LATE {
         return Err(Refusal::RunFull);
     }
+    if forced {
+        return vault.commit_forced(alloc, store, entry);
+    }
     vault.commit(alloc, store, entry)
 }
 
-/// Commits so many transactions.
+/// Forces what waits.
+fn force<D: Database>(vault: &mut Vault<D>, store: &mut MemStore) -> Result<(), Refusal> {
+    if store.moment() >= LATE {
+        return Err(Refusal::RunFull);
+    }
+    match vault.force(store) {
+        Ok(_) => Ok(()),
+        Err(refusal) => Err(refusal),
+    }
+}
+
+/// Commits so many transactions, each forced by itself or all together.
 fn commit_all<D: Database>(
     alloc: Global,
     vault: &mut Vault<D>,
     store: &mut MemStore,
     count: u32,
+    forced: bool,
 ) -> Result<(), Refusal> {
     for _ in 0..count {
-        match commit_day(alloc, vault, store) {
+        match commit_day(alloc, vault, store, forced) {
             Ok(_) => {}
             Err(refusal) => return Err(refusal),
         }
     }
-    Ok(())
+    force(vault, store)
 }
 
 /// Opens the vault.
@@ -110,11 +126,12 @@ fn open_and_commit<D: Database>(
     alloc: Global,
     store: &mut MemStore,
     count: u32,
+    forced: bool,
 ) -> Result<Shown, Fault> {
     match Vault::<D>::open(alloc, store) {
         Ok(vault) => {
             let mut vault = vault;
-            commit_all(alloc, &mut vault, store, count)?;
+            commit_all(alloc, &mut vault, store, count, forced)?;
             Ok(state_of(&vault))
         }
         Err(refused) => Err(Fault::NotOpened(refused)),
@@ -156,9 +173,10 @@ fn with_log<D: Database>(
     Vault::<D>::format(alloc, store, fresh)?;
     match step {
         1 => open::<D>(alloc, store),
-        2 => open_and_commit::<D>(alloc, store, count),
+        2 => open_and_commit::<D>(alloc, store, count, true),
+        8 => open_and_commit::<D>(alloc, store, count, false),
         _ => {
-            open_and_commit::<D>(alloc, store, count)?;
+            open_and_commit::<D>(alloc, store, count, true)?;
             open::<D>(alloc, store)
         }
     }
@@ -189,7 +207,7 @@ fn with_image<D: Database>(
 /// The steps.
 fn run(alloc: Global, store: &mut MemStore, count: u32, step: u32) -> Result<Shown, Fault> {
     let mut inventory = Inventory::fresh(alloc)?;
-    if step < 4 {
+    if step < 4 || step == 8 {
         with_log(alloc, store, &inventory, count, step)
     } else {
         with_image(alloc, store, &mut inventory, count, step)

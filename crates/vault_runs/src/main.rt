@@ -2,8 +2,8 @@
 //! comment, which begins with `#`, is printed as it stands.
 //!
 //! - `new`: an empty store, and no vault is open.
-//! - `format`, `open`, `checkpoint`; a number: a transaction that brings that day, and `install`: the open vault's calendar is
-//!   installed in its own store.
+//! - `format`, `open`, `checkpoint`; a number: a transaction that brings that day, and a force; `+` and a number: a transaction that
+//!   waits for a force, and `force`; and `install`: the open vault's calendar is installed in its own store.
 //! - `stop CHOICE`: the machine stops and starts again. `fail MOMENT..`: the calls that begin then fail.
 //! - `write FILE OFFSET HEX`: these bytes are written and made durable; `cut FILE LENGTH`; `show FILE`: the bytes; `moment`.
 //! - `stops CHOICE STEP..`: the steps over an empty store, once for each moment: the call that begins then fails, and there the machine

@@ -20,8 +20,11 @@ const LAST: u64 = 1 << 61;
 pub enum Step {
     Format,
     Open,
-    /// A transaction that brings this day.
+    /// A transaction that brings this day, and a force.
     Commit(Day),
+    /// A transaction that brings this day, and waits for a force.
+    Wait(Day),
+    Force,
     Checkpoint,
     Install,
 }
@@ -33,12 +36,13 @@ pub struct Desk {
     vault: Option<Vault<Calendar>>,
 }
 
-/// The vault's answer to a transaction that brings this day.
+/// The vault's answer to a transaction that brings this day, which is forced or waits.
 fn commit_day(
     alloc: Global,
     vault: &mut Vault<Calendar>,
     store: &mut MemStore,
     day: Day,
+    forced: bool,
 ) -> Result<u64, Refusal> {
     if store.moment() >= LATE {
         return Err(Refusal::RunFull);
@@ -48,12 +52,20 @@ fn commit_day(
         change: Change::Day { day },
     };
     match vault.database().legal(&entry) {
+        Ok(()) if forced => vault.commit_forced(alloc, store, entry),
         Ok(()) => vault.commit(alloc, store, entry),
         Err(refusal) => {
             drop(entry);
             Err(refusal)
         }
     }
+}
+
+fn force_all(vault: &mut Vault<Calendar>, store: &mut MemStore) -> Result<u64, Refusal> {
+    if store.moment() >= LATE {
+        return Err(Refusal::RunFull);
+    }
+    vault.force(store)
 }
 
 fn write_image(
@@ -114,6 +126,12 @@ fn shown(alloc: Global, vault: &Vault<Calendar>) -> Result<String, AllocError> {
     let day = vault.database().today().number();
     let generation = vault.generation();
     let made = vault.journal().len();
+    let waiting = made.saturating_sub(vault.forced());
+    if waiting > 0 {
+        return format!(in alloc;
+            "number {number}, day {day}, generation {generation}, {made} of this run, {waiting} not forced"
+        );
+    }
     format!(in alloc; "number {number}, day {day}, generation {generation}, {made} of this run")
 }
 
@@ -158,11 +176,19 @@ impl Desk {
         Ok(())
     }
 
-    fn commit(&mut self, alloc: Global, day: Day) -> Result<(), Fault> {
+    fn commit(&mut self, alloc: Global, day: Day, forced: bool) -> Result<(), Fault> {
         let Some(vault) = &mut self.vault else {
             return Err(Fault::Closed);
         };
-        commit_day(alloc, vault, &mut self.store, day)?;
+        commit_day(alloc, vault, &mut self.store, day, forced)?;
+        Ok(())
+    }
+
+    fn force(&mut self) -> Result<(), Fault> {
+        let Some(vault) = &mut self.vault else {
+            return Err(Fault::Closed);
+        };
+        force_all(vault, &mut self.store)?;
         Ok(())
     }
 
@@ -187,7 +213,9 @@ impl Desk {
         match step {
             Step::Format => self.format(alloc),
             Step::Open => self.open(alloc),
-            Step::Commit(day) => self.commit(alloc, day),
+            Step::Commit(day) => self.commit(alloc, day, true),
+            Step::Wait(day) => self.commit(alloc, day, false),
+            Step::Force => self.force(),
             Step::Checkpoint => self.checkpoint(alloc),
             Step::Install => self.install(alloc),
         }

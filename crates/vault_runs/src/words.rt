@@ -33,6 +33,14 @@ pub fn numbers(alloc: Global, words: &[&str]) -> Result<Vec<u64>, Fault> {
     Ok(list)
 }
 
+/// The step of a transaction: forced, or waiting for a force where `+` stands before the day.
+fn day_step(word: &str) -> Result<Step, Fault> {
+    match word.strip_prefix("+") {
+        Some(digits) => Ok(Step::Wait(day(digits)?)),
+        None => Ok(Step::Commit(day(word)?)),
+    }
+}
+
 /// The step that a word stands for.
 pub fn step(word: &str) -> Result<Step, Fault> {
     match word {
@@ -40,7 +48,8 @@ pub fn step(word: &str) -> Result<Step, Fault> {
         "open" => Ok(Step::Open),
         "checkpoint" => Ok(Step::Checkpoint),
         "install" => Ok(Step::Install),
-        other => Ok(Step::Commit(day(other)?)),
+        "force" => Ok(Step::Force),
+        other => day_step(other),
     }
 }
 

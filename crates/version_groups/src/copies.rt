@@ -10,7 +10,7 @@ use std::alloc::{AllocError, Global};
 use std::marker::Model;
 
 /// A stored copy of an object.
-#[derive(Debug, Drop)]
+#[derive(Drop)]
 pub struct CopyRow {
     /// The number of the storage pool in which the copy lies.
     pub pool: u32,
@@ -44,7 +44,7 @@ pub enum CopyChange {
 }
 
 /// The copies of one version, in ascending order of their pools, at most one in each pool.
-#[derive(Debug, Drop)]
+#[derive(Drop)]
 pub struct Copies {
     items: Vec<CopyRow>,
 }

@@ -10,7 +10,7 @@ use kinds::{Day, Name, Refusal};
 use std::alloc::AllocError;
 
 /// The group of one path.
-#[derive(Debug, Drop)]
+#[derive(Drop)]
 pub struct Group {
     /// The management class to which the path is bound.
     pub class: Name,

@@ -15,7 +15,7 @@ use std::collections::BTreeMap;
 use std::marker::Model;
 
 /// The groups of the paths of one filespace, in ascending order of the paths.
-#[derive(Debug, Drop)]
+#[derive(Drop)]
 pub struct Groups {
     map: BTreeMap<Path, Group>,
 }
@@ -34,7 +34,7 @@ impl Model for Groups {
 }
 
 /// A filespace of a client node.
-#[derive(Debug, Drop)]
+#[derive(Drop)]
 pub struct Filespace {
     /// The node's number.
     pub node: u32,

@@ -12,7 +12,7 @@ use std::alloc::{AllocError, Global};
 use std::marker::Model;
 
 /// A backup version of a client file: what the server keeps of one stored object.
-#[derive(Debug, Drop)]
+#[derive(Drop)]
 pub struct Version {
     /// The object's number.
     pub object: u64,
@@ -47,7 +47,7 @@ impl Clone for Version {
 }
 
 /// The versions of one path, the newest first. No two are of one object.
-#[derive(Debug, Drop)]
+#[derive(Drop)]
 pub struct Versions {
     items: Vec<Version>,
 }

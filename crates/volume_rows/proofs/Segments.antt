@@ -12,7 +12,7 @@ use Rattle.kinds.specs.declared.refusal.Refusal.{Refusal}
 use Rattle.kinds.specs.declared.refusal.Refusal.TheVariants.{NotFound}
 use Rattle.volume_rows.specs.declared.held.HeldSegment.{HeldSegment}
 use Rattle.volume_rows.specs.Held.{held_cmp}
-use Rattle.volume_rows.specs.Holdings.{repeats_of, is_held, raised, with_segment, lowered, without_segment, taken, weight_of, lesser, least_object}
+use Rattle.volume_rows.specs.Holdings.{repeats_of, is_held, raised, with_segment, lowered, without_segment, taken, weight_of, least_object}
 use Rattle.volume_rows.proofs.Entries.{sum_by-inserted, sum_by-set, sum_by-removed, lookup-inserted, remove_entry-inserted, lookup-set, set_value-set}
 
 equal_is : (o : Ordering) → is_eq o ≡ true → o ≡ Equal
@@ -70,12 +70,6 @@ taken-with s held =
     ] refl where
       again : (n : ℕ) → repeats_of s held ≡ Some n → taken s (set_value (is_at (held_cmp s)) held (n + 1)) ≡ Ok held
       again n h = rw (add-one, lookup-set (is_at (held_cmp s)) held n (suc n) h, set_value-set (is_at (held_cmp s)) held n (suc n) h) refl
-
-pub lesser_assoc : (a b c : Option ℕ) → lesser (lesser a b) c ≡ lesser a (lesser b c)
-lesser_assoc None b c = refl
-lesser_assoc (Some a) None c = refl
-lesser_assoc (Some a) (Some b) None = refl
-lesser_assoc (Some a) (Some b) (Some c) = ap Some (omega arith)
 
 same_Ok : {A : Type 0} (x y : A) → (let a : Result A Refusal = Ok x in let b : Result A Refusal = Ok y in a ≡ b) → x ≡ y
 same_Ok x y h = cc

@@ -1,7 +1,8 @@
-use Rattle.std.specs.Prelude.{ℕ, zero, suc, ◌+◌, ◌*◌, ◌==◌, Bool, is_some, Option, Some, None, Result, Ok, Err, List, [], ◌∷◌, length, min, if◌then◌else◌}
+use Rattle.std.specs.Prelude.{ℕ, zero, suc, ◌+◌, ◌*◌, ◌==◌, Bool, is_some, Option, Some, None, Result, Ok, Err, List, [], ◌∷◌, length, if◌then◌else◌}
 use Rattle.std.specs.List.{sum_by}
 use Rattle.std.specs.Map.{lookup, set_value, remove_entry}
 use Rattle.std.specs.BTreeMap.{insert_entry, is_at}
+use Rattle.kinds.specs.Least.{lesser}
 use Rattle.kinds.specs.declared.refusal.Refusal.{Refusal}
 use Rattle.kinds.specs.declared.refusal.Refusal.TheVariants.{NotFound}
 use Rattle.volume_rows.specs.declared.held.HeldSegment.{HeldSegment}
@@ -51,12 +52,6 @@ live_bytes held = weight_of frame_bytes held
 -- the frames' blocks in all
 abbrev pub used_blocks : List (HeldSegment × ℕ) → ℕ
 used_blocks held = weight_of blocks_of held
-
--- of two objects, either of which there may be, the one with the lesser number
-abbrev pub lesser : Option ℕ → Option ℕ → Option ℕ
-lesser None other = other
-lesser (Some object) None = Some object
-lesser (Some object) (Some other) = Some (min object other)
 
 -- the least object with a segment there
 abbrev pub least_object : List (HeldSegment × ℕ) → Option ℕ

@@ -2,11 +2,11 @@ ghost use Rattle.std.specs.Prelude.{◌≡◌, ◌+◌, ◌^◌, ◌<◌, [], le
 ghost use Rattle.std.specs.Map.{set_value};
 ghost use Rattle.std.specs.BTreeMap.{is_at};
 ghost use Rattle.volume_rows.specs.Held.{held_cmp};
-ghost use Rattle.volume_rows.specs.Holdings.{is_bare, with_segment, taken, live_bytes, used_blocks, lesser, least_object};
+ghost use Rattle.volume_rows.specs.Holdings.{is_bare, with_segment, taken, live_bytes, used_blocks, least_object};
 ghost use Rattle.kinds.specs.Answers.{Becomes, Makes};
 
 use crate::held::HeldSegment;
-use kinds::Refusal;
+use kinds::{Refusal, lesser};
 use std::alloc::{AllocError, Global};
 use std::collections::BTreeMap;
 use std::marker::Model;
@@ -80,16 +80,6 @@ fn lower(map: &mut BTreeMap<HeldSegment, u64>, segment: &HeldSegment) -> Result<
     }
 }
 
-fn lesser(first: Option<u64>, second: Option<u64>) -> Option<u64>
-    ensures { result ≡ lesser first second }
-{
-    match (first, second) {
-        (Some(object), Some(other)) => Some(object.min(other)),
-        (Some(object), None) => Some(object),
-        (None, other) => other,
-    }
-}
-
 impl Holdings {
     /// No segments.
     pub fn new(alloc: Global) -> Self
@@ -153,6 +143,7 @@ impl Holdings {
     }
 
     /// The least object with a segment there.
+    #[tactic(auto, using(kinds::proofs::LeastLaws::lesser_assoc))]
     pub fn least_object(&self) -> Option<u64>
         ensures { result ≡ least_object self.now }
     {

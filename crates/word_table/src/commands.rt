@@ -1,7 +1,8 @@
 //! Lines of the command language: the command with its fields, or the refusal with the column of the word that it is about.
 ghost use Rattle.std.specs.Prelude.{◌≤◌, length};
 
-use admin_words::{Command, is_comment, read_line};
+use admin_words::{Command, read_line};
+use command_words::is_comment;
 use kinds::Refusal;
 use std::alloc::{AllocError, Global};
 

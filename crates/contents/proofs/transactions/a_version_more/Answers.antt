@@ -3,7 +3,7 @@ use Rattle.contents.proofs.Arrived.{have_more}
 use Rattle.contents.proofs.transactions.a_version_more.Goals as goal
 
 pub returns-clause-kept : goal.returns-clause-kept
-returns-clause-kept c contents bytes h change item v order fit none one kept new = have_more (InStore h) contents bytes change item v order fit none one kept new
+returns-clause-kept c j contents bytes h change item v order caused none one kept new = have_more (InStore h) j contents bytes change item v order caused none one kept new
 
 pub returns-clause-held : goal.returns-clause-held
-returns-clause-held c contents image bytes change item v order fit none one held new = have_more (InImage image) contents bytes change item v order fit none one held new
+returns-clause-held c j contents image bytes change item v order caused none one held new = have_more (InImage image) j contents bytes change item v order caused none one held new

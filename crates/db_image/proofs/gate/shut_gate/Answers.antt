@@ -1,4 +1,4 @@
-use Rattle.std.proofs.Common.{◌≡◌, ◌⊎◌, inl, inr, refl, arith}
+use Rattle.std.proofs.Common.{inl, inr, arith}
 use Rattle.store_api.proofs.Runs.{told_map, told_then}
 use Rattle.db_image.proofs.Shutting.{not_looked, was_shut, was_open, one_byte}
 use Rattle.db_image.proofs.gate.shut_gate.Goals as goal

@@ -1,7 +1,5 @@
-use Rattle.std.proofs.Common.{◌≡◌, ◌≤◌, ◌<◌, ◌-◌, ◌+◌, ◌++◌, min, ◌∙◌, ℕ, List, [], length, take, drop, refl, sym, ap, subst, arith}
-use Rattle.store_api.specs.Told.{Told}
-use Rattle.log_file.specs.Cursor.{Looked}
-use Rattle.log_file.specs.Windows.{IfReads, NoDamage}
+use Rattle.std.proofs.Common.{◌≡◌, ◌≤◌, ◌-◌, ◌+◌, ◌++◌, min, ◌∙◌, ℕ, List, length, take, drop, ap, arith}
+use Rattle.log_file.specs.Windows.{NoDamage}
 use Rattle.log_file.proofs.Told.{looked_same, looked_then, reads_all, reads_both, reads_map, back_reads, onward_then}
 use Rattle.db_image.proofs.Reading.{piece_more, refused_later}
 use Rattle.db_image.proofs.reader.read_payload.Goals as goal

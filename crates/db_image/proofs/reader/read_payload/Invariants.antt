@@ -1,4 +1,4 @@
-use Rattle.std.proofs.Common.{◌≡◌, ◌≤◌, ◌<◌, ◌-◌, ◌+◌, ℕ, length, take, drop}
+use Rattle.std.proofs.Common.{◌≡◌, ◌≤◌, ◌<◌, ◌-◌, ◌+◌, length, take, drop}
 use Rattle.store_api.specs.Told.{Told}
 use Rattle.log_file.specs.Cursor.{Looked}
 use Rattle.log_file.specs.Windows.{IfReads, Onward}

@@ -1,4 +1,4 @@
-use Rattle.inventory.proofs.Stays.{legal_plain, legal_stays}
+use Rattle.inventory.proofs.Stays.{legal_stays}
 use Rattle.inventory.proofs.laws.legal_leaves_valid.Goals as goal
 
 pub returns-clause-valid : goal.returns-clause-valid
@@ -6,6 +6,3 @@ returns-clause-valid c j change v valid tied order days legal = (legal_stays j c
 
 pub returns-clause-tied : goal.returns-clause-tied
 returns-clause-tied c j change v valid tied order days legal = (legal_stays j change v valid tied order days legal).1
-
-pub returns-clause-whole : goal.returns-clause-whole
-returns-clause-whole c j change v valid tied order days legal = legal_plain j change v valid tied order days legal

@@ -4,7 +4,7 @@ use Rattle.inventory.proofs.Stays.{kept, legal_can, legal_stays}
 use Rattle.inventory.proofs.made.make_rows.Goals as goal
 
 pub apply-requires : goal.apply-requires
-apply-requires c = legal_can no_journal c.args.change.now (inv_of c.args.tables.now) c.requires.valid c.requires.ascending c.requires.legal
+apply-requires c = legal_can no_journal c.args.change.now (inv_of c.args.tables.now) c.requires.valid c.requires.tied c.requires.ascending c.requires.legal
 
 pub returns-clause-valid : goal.returns-clause-valid
 returns-clause-valid c =

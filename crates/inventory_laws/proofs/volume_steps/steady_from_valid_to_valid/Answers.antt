@@ -6,4 +6,4 @@ pub returns-clause-begins : goal.returns-clause-begins
 returns-clause-begins c n v f t le = steady_begins n v f t le
 
 pub returns-clause-ends : goal.returns-clause-ends
-returns-clause-ends c kind v of_data f s sizes few = data_ends kind v of_data f s sizes few
+returns-clause-ends c kind v of_data f s sizes = data_ends kind v of_data f s sizes

@@ -7,7 +7,7 @@ use Rattle.inventory_rows.proofs.backup.lower.Goals as goal
 
 pub returns-in-Some : goal.returns-in-Some
 returns-in-Some c =
-    c.set.ensures ∙ ap (λ (n : ℕ). set_value (is_at (nat_cmp c.args.pool)) c.args.map.now.entries n) c.lesser.ensures
+    c.set.ensures ∙ ap (λ (n : ℕ). set_value (is_at (nat_cmp c.args.pool)) c.args.map.now.entries n) c.shorter.ensures
     ∙ lowered-there c.args.pool c.args.delay c.in-Some.there c.args.map.now.entries c.len-len.ensures.ordered (sym (c.in-Some.ensures ∙ c.get.ensures.value))
 
 pub returns-in-None : goal.returns-in-None

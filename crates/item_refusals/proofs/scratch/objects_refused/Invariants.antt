@@ -3,8 +3,8 @@ use Rattle.std.specs.List.{flat_map}
 use Rattle.kinds.specs.Refusals.{foremost}
 use Rattle.change_items.specs.declared.items.NewVersion.{NewVersion}
 use Rattle.inventory_rows.specs.State.{inv_of}
-use Rattle.item_refusals.specs.Drawn.{object_bound}
+use Rattle.inventory_rules.specs.Versions.{object_refused}
 use Rattle.item_refusals.proofs.scratch.objects_refused.Given as goal
 
 abbrev pub invariant-items : goal.invariant-items
-invariant-items l = l.found ≡ foremost (flat_map (λ (i : NewVersion). object_bound (inv_of l.tables) i.object) (take l.item-index l.items))
+invariant-items l = l.found ≡ foremost (flat_map (λ (i : NewVersion). object_refused (inv_of l.tables) i.object) (take l.item-index l.items))

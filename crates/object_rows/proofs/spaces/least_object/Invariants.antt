@@ -1,5 +1,6 @@
 use Rattle.std.proofs.Common.{◌≡◌}
-use Rattle.object_rows.specs.Changes.{least_object, lesser}
+use Rattle.kinds.specs.Least.{lesser}
+use Rattle.object_rows.specs.Changes.{least_object}
 use Rattle.object_rows.proofs.spaces.least_object.Given as goal
 
 abbrev pub invariant-groups : goal.invariant-groups

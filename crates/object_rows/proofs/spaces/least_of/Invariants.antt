@@ -1,6 +1,7 @@
 use Rattle.std.proofs.Common.{◌≡◌, drop, map}
 use Rattle.version_groups.specs.declared.versions.Version.{Version}
-use Rattle.object_rows.specs.Changes.{least, lesser}
+use Rattle.kinds.specs.Least.{lesser}
+use Rattle.object_rows.specs.Changes.{least}
 use Rattle.object_rows.proofs.spaces.least_of.Given as goal
 
 abbrev pub invariant-versions : goal.invariant-versions

@@ -1,18 +1,11 @@
 use Rattle.std.proofs.Common.{◌∙◌, sym}
 use Rattle.inventory_rows.specs.State.{inv_of}
-use Rattle.server.proofs.Reading.{near_places, one_far, one_failed, one_unreadable}
+use Rattle.server.proofs.Reading.{one_failed, one_unreadable}
 use Rattle.server.proofs.get.read_one.Goals as goal
 
 pub returns-then-not-can_read-clause-reads : goal.returns-then-not-can_read-clause-reads
 returns-then-not-can_read-clause-reads g c =
     one_unreadable g.S.Store.told g.S.Store.moment_of g.S.Store.faults_of (inv_of c.args.tables.now) c.args.copy.now c.args.into.now c.args.store.now (sym c.can_read.ensures ∙ c.if-not-can_read.true)
-
-pub returns-then-not-are_near-clause-reads : goal.returns-then-not-are_near-clause-reads
-returns-then-not-are_near-clause-reads g c =
-    one_far g.S.Store.told g.S.Store.moment_of g.S.Store.faults_of (inv_of c.args.tables.now) c.args.copy.now c.as_slice-segments.result.now c.args.into.now c.args.store.now c.as_slice-segments.ensures.value (sym c.are_near.ensures ∙ c.if-not-are_near.true)
-
-pub read_copy-requires-clause-places : goal.read_copy-requires-clause-places
-read_copy-requires-clause-places g c = near_places c.as_slice-segments.result.now (sym c.are_near.ensures ∙ c.if-not-are_near.false)
 
 pub returns-in-Err-Fault-clause-reads : goal.returns-in-Err-Fault-clause-reads
 returns-in-Err-Fault-clause-reads g c =

@@ -46,7 +46,7 @@ returns-clause-outcome g c =
       c.run_script.ensures.later,
       opened_calm (g.S.Store.told c.args.store) (g.S.Store.told c.open.new.store) (Ok c.in-Ok.vault) c.in-Ok.ensures.told,
       c.run_script.ensures.goes,
-      script (g.S.Store.told c.args.store) (g.S.Store.told c.open.new.store) c.in-Ok.vault c.in-Ok.ensures.told _ _ _ _ _ _ _ _ _ _ _ _ _ _ (c.run_script.ensures.base ∙ ap Some (c.in-Ok-copy.ensures ∙ c.database.ensures)) ran.1,
+      script (g.S.Store.told c.args.store) (g.S.Store.told c.open.new.store) c.in-Ok.vault c.in-Ok.ensures.told _ _ _ _ _ _ _ _ _ _ _ _ _ _ _ (c.run_script.ensures.base ∙ ap Some (c.in-Ok-copy.ensures ∙ c.database.ensures)) ran.1,
       ran.2,
       ran.3,
     )

@@ -1,8 +1,7 @@
-use Rattle.std.proofs.Common.{◌≡◌, ◌∙◌, ◌-◌, ◌≤◌, min, ℕ, List, length, take, drop, refl, sym, ap, subst, arith}
+use Rattle.std.proofs.Common.{◌≡◌, ◌∙◌, min, ℕ, List, length, take, arith}
 use Rattle.std.proofs.lemmas.List.{length-take}
 use Rattle.store_api.specs.Told.{ReadsFrom}
 use Rattle.log_file.proofs.Told.{looked_then, reads_both, back_reads}
-use Rattle.db_image.specs.Reads.{FindsHead}
 use Rattle.db_image.proofs.Heads.{front_of, head_found}
 use Rattle.db_image.proofs.writer.Image.head.Goals as goal
 

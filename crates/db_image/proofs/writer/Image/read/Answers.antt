@@ -1,6 +1,6 @@
-use Rattle.std.proofs.Common.{◌≡◌, ◌+◌, ◌≤◌, ℕ, List, length, take, drop, sym, ap, subst, Option, Some, Ok}
+use Rattle.std.proofs.Common.{◌≡◌, ◌+◌, ◌≤◌, ℕ, List, length, take, drop, subst, Option, Ok}
 use Rattle.log_file.specs.Windows.{NoDamage, IfReads}
-use Rattle.log_file.proofs.Told.{looked_then, reads_both, reads_map, back_reads}
+use Rattle.log_file.proofs.Told.{looked_then, reads_both, back_reads}
 use Rattle.db_image.specs.declared.head.Head.{Head}
 use Rattle.db_image.specs.Images.{HasHead}
 use Rattle.db_image.specs.Reads.{FindsHead}

@@ -2,7 +2,7 @@ use Rattle.inventory_rules.specs.Journal.{no_journal}
 use Rattle.std.proofs.Common.{◌≡◌, [], true, refl, subst}
 use Rattle.inventory_rows.specs.State.{Inv}
 use Rattle.inventory_rules.specs.Valid.{is_valid}
-use Rattle.inventory.specs.Legal.{refused}
+use Rattle.inventory_rules.specs.Transactions.{refused}
 use Rattle.server.proofs.Staying.{legal_none, makes_full, makes_refused, makes}
 use Rattle.server.proofs.server.Server.change.Goals as goal
 

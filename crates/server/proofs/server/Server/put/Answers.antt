@@ -6,7 +6,7 @@ use Rattle.server.specs.declared.stop.Stop.{Stop}
 use Rattle.server.specs.Putting.{file_of}
 use Rattle.server.specs.Requests.{filespace_defined}
 use Rattle.server.specs.Running.{Running}
-use Rattle.server.proofs.Storing.{DefinedIn, PutAs, StoredIn, put_in, put_new, put_nowhere, put_unbound, put_unmade}
+use Rattle.server.proofs.Storing.{DefinedIn, PutAs, StoredIn, put_full, put_in, put_new, put_nowhere, put_unbound, put_unmade}
 use Rattle.server.proofs.server.Server.put.Goals as goal
 
 pub returns-in_default-clause-puts : goal.returns-in_default-clause-puts
@@ -30,7 +30,10 @@ returns-in_default-default_rule-clause-puts g c =
     (put_unbound g.S.Store.told g.S.Store.moment_of g.S.Store.faults_of f node now c.requires.sure named none)
 
 pub returns-in-Err-clause-puts : goal.returns-in-Err-clause-puts
-returns-in-Err-clause-puts g c = put_unmade g.S.Store.told g.S.Store.moment_of g.S.Store.faults_of (file_of c.args.file) c.args.self.now c.requires.sure
+returns-in-Err-clause-puts g c = put_full g.S.Store.told g.S.Store.moment_of g.S.Store.faults_of (file_of c.args.file) c.in-Err.stop c.args.self.now c.requires.sure c.in-Err.ensures.full
+
+pub returns-in-Err-clone-clause-puts : goal.returns-in-Err-clone-clause-puts
+returns-in-Err-clone-clause-puts g c = put_unmade g.S.Store.told g.S.Store.moment_of g.S.Store.faults_of (file_of c.args.file) c.args.self.now c.requires.sure
 
 pub returns-in-Some-filespace_named-clause-puts : goal.returns-in-Some-filespace_named-clause-puts
 returns-in-Some-filespace_named-clause-puts g c =
@@ -49,7 +52,7 @@ returns-in-Some-filespace_named-clause-puts g c =
     let ruled : default_rule node now.vault.database ≡ Some (class, rule) = sym (ap (λ (v : Inv). default_rule node v) db) ∙ sym c.in-Some-default_rule.ensures in
     let there : filespace_named node f.filespace now.vault.database.clients.filespaces ≡ Some filespace =
     sym (ap (λ (v : Inv). filespace_named node f.filespace v.clients.filespaces) db) ∙ (sym c.filespace_named.ensures ∙ c.in-Some-filespace_named.is) in
-    let copied : c.in-Ok.class ≡ class = c.in-Ok.ensures.cases in
+    let copied : c.in-Ok-clone.class ≡ class = c.in-Ok-clone.ensures.cases in
     put_in t m faults f now new node class rule named ruled c.store_in.result filespace there
     (subst (λ (l : List ℕ). StoredIn t m faults f filespace l rule.destination c.store_in.result now new) copied c.store_in.ensures.puts)
 
@@ -69,6 +72,6 @@ returns-in-None-clause-puts g c =
     let ruled : default_rule node now.vault.database ≡ Some (class, rule) = sym (ap (λ (v : Inv). default_rule node v) db) ∙ sym c.in-Some-default_rule.ensures in
     let none : filespace_named node f.filespace now.vault.database.clients.filespaces ≡ None =
     sym (ap (λ (v : Inv). filespace_named node f.filespace v.clients.filespaces) db) ∙ (sym c.filespace_named.ensures ∙ c.in-None.is) in
-    let copied : c.in-Ok.class ≡ class = c.in-Ok.ensures.cases in
+    let copied : c.in-Ok-clone.class ≡ class = c.in-Ok-clone.ensures.cases in
     put_new t m faults f now new node class rule named ruled c.define_and_store.result none
     (subst (λ (l : List ℕ). DefinedIn t m faults (filespace_defined node f.filespace now.vault.database) f l rule.destination c.define_and_store.result now new) copied c.define_and_store.ensures.puts)

@@ -1,10 +1,6 @@
-use Rattle.std.proofs.Common.{rules, ◌≡◌, ◌∙◌, ◌+◌, ap, subst, ℕ, Result, Ok, Err}
-use Rattle.store_api.proofs.Runs.{told_map}
-use Rattle.log_file.specs.declared.writer.Log.{Log}
-use Rattle.log_file.specs.Sure as log
-use Rattle.vault.specs.Images.{Replaced}
-use Rattle.vault.specs.Vaults.{State}
-use Rattle.vault.proofs.Checkpointing.{told_not, next_is, is_made, not_made}
+use Rattle.std.proofs.Common.{rules}
+use Rattle.store_api.proofs.Runs.{told_map, told_then}
+use Rattle.vault.proofs.Checkpointing.{told_not, checkpoint_after, checkpoint_not_forced, refused_by_force, refused_all}
 use Rattle.vault.proofs.vault.Vault.checkpoint.Goals as goal
 
 pub returns-in-Some-clause-told : goal.returns-in-Some-clause-told
@@ -13,25 +9,14 @@ returns-in-Some-clause-told g c = told_not (g.S.Store.told c.args.store.now) g.D
 pub returns-in-Err-clause-told : goal.returns-in-Err-clause-told
 returns-in-Err-clause-told g c = told_not (g.S.Store.told c.args.store.now) g.D.Database.meaning c.args.self.now c.args.self.now _
 
-pub returns-in-Ok-put_generation-clause-told : goal.returns-in-Ok-put_generation-clause-told
-returns-in-Ok-put_generation-clause-told g c =
-    let m = g.D.Database.meaning in
-    let inside = c.self.inside in
-    let databases : inside.database ≡ c.args.self.now.database = ap (λ (v : State g.row.D.Denot). v.database) c.self.view_is in
-    let generations : inside.generation ≡ c.args.self.now.generation = ap (λ (v : State g.row.D.Denot). v.generation) c.self.view_is in
-    let valid : m.Valid c.args.self.now.database = subst (λ (d : g.row.D.Denot). m.Valid d) databases c.encode.ensures.valid in
-    let spelled : c.in-Ok.payload.items ≡ m.spelled c.args.self.now.database = c.in-Ok.ensures.spelled ∙ ap (λ (d : g.row.D.Denot). m.spelled d) databases in
-    let is = next_is inside.generation inside.log.end c.in-Ok-put_generation.log.end inside.database inside.journal.items inside.fault c.args.self.now c.self.view_is (ap (λ (l : log.State). l.end) c.in-Ok-put_generation.ensures.log) (search rules) in
-    told_map _ _ _ _ (λ h n replaced. is_made m c.args.self.now valid c.in-Ok.payload.items spelled h n _ c.in-Ok-put_generation.log tt is
-    (subst (λ (k : ℕ). let r : Result Log ℕ = Ok c.in-Ok-put_generation.log in Replaced (k + 1) c.in-Ok.payload.items r h n) generations replaced)) c.in-Ok-put_generation.ensures.told
+pub returns-in-Ok-force-clause-told : goal.returns-in-Ok-force-clause-told
+returns-in-Ok-force-clause-told g c = told_then _ _ _ _ _ _ (λ h k n forces written. checkpoint_after g.D.Database.meaning c.args.self.now c.force.new.self c.in-Ok-force.ensures.ok h k n c.in-Ok-force.field-0 forces c.put_next.result c.put_next.new.self written) c.in-Ok-force.ensures.told c.put_next.ensures.told
 
-pub returns-in-Err-put_generation-clause-told : goal.returns-in-Err-put_generation-clause-told
-returns-in-Err-put_generation-clause-told g c =
-    let m = g.D.Database.meaning in
-    let inside = c.self.inside in
-    let databases : inside.database ≡ c.args.self.now.database = ap (λ (v : State g.row.D.Denot). v.database) c.self.view_is in
-    let generations : inside.generation ≡ c.args.self.now.generation = ap (λ (v : State g.row.D.Denot). v.generation) c.self.view_is in
-    let valid : m.Valid c.args.self.now.database = subst (λ (d : g.row.D.Denot). m.Valid d) databases c.encode.ensures.valid in
-    let spelled : c.in-Ok.payload.items ≡ m.spelled c.args.self.now.database = c.in-Ok.ensures.spelled ∙ ap (λ (d : g.row.D.Denot). m.spelled d) databases in
-    told_map _ _ _ _ (λ h n replaced. not_made m c.args.self.now valid c.in-Ok.payload.items spelled h n _ c.in-Err-put_generation.file _
-    (subst (λ (k : ℕ). let r : Result Log ℕ = Err c.in-Err-put_generation.file in Replaced (k + 1) c.in-Ok.payload.items r h n) generations replaced)) c.in-Err-put_generation.ensures.told
+pub returns-in-Err-force-clause-told : goal.returns-in-Err-force-clause-told
+returns-in-Err-force-clause-told g c = told_map _ _ _ _ (λ h n forces. checkpoint_not_forced g.D.Database.meaning c.args.self.now c.force.new.self c.in-Err-force.refusal c.in-Err-force.refusal h n forces) c.in-Err-force.ensures.told
+
+pub returns-in-Ok-force-clause-err : goal.returns-in-Ok-force-clause-err
+returns-in-Ok-force-clause-err g c = refused_all c.args.self.now c.force.new.self c.put_next.new.self c.in-Ok-force.ensures.ok (search rules) (g.S.Store.faults_of c.args.store.now) (g.S.Store.faults_of c.force.new.store) (g.S.Store.faults_of c.put_next.new.store) c.force.ensures.counts c.put_next.result _ c.put_next.ensures.err
+
+pub returns-in-Err-force-clause-err : goal.returns-in-Err-force-clause-err
+returns-in-Err-force-clause-err g c = refused_by_force c.args.self.now c.force.new.self (search rules) (g.S.Store.faults_of c.args.store.now) (g.S.Store.faults_of c.force.new.store) c.in-Err-force.refusal _ c.in-Err-force.ensures.err

@@ -1,4 +1,4 @@
-use Rattle.std.proofs.Common.{ap, Ok, Err, ℕ, List}
+use Rattle.std.proofs.Common.{ap, sym, ◌∙◌, length, Ok, Err, ℕ, List}
 use Rattle.store_api.specs.Disk.{reads}
 use Rattle.store_api.proofs.Runs.{told_then, told_map}
 use Rattle.log_file.specs.Cursor.{Looked}
@@ -34,7 +34,7 @@ returns-in-Ok-replay-clause-told g c =
     (base_is g.D.Database.meaning c.in-Ok-newest.generation c.in-Ok-read_base.database) found
     (told_with (g.S.Store.told c.newest.new.store) (g.S.Store.told c.read_base.new.store) Looked (λ h. (payload : List ℕ) → Newest (reads h) c.in-Ok-newest.generation payload → FindsBase g.D.Database.meaning c.in-Ok-newest.generation payload (Ok c.in-Ok-read_base.database)) c.in-Ok-read_base.ensures.looked c.in-Ok-read_base.ensures.finds) in
     told_then (g.S.Store.told c.args.store.now) (g.S.Store.told c.read_base.new.store) (g.S.Store.told c.replay.new.store) (Based g.D.Database.meaning c.in-Ok-newest.generation c.in-Ok-read_base.database) _ _
-    (λ h k n b replayed. is_opened g.D.Database.meaning c.in-Ok-newest.generation c.log_file.result c.log_file.ensures.value c.in-Ok-read_base.database c.replay.new.database h k n b c.in-Ok-replay.log replayed c.opened.result (ap (λ (v : State g.row.D.Denot). v.generation) c.opened.ensures) (ap (λ (v : State g.row.D.Denot). v.database) c.opened.ensures) (ap (λ (v : State g.row.D.Denot). v.end) c.opened.ensures)) based c.in-Ok-replay.ensures.told
+    (λ h k n b replayed. is_opened g.D.Database.meaning c.in-Ok-newest.generation c.log_file.result c.log_file.ensures.value c.in-Ok-read_base.database c.replay.new.database h k n b c.in-Ok-replay.log replayed c.opened.result (ap (λ (v : State g.row.D.Denot). v.generation) c.opened.ensures) (ap (λ (v : State g.row.D.Denot). v.database) c.opened.ensures) (ap (λ (v : State g.row.D.Denot). v.end) c.opened.ensures) (ap (λ (v : State g.row.D.Denot). v.sure) c.opened.ensures ∙ c.in-Ok-replay.ensures.log.1 ∙ sym (ap (λ (v : State g.row.D.Denot). v.end) c.opened.ensures)) (ap (λ (v : State g.row.D.Denot). v.forced) c.opened.ensures ∙ sym (ap (λ (v : State g.row.D.Denot). length v.journal) c.opened.ensures))) based c.in-Ok-replay.ensures.told
 
 pub returns-in-Err-replay-clause-told : goal.returns-in-Err-replay-clause-told
 returns-in-Err-replay-clause-told g c =

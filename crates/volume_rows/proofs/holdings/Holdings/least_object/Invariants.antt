@@ -1,5 +1,6 @@
 use Rattle.std.proofs.Common.{◌≡◌}
-use Rattle.volume_rows.specs.Holdings.{lesser, least_object}
+use Rattle.kinds.specs.Least.{lesser}
+use Rattle.volume_rows.specs.Holdings.{least_object}
 use Rattle.volume_rows.proofs.holdings.Holdings.least_object.Given as goal
 
 abbrev pub invariant-held : goal.invariant-held
