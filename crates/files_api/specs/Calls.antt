@@ -1,6 +1,6 @@
 -- What the calls on the files of a folder do to it.
-use Rattle.std.specs.Prelude.{◌≡◌, ◌≢◌, ◌⊎◌, ℕ, ◌+◌, ◌<◌, ◌≤◌, List, [], length, take, drop, Bool, IsTrue, true, false, Option, None, Some, Result, Ok, Err}
-use Rattle.store_api.specs.Disk.{Change, write, cut, settle, Standing}
+use Rattle.std.specs.Prelude.{◌≡◌, ◌≢◌, ◌⊎◌, ℕ, ◌+◌, ◌<◌, ◌≤◌, List, [], length, take, drop, IsTrue, true, false, Option, None, Some, Result, Ok, Err}
+use Rattle.store_api.specs.Disk.{write, cut, settle}
 use Rattle.files_api.specs.declared.files.Failed.{Failed}
 use Rattle.files_api.specs.Folder.{Stage, held, spoiled, File, Folder, with_change, IsMissing, IsNew}
 

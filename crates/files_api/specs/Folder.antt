@@ -24,10 +24,10 @@ pub record Folder : Type 0 where
   pub is_settled : Bool
   pub files : List ℕ → File
 
--- all of the file is on the disk, and so is its name
+-- all of the file is on the disk, and so is its name, but where nothing of it reads
 pub record IsOnDisk (file : File) : Type 0 where
   pub bytes : file.standing ≡ settled file.standing.bytes
-  pub name : IsTrue file.is_there → IsTrue file.is_sure
+  pub name : ¬ IsTrue file.is_sure → file.standing.bytes ≡ []
   pub sound : IsTrue file.is_sound
 
 -- the file as it is with a change

@@ -1,5 +1,5 @@
 // The traits of the files of one folder, and of a stop of the machine.
-ghost use Rattle.std.specs.Prelude.{◌≡◌, ◌≢◌, ◌+◌, ◌<◌, ◌≤◌, ◌^◌, ℕ, List, Option, [], length, true, false, IfOk, IfSome, IsTrue};
+ghost use Rattle.std.specs.Prelude.{◌≡◌, ℕ, List, Option, length, IfOk, IfSome, IsTrue};
 ghost use Rattle.std.specs.Io.{ReadsAtMost, WritesAtMost};
 ghost use Rattle.store_api.specs.Told.{Told};
 ghost use Rattle.files_api.specs.Folder.{Folder, Stage, made, kept, held, IsOnDisk};

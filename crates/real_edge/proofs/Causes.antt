@@ -1,7 +1,8 @@
 -- A count that rose after it had not fallen has risen.
 use Rattle.std.proofs.Common.{◌≡◌, ℕ, ◌≤◌, OnErr, Result, Ok, Err, arith, subst}
 use Rattle.store_api.specs.Cause.{Rose, NoneFell}
-use Rattle.real_edge.specs.Ledger.{Faults, Kept, faults_of}
+use Rattle.real_edge.specs.Ledger.{Faults, faults_of}
+use Rattle.real_edge.specs.Kept.{Kept}
 
 pub rose_since : {T E : Type 0} (answer : Result T E) (before mid after : ℕ) → before ≤ mid → OnErr answer (Rose mid after) → OnErr answer (Rose before after)
 rose_since (Ok done) before mid after kept rose = rose

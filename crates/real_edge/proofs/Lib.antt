@@ -1,2 +1,13 @@
 pub mod Causes
+pub mod Ends
+pub mod Fills
+pub mod Keeps
+pub mod Looking
+pub mod Numbers
+pub mod OpenFiles
 pub mod Padding
+pub mod Pasts
+pub mod Patches
+pub mod Tellings
+pub mod Ties
+pub mod Walks

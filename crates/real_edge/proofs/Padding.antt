@@ -1,5 +1,5 @@
 -- What `{:08}` writes of a number.
-use Rattle.std.proofs.Common.{◌≡◌, ℕ, ◌-◌, ◌^◌, List, ◌++◌, length, false, [], arith}
+use Rattle.std.proofs.Common.{◌≡◌, ℕ, ◌-◌, ◌^◌, ◌++◌, length, false, [], arith}
 use Rattle.std.specs.Prelude.{replicate}
 use Rattle.std.specs.Fmt.{padded_integral, format_spec, decimal, char_count}
 use Rattle.std.proofs.lemmas.Grind.{common_steps}

@@ -25,7 +25,7 @@ is_lost faults file = faults.all_lost || list_any (is_at (nat_cmp file)) faults.
 abbrev pub StayLost : (ℕ → Bool) → (ℕ → Bool) → Type 0
 StayLost before after = (file : ℕ) → IsTrue (before file) → IsTrue (after file)
 
--- what is known of a folder as a store, which tells no bytes
-pub record Kept : Type 0 where
-  pub moment : ℕ
-  pub faults : Faults
+-- no file that was lost is used again, and where none is used none is used later
+pub record Worse (before after : Faults) : Type 0 where
+  pub each : StayLost (is_lost before) (is_lost after)
+  pub all : IsTrue before.all_lost → IsTrue after.all_lost

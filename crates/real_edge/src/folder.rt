@@ -1,10 +1,16 @@
 // The numbered files of a folder, a few of which are open.
-ghost use Rattle.std.specs.Prelude.{◌≡◌, ◌≢◌, ℕ, IsTrue, OnOk};
-ghost use Rattle.real_edge.specs.Pool.{has};
+ghost use Rattle.std.specs.Prelude.{◌≡◌, ◌≢◌, ◌<◌, ◌^◌, ℕ, List, [], IsTrue, OnOk, true, false};
+ghost use Rattle.store_api.specs.Disk.{Standing};
+ghost use Rattle.store_api.specs.Told.{Told};
+ghost use Rattle.files_api.specs.Folder.{IsMissing};
+ghost use Rattle.real_edge.specs.Ledger.{Faults, is_lost};
+ghost use Rattle.real_edge.specs.Names.{file_name};
+ghost use Rattle.real_edge.specs.Pool.{AreNamed};
+ghost use Rattle.real_edge.specs.Holds.{Holds, has};
 
 use crate::names::name_of;
 use crate::pool::Pool;
-use files_api::{Failed, Files};
+use files_api::{Failed, Files, Stop};
 use std::alloc::Global;
 use std::collections::BTreeSet;
 
@@ -12,8 +18,6 @@ use std::collections::BTreeSet;
 pub(crate) struct Folder<F: Files + Drop> {
     pub files: F,
     alloc: Global,
-    // whether a call has entered the folder
-    pub is_entered: bool,
     pub pool: Pool<F::Handle>,
     // the files that were written or cut since their last sync
     pub changed: BTreeSet<u32>,
@@ -24,12 +28,18 @@ pub(crate) struct Folder<F: Files + Drop> {
 }
 
 impl<F: Files + Drop> Folder<F> {
+    ghost use Rattle.real_edge.specs.Desks.{desk_of, Enters, Reached, SyncsChanged, SyncsAllNames};
+
     // A folder that is still to be entered.
-    pub fn new(files: F, alloc: Global) -> Folder<F> {
+    pub fn new(files: F, alloc: Global) -> Folder<F>
+        ensures files { result.files ≡ files }
+        ensures named { (name_of : F.Handle → List ℕ) → AreNamed name_of result.pool }
+        ensures changed { result.changed.keys ≡ [] }
+        ensures synced { result.is_synced ≡ false }
+    {
         Folder {
             files,
             alloc,
-            is_entered: false,
             pool: Pool::new(alloc),
             changed: BTreeSet::new(alloc),
             settled: BTreeSet::new(alloc),
@@ -38,8 +48,9 @@ impl<F: Files + Drop> Folder<F> {
     }
 
     // Makes the folder, where it is missing, and locks it.
-    pub fn enter(&mut self) -> Result<(), Failed> {
-        self.is_entered = true;
+    pub fn enter(&mut self) -> Result<(), Failed>
+        ensures told { Told (F.told self.old.files) (F.told self.new.files) (Enters F.name_of result self.old self.new) }
+    {
         match self.files.make() {
             Ok(()) => {}
             Err(failed) => return Err(failed),
@@ -51,19 +62,24 @@ impl<F: Files + Drop> Folder<F> {
     }
 
     // Opens a file, and makes it where it is missing and is to be made. Answers none where there is no such file.
-    pub fn fetch(&mut self, file: u32, is_made: bool) -> Result<Option<F::Handle>, Failed> {
+    pub fn fetch(&mut self, file: u32, is_made: bool) -> Result<Option<F::Handle>, Failed>
+        ensures told { Told (F.told self.old.files) (F.told self.new.files) (λ old new. (faults : Faults) (seen : ℕ → Standing) → ¬ IsTrue faults.all_lost → Holds F.name_of true (desk_of self.old) faults old seen → Reached F.name_of file result self.new faults new seen) }
+    {
         let name = match name_of(self.alloc, file) {
             Ok(name) => name,
             Err(_) => return Err(Failed),
         };
         match self.files.open(name.as_str()) {
-            Ok(None) if is_made => self.make(name.as_str()),
+            Ok(None) if is_made => self.make(file, name.as_str()),
             found => found,
         }
     }
 
     // Makes a file that is missing.
-    fn make(&mut self, name: &str) -> Result<Option<F::Handle>, Failed> {
+    fn make(&mut self, file: u32, name: &str) -> Result<Option<F::Handle>, Failed>
+        requires { name.now ≡ file_name file }
+        ensures told { Told (F.told self.old.files) (F.told self.new.files) (λ old new. (faults : Faults) (seen : ℕ → Standing) → ¬ IsTrue faults.all_lost → Holds F.name_of true (desk_of self.old) faults old seen → Reached F.name_of file result self.new faults new seen) }
+    {
         self.is_synced = false;
         match self.files.create(name) {
             Ok(handle) => Ok(Some(handle)),
@@ -72,7 +88,11 @@ impl<F: Files + Drop> Folder<F> {
     }
 
     // Makes the names of the folder's files durable.
-    pub fn sync_names(&mut self) -> Result<(), Failed> {
+    pub fn sync_names(&mut self) -> Result<(), Failed>
+        ensures told { Told (F.told self.old.files) (F.told self.new.files) (SyncsAllNames F.name_of result self.old self.new) }
+        ensures synced { OnOk result (IsTrue self.new.is_synced) }
+        ensures changed { self.new.changed.keys ≡ self.old.changed.keys }
+    {
         if self.is_synced {
             return Ok(());
         }
@@ -86,7 +106,10 @@ impl<F: Files + Drop> Folder<F> {
     }
 
     // Makes a file durable, where it was changed since its last sync.
-    pub fn sync_changed(&mut self, file: u32, handle: &F::Handle) -> Result<(), Failed> {
+    pub fn sync_changed(&mut self, file: u32, handle: &F::Handle) -> Result<(), Failed>
+        ensures told { Told (F.told self.old.files) (F.told self.new.files) (SyncsChanged F.name_of file handle.now result self.old self.new) }
+        ensures unchanged { OnOk result (¬ IsTrue (has self.new.changed.keys file)) }
+    {
         if !is_marked(&self.changed, file) {
             return Ok(());
         }
@@ -97,6 +120,20 @@ impl<F: Files + Drop> Folder<F> {
             }
             Err(failed) => Err(failed),
         }
+    }
+}
+
+impl<F: Stop + Drop> Folder<F> {
+    ghost use Rattle.files_api.specs.Folder.{StopsAs};
+
+    // The folder after a stop of the machine, still to be entered.
+    pub fn stop(self, choice: u64) -> Folder<F>
+        ensures told { Told (F.told self.files) (F.told result.files) StopsAs }
+        ensures named { (name_of : F.Handle → List ℕ) → AreNamed name_of result.pool }
+        ensures synced { result.is_synced ≡ false }
+    {
+        let Folder { files, alloc, .. } = self;
+        Folder::new(files.stop(choice), alloc)
     }
 }
 

@@ -1,7 +1,7 @@
 // How often calls on each file failed, and on which files no more is to be done.
 ghost use Rattle.std.specs.Prelude.{◌≡◌, ℕ, false, IsTrue};
 ghost use Rattle.store_api.specs.Cause.{Rose, NoneFell};
-ghost use Rattle.real_edge.specs.Ledger.{faults_of, is_lost, StayLost};
+ghost use Rattle.real_edge.specs.Ledger.{faults_of, is_lost, StayLost, Worse};
 
 use std::alloc::Global;
 use std::collections::{BTreeMap, BTreeSet};
@@ -60,6 +60,7 @@ impl Ledger {
         ensures counts { NoneFell (faults_of self.old) (faults_of self.new) }
         ensures cause { Rose (faults_of self.old file) (faults_of self.new file) }
         ensures lost { (other : ℕ) → is_lost self.new other ≡ is_lost self.old other }
+        ensures worse { Worse self.old self.new }
     {
         let count = self.counts.get(&file).copied().unwrap_or(0);
         if self.counts.insert(file, count.saturating_add(1)).is_err() {
@@ -72,6 +73,7 @@ impl Ledger {
         ensures counts { (other : ℕ) → faults_of self.new other ≡ faults_of self.old other }
         ensures lost { IsTrue (is_lost self.new file) }
         ensures stay { StayLost (is_lost self.old) (is_lost self.new) }
+        ensures worse { Worse self.old self.new }
     {
         if self.lost.insert(file).is_err() {
             self.all_lost = true;
@@ -82,7 +84,18 @@ impl Ledger {
     pub fn lose_all(&mut self)
         ensures counts { (other : ℕ) → faults_of self.new other ≡ faults_of self.old other }
         ensures lost { (file : ℕ) → IsTrue (is_lost self.new file) }
+        ensures all { IsTrue self.new.all_lost }
+        ensures worse { Worse self.old self.new }
     {
         self.all_lost = true;
+    }
+
+    // Takes the marks away, as a stop does: each file may be used again.
+    pub fn forget(&mut self)
+        ensures counts { (other : ℕ) → faults_of self.new other ≡ faults_of self.old other }
+        ensures used { (file : ℕ) → is_lost self.new file ≡ false }
+    {
+        self.lost.clear();
+        self.all_lost = false;
     }
 }

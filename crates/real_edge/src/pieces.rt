@@ -1,5 +1,8 @@
 // What is done with one open file, in as many calls of the system as it takes.
-ghost use Rattle.std.specs.Prelude.{◌+◌, ◌<◌, ◌≤◌, ◌^◌, length, IfOk, IsTrue};
+ghost use Rattle.std.specs.Prelude.{◌≡◌, ◌+◌, ◌<◌, ◌≤◌, ◌^◌, length, take, drop, IfOk, OnOk, IfSome, IsTrue};
+ghost use Rattle.store_api.specs.Told.{Told, ReadsFrom};
+ghost use Rattle.files_api.specs.Calls.{Looks, IsUsable};
+ghost use Rattle.real_edge.specs.Holds.{WroteAll, CutTo};
 
 use files_api::{Failed, Files};
 
@@ -14,6 +17,9 @@ fn fill_from<F: Files>(
     into: &mut [u8],
 ) -> Result<(), Failed>
     requires { offset + length into.old < 2 ^ 64 }
+    ensures told { Told (F.told files.old) (F.told files.new) Looks }
+    ensures long { length into.new ≡ length into.old }
+    ensures bytes { OnOk result (IfSome (F.told files.old) (λ d. IsUsable d (F.name_of handle.now) → into.new ≡ take (length into.old) (drop offset (d.files (F.name_of handle.now)).standing.bytes))) }
 {
     let mut done = 0;
     'pieces: while done < into.len() {
@@ -33,7 +39,9 @@ pub(crate) fn read_from<F: Files>(
     offset: u64,
     into: &mut [u8],
 ) -> Result<usize, Failed>
+    ensures told { Told (F.told files.old) (F.told files.new) Looks }
     ensures bound { IfOk result (λ count. count ≤ length into.new) }
+    ensures bytes { IfOk result (λ count. IfSome (F.told files.old) (λ d. IsUsable d (F.name_of handle.now) → ReadsFrom (d.files (F.name_of handle.now)).standing.bytes offset into.new count)) }
 {
     let len = match files.len(handle) {
         Ok(len) => len,
@@ -54,12 +62,13 @@ pub(crate) fn write_all<F: Files>(
     bytes: &[u8],
 ) -> Result<(), Failed>
     requires { offset + length bytes.now < 2 ^ 63 }
+    ensures told { Told (F.told files.old) (F.told files.new) (λ old new. IsUsable old (F.name_of handle.now) → WroteAll (F.name_of handle.now) offset bytes.now result old new) }
 {
     let mut done = 0;
     'pieces: while done < bytes.len() {
         match files.write_at(handle, offset + done as u64, &bytes[done..]) {
             Ok(0) => return Err(Failed),
-            Ok(count) => done += count,
+            Ok(written) => done += written,
             Err(failed) => return Err(failed),
         }
     }
@@ -77,7 +86,9 @@ pub(crate) fn has_room(offset: u64, bytes: &[u8]) -> bool
 }
 
 // Cuts the file to a length, where it is longer.
-pub(crate) fn cut_to<F: Files>(files: &mut F, handle: &F::Handle, len: u64) -> Result<(), Failed> {
+pub(crate) fn cut_to<F: Files>(files: &mut F, handle: &F::Handle, len: u64) -> Result<(), Failed>
+    ensures told { Told (F.told files.old) (F.told files.new) (λ old new. IsUsable old (F.name_of handle.now) → CutTo (F.name_of handle.now) len result old new) }
+{
     match files.len(handle) {
         Ok(old) if len < old => files.cut(handle, len),
         Ok(_) => Ok(()),

@@ -1,6 +1,5 @@
 // The files of a folder of the system.
-ghost use Rattle.std.specs.Prelude.{None, [], IfOk};
-ghost use Rattle.std.specs.Io.{ReadsAtMost, WritesAtMost};
+ghost use Rattle.std.specs.Prelude.{None, []};
 
 use crate::names::{parent_of, path_of};
 use files_api::{Failed, Files};

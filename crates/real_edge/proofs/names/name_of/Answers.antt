@@ -1,5 +1,5 @@
 -- The text that `format!` makes, with the options of `{:08}` in the place of the value that holds them.
-use Rattle.std.proofs.Common.{◌≡◌, ◌++◌, ◌∷◌, IfOk, string_bytes, subst, sym}
+use Rattle.std.proofs.Common.{◌≡◌, ◌∷◌, IfOk, string_bytes, subst, sym}
 use Rattle.std.specs.Fmt.{styled_decimal}
 use Rattle.real_edge.proofs.Padding.{eight_digits}
 use Rattle.real_edge.proofs.names.name_of.Goals as goal
