@@ -1,6 +1,6 @@
 -- An entry is committed, and what waits is forced.
-use Rattle.std.proofs.Common.{◌≡◌, ⊎_elim, inl, inr, ℕ, ◌+◌, ◌≤◌, List, [], ◌∷◌, ◌++◌, length, drop, reverse, Option, None, Some, Result, Ok, Err, refl, sym, ◌∙◌, ap, subst, arith, length-append, append_assoc}
-use Rattle.std.proofs.lemmas.List.{append-nil, drop-append-le, drop_all, reverse-append}
+use Rattle.std.proofs.Common.{◌≡◌, ⊎_elim, inl, inr, ℕ, ◌+◌, ◌≤◌, List, [], ◌∷◌, ◌++◌, length, reverse, Option, None, Some, Result, Ok, Err, refl, sym, ◌∙◌, ap, subst, arith, length-append, append_assoc}
+use Rattle.std.proofs.lemmas.List.{append-nil, drop_all}
 use Rattle.store_api.specs.Cause.{Rose}
 use Rattle.store_api.specs.Disk.{History, now}
 use Rattle.store_api.specs.Runs.{GoesOn, EachImage}
@@ -17,8 +17,10 @@ use Rattle.entries.specs.EntryForm.{entry}
 use Rattle.entries.specs.Meaning.{Meaning, IsLegal}
 use Rattle.vault.specs.Files.{image_file, log_file, IsOurs}
 use Rattle.vault.specs.Recovery.{Newest, records_of, after_all, AllLegal, RecoversWithin}
-use Rattle.vault.specs.Vaults.{State, Holds, IsGood, IsHeld, with_waiting, all_forced, in_doubt, with_fault, RefusesCommit, RefusesForce, RecoversToEither, IsLeft, Waits, Forces, Committed}
+use Rattle.vault.specs.Vaults.{State, Holds, IsGood, IsHeld, IsPending, with_waiting, all_forced, in_doubt, with_fault, RefusesCommit, RefusesForce, RecoversToEither, IsLeft, Waits, Forces, Committed}
+use Rattle.vault.specs.Pieces.{Pending}
 use Rattle.vault.proofs.Leaving.{one_after, either_after}
+use Rattle.vault.proofs.Piecing.{behind_more, pending_waiting, pending_forced, shut_log}
 use Rattle.vault.proofs.Goodness.{image_log, log_ours, image_beside, older_beside, older_left, newest_left, held_since, held_is}
 
 -- entries behind entries
@@ -33,10 +35,6 @@ legal_join m base (e ∷ more) entries a b = (b.0, subst (λ d. IsLegal m d e) (
 pub records_join : (more entries : List Entry) → records_of (more ++ entries) ≡ records_of entries ++ records_of more
 records_join [] entries = sym (append-nil (records_of entries))
 records_join (e ∷ more) entries = ap (λ (l : List (List ℕ)). l ++ entry.spell e ∷ []) (records_join more entries) ∙ append_assoc (records_of entries) (records_of more) (entry.spell e ∷ [])
-
--- one entry more behind a place of the journal
-pub behind_more : (n : ℕ) (journal : List Entry) (e : Entry) → n ≤ length journal → reverse (drop n (journal ++ e ∷ [])) ≡ e ∷ reverse (drop n journal)
-behind_more n journal e le = ap (λ (l : List Entry). reverse l) (drop-append-le n journal (e ∷ []) le) ∙ reverse-append (drop n journal) (e ∷ [])
 
 -- nothing waits in a good vault
 pub good_held : {D : Type 0} (m : Meaning D) (vault : State D) (h : History) → IsGood m vault h → IsHeld m vault vault.database h
@@ -59,6 +57,8 @@ pub not_waiting : {D T E : Type 0} (m : Meaning D) (vault next : State D) (e : E
 not_waiting m vault next e why h = record {
   goes = goes_none (λ other. other ≡ log_file vault.generation) h;
   held = tt;
+  pends = tt;
+  shut = shut_log m vault h h (goes_none (λ other. other ≡ log_file vault.generation) h);
   since = λ durable held. held_since m (λ file. ⊥) vault durable h h (λ file ours no. no) (goes_none (λ file. ⊥) h) held;
   left = λ durable held. held_is m vault durable h held;
 }
@@ -67,6 +67,8 @@ pub none_forced : {D T E : Type 0} (m : Meaning D) (vault next : State D) (why :
 none_forced m vault next why h = record {
   goes = goes_none (λ other. other ≡ log_file vault.generation) h;
   good = tt;
+  pends = tt;
+  shut = shut_log m vault h h (goes_none (λ other. other ≡ log_file vault.generation) h);
   since = λ durable held. each_weaker (now h) h _ _ (λ files recovers. inl recovers) (held_since m (λ file. ⊥) vault durable h h (λ file ours no. no) (goes_none (λ file. ⊥) h) held);
   left = λ durable held files left. inl (held_is m vault durable h held files left);
 }
@@ -142,6 +144,8 @@ module _ {D : Type 0} (m : Meaning D) (vault : State D) (e : Entry) (fits : entr
   not_appended failed why next appended = record {
     goes = goes_log m vault old new file is_log appended.goes;
     held = tt;
+    pends = tt;
+    shut = shut_log m vault old new (goes_log m vault old new file is_log appended.goes);
     since = since_append (Err failed) appended;
     left = λ durable held. one_after m IsOurs durable old new (goes_ours m vault old new file is_log appended.goes) (since_append (Err failed) appended durable held);
   }
@@ -150,6 +154,8 @@ module _ {D : Type 0} (m : Meaning D) (vault : State D) (e : Entry) (fits : entr
   is_appended {T} {E} number next is appended = record {
     goes = goes_log m vault old new file is_log appended.goes;
     held = λ durable held. subst (λ (v : State D). IsHeld m v durable new) (sym is) (held_next durable held);
+    pends = λ snapshot pending. subst (λ (v : State D). IsPending m v snapshot new) (sym is) (pending_waiting m vault old new (goes_log m vault old new file is_log appended.goes) e fits legal snapshot pending);
+    shut = shut_log m vault old new (goes_log m vault old new file is_log appended.goes);
     since = since_append {E = E} (Ok tt) appended;
     left = λ durable held. one_after m IsOurs durable old new (goes_ours m vault old new file is_log appended.goes) (since_append {E = E} (Ok tt) appended durable held);
   }
@@ -188,6 +194,8 @@ module _ {D : Type 0} (m : Meaning D) (vault : State D) (old new : History) (fil
   not_forced failed why next forced = record {
     goes = goes_log m vault old new file is_log forced.goes;
     good = tt;
+    pends = tt;
+    shut = shut_log m vault old new (goes_log m vault old new file is_log forced.goes);
     since = since_force (Err failed) forced;
     left = λ durable held. either_after m IsOurs durable vault.database old new (goes_ours m vault old new file is_log forced.goes) (since_force (Err failed) forced durable held);
   }
@@ -196,6 +204,8 @@ module _ {D : Type 0} (m : Meaning D) (vault : State D) (old new : History) (fil
   is_forced {T} {E} number next is forced = record {
     goes = goes_log m vault old new file is_log forced.goes;
     good = λ durable held. subst (λ (v : State D). IsGood m v new) (sym is) (good_next durable held);
+    pends = λ snapshot pending. subst (λ (v : State D). IsPending m v snapshot new) (sym is) (pending_forced m vault old new (goes_log m vault old new file is_log forced.goes) snapshot pending);
+    shut = shut_log m vault old new (goes_log m vault old new file is_log forced.goes);
     since = since_force {E = E} (Ok tt) forced;
     left = λ durable held. either_after m IsOurs durable vault.database old new (goes_ours m vault old new file is_log forced.goes) (since_force {E = E} (Ok tt) forced durable held);
   }
@@ -275,24 +285,24 @@ module _ {D : Type 0} (m : Meaning D) (vault : State D) (e : Entry) where
       refuses
 
 -- the vault with an entry that waits, from its parts
-pub waiting_is : {D : Type 0} (m : Meaning D) (generation forced sure new_sure end new_end : ℕ) (database next : D) (journal entries : List Entry) (fault now_fault : Option (ℕ × ℕ)) (e : Entry) (framed : List ℕ) (vault : State D)
-    → record { generation = generation; database = database; journal = journal; forced = forced; sure = sure; end = end; fault = fault } ≡ vault → next ≡ m.after database e → entries ≡ journal ++ e ∷ [] → framed ≡ entry.spell e → new_sure ≡ sure → new_end ≡ end + (5 + length framed) → now_fault ≡ None
-    → record { generation = generation; database = next; journal = entries; forced = forced; sure = new_sure; end = new_end; fault = now_fault } ≡ with_waiting m vault e
-waiting_is {D} m generation forced sure new_sure end new_end database next journal entries fault now_fault e framed vault view d j spelled s ends none =
-    subst (λ (v : State D). record { generation = generation; database = next; journal = entries; forced = forced; sure = new_sure; end = new_end; fault = now_fault } ≡ with_waiting m v e) view
-    (rw (d, j, s, ends, spelled, none) refl)
+pub waiting_is : {D : Type 0} (m : Meaning D) (generation forced sure new_sure end new_end : ℕ) (database next : D) (journal entries : List Entry) (fault now_fault : Option (ℕ × ℕ)) (pending now_pending : Option Pending) (e : Entry) (framed : List ℕ) (vault : State D)
+    → record { generation = generation; database = database; journal = journal; forced = forced; sure = sure; end = end; fault = fault; pending = pending } ≡ vault → next ≡ m.after database e → entries ≡ journal ++ e ∷ [] → framed ≡ entry.spell e → new_sure ≡ sure → new_end ≡ end + (5 + length framed) → now_fault ≡ None → now_pending ≡ pending
+    → record { generation = generation; database = next; journal = entries; forced = forced; sure = new_sure; end = new_end; fault = now_fault; pending = now_pending } ≡ with_waiting m vault e
+waiting_is {D} m generation forced sure new_sure end new_end database next journal entries fault now_fault pending now_pending e framed vault view d j spelled s ends none same =
+    subst (λ (v : State D). record { generation = generation; database = next; journal = entries; forced = forced; sure = new_sure; end = new_end; fault = now_fault; pending = now_pending } ≡ with_waiting m v e) view
+    (rw (d, j, s, ends, spelled, none, same) refl)
 
 -- the vault where nothing waits, from its parts
-pub forced_is : {D : Type 0} (generation forced now_forced sure new_sure end new_end : ℕ) (database : D) (journal : List Entry) (fault now_fault : Option (ℕ × ℕ)) (vault : State D)
-    → record { generation = generation; database = database; journal = journal; forced = forced; sure = sure; end = end; fault = fault } ≡ vault → now_forced ≡ length journal → new_sure ≡ end → new_end ≡ end → now_fault ≡ None
-    → record { generation = generation; database = database; journal = journal; forced = now_forced; sure = new_sure; end = new_end; fault = now_fault } ≡ all_forced vault
-forced_is {D} generation forced now_forced sure new_sure end new_end database journal fault now_fault vault view f s ends none =
-    subst (λ (v : State D). record { generation = generation; database = database; journal = journal; forced = now_forced; sure = new_sure; end = new_end; fault = now_fault } ≡ all_forced v) view
-    (rw (f, s, ends, none) refl)
+pub forced_is : {D : Type 0} (generation forced now_forced sure new_sure end new_end : ℕ) (database : D) (journal : List Entry) (fault now_fault : Option (ℕ × ℕ)) (pending now_pending : Option Pending) (vault : State D)
+    → record { generation = generation; database = database; journal = journal; forced = forced; sure = sure; end = end; fault = fault; pending = pending } ≡ vault → now_forced ≡ length journal → new_sure ≡ end → new_end ≡ end → now_fault ≡ None → now_pending ≡ pending
+    → record { generation = generation; database = database; journal = journal; forced = now_forced; sure = new_sure; end = new_end; fault = now_fault; pending = now_pending } ≡ all_forced vault
+forced_is {D} generation forced now_forced sure new_sure end new_end database journal fault now_fault pending now_pending vault view f s ends none same =
+    subst (λ (v : State D). record { generation = generation; database = database; journal = journal; forced = now_forced; sure = new_sure; end = new_end; fault = now_fault; pending = now_pending } ≡ all_forced v) view
+    (rw (f, s, ends, none, same) refl)
 
 -- the vault with an entry in doubt, from its parts
-pub doubted_is : {D : Type 0} (m : Meaning D) (generation forced sure new_sure end new_end : ℕ) (database next : D) (journal entries : List Entry) (fault : Option (ℕ × ℕ)) (file count : ℕ) (e : Entry) (vault : State D)
-    → record { generation = generation; database = database; journal = journal; forced = forced; sure = sure; end = end; fault = fault } ≡ vault → next ≡ m.after database e → entries ≡ journal ++ e ∷ [] → new_sure ≡ sure
-    → record { generation = generation; database = next; journal = entries; forced = forced; sure = new_sure; end = new_end; fault = Some (file, count) } ≡ in_doubt m vault e new_end file count
-doubted_is {D} m generation forced sure new_sure end new_end database next journal entries fault file count e vault view d j s =
-    subst (λ (v : State D). record { generation = generation; database = next; journal = entries; forced = forced; sure = new_sure; end = new_end; fault = Some (file, count) } ≡ in_doubt m v e new_end file count) view (rw (d, j, s) refl)
+pub doubted_is : {D : Type 0} (m : Meaning D) (generation forced sure new_sure end new_end : ℕ) (database next : D) (journal entries : List Entry) (fault : Option (ℕ × ℕ)) (pending : Option Pending) (file count : ℕ) (e : Entry) (vault : State D)
+    → record { generation = generation; database = database; journal = journal; forced = forced; sure = sure; end = end; fault = fault; pending = pending } ≡ vault → next ≡ m.after database e → entries ≡ journal ++ e ∷ [] → new_sure ≡ sure
+    → record { generation = generation; database = next; journal = entries; forced = forced; sure = new_sure; end = new_end; fault = Some (file, count); pending = None } ≡ in_doubt m vault e new_end file count
+doubted_is {D} m generation forced sure new_sure end new_end database next journal entries fault pending file count e vault view d j s =
+    subst (λ (v : State D). record { generation = generation; database = next; journal = entries; forced = forced; sure = new_sure; end = new_end; fault = Some (file, count); pending = None } ≡ in_doubt m v e new_end file count) view (rw (d, j, s) refl)

@@ -8,9 +8,12 @@ pub mod Goodness
 mod Installing
 mod Leaving
 mod Looking
+mod Leading
+mod Piecing
 mod Replacing
 mod Replaying
 pub mod Sounding
+mod Stepping
 mod Telling
 pub mod Unique
 mod Writing

@@ -32,7 +32,7 @@ can_shut bound file h (inl shut) = inl (shut.gate, shut.firm)
 can_shut bound file h (inr older) = inl (1, firm_left (standing h file) 0 (1 ∷ []) (body_bytes Server older.0 older.1) (omega arith) older.2.firm)
 
 -- while its gate is being shut, each image has the older one, or a shut gate
-each_older : (bound file : ℕ) (old new : History) → StaysOlder bound file old → KeepsShut file old new → OldOrShut file old new → EachImage (now old) new (λ files. Older bound file (files file))
+pub each_older : (bound file : ℕ) (old new : History) → StaysOlder bound file old → KeepsShut file old new → OldOrShut file old new → EachImage (now old) new (λ files. Older bound file (files file))
 each_older bound file old new (inl shut) keeps older = each_weaker (now old) new _ _ (λ image closed. inl closed) (keeps shut).1
 each_older bound file old new (inr there) keeps older =
     each_weaker (now old) new (λ files. IsClosed (files file) ⊎ _) (λ files. Older bound file (files file))
@@ -61,7 +61,7 @@ module _ (job mid_job : Job) (begun : job.phase ≡ Begun) (here : mid_job.file 
   begun_under : CanShut (standing old job.file) → Underway job old
   begun_under can = subst (λ (p : Phase). UnderwayAs p job old) (sym begun) can
 
-  shut_mid : (bound : ℕ) → StaysOlder bound job.file old → FirmShut (standing mid job.file)
+  pub shut_mid : (bound : ℕ) → StaysOlder bound job.file old → FirmShut (standing mid job.file)
   shut_mid bound stays =
       subst (λ (n : ℕ). FirmShut (standing mid n)) here
       (under_shut mid_job.phase mid_job (length job.payload) 0 0 mid (paced_first mid_job.phase (length job.payload) 0 phase) (step.underway (begun_under (can_shut bound job.file old stays))))

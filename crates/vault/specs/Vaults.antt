@@ -1,9 +1,10 @@
 -- The vault as a value, what no stop takes away from it, and what its calls do.
-use Rattle.std.specs.Prelude.{◌≡◌, ◌⊎◌, ℕ, ◌+◌, ◌<◌, ◌≤◌, ◌^◌, List, [], ◌∷◌, ◌++◌, length, drop, reverse, Option, None, Some, Result, OnOk}
+use Rattle.std.specs.Prelude.{◌≡◌, ◌⊎◌, ℕ, ◌+◌, ◌<◌, ◌≤◌, ◌^◌, List, [], ◌∷◌, ◌++◌, length, drop, reverse, Option, None, Some, Result, OnOk, IfOk}
+use Rattle.std.specs.List.{AllByRecursion}
 use Rattle.store_api.specs.Cause.{Rose}
 use Rattle.store_api.specs.Disk.{History, now}
 use Rattle.store_api.specs.Runs.{GoesOn, EachImage, LeftNow}
-use Rattle.log_file.specs.Blocks.{blocks, LogEnds}
+use Rattle.log_file.specs.Blocks.{blocks, LogEnds, IsClosed}
 use Rattle.log_file.specs.Sure.{IsSure, HasWaiting}
 use Rattle.log_file.specs.Sure as log
 use Rattle.kinds.specs.declared.refusal.Refusal.{Refusal}
@@ -13,11 +14,16 @@ use Rattle.entries.specs.EntryForm.{entry}
 use Rattle.entries.specs.Meaning.{Meaning}
 use Rattle.vault.specs.Files.{image_file, log_file, IsOurs}
 use Rattle.vault.specs.Recovery.{Newest, records_of, after_all, AllLegal, RecoversWithin}
-use Rattle.vault.specs.Images.{IsImage, StaysOlder}
+use Rattle.db_image.specs.declared.phase.Progress.{Progress}
+use Rattle.db_image.specs.declared.phase.Progress.TheVariants.{More, Done}
+use Rattle.db_image.specs.Steps.{written_to}
+use Rattle.vault.specs.Images.{IsImage, StaysOlder, IsPaced}
+use Rattle.vault.specs.Journals.{IsShort}
+use Rattle.vault.specs.Pieces.{Pending, AllOrderly, StandsAt, Nears, job_of}
 
 -- The generation of the newest image; the database; the entries that were committed since the opening, oldest first, and how many of
--- them are forced; where the gate lies behind the records of the log that are forced, and where behind all of them; and after a fault the
--- file and the count to which its faults had risen.
+-- them are forced; where the gate lies behind the records of the log that are forced, and where behind all of them; after a fault the file
+-- and the count to which its faults had risen; and a checkpoint that was begun.
 pub record State (D : Type 0) : Type 0 where
   pub generation : ℕ
   pub database : D
@@ -26,6 +32,7 @@ pub record State (D : Type 0) : Type 0 where
   pub sure : ℕ
   pub end : ℕ
   pub fault : Option (ℕ × ℕ)
+  pub pending : Option Pending
 
 -- No stop takes away the newest image, or anything of its log, and the other image is older.
 pub record Holds {D : Type 0} (m : Meaning D) (generation : ℕ) (base : D) (entries : List Entry) (end : ℕ) (h : History) : Type 0 where
@@ -35,10 +42,13 @@ pub record Holds {D : Type 0} (m : Meaning D) (generation : ℕ) (base : D) (ent
   pub valid : m.Valid base
   pub legal : AllLegal m base entries
 
--- What a vault keeps is in order: its log is that of its generation, and where no fault halted it no record of the log is in doubt.
-pub record IsWhole (generation : ℕ) (log : log.State) (fault : Option (ℕ × ℕ)) : Type 0 where
+-- What a vault keeps is in order: its log is that of its generation, and where no fault halted it no record of the log is in doubt; a checkpoint that was begun
+-- is of the next generation; and each entry of the journal has few enough bytes.
+pub record IsWhole (generation : ℕ) (journal : List Entry) (log : log.State) (fault : Option (ℕ × ℕ)) (pending : Option Pending) : Type 0 where
   pub file : log.file ≡ log_file generation
   pub sure : fault ≡ None → log.doubt ≡ None
+  pub short : AllByRecursion IsShort journal
+  pub orderly : AllOrderly (generation + 1) pending
 
 -- Whatever a stop leaves, it recovers to the vault's database: nothing that was committed waits for a force.
 pub record IsGood {D : Type 0} (m : Meaning D) (vault : State D) (h : History) : Type 0 where
@@ -79,6 +89,7 @@ with_waiting m vault e = record {
   sure = vault.sure;
   end = vault.end + (5 + length (entry.spell e));
   fault = None;
+  pending = vault.pending;
 }
 
 -- the vault where nothing waits any more
@@ -91,6 +102,7 @@ all_forced vault = record {
   sure = vault.end;
   end = vault.end;
   fault = None;
+  pending = vault.pending;
 }
 
 -- the vault with an entry more, which is forced with all that waited
@@ -107,6 +119,7 @@ in_doubt m vault e end file count = record {
   sure = vault.sure;
   end = end;
   fault = Some (file, count);
+  pending = None;
 }
 
 -- the vault after a fault that put no further entry in doubt, where so many of its entries are forced, up to a place of its log
@@ -119,23 +132,42 @@ halted_at vault forced sure file count = record {
   sure = sure;
   end = vault.end;
   fault = Some (file, count);
+  pending = None;
 }
 
 -- the same where no force was made in it
 abbrev pub with_fault : {D : Type 0} → State D → (file count : ℕ) → State D
 with_fault vault file count = halted_at vault vault.forced vault.sure file count
 
--- the vault after a checkpoint
-abbrev pub at_next : {D : Type 0} → State D → State D
-at_next vault = record {
+-- the vault with another checkpoint that was begun, or with none
+abbrev pub with_pending : {D : Type 0} → State D → Option Pending → State D
+with_pending vault pending = record {
+  generation = vault.generation;
+  database = vault.database;
+  journal = vault.journal;
+  forced = vault.forced;
+  sure = vault.sure;
+  end = vault.end;
+  fault = vault.fault;
+  pending = pending;
+}
+
+-- the vault after a checkpoint, where the log of the new image ends there
+abbrev pub at_done : {D : Type 0} → State D → ℕ → State D
+at_done vault end = record {
   generation = vault.generation + 1;
   database = vault.database;
   journal = vault.journal;
   forced = length vault.journal;
-  sure = 0;
-  end = 0;
+  sure = end;
+  end = end;
   fault = None;
+  pending = None;
 }
+
+-- the same where that log is empty
+abbrev pub at_next : {D : Type 0} → State D → State D
+at_next vault = at_done vault 0
 
 -- A refusal without a device call: a fault had halted the vault earlier.
 abbrev pub Halted : {D : Type 0} → State D → Refusal → Type 0
@@ -154,19 +186,37 @@ RecoversToEither m before after files = RecoversWithin m files before ⊎ Recove
 abbrev pub IsLeft : ((ℕ → List ℕ) → Type 0) → History → Type 0
 IsLeft P h = (files : ℕ → List ℕ) → LeftNow IsOurs h files → P files
 
--- An entry was committed, and waits for a force. Whatever came of it, each image since recovers to the database with all that was forced
+-- A checkpoint was begun. Its image is the database `snapshot`; the entries of the journal behind its start are legal one after another from there, and bring that to the vault's database.
+-- It stands in the files of the next generation as far as it was made, and no stop opens its image's gate.
+pub record IsPending {D : Type 0} (m : Meaning D) (vault : State D) (snapshot : D) (h : History) : Type 0 where
+  pub pending : Pending
+  pub is : vault.pending ≡ Some pending
+  pub valid : m.Valid snapshot
+  pub stands : StandsAt (vault.generation + 1) (m.spelled snapshot) vault.journal pending h
+  pub legal : AllLegal m snapshot (reverse (drop pending.start vault.journal))
+  pub gives : vault.database ≡ after_all m snapshot (reverse (drop pending.start vault.journal))
+
+-- while a checkpoint is in progress its image's gate is shut in each image
+abbrev pub StaysShut : {D : Type 0} → Meaning D → State D → History → History → Type 0
+StaysShut {D} m vault old new = (snapshot : D) → IsPending m vault snapshot old → EachImage (now old) new (λ files. IsClosed (files (image_file (vault.generation + 1))))
+
+-- An entry was committed, and waits for a force. A checkpoint that was begun goes on, and its image's gate stays shut. Whatever came of it, each image since recovers to the database with all that was forced
 -- before, and so does whatever a stop leaves of the vault's files right after: nothing that waits is there.
 pub record Waits {D T E : Type 0} (m : Meaning D) (vault : State D) (e : Entry) (result : Result T E) (next : State D) (old new : History) : Type 0 where
   pub goes : GoesOn (λ file. file ≡ log_file vault.generation) old new
   pub held : OnOk result ((durable : D) → IsHeld m vault durable old → IsHeld m next durable new)
+  pub pends : OnOk result ((snapshot : D) → IsPending m vault snapshot old → IsPending m next snapshot new)
+  pub shut : StaysShut m vault old new
   pub since : (durable : D) → IsHeld m vault durable old → EachImage (now old) new (λ files. RecoversWithin m files durable)
   pub left : (durable : D) → IsHeld m vault durable old → IsLeft (λ files. RecoversWithin m files durable) new
 
--- What waited was forced. On Ok the vault is good. Whatever came of it, each image since recovers to the database with nothing of what
+-- What waited was forced. On Ok the vault is good. A checkpoint that was begun goes on, and its image's gate stays shut. Whatever came of it, each image since recovers to the database with nothing of what
 -- waited or to that with all of it, and so does whatever a stop leaves of the vault's files right after.
 pub record Forces {D T E : Type 0} (m : Meaning D) (vault : State D) (result : Result T E) (next : State D) (old new : History) : Type 0 where
   pub goes : GoesOn (λ file. file ≡ log_file vault.generation) old new
   pub good : OnOk result ((durable : D) → IsHeld m vault durable old → IsGood m next new)
+  pub pends : OnOk result ((snapshot : D) → IsPending m vault snapshot old → IsPending m next snapshot new)
+  pub shut : StaysShut m vault old new
   pub since : (durable : D) → IsHeld m vault durable old → EachImage (now old) new (RecoversToEither m durable vault.database)
   pub left : (durable : D) → IsHeld m vault durable old → IsLeft (RecoversToEither m durable vault.database) new
 
@@ -196,17 +246,65 @@ pub record Checkpointed {D T E : Type 0} (m : Meaning D) (vault : State D) (resu
   pub held_since : (durable : D) → IsHeld m vault durable old → EachImage (now old) new (RecoversToEither m durable vault.database)
   pub held_left : (durable : D) → IsHeld m vault durable old → IsLeft (RecoversToEither m durable vault.database) new
 
--- The same of a vault in which nothing waits.
-pub record Written {D T E : Type 0} (m : Meaning D) (vault : State D) (result : Result T E) (next : State D) (old new : History) : Type 0 where
-  pub goes : GoesOn IsOurs old new
-  pub good : OnOk result (IsGood m vault old → IsGood m next new)
-  pub fresh : OnOk result (IsGood m vault old → EachImage (now new) new (IsFresh m next))
-  pub since : IsGood m vault old → EachImage (now old) new (λ files. RecoversWithin m files vault.database)
-  pub left : IsGood m vault old → IsLeft (λ files. RecoversWithin m files vault.database) new
-
 -- a call on an image or a log of the vault failed, and it takes no more
 abbrev pub Faults : {D : Type 0} → State D → (before after : ℕ → ℕ) → Refusal → State D → Type 0
 Faults vault before after refusal next = (vault.fault ≡ None) × ((file : ℕ) × IsOurs file × (refusal ≡ LogFault file (after file)) × Rose (before file) (after file) × ((forced : ℕ) × (sure : ℕ) × (next ≡ halted_at vault forced sure file (after file))))
+
+-- A checkpoint of the vault's database was begun: its first piece is written, and it has all of the journal.
+abbrev pub IsStarted : {D : Type 0} → Meaning D → State D → State D → Type 0
+IsStarted m vault next = (pending : Pending) × (next ≡ with_pending vault (Some pending)) × (pending.start ≡ length vault.journal) × (pending.copied ≡ length vault.journal)
+    × (length (m.spelled vault.database) < 2 ^ 36) × (pending.job ≡ job_of (vault.generation + 1) (m.spelled vault.database) (written_to 65536 (length (m.spelled vault.database))))
+
+-- the same, behind a force
+abbrev pub IsBegun : {D : Type 0} → Meaning D → State D → State D → Type 0
+IsBegun m vault next = IsStarted m (all_forced vault) next
+
+-- A checkpoint was begun in a vault where nothing waits. On Ok the vault is good, and a checkpoint of its database is in progress. Whatever came of it, each image since recovers to the database.
+pub record Started {D T E : Type 0} (m : Meaning D) (vault : State D) (result : Result T E) (next : State D) (old new : History) : Type 0 where
+  pub goes : GoesOn IsOurs old new
+  pub begun : OnOk result (IsGood m vault old → IsGood m next new × IsPending m next vault.database new)
+  pub since : IsGood m vault old → EachImage (now old) new (λ files. RecoversWithin m files vault.database)
+
+-- A checkpoint was begun, after what waited was forced. On Ok the vault is good, and a checkpoint of its database is in progress. Whatever came of it, each image since recovers to the
+-- database with nothing of what waited or to that with all of it, and so does whatever a stop leaves of the vault's files right after.
+pub record Begins {D T E : Type 0} (m : Meaning D) (vault : State D) (result : Result T E) (next : State D) (old new : History) : Type 0 where
+  pub goes : GoesOn IsOurs old new
+  pub begun : OnOk result ((durable : D) → IsHeld m vault durable old → IsGood m next new × IsPending m next vault.database new)
+  pub since : (durable : D) → IsHeld m vault durable old → EachImage (now old) new (RecoversToEither m durable vault.database)
+  pub left : (durable : D) → IsHeld m vault durable old → IsLeft (RecoversToEither m durable vault.database) new
+
+-- The vault after a step of a checkpoint. It goes on; or it is done, where all of the journal was copied, and its log is empty where that was nothing.
+abbrev pub GoesTo : {D : Type 0} → State D → State D → Progress → Type 0
+GoesTo vault next More = (pending : Pending) × (last : Pending) × (vault.pending ≡ Some pending) × (next ≡ with_pending vault (Some last)) × Nears vault.journal pending last
+GoesTo vault next Done = (pending : Pending) × (end : ℕ) × (vault.pending ≡ Some pending) × (next ≡ at_done vault end) × (length vault.journal ≤ pending.copied) × (pending.copied ≡ pending.start → end ≡ 0)
+
+-- A checkpoint is in progress that has all of the journal, and for each 8,192 bytes of its payload no more than one call was made since a moment.
+abbrev pub IsInStep : {D : Type 0} → State D → (began moment : ℕ) → Type 0
+IsInStep vault began moment = (pending : Pending) × (vault.pending ≡ Some pending) × (pending.start ≡ length vault.journal) × (pending.copied ≡ length vault.journal) × (length pending.job.payload < 2 ^ 36) × IsPaced pending.job.phase (length pending.job.payload) began moment
+
+-- the newest image is this database, and its log has the entries of the journal from a place on
+abbrev pub IsMadeOf : {D : Type 0} → Meaning D → State D → (snapshot : D) → (start : ℕ) → (ℕ → List ℕ) → Type 0
+IsMadeOf m vault snapshot start files = Newest files vault.generation (m.spelled snapshot) × LogEnds (files (log_file vault.generation)) (records_of (reverse (drop start vault.journal)))
+
+-- What a step leaves of a checkpoint of `snapshot`, over a vault with that durable database. It goes on, and nothing more is durable. Or it is done, and the vault is good: the newest image of
+-- each image of now is `snapshot`, and its log has all that was committed since.
+abbrev pub Leads : {D : Type 0} → Meaning D → State D → State D → (durable snapshot : D) → History → Progress → Type 0
+Leads m vault next durable snapshot new More = IsPending m next snapshot new × IsHeld m next durable new
+Leads m vault next durable snapshot new Done = IsGood m next new × ((pending : Pending) → vault.pending ≡ Some pending → EachImage (now new) new (IsMadeOf m next snapshot pending.start))
+
+-- While a checkpoint goes on its image's gate is shut.
+abbrev pub ShutWhile : {D : Type 0} → Meaning D → State D → History → History → Progress → Type 0
+ShutWhile m vault old new More = StaysShut m vault old new
+ShutWhile m vault old new Done = Unit {0}
+
+-- A step of a checkpoint was taken. Whatever came of it, each image since recovers to the database with nothing of what waited or to that with all of it, and so does whatever a
+-- stop leaves of the vault's files right after.
+pub record Pieced {D E : Type 0} (m : Meaning D) (vault : State D) (result : Result Progress E) (next : State D) (old new : History) : Type 0 where
+  pub goes : GoesOn IsOurs old new
+  pub leads : IfOk result (λ progress. (durable snapshot : D) → IsHeld m vault durable old → IsPending m vault snapshot old → Leads m vault next durable snapshot new progress)
+  pub since : (durable snapshot : D) → IsHeld m vault durable old → IsPending m vault snapshot old → EachImage (now old) new (RecoversToEither m durable vault.database)
+  pub left : (durable snapshot : D) → IsHeld m vault durable old → IsPending m vault snapshot old → IsLeft (RecoversToEither m durable vault.database) new
+  pub shut : IfOk result (ShutWhile m vault old new)
 
 -- Why an entry wasn't committed. It has too many bytes, or memory was wanted, or the vault is halted: then nothing changed. Or a call on
 -- the log failed, and the entry is in doubt.

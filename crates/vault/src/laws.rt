@@ -1,9 +1,11 @@
 // What the definitions mean for the layers above, as laws. Each stands on a function that does nothing.
-ghost use Rattle.std.specs.Prelude.{◌≡◌, ℕ, ◌≤◌, Bool, IsTrue, List};
+ghost use Rattle.std.specs.Prelude.{◌≡◌, ℕ, ◌+◌, ◌≤◌, Bool, IsTrue, List};
 ghost use Rattle.store_api.specs.Disk.{History, now, ImageAt};
 ghost use Rattle.store_api.specs.Runs.{GoesOn, EachImage};
+ghost use Rattle.log_file.specs.Blocks.{IsClosed};
+ghost use Rattle.vault.specs.Files.{image_file};
 ghost use Rattle.vault.specs.Recovery.{NotFormatted, IsDamaged, Recovers, RecoversWithin};
-ghost use Rattle.vault.specs.Vaults.{State, IsGood, IsHeld, IsLeft, RecoversAs, RecoversToEither};
+ghost use Rattle.vault.specs.Vaults.{State, IsGood, IsHeld, IsPending, IsLeft, RecoversAs, RecoversToEither};
 
 use entries::Database;
 
@@ -30,6 +32,13 @@ pub fn other_files<D: Database>()
         IsGood D.meaning vault old → IsGood D.meaning vault new }
     ensures images { (theirs : ℕ → Bool) (vault : State D) (old new : History) → ((file : ℕ) → IsTrue (theirs file) → 4 ≤ file) → GoesOn (λ f. IsTrue (theirs f)) old new →
         IsGood D.meaning vault old → EachImage (now old) new (λ files. RecoversWithin D.meaning files vault.database) }
+{}
+
+/// While a checkpoint is in progress its image's gate is shut in each image of now; and it goes on over a run on files from 4 on.
+pub fn pending<D: Database>()
+    ensures shut { (vault : State D) (snapshot : D) (h : History) (files : ℕ → List ℕ) → IsPending D.meaning vault snapshot h → ImageAt h (now h) files → IsClosed (files (image_file (vault.generation + 1))) }
+    ensures stays { (theirs : ℕ → Bool) (vault : State D) (snapshot : D) (old new : History) → ((file : ℕ) → IsTrue (theirs file) → 4 ≤ file) → GoesOn (λ f. IsTrue (theirs f)) old new →
+        IsPending D.meaning vault snapshot old → IsPending D.meaning vault snapshot new }
 {}
 
 /// What a stop right now leaves of the vault's files stays so over a run on files from 4 on: where they recover to a database, and

@@ -1,16 +1,18 @@
 // The vault.
-ghost use Rattle.std.specs.Prelude.{◌≡◌, ◌+◌, ◌-◌, ◌<◌, ◌≤◌, ◌^◌, IfOk, OnOk, IfErr, IfSome, IsOk, None, Err, [], length};
-ghost use Rattle.kinds.specs.declared.refusal.Refusal.TheVariants.{LogFault};
+ghost use Rattle.std.specs.Prelude.{◌≡◌, ◌+◌, ◌-◌, ◌<◌, ◌≤◌, ◌^◌, ℕ, ◌⊎◌, IfOk, OnOk, IfErr, IfSome, IsSome, IsOk, is_some, Some, None, Ok, Err, [], length};
+ghost use Rattle.kinds.specs.declared.refusal.Refusal.TheVariants.{LogFault, Memory};
 ghost use Rattle.entries.specs.EntryForm.{entry as entry_form};
 ghost use Rattle.store_api.specs.Cause.{NoneFell};
 ghost use Rattle.store_api.specs.Told.{Told};
 ghost use Rattle.entries.specs.Meaning.{IsLegal};
-ghost use Rattle.vault.specs.Files.{log_file};
-ghost use Rattle.vault.specs.Vaults.{Waits, Forces, Committed, Written, Checkpointed, with_waiting, all_forced, with_entry, at_next, Faults, RefusesCommit, RefusesForce, RefusesCheckpoint};
+ghost use Rattle.vault.specs.Files.{image_file, log_file};
+ghost use Rattle.db_image.specs.declared.phase.Progress.TheVariants.{More, Done};
+ghost use Rattle.vault.specs.Vaults.{Waits, Forces, Committed, Checkpointed, Begins, Started, IsBegun, IsStarted, Pieced, GoesTo, IsInStep, with_waiting, with_fault, all_forced, with_entry, at_next, Faults, RefusesCommit, RefusesForce, RefusesCheckpoint};
 
-use crate::files::log_file;
+use crate::checkpoint::{Checkpoint, advance, copy_batch, finish, next_batch, start};
+use crate::files::{image_file, log_file};
 use crate::record::{add_entry, frame_entry};
-use crate::write::put_generation;
+use db_image::Progress;
 use entries::{Database, Entry};
 use kinds::Refusal;
 use log_file::Log;
@@ -29,6 +31,7 @@ pub struct Vault<D: Database> {
     forced: usize,
     log: Log,
     fault: Option<(u32, u64)>,
+    pending: Option<Checkpoint>,
 }
 
 impl<D: Database> Model for Vault<D> {
@@ -37,9 +40,9 @@ impl<D: Database> Model for Vault<D> {
 
     ghost Value = { State D };
 
-    ghost view = { λ vault. record { generation = vault.generation; database = vault.database; journal = vault.journal.items; forced = vault.forced; sure = vault.log.sure; end = vault.log.end; fault = vault.fault } };
+    ghost view = { λ vault. record { generation = vault.generation; database = vault.database; journal = vault.journal.items; forced = vault.forced; sure = vault.log.sure; end = vault.log.end; fault = vault.fault; pending = vault.pending } };
 
-    ghost invariant = { λ vault. IsWhole vault.generation vault.log vault.fault };
+    ghost invariant = { λ vault. IsWhole vault.generation vault.journal.items vault.log vault.fault vault.pending };
 }
 
 impl<D: Database> Vault<D> {
@@ -47,7 +50,7 @@ impl<D: Database> Vault<D> {
     pub(crate) fn opened(alloc: Global, generation: u64, database: D, log: Log) -> Vault<D>
         requires file { log.file ≡ log_file generation }
         requires sure { log.doubt ≡ None }
-        ensures { result ≡ record { generation = generation; database = database; journal = []; forced = 0; sure = log.sure; end = log.end; fault = None } }
+        ensures { result ≡ record { generation = generation; database = database; journal = []; forced = 0; sure = log.sure; end = log.end; fault = None; pending = None } }
     {
         Vault {
             generation,
@@ -56,6 +59,7 @@ impl<D: Database> Vault<D> {
             forced: 0,
             log,
             fault: None,
+            pending: None,
         }
     }
 
@@ -105,6 +109,7 @@ impl<D: Database> Vault<D> {
             forced: _,
             log: _,
             fault: _,
+            pending: _,
         } = self;
         journal
     }
@@ -152,6 +157,7 @@ impl<D: Database> Vault<D> {
                 let file = log_file(self.generation);
                 let count = store.faults(file);
                 self.fault = Some((file, count));
+                self.pending = None;
                 Err(Refusal::LogFault { file, count })
             }
         }
@@ -185,6 +191,7 @@ impl<D: Database> Vault<D> {
                 let file = log_file(self.generation);
                 let count = store.faults(file);
                 self.fault = Some((file, count));
+                self.pending = None;
                 Err(Refusal::LogFault { file, count })
             }
         }
@@ -219,39 +226,254 @@ impl<D: Database> Vault<D> {
         }
     }
 
-    /// Writes this payload, which is the database's, as the image of the next generation, whose log begins empty.
-    fn put_next<S: Store>(&mut self, store: &mut S, payload: Vec<u8>) -> Result<(), Refusal>
-        requires time { S.moment_of store.old + (2 ^ 23 + 96) ≤ 2 ^ 62 }
+    /// A call on a file failed: the vault takes no more.
+    fn halt<S: Store>(&mut self, store: &S, file: u32) -> Refusal
+        ensures new { self.new ≡ with_fault self.old file (S.faults_of store.now file) }
+        ensures refusal { result ≡ LogFault file (S.faults_of store.now file) }
+    {
+        let fault = (file, store.faults(file));
+        self.fault = Some(fault);
+        drop(self.pending.take());
+        Refusal::LogFault {
+            file,
+            count: fault.1,
+        }
+    }
+
+    /// Forces what waits, and begins the image of the next generation, which is that of the database as it is now: shuts the gate
+    /// of its file and writes the first piece; where that is all of the payload it begins the log. Answers that file, and the number
+    /// of the last transaction that the image has. A checkpoint that was begun before is given up. Refused with 40 where a call on a
+    /// file of the vault failed in it, or where an earlier call had failed; and for want of memory, and then nothing changed. It makes
+    /// 11 device calls at most.
+    pub fn begin_checkpoint<S: Store>(
+        &mut self,
+        alloc: Global,
+        store: &mut S,
+    ) -> Result<(u32, u64), Refusal>
+        requires time { S.moment_of store.old + 11 ≤ 2 ^ 62 }
+        requires number { self.old.generation + 1 < 2 ^ 62 }
+        ensures told { Told (S.told store.old) (S.told store.new) (Begins D.meaning self.old result self.new) }
+        ensures answer { IfOk result (λ begun. (begun.0 ≡ image_file (self.old.generation + 1)) × (begun.1 ≡ D.meaning.number self.old.database)) }
+        ensures ok { OnOk result (IsBegun D.meaning self.old self.new) }
+        ensures sure { OnOk result (self.old.fault ≡ None) }
+        ensures halted { IfSome self.old.fault (λ fault. (result ≡ Err (LogFault fault.0 fault.1)) × (store.new ≡ store.old)) }
+        ensures err { IfErr result (λ refusal. RefusesCheckpoint self.old (S.faults_of store.old) (S.faults_of store.new) refusal self.new (store.new ≡ store.old)) }
+        ensures time { S.moment_of store.new ≤ S.moment_of store.old + 11 }
+        ensures later { S.moment_of store.old ≤ S.moment_of store.new }
+        ensures counts { NoneFell (S.faults_of store.old) (S.faults_of store.new) }
+    {
+        if let Some(halted) = self.fault {
+            let (file, count) = halted;
+            return Err(Refusal::LogFault { file, count });
+        }
+        let payload = match self.database.encode(alloc) {
+            Ok(payload) => payload,
+            Err(_) => return Err(Refusal::Memory),
+        };
+        match self.force(store) {
+            Ok(_) => self.start_image(store, payload),
+            Err(refusal) => Err(refusal),
+        }
+    }
+
+    /// Begins the image of the next generation, of this payload, which is the database's.
+    fn start_image<S: Store>(
+        &mut self,
+        store: &mut S,
+        payload: Vec<u8>,
+    ) -> Result<(u32, u64), Refusal>
+        requires time { S.moment_of store.old + 8 ≤ 2 ^ 62 }
         requires number { self.old.generation + 1 < 2 ^ 62 }
         requires sure { self.old.fault ≡ None }
         requires short { length payload.items < 2 ^ 36 }
         requires valid { D.meaning.Valid self.old.database }
         requires spelled { payload.items ≡ D.meaning.spelled self.old.database }
-        ensures told { Told (S.told store.old) (S.told store.new) (Written D.meaning self.old result self.new) }
-        ensures ok { OnOk result (self.new ≡ at_next self.old) }
+        ensures told { Told (S.told store.old) (S.told store.new) (Started D.meaning self.old result self.new) }
+        ensures answer { IfOk result (λ begun. (begun.0 ≡ image_file (self.old.generation + 1)) × (begun.1 ≡ D.meaning.number self.old.database)) }
+        ensures ok { OnOk result (IsStarted D.meaning self.old self.new) }
         ensures err { IfErr result (λ refusal. Faults self.old (S.faults_of store.old) (S.faults_of store.new) refusal self.new) }
-        ensures time { S.moment_of store.new ≤ S.moment_of store.old + (2 ^ 23 + 64) }
+        ensures time { S.moment_of store.new ≤ S.moment_of store.old + 8 }
         ensures later { S.moment_of store.old ≤ S.moment_of store.new }
         ensures counts { NoneFell (S.faults_of store.old) (S.faults_of store.new) }
     {
-        match put_generation(store, self.generation + 1, payload) {
+        match start(store, self.generation + 1, payload, self.journal.len()) {
+            Ok(checkpoint) => {
+                self.pending = Some(checkpoint);
+                Ok((image_file(self.generation + 1), self.database.number()))
+            }
+            Err(file) => Err(self.halt(store, file)),
+        }
+    }
+
+    /// A step by which the image is written on.
+    fn write_on<S: Store>(&mut self, store: &mut S) -> Result<Progress, Refusal>
+        requires time { S.moment_of store.old + 6 ≤ 2 ^ 62 }
+        requires number { self.old.generation + 1 < 2 ^ 62 }
+        requires sure { self.old.fault ≡ None }
+        requires begun { IfSome self.old.pending (λ pending. pending.log ≡ None) }
+        requires pending { IsSome self.old.pending }
+        ensures told { Told (S.told store.old) (S.told store.new) (Pieced D.meaning self.old result self.new) }
+        ensures ok { IfOk result (λ progress. (progress ≡ More) × GoesTo self.old self.new More) }
+        ensures err { IfErr result (λ refusal. Faults self.old (S.faults_of store.old) (S.faults_of store.new) refusal self.new) }
+        ensures time { S.moment_of store.new ≤ S.moment_of store.old + 4 }
+        ensures later { S.moment_of store.old ≤ S.moment_of store.new }
+        ensures counts { NoneFell (S.faults_of store.old) (S.faults_of store.new) }
+    {
+        let mut checkpoint = match self.pending.take() {
+            Some(checkpoint) => checkpoint,
+            None => return Ok(Progress::More),
+        };
+        match advance(store, self.generation + 1, &mut checkpoint) {
+            Ok(()) => {
+                self.pending = Some(checkpoint);
+                Ok(Progress::More)
+            }
+            Err(file) => Err(self.halt(store, file)),
+        }
+    }
+
+    /// A step by which records of transactions that were committed since are copied to its log: those from this place of the
+    /// journal on.
+    fn copy_on<S: Store>(
+        &mut self,
+        alloc: Global,
+        store: &mut S,
+        copied: usize,
+    ) -> Result<Progress, Refusal>
+        requires time { S.moment_of store.old + 1 ≤ 2 ^ 62 }
+        requires number { self.old.generation + 1 < 2 ^ 62 }
+        requires sure { self.old.fault ≡ None }
+        requires begun { IfSome self.old.pending (λ pending. IsSome pending.log × (pending.copied ≡ copied)) }
+        requires pending { IsSome self.old.pending }
+        requires more { copied < length self.old.journal }
+        ensures told { Told (S.told store.old) (S.told store.new) (Pieced D.meaning self.old result self.new) }
+        ensures ok { IfOk result (λ progress. (progress ≡ More) × GoesTo self.old self.new More) }
+        ensures err { IfErr result (λ refusal. ((refusal ≡ Memory) × (self.new ≡ self.old) × (store.new ≡ store.old)) ⊎ Faults self.old (S.faults_of store.old) (S.faults_of store.new) refusal self.new) }
+        ensures time { S.moment_of store.new ≤ S.moment_of store.old + 1 }
+        ensures later { S.moment_of store.old ≤ S.moment_of store.new }
+        ensures counts { NoneFell (S.faults_of store.old) (S.faults_of store.new) }
+    {
+        let (batch, place) = match next_batch(alloc, &self.journal, copied) {
+            Ok(found) => found,
+            Err(refusal) => return Err(refusal),
+        };
+        let mut checkpoint = match self.pending.take() {
+            Some(checkpoint) => checkpoint,
+            None => return Ok(Progress::More),
+        };
+        match copy_batch(store, self.generation + 1, &mut checkpoint, &batch, place) {
+            Ok(()) => {
+                self.pending = Some(checkpoint);
+                Ok(Progress::More)
+            }
+            Err(file) => Err(self.halt(store, file)),
+        }
+    }
+
+    /// Makes the new image's log durable and opens its gate. Then its log takes the place of the old one.
+    fn close<S: Store>(&mut self, store: &mut S) -> Result<Progress, Refusal>
+        requires time { S.moment_of store.old + 7 ≤ 2 ^ 62 }
+        requires number { self.old.generation + 1 < 2 ^ 62 }
+        requires sure { self.old.fault ≡ None }
+        requires begun { IfSome self.old.pending (λ pending. IsSome pending.log × (length self.old.journal ≤ pending.copied)) }
+        requires pending { IsSome self.old.pending }
+        ensures told { Told (S.told store.old) (S.told store.new) (Pieced D.meaning self.old result self.new) }
+        ensures ok { IfOk result (λ progress. (progress ≡ Done) × GoesTo self.old self.new Done) }
+        ensures err { IfErr result (λ refusal. Faults self.old (S.faults_of store.old) (S.faults_of store.new) refusal self.new) }
+        ensures time { S.moment_of store.new ≤ S.moment_of store.old + 3 }
+        ensures later { S.moment_of store.old ≤ S.moment_of store.new }
+        ensures counts { NoneFell (S.faults_of store.old) (S.faults_of store.new) }
+    {
+        let checkpoint = match self.pending.take() {
+            Some(checkpoint) => checkpoint,
+            None => return Ok(Progress::Done),
+        };
+        match finish(store, self.generation + 1, checkpoint) {
             Ok(log) => {
                 self.generation += 1;
                 self.log = log;
                 self.forced = self.journal.len();
-                Ok(())
+                Ok(Progress::Done)
             }
-            Err(file) => {
-                let count = store.faults(file);
-                self.fault = Some((file, count));
-                Err(Refusal::LogFault { file, count })
+            Err(file) => Err(self.halt(store, file)),
+        }
+    }
+
+    /// Whether a checkpoint was begun, and isn't done.
+    pub fn in_checkpoint(&self) -> bool
+        ensures { result ≡ is_some self.now.pending }
+    {
+        self.pending.is_some()
+    }
+
+    /// Takes a step of the checkpoint that was begun. It writes a piece of the payload, of at most 65,536 bytes, and begins the log
+    /// when all of the payload is on the disk; then it copies records of transactions that were committed since into that log, at
+    /// most 65,536 bytes of them or one record. These answer `More`, and make 4 device calls at most. The step that finds none left
+    /// forces what waits, by 3 calls; then by 3 more it makes the new log durable and opens the image's gate, and answers `Done`:
+    /// from then on transactions go to the new log. Refused as `begin_checkpoint` is.
+    pub fn next_checkpoint<S: Store>(
+        &mut self,
+        alloc: Global,
+        store: &mut S,
+    ) -> Result<Progress, Refusal>
+        requires time { S.moment_of store.old + 10 ≤ 2 ^ 62 }
+        requires number { self.old.generation + 1 < 2 ^ 62 }
+        requires begun { IsSome self.old.pending }
+        ensures told { Told (S.told store.old) (S.told store.new) (Pieced D.meaning self.old result self.new) }
+        ensures ok { IfOk result (GoesTo self.old self.new) }
+        ensures halted { IfSome self.old.fault (λ fault. (result ≡ Err (LogFault fault.0 fault.1)) × (store.new ≡ store.old)) }
+        ensures err { IfErr result (λ refusal. RefusesCheckpoint self.old (S.faults_of store.old) (S.faults_of store.new) refusal self.new (store.new ≡ store.old)) }
+        ensures memory { result ≡ Err Memory → IfSome self.old.pending (λ pending. pending.copied < length self.old.journal) }
+        ensures brief { result ≡ Ok More → S.moment_of store.new ≤ S.moment_of store.old + 4 }
+        ensures time { S.moment_of store.new ≤ S.moment_of store.old + 6 }
+        ensures later { S.moment_of store.old ≤ S.moment_of store.new }
+        ensures counts { NoneFell (S.faults_of store.old) (S.faults_of store.new) }
+    {
+        if let Some(halted) = self.fault {
+            let (file, count) = halted;
+            return Err(Refusal::LogFault { file, count });
+        }
+        let (begun, copied) = match &self.pending {
+            Some(checkpoint) => (checkpoint.log.is_some(), checkpoint.copied),
+            None => return Ok(Progress::Done),
+        };
+        if !begun {
+            return self.write_on(store);
+        }
+        if copied < self.journal.len() {
+            return self.copy_on(alloc, store, copied);
+        }
+        match self.force(store) {
+            Ok(_) => self.close(store),
+            Err(refusal) => Err(refusal),
+        }
+    }
+
+    /// Takes the steps of a checkpoint that was just begun, up to the last one. No transaction is made meanwhile.
+    fn take_steps<S: Store>(&mut self, alloc: Global, store: &mut S) -> Result<Progress, Refusal>
+        requires time { S.moment_of store.old + (2 ^ 23 + 64) ≤ 2 ^ 62 }
+        requires number { self.old.generation + 1 < 2 ^ 62 }
+        requires sure { self.old.fault ≡ None }
+        requires begun { IsInStep self.old (S.moment_of store.old) (S.moment_of store.old) }
+        ensures told { Told (S.told store.old) (S.told store.new) (Pieced D.meaning self.old result self.new) }
+        ensures ok { IfOk result (λ progress. (progress ≡ Done) × (self.new ≡ at_next self.old)) }
+        ensures err { IfErr result (λ refusal. Faults self.old (S.faults_of store.old) (S.faults_of store.new) refusal self.new) }
+        ensures time { S.moment_of store.new ≤ S.moment_of store.old + (2 ^ 23 + 32) }
+        ensures later { S.moment_of store.old ≤ S.moment_of store.new }
+        ensures counts { NoneFell (S.faults_of store.old) (S.faults_of store.new) }
+    {
+        'steps: loop {
+            match self.next_checkpoint(alloc, store) {
+                Ok(Progress::More) => {}
+                Ok(Progress::Done) => return Ok(Progress::Done),
+                Err(refusal) => return Err(refusal),
             }
         }
     }
 
-    /// Forces what waits, and writes the database as the image of the next generation, whose log begins empty. Refused with 40
-    /// where a call on a file of the vault failed in it, or where an earlier call had failed; and for want of memory, and then
-    /// nothing changed. It makes at most 2^24 - 64 device calls.
+    /// Forces what waits, and writes the database as the image of the next generation, whose log begins empty: begins a checkpoint
+    /// and takes its steps. Refused with 40 where a call on a file of the vault failed in it, or where an earlier call had failed;
+    /// and for want of memory, and then nothing changed. It makes at most 2^24 - 64 device calls.
     pub fn checkpoint<S: Store>(&mut self, alloc: Global, store: &mut S) -> Result<(), Refusal>
         requires time { S.moment_of store.old + (2 ^ 24 - 64) ≤ 2 ^ 62 }
         requires number { self.old.generation + 1 < 2 ^ 62 }
@@ -263,16 +485,12 @@ impl<D: Database> Vault<D> {
         ensures later { S.moment_of store.old ≤ S.moment_of store.new }
         ensures counts { NoneFell (S.faults_of store.old) (S.faults_of store.new) }
     {
-        match self.fault {
-            None => {}
-            Some((file, count)) => return Err(Refusal::LogFault { file, count }),
+        match self.begin_checkpoint(alloc, store) {
+            Ok(_) => {}
+            Err(refusal) => return Err(refusal),
         }
-        let payload = match self.database.encode(alloc) {
-            Ok(payload) => payload,
-            Err(_) => return Err(Refusal::Memory),
-        };
-        match self.force(store) {
-            Ok(_) => self.put_next(store, payload),
+        match self.take_steps(alloc, store) {
+            Ok(_) => Ok(()),
             Err(refusal) => Err(refusal),
         }
     }

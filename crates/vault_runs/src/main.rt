@@ -3,7 +3,8 @@
 //!
 //! - `new`: an empty store, and no vault is open.
 //! - `format`, `open`, `checkpoint`; a number: a transaction that brings that day, and a force; `+` and a number: a transaction that
-//!   waits for a force, and `force`; and `install`: the open vault's calendar is installed in its own store.
+//!   waits for a force, and `force`; `begin`, which begins a checkpoint, and `next`, which takes a step of it; and `install`: the open
+//!   vault's calendar is installed in its own store.
 //! - `stop CHOICE`: the machine stops and starts again. `fail MOMENT..`: the calls that begin then fail.
 //! - `write FILE OFFSET HEX`: these bytes are written and made durable; `cut FILE LENGTH`; `show FILE`: the bytes; `moment`.
 //! - `stops CHOICE STEP..`: the steps over an empty store, once for each moment: the call that begins then fails, and there the machine

@@ -7,7 +7,7 @@ use mem_store::MemStore;
 use std::alloc::{AllocError, Global};
 use std::mem;
 use store_api::{Stop, Store};
-use vault::Vault;
+use vault::{Progress, Vault};
 
 /// From this moment on no step is made.
 const LATE: u64 = 1 << 61;
@@ -26,6 +26,10 @@ pub enum Step {
     Wait(Day),
     Force,
     Checkpoint,
+    /// A checkpoint is begun.
+    Begin,
+    /// The next step of the checkpoint that was begun.
+    Next,
     Install,
 }
 
@@ -79,6 +83,28 @@ fn write_image(
     vault.checkpoint(alloc, store)
 }
 
+fn begin_image(
+    alloc: Global,
+    vault: &mut Vault<Calendar>,
+    store: &mut MemStore,
+) -> Result<(u32, u64), Refusal> {
+    if store.moment() >= LATE || vault.generation() >= LAST {
+        return Err(Refusal::RunFull);
+    }
+    vault.begin_checkpoint(alloc, store)
+}
+
+fn write_on(
+    alloc: Global,
+    vault: &mut Vault<Calendar>,
+    store: &mut MemStore,
+) -> Result<Progress, Refusal> {
+    if store.moment() >= LATE || vault.generation() >= LAST || !vault.in_checkpoint() {
+        return Err(Refusal::RunFull);
+    }
+    vault.next_checkpoint(alloc, store)
+}
+
 fn install_own(
     alloc: Global,
     vault: &Vault<Calendar>,
@@ -127,12 +153,19 @@ fn shown(alloc: Global, vault: &Vault<Calendar>) -> Result<String, AllocError> {
     let generation = vault.generation();
     let made = vault.journal().len();
     let waiting = made.saturating_sub(vault.forced());
+    let begun = if vault.in_checkpoint() {
+        ", in a checkpoint"
+    } else {
+        ""
+    };
     if waiting > 0 {
         return format!(in alloc;
-            "number {number}, day {day}, generation {generation}, {made} of this run, {waiting} not forced"
+            "number {number}, day {day}, generation {generation}, {made} of this run, {waiting} not forced{begun}"
         );
     }
-    format!(in alloc; "number {number}, day {day}, generation {generation}, {made} of this run")
+    format!(in alloc;
+        "number {number}, day {day}, generation {generation}, {made} of this run{begun}"
+    )
 }
 
 impl Desk {
@@ -200,6 +233,22 @@ impl Desk {
         Ok(())
     }
 
+    fn begin_checkpoint(&mut self, alloc: Global) -> Result<(), Fault> {
+        let Some(vault) = &mut self.vault else {
+            return Err(Fault::Closed);
+        };
+        begin_image(alloc, vault, &mut self.store)?;
+        Ok(())
+    }
+
+    fn next_checkpoint(&mut self, alloc: Global) -> Result<(), Fault> {
+        let Some(vault) = &mut self.vault else {
+            return Err(Fault::Closed);
+        };
+        write_on(alloc, vault, &mut self.store)?;
+        Ok(())
+    }
+
     fn install(&mut self, alloc: Global) -> Result<(), Fault> {
         let Some(vault) = &self.vault else {
             return Err(Fault::Closed);
@@ -217,6 +266,8 @@ impl Desk {
             Step::Wait(day) => self.commit(alloc, day, false),
             Step::Force => self.force(),
             Step::Checkpoint => self.checkpoint(alloc),
+            Step::Begin => self.begin_checkpoint(alloc),
+            Step::Next => self.next_checkpoint(alloc),
             Step::Install => self.install(alloc),
         }
     }

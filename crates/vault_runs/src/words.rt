@@ -47,6 +47,8 @@ pub fn step(word: &str) -> Result<Step, Fault> {
         "format" => Ok(Step::Format),
         "open" => Ok(Step::Open),
         "checkpoint" => Ok(Step::Checkpoint),
+        "begin" => Ok(Step::Begin),
+        "next" => Ok(Step::Next),
         "install" => Ok(Step::Install),
         "force" => Ok(Step::Force),
         other => day_step(other),

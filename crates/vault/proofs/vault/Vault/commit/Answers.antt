@@ -29,8 +29,8 @@ returns-in-Ok-append-clause-told g c =
     let file : inside.log.file ≡ log_file vault.generation = c.self.invariant.file ∙ ap (λ (v : State g.row.D.Denot). log_file v.generation) c.self.view_is in
     let sures : inside.log.sure ≡ vault.sure = ap (λ (v : State g.row.D.Denot). v.sure) c.self.view_is in
     let ends : inside.log.end ≡ vault.end = ap (λ (v : State g.row.D.Denot). v.end) c.self.view_is in
-    let is = waiting_is m inside.generation inside.forced inside.log.sure c.append.new.self.sure inside.log.end c.append.new.self.end inside.database c.add_entry.new.database inside.journal.items c.add_entry.new.journal.items inside.fault inside.fault c.args.entry c.in-Ok.framed vault c.self.view_is c.in-Ok-add_entry.ensures.database c.in-Ok-add_entry.ensures.journal c.in-Ok.ensures.framed
-    (ap (λ (l : log.State). l.sure) c.in-Ok-append.ensures.ok) (ap (λ (l : log.State). l.end) c.in-Ok-append.ensures.ok) (search rules) in
+    let is = waiting_is m inside.generation inside.forced inside.log.sure c.append.new.self.sure inside.log.end c.append.new.self.end inside.database c.add_entry.new.database inside.journal.items c.add_entry.new.journal.items inside.fault inside.fault inside.pending inside.pending c.args.entry c.in-Ok.framed vault c.self.view_is c.in-Ok-add_entry.ensures.database c.in-Ok-add_entry.ensures.journal c.in-Ok.ensures.framed
+    (ap (λ (l : log.State). l.sure) c.in-Ok-append.ensures.ok) (ap (λ (l : log.State). l.end) c.in-Ok-append.ensures.ok) (search rules) refl in
     told_map _ _ _ _ (λ h n appended. is_appended m vault c.args.entry c.frame_entry.ensures.fits c.requires.legal h n inside.log.file file c.in-Ok.framed c.in-Ok.ensures.framed _ _ is
     (subst (λ (k : ℕ). let r : Result (Unit {0}) Refusal = Ok tt in Appended inside.log.file k vault.end c.in-Ok.framed r h n) sures (subst (λ (k : ℕ). let r : Result (Unit {0}) Refusal = Ok tt in Appended inside.log.file inside.log.sure k c.in-Ok.framed r h n) ends appended))) c.in-Ok-append.ensures.told
 
@@ -53,7 +53,7 @@ returns-clause-err g c =
     let faults : ℕ → ℕ = g.S.Store.faults_of c.append.new.store in
     let end : ℕ = c.append.new.self.end in
     let file : c.log_file-file.result ≡ log_file vault.generation = c.log_file-file.ensures.value ∙ ap (λ (v : State g.row.D.Denot). log_file v.generation) c.self.view_is in
-    let is = doubted_is m inside.generation inside.forced inside.log.sure c.append.new.self.sure inside.log.end end inside.database c.add_entry.new.database inside.journal.items c.add_entry.new.journal.items inside.fault c.log_file-file.result c.faults-count.result c.args.entry vault c.self.view_is
+    let is = doubted_is m inside.generation inside.forced inside.log.sure c.append.new.self.sure inside.log.end end inside.database c.add_entry.new.database inside.journal.items c.add_entry.new.journal.items inside.fault inside.pending c.log_file-file.result c.faults-count.result c.args.entry vault c.self.view_is
     c.in-Ok-add_entry.ensures.database c.in-Ok-add_entry.ensures.journal (ap (λ (l : log.State). l.sure) c.in-Err-append.ensures.err.2) in
     inr (
       search rules,

@@ -1,4 +1,4 @@
-use Rattle.std.proofs.Common.{rules, ◌≡◌, ◌∙◌, ap, subst, ℕ, Result, Ok, Err}
+use Rattle.std.proofs.Common.{refl, rules, ◌≡◌, ◌∙◌, ap, subst, ℕ, Result, Ok, Err}
 use Rattle.kinds.specs.declared.refusal.Refusal.{Refusal}
 use Rattle.log_file.specs.Steps.{Forced}
 use Rattle.log_file.specs.Sure as log
@@ -19,8 +19,8 @@ returns-in-Ok-clause-told g c =
     let file : inside.log.file ≡ log_file vault.generation = c.self.invariant.file ∙ ap (λ (v : State g.row.D.Denot). log_file v.generation) c.self.view_is in
     let sures : inside.log.sure ≡ vault.sure = ap (λ (v : State g.row.D.Denot). v.sure) c.self.view_is in
     let ends : inside.log.end ≡ vault.end = ap (λ (v : State g.row.D.Denot). v.end) c.self.view_is in
-    let is = forced_is inside.generation inside.forced _ inside.log.sure c.force.new.self.sure inside.log.end c.force.new.self.end inside.database inside.journal.items inside.fault inside.fault vault c.self.view_is (search rules)
-    (ap (λ (l : log.State). l.sure) c.in-Ok.ensures.ok) (ap (λ (l : log.State). l.end) c.in-Ok.ensures.ok) (search rules) in
+    let is = forced_is inside.generation inside.forced _ inside.log.sure c.force.new.self.sure inside.log.end c.force.new.self.end inside.database inside.journal.items inside.fault inside.fault inside.pending inside.pending vault c.self.view_is (search rules)
+    (ap (λ (l : log.State). l.sure) c.in-Ok.ensures.ok) (ap (λ (l : log.State). l.end) c.in-Ok.ensures.ok) (search rules) refl in
     told_map _ _ _ _ (λ h n forced. is_forced m vault h n inside.log.file file _ _ is
     (subst (λ (k : ℕ). let r : Result (Unit {0}) Refusal = Ok tt in Forced inside.log.file k vault.end r h n) sures (subst (λ (k : ℕ). let r : Result (Unit {0}) Refusal = Ok tt in Forced inside.log.file inside.log.sure k r h n) ends forced))) c.in-Ok.ensures.told
 
