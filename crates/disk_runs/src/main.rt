@@ -10,6 +10,9 @@
 //! - `fail MOMENT..`: the calls that begin then fail. `stop CHOICE`: the machine stops and starts again.
 //! - `within read`, `within write`, `within sync`: the steps that make one such call, and `within synced FILE OFFSET BYTES..` both.
 //! - `first open FOLDER`: a store in that folder; `first close`; and the calls on it, as `first len FILE`. `second`: another one.
+//! - `folder new MOST CALL..`: a store over the files of an empty folder in memory, which write and read at most so many bytes a call,
+//!   and whose calls with these numbers fail, counted from 0; and the calls on it, as `folder len FILE`. `folder stop CHOICE`: the
+//!   machine stops and starts again, and no call of the files fails any more.
 //! - `log create FILE`, `log frame BYTES..`: how many bytes a record takes, `log append BYTES..`, `log force`, `log end`; `log start
 //!   FILE`: its end and how many records were read; `log record PLACE`: such a record, counted from 0; `log same PLACE BYTES..`:
 //!   whether it has these bytes.
@@ -38,6 +41,7 @@ mod folder;
 mod frame;
 mod image;
 mod logs;
+mod mem_folder;
 mod memory;
 mod run;
 mod stops;

@@ -1,41 +1,46 @@
 //! A run over a script.
 use crate::answer::{Fault, text};
 use crate::folder::Folder;
+use crate::mem_folder::MemFolder;
 use crate::memory::Memory;
 use crate::streams::Streams;
 use crate::words::words_of;
 use crate::{ends, frame, system};
 use std::alloc::AllocError;
 
-/// What the lines are about: a store in memory, two in folders of the system, and a source and a sink in memory.
+/// What the lines are about: a store in memory, one over a folder in memory, two in folders of the system, and a source and a sink in
+/// memory.
 #[derive(Drop)]
 pub struct Run {
     rt: HostRuntime,
     memory: Memory,
+    folder: MemFolder,
     first: Folder,
     second: Folder,
     streams: Streams,
 }
 
 impl Run {
-    /// An empty store in memory, and none in a folder.
+    /// An empty store in memory, one over an empty folder in memory, and none in a folder of the system.
     pub fn new(rt: HostRuntime) -> Run {
         let alloc = rt.alloc();
         Run {
             rt,
             memory: Memory::new(alloc),
+            folder: MemFolder::new(alloc),
             first: Folder::new(),
             second: Folder::new(),
             streams: Streams::new(alloc),
         }
     }
 
-    /// What a line about streams is answered.
+    /// What a line about streams, or about a store in memory, is answered.
     fn on_streams(&mut self, words: &[&str]) -> Result<String, Fault> {
         match words {
             ["source", words @ ..] => self.streams.on_source(self.rt.alloc(), words),
             ["sink", words @ ..] => self.streams.on_sink(self.rt.alloc(), words),
             ["stream", words @ ..] => ends::answer(&self.rt, words),
+            ["folder", words @ ..] => self.folder.answer(self.rt.alloc(), words),
             _ => self.memory.answer(self.rt.alloc(), words),
         }
     }

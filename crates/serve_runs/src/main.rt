@@ -14,6 +14,8 @@
 //!   stops. Then `run` follows with no script, and another with a GET of each file. Two rows, with a sign for each moment: how many files the first call said
 //!   that it stored, and how many the last one shows with their bytes, `-` where the store isn't formatted. Each file of the script has a path of its own.
 //! - `again CHOICE`: the second row, where the machine stops once more, at each call of the opening that follows; `!` where that changes it.
+//! - `folder CHOICE`: as `stops`, over the files of an empty folder in memory, once for each call of these files. The two signs of each call stand
+//!   together, and those of calls in turn that have the same once.
 //! - `faults`: the script is run by `fresh`, once for each moment at which the one call fails. Two rows: the status, and the file whose call failed.
 //! - `echo`: the script is run over an answerer that gives each line back; of the line `two` it gives two, it refuses `no`, of `bad` it counts a
 //!   failed file, with `full` it ends the run, and an empty line is a comment. Printed are what was put, with `\r` for CR, and the status. `pieces`:
@@ -28,6 +30,7 @@ mod blank;
 mod call;
 mod echo;
 mod files;
+mod folders;
 mod run;
 mod sweeps;
 

@@ -2,7 +2,7 @@
 use crate::answer::{Fault, large, number, numbers, text};
 use crate::blank::BlankStore;
 use crate::call::{Said, call, last_line, text_of, words_of};
-use crate::{echo, files, sweeps};
+use crate::{echo, files, folders, sweeps};
 use hex::{decode, encode};
 use mem_store::MemStore;
 use std::alloc::{AllocError, Global};
@@ -250,6 +250,11 @@ impl Run {
         sweeps::stops(self.alloc, large(choice)?, &script)
     }
 
+    fn folder_stops(&mut self, choice: &str) -> Result<String, Fault> {
+        let script = self.take_script();
+        folders::stops(self.alloc, large(choice)?, &script)
+    }
+
     fn again(&mut self, choice: &str) -> Result<String, Fault> {
         let script = self.take_script();
         sweeps::again(self.alloc, large(choice)?, &script)
@@ -265,6 +270,7 @@ impl Run {
         match words {
             ["stops", choice] => self.stops(choice),
             ["again", choice] => self.again(choice),
+            ["folder", choice] => self.folder_stops(choice),
             ["faults"] => self.all_faults(),
             _ => self.on_script(words),
         }

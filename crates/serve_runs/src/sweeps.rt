@@ -9,7 +9,7 @@ use store_api::Store;
 use tree_api::{MemSink, MemSource};
 
 /// More moments than any script comes to.
-const MOST: u64 = 1000;
+pub const MOST: u64 = 1000;
 
 /// So many calls fail from a moment on: all that a run still makes.
 const REST: u64 = 64;
@@ -46,7 +46,7 @@ fn asked(alloc: Global, line: &str, number: usize) -> Result<Option<(String, Str
 }
 
 /// The GETs of all files that a script stores, and what answers each.
-fn asked_all(alloc: Global, script: &str) -> Result<(String, Vec<String>), AllocError> {
+pub fn asked_all(alloc: Global, script: &str) -> Result<(String, Vec<String>), AllocError> {
     let mut gets = String::new(alloc);
     let mut answers = Vec::new(alloc);
     for line in script.lines() {
@@ -59,7 +59,7 @@ fn asked_all(alloc: Global, script: &str) -> Result<(String, Vec<String>), Alloc
 }
 
 /// How many files a call said that it stored.
-fn stored(said: &Said) -> usize {
+pub fn stored(said: &Said) -> usize {
     let mut count: usize = 0;
     for line in text_of(said).lines() {
         if line.contains(" OK object=") && !line.contains(" size=") {
@@ -82,18 +82,18 @@ fn shown(said: &Said, answers: &[String]) -> usize {
 }
 
 /// A call over a store, with a script.
-fn run(
+pub fn run<S: Store + Drop>(
     alloc: Global,
     word: &str,
-    store: MemStore,
+    store: S,
     script: &str,
-) -> Result<(MemStore, Said), AllocError> {
+) -> Result<(S, Said), AllocError> {
     let source = MemSource::new(alloc, script.as_bytes().to_vec(alloc)?);
     call(alloc, &[word], store, source, MemSink::new(alloc))
 }
 
 /// The moments from this one on, as many as a run still has.
-fn from(alloc: Global, moment: u64) -> Result<Vec<u64>, AllocError> {
+pub fn from(alloc: Global, moment: u64) -> Result<Vec<u64>, AllocError> {
     let mut moments = Vec::new(alloc);
     for more in 0..REST {
         moments.push(moment.saturating_add(more))?;
@@ -107,6 +107,24 @@ fn run_until(alloc: Global, script: &str, moment: u64) -> Result<(MemStore, Said
     run(alloc, "fresh", store, script)
 }
 
+/// What is shown over a store, where no call fails.
+pub fn shown_over<S: Store + Drop>(
+    alloc: Global,
+    store: S,
+    gets: &str,
+    answers: &[String],
+) -> Result<char, AllocError> {
+    let (store, opened) = run(alloc, "run", store, "")?;
+    match text_of(&opened) {
+        "NOT FORMATTED\n" => Ok('-'),
+        "END 0 0 0\n" => {
+            let (_store, said) = run(alloc, "run", store, gets)?;
+            Ok(digit(shown(&said, answers)))
+        }
+        _ => Ok('!'),
+    }
+}
+
 /// What is shown after a stop, where no call fails.
 fn shown_after(
     alloc: Global,
@@ -118,15 +136,7 @@ fn shown_after(
     let mut store = store;
     stop(alloc, &mut store, choice);
     fail_at(alloc, &mut store, Vec::new(alloc));
-    let (store, opened) = run(alloc, "run", store, "")?;
-    match text_of(&opened) {
-        "NOT FORMATTED\n" => Ok('-'),
-        "END 0 0 0\n" => {
-            let (_store, said) = run(alloc, "run", store, gets)?;
-            Ok(digit(shown(&said, answers)))
-        }
-        _ => Ok('!'),
-    }
+    shown_over(alloc, store, gets, answers)
 }
 
 /// What the script says that it stored, and what is shown after a stop, for each moment.

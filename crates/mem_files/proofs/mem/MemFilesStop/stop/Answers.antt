@@ -1,0 +1,6 @@
+use Rattle.mem_files.specs.Mem.{stage_of}
+use Rattle.mem_files.proofs.Calls.{stopped}
+use Rattle.mem_files.proofs.mem.MemFilesStop.stop.Goals as goal
+
+pub returns : goal.returns
+returns c = record { told = stopped (stage_of c.args.self.at) c.args.self.entries.items c.stop_all.new.entries.items c.stop_all.ensures.left c.stop_all.ensures.rest }
