@@ -9,14 +9,14 @@ use std::io;
 /// How many times it is done where no number is given.
 pub(crate) const USUAL_COUNT: u32 = 4;
 
-/// The spelling of a new version, 128 bytes: its path; its class STANDARD, its size and time; its digest; its object, pool and segment.
+/// The spelling of a new version, 136 bytes: its path; its class STANDARD, its size and time; its digest; its object, pool and segment.
 fn put_version(out: &mut Vec<u8>, number: u32) -> Result<(), AllocError> {
     out.extend_from_slice(b"\0\x28")?;
     out.extend_from_slice(paths::spell(number).as_slice())?;
-    out.extend_from_slice(b"\0\x08STANDARD\0\0\x03\xe8\0\0\0\0\0\0\0\x07")?;
+    out.extend_from_slice(b"\0\x08STANDARD\0\0\0\0\0\0\x03\xe8\0\0\0\0\0\0\0\x07")?;
     out.extend_from_slice(&[7; 32])?;
     out.extend_from_slice(b"\0\0\0\0\0\0\0\x01\0\0\0\x01\0\0\0\x01")?;
-    out.extend_from_slice(b"\0\0\0\x04\0\0\0\0\0\0\x10\0\0\0\x03\xe8")?;
+    out.extend_from_slice(b"\0\0\0\x04\0\0\0\0\0\0\x10\0\0\0\0\0\0\0\x03\xe8")?;
     Ok(())
 }
 

@@ -2,8 +2,8 @@
 //! It prints how many versions were inserted, found and removed.
 
 use kinds::{
-    Day, DefineOrDelete, Digest, FilespaceName, Name, NodeName, ObjectChange, Path, Refusal,
-    Segment, Segments,
+    Day, DefineOrDelete, Digest, FilespaceName, Name, NodeName, ObjectChange, ObjectSize, Path,
+    Refusal, Segment, Segments,
 };
 use object_rows::Objects;
 use std::alloc::Global;
@@ -86,6 +86,13 @@ fn define(objects: &mut Objects, change: &ObjectChange) -> Result<(), Refusal> {
     objects.change(change, 1)
 }
 
+fn five_bytes() -> ObjectSize {
+    let Some(size) = ObjectSize::new(5) else {
+        unreachable!()
+    };
+    size
+}
+
 /// Inserts the version with this number, if it is new.
 fn insert(
     alloc: Global,
@@ -100,7 +107,7 @@ fn insert(
     }
     let version = Version {
         object,
-        size: 5,
+        size: five_bytes(),
         mtime: 7,
         digest: Digest([0; 32]),
         stored: Day::default(),

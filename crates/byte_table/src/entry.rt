@@ -41,6 +41,35 @@ pub fn transaction(alloc: Global, bytes: &[u8]) -> Result<Option<String>, Refusa
     }
 }
 
+/// Whether a proper prefix of the bytes is an entry's spelling in the first form.
+fn has_first_in_front(alloc: Global, bytes: &[u8]) -> Result<bool, Refusal> {
+    for end in 0..bytes.len() {
+        if Entry::decode_one(alloc, &bytes[..end])?.is_some() {
+            return Ok(true);
+        }
+    }
+    Ok(false)
+}
+
+/// What the entry changes, and its spelling.
+fn spelled_anew(alloc: Global, entry: &Entry, bytes: &[u8]) -> Result<String, Refusal> {
+    let mut words = show(alloc, entry)?;
+    words.push_str(", now ")?;
+    show_digits(&mut words, entry.encode(alloc)?.as_slice())?;
+    if has_first_in_front(alloc, bytes)? {
+        words.push_str(", BEHIND ANOTHER")?;
+    }
+    Ok(words)
+}
+
+/// What the transaction changes whose spelling in the first form these bytes are, and how it is spelled in the second.
+pub fn first(alloc: Global, bytes: &[u8]) -> Result<Option<String>, Refusal> {
+    match Entry::decode_one(alloc, bytes)? {
+        None => Ok(Some(String::from_str(alloc, "no entry")?)),
+        Some(entry) => Ok(Some(spelled_anew(alloc, &entry, bytes)?)),
+    }
+}
+
 /// How many bytes a spelling has, or the refusal.
 fn length(alloc: Global, spelling: Result<Vec<u8>, Refusal>) -> Result<String, AllocError> {
     match spelling {

@@ -80,7 +80,7 @@ fn show_entries(out: &mut String, map: &BTreeMap<u8, u8>) -> Result<(), AllocErr
 
 /// The byte that the reader stands before.
 fn show_front(alloc: Global, out: &mut String, reader: &mut Reader) -> Result<(), Refusal> {
-    let front: Option<u8> = take_front(alloc, reader)?;
+    let front: Option<u8> = take_front::<u8, Own>(alloc, reader)?;
     match front {
         Some(byte) => write!(out, "behind it {byte}")?,
         None => out.push_str("nothing behind it")?,

@@ -4,9 +4,10 @@
 //! - BYTES alone: what the transaction with this spelling changes, its groups of changes and its segments as copies of them
 //!   say it; or that there is none. It is seen too that the transaction and its copy are encoded as the same bytes, and that
 //!   no proper prefix of them is a transaction's spelling.
+//! - `first BYTES`: the same of the first form, in which transactions were written before, and how the transaction is spelled now.
 //! - `long BYTES`: in how many bytes the transaction with this spelling is encoded, or the refusal.
 //! - `day N`: the spelling of the transaction of actor 0 by which the day N begins.
-//! - `name BYTES`, `node BYTES`, `path BYTES`, `filespace BYTES`: as what the bytes are read, or the refusal.
+//! - `name BYTES`, `node BYTES`, `path BYTES`, `filespace BYTES`, `description BYTES`: as what the bytes are read, or the refusal.
 //! - `form KIND BYTES`: whether the bytes are a value's of this kind, of those in forms.rt.
 //! - `read FIELD.. of BYTES`: the fields that are read one after the other, of those in reading.rt, and what is written then.
 //! - `put BYTES`, `items BYTES`, `list BYTES`, `map BYTES`, `empty`: values with a length in front, as lists.rt says.
@@ -28,11 +29,13 @@ use std::io::{BufWriter, Write};
 /// What a line comes to whose first word says that it is about bytes and nothing else; none where it doesn't.
 fn about_bytes(alloc: Global, word: &str, bytes: &[u8]) -> Result<Option<String>, Refusal> {
     match word {
+        "first" => entry::first(alloc, bytes),
         "long" => entry::encoded(alloc, bytes),
         "name" => names::name(alloc, bytes),
         "node" => names::node(alloc, bytes),
         "path" => names::path(alloc, bytes),
         "filespace" => names::filespace(alloc, bytes),
+        "description" => names::description(alloc, bytes),
         "put" => lists::put(alloc, bytes),
         "items" => lists::pushed(alloc, bytes),
         "list" => lists::list(alloc, bytes),

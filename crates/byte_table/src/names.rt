@@ -1,6 +1,6 @@
-//! Names and paths as they are read.
+//! Names, paths and descriptions as they are read.
 use crate::digits::show_text;
-use kinds::{FilespaceName, Name, NodeName, Path, Refusal};
+use kinds::{FilespaceName, Name, NodeName, Path, Refusal, Text};
 use std::alloc::{AllocError, Global};
 
 fn refused(alloc: Global, refusal: &Refusal) -> Result<String, AllocError> {
@@ -37,4 +37,9 @@ pub fn path(alloc: Global, bytes: &[u8]) -> Result<Option<String>, Refusal> {
 pub fn filespace(alloc: Global, bytes: &[u8]) -> Result<Option<String>, Refusal> {
     let name = FilespaceName::read(alloc, bytes);
     told(alloc, name.map(|name| name.into_bytes()))
+}
+
+pub fn description(alloc: Global, bytes: &[u8]) -> Result<Option<String>, Refusal> {
+    let text = Text::read(alloc, bytes);
+    told(alloc, text.map(|text| text.into_bytes()))
 }

@@ -2,7 +2,8 @@
 use crate::digits::{show_digits, show_text};
 use entries::change_items::{
     DiscardReason, DiscardedVersion, DiscardedVersions, DropReason, DroppedCopies, DroppedCopy,
-    MovedCopies, NamedVersions, NewCopies, NewVersion, NewVersions, Rebindings, Scratch,
+    MovedCopies, NamedVersions, NewCopies, NewHeldObject, NewHeldObjects, NewVersion, NewVersions,
+    Rebindings, Scratch,
 };
 use entries::{Change, Entry};
 use kinds::{Day, Digest, ObjectChange, PolicyChange, PoolChange, Segments};
@@ -73,6 +74,20 @@ fn show_policy(out: &mut String, policy: &PolicyChange) -> Result<(), AllocError
             show_name(out, class.as_bytes())
         }
         PolicyChange::Group {
+            verb,
+            domain,
+            set,
+            class,
+            group,
+        } => {
+            let rule = group.rule();
+            write!(out, "{verb:?} group")?;
+            show_name(out, domain.as_bytes())?;
+            show_name(out, set.as_bytes())?;
+            show_name(out, class.as_bytes())?;
+            write!(out, " {rule:?}")
+        }
+        PolicyChange::ArchiveGroup {
             verb,
             domain,
             set,
@@ -186,7 +201,7 @@ fn show_pool_copy(out: &mut String, pool: &PoolChange) -> Result<(), AllocError>
 }
 
 fn show_version(out: &mut String, version: &NewVersion) -> Result<(), AllocError> {
-    let size = version.size;
+    let size = version.size.bytes();
     let mtime = version.mtime;
     let object = version.object;
     out.push(';')?;
@@ -204,6 +219,38 @@ fn show_backup(out: &mut String, versions: &NewVersions) -> Result<(), AllocErro
     show_scratch(out, &versions.scratch)?;
     for version in versions.items.as_slice() {
         show_version(out, version)?;
+    }
+    Ok(())
+}
+
+fn show_until(out: &mut String, until: Option<u32>) -> Result<(), AllocError> {
+    match until {
+        Some(day) => write!(out, " until {day}"),
+        None => Ok(()),
+    }
+}
+
+fn show_held_object(out: &mut String, held: &NewHeldObject) -> Result<(), AllocError> {
+    let size = held.size.bytes();
+    let mtime = held.mtime;
+    let object = held.object;
+    out.push(';')?;
+    show_name(out, held.path.as_bytes())?;
+    out.push_str(" described as")?;
+    show_name(out, held.description.as_bytes())?;
+    write!(out, " size {size} mtime {mtime}")?;
+    show_digest(out, &held.digest)?;
+    write!(out, " object {object}")?;
+    show_segments(out, held.pool, &held.segments)?;
+    show_until(out, held.until)
+}
+
+fn show_hold(out: &mut String, objects: &NewHeldObjects) -> Result<(), AllocError> {
+    let filespace = objects.filespace;
+    write!(out, "hold filespace {filespace}")?;
+    show_scratch(out, &objects.scratch)?;
+    for held in objects.items.as_slice() {
+        show_held_object(out, held)?;
     }
     Ok(())
 }
@@ -311,6 +358,14 @@ fn show_file(out: &mut String, what: &str, file: &u32) -> Result<(), AllocError>
     write!(out, "{what}, file {file}")
 }
 
+fn show_begin(out: &mut String, file: &u32, after: &Option<u32>) -> Result<(), AllocError> {
+    show_file(out, "a database backup begins", file)?;
+    match after {
+        Some(before) => write!(out, ", after {before}"),
+        None => Ok(()),
+    }
+}
+
 fn show_change(out: &mut String, change: &Change) -> Result<(), AllocError> {
     match change {
         Change::Day { day } => show_day(out, day),
@@ -326,9 +381,10 @@ fn show_change(out: &mut String, change: &Change) -> Result<(), AllocError> {
         Change::Expire(versions) => show_named(out, "expire", versions),
         Change::Discard(versions) => show_discarded(out, versions),
         Change::Reuse { file } => show_file(out, "reuse", file),
-        Change::DbBegin { file } => show_file(out, "a database backup begins", file),
+        Change::DbBegin { file, after } => show_begin(out, file, after),
         Change::DbEnd { file } => show_file(out, "a database backup is whole", file),
         Change::DbDelete { file } => show_file(out, "a database backup goes", file),
+        Change::Hold(objects) => show_hold(out, objects),
     }
 }
 

@@ -1,9 +1,10 @@
 ghost use Rattle.std.specs.Prelude.{◌≡◌, ◌<◌, ◌^◌, IsTrue};
+ghost use Rattle.fields.specs.Editions.{first_form, second_form};
 ghost use Rattle.calendar.specs.Dates.{dated, dated_form, meaning};
 ghost use Rattle.calendar.specs.Meant.{is_meaning};
 
 use entries::{Change, Database, Entry};
-use fields::{Fault, Formed, Memory, Reader, put_u64};
+use fields::{By, Decoder, Fault, First, Formed, Memory, Reader, put_u8, put_u64};
 use kinds::{Day, Fitting, Refusal};
 use std::alloc::Global;
 use std::marker::Model;
@@ -50,17 +51,21 @@ impl Calendar {
     }
 }
 
-/// The number in eight bytes, and the day in four.
+/// The second form: a byte 2, the number in eight bytes, and the day in four.
 impl Formed for Calendar {
-    ghost form = { dated };
+    ghost form = { dated second_form };
 
     fn write_to(&self, out: &mut Vec<u8>) -> Result<(), Memory> {
+        put_u8(out, 2)?;
         put_u64(out, self.number)?;
         self.today.write_to(out)?;
         Ok(())
     }
 
     fn read_from(alloc: Global, reader: &mut Reader<'_>) -> Result<Self, Fault> {
+        if reader.u8()? != 2 {
+            return Err(Fault::Malformed);
+        }
         let number = reader.u64()?;
         let today = Day::read_from(alloc, reader)?;
         if number < NUMBERS {
@@ -70,7 +75,26 @@ impl Formed for Calendar {
         }
     }
 
-    ghost is_form = { dated_form };
+    ghost is_form = { dated_form second_form };
+}
+
+/// The first form: a byte 1, the day in four bytes, and the number in eight.
+impl Decoder<Calendar> for By<First> {
+    ghost form = { dated first_form };
+
+    fn take(alloc: Global, reader: &mut Reader<'_>) -> Result<Calendar, Fault> {
+        if reader.u8()? != 1 {
+            return Err(Fault::Malformed);
+        }
+        let today = Day::read_from(alloc, reader)?;
+        let number = reader.u64()?;
+        if number >= NUMBERS {
+            return Err(Fault::Malformed);
+        }
+        Ok(Calendar { number, today })
+    }
+
+    ghost is_form = { dated_form first_form };
 }
 
 impl Fitting for Calendar {
@@ -119,8 +143,13 @@ impl Database for Calendar {
         Ok(bytes)
     }
 
-    fn decode(alloc: Global, bytes: &[u8]) -> Result<Option<Self>, Refusal> {
+    fn decode_two(alloc: Global, bytes: &[u8]) -> Result<Option<Self>, Refusal> {
         let calendar = fields::decode(alloc, bytes)?;
+        Ok(calendar)
+    }
+
+    fn decode_one(alloc: Global, bytes: &[u8]) -> Result<Option<Self>, Refusal> {
+        let calendar = fields::decode_by::<Calendar, By<First>>(alloc, bytes)?;
         Ok(calendar)
     }
 

@@ -1,9 +1,12 @@
 //! What transactions on stored objects list.
 ghost use Rattle.std.specs.Prelude.{◌≡◌, ◌++◌, OnOk};
-ghost use Rattle.change_items.specs.ItemForms.{placed, scratch_volume, scratch_volume_form, new_version, new_version_form, rebinding, rebinding_form, named_version, named_version_form, moved_copy, moved_copy_form, new_copy, new_copy_form, dropped_copy, dropped_copy_form, discarded_version, discarded_version_form};
+ghost use Rattle.fields.specs.Editions.{second_form};
+ghost use Rattle.change_items.specs.ItemForms.{placed, scratch_volume, scratch_volume_form, new_version, new_version_form, new_held_object, new_held_object_form, rebinding, rebinding_form, named_version, named_version_form, moved_copy, moved_copy_form, new_copy, new_copy_form, dropped_copy, dropped_copy_form, discarded_version, discarded_version_form};
 
-use fields::{Fault, Formed, Items, Memory, Reader, put_u32, put_u64};
-use kinds::{Digest, Fitting, Name, Path, Segments};
+use fields::{
+    By, Decoder, Fault, Formed, InEdition, Items, Memory, Reader, Second, put_u32, put_u64,
+};
+use kinds::{Digest, Fitting, Name, ObjectSize, Path, Segments, Text};
 use std::alloc::Global;
 
 /// A list of at most 256 things that one transaction changes. Contracts see it as the list of them.
@@ -14,8 +17,8 @@ pub type Scratch = Items<ScratchVolume, 4294967295>;
 
 /// Puts where a copy lies: its pool's number, and its segments.
 fn put_placed(out: &mut Vec<u8>, pool: u32, segments: &Segments) -> Result<(), Memory>
-    requires { placed.Fits (pool, segments.now) }
-    ensures { OnOk result (out.new.items ≡ out.old.items ++ placed.spell (pool, segments.now)) }
+    requires { (placed second_form).Fits (pool, segments.now) }
+    ensures { OnOk result (out.new.items ≡ out.old.items ++ (placed second_form).spell (pool, segments.now)) }
 {
     put_u32(out, pool)?;
     segments.write_to(out)?;
@@ -67,7 +70,7 @@ pub struct NewVersion {
     /// The management class that the path is bound to.
     pub class: Name,
     /// How many bytes it has.
-    pub size: u32,
+    pub size: ObjectSize,
     /// When the file was changed last, in seconds.
     pub mtime: u64,
     /// The digest of its bytes.
@@ -82,30 +85,18 @@ pub struct NewVersion {
 
 /// The fields one after the other.
 #[tactic(auto, unfolding(crate::specs::ItemForms::new_version))]
-impl Formed for NewVersion {
-    ghost form = { new_version };
+impl<E: InEdition> Decoder<NewVersion> for By<E> {
+    ghost form = { new_version E.edition };
 
-    fn write_to(&self, out: &mut Vec<u8>) -> Result<(), Memory> {
-        self.path.write_to(out)?;
-        self.class.write_to(out)?;
-        put_u32(out, self.size)?;
-        put_u64(out, self.mtime)?;
-        self.digest.write_to(out)?;
-        put_u64(out, self.object)?;
-        put_u32(out, self.pool)?;
-        self.segments.write_to(out)?;
-        Ok(())
-    }
-
-    fn read_from(alloc: Global, reader: &mut Reader<'_>) -> Result<Self, Fault> {
+    fn take(alloc: Global, reader: &mut Reader<'_>) -> Result<NewVersion, Fault> {
         let path = Path::read_from(alloc, reader)?;
         let class = Name::read_from(alloc, reader)?;
-        let size = reader.u32()?;
+        let size: ObjectSize = By::<E>::take(alloc, reader)?;
         let mtime = reader.u64()?;
         let digest = Digest::read_from(alloc, reader)?;
         let object = reader.u64()?;
         let pool = reader.u32()?;
-        let segments = Segments::read_from(alloc, reader)?;
+        let segments: Segments = By::<E>::take(alloc, reader)?;
         Ok(NewVersion {
             path,
             class,
@@ -118,7 +109,30 @@ impl Formed for NewVersion {
         })
     }
 
-    ghost is_form = { new_version_form };
+    ghost is_form = { new_version_form E.edition };
+}
+
+#[tactic(auto, unfolding(crate::specs::ItemForms::new_version))]
+impl Formed for NewVersion {
+    ghost form = { new_version second_form };
+
+    fn write_to(&self, out: &mut Vec<u8>) -> Result<(), Memory> {
+        self.path.write_to(out)?;
+        self.class.write_to(out)?;
+        self.size.write_to(out)?;
+        put_u64(out, self.mtime)?;
+        self.digest.write_to(out)?;
+        put_u64(out, self.object)?;
+        put_u32(out, self.pool)?;
+        self.segments.write_to(out)?;
+        Ok(())
+    }
+
+    fn read_from(alloc: Global, reader: &mut Reader<'_>) -> Result<Self, Fault> {
+        By::<Second>::take(alloc, reader)
+    }
+
+    ghost is_form = { new_version_form second_form };
 }
 
 #[tactic(auto, unfolding(crate::specs::ItemForms::new_version))]
@@ -132,6 +146,88 @@ impl Fitting for NewVersion {
         self.object.fits();
         self.pool.fits();
         self.segments.fits();
+    }
+}
+
+/// An object that a client archived.
+#[derive(Debug, Drop)]
+pub struct NewHeldObject {
+    /// The path of the client file.
+    pub path: Path,
+    /// What the client says of it.
+    pub description: Text,
+    /// How many bytes it has.
+    pub size: ObjectSize,
+    /// When the file was changed last, in seconds.
+    pub mtime: u64,
+    /// The digest of its bytes.
+    pub digest: Digest,
+    /// Its object number.
+    pub object: u64,
+    /// The storage pool that its copy lies in, by its number.
+    pub pool: u32,
+    /// Where the copy lies.
+    pub segments: Segments,
+    /// The day from which on it is no longer kept; none where it is kept without a limit.
+    pub until: Option<u32>,
+}
+
+/// The fields one after the other.
+#[tactic(auto, unfolding(crate::specs::ItemForms::new_held_object))]
+impl Formed for NewHeldObject {
+    ghost form = { new_held_object };
+
+    fn write_to(&self, out: &mut Vec<u8>) -> Result<(), Memory> {
+        self.path.write_to(out)?;
+        self.description.write_to(out)?;
+        self.size.write_to(out)?;
+        put_u64(out, self.mtime)?;
+        self.digest.write_to(out)?;
+        put_u64(out, self.object)?;
+        put_u32(out, self.pool)?;
+        self.segments.write_to(out)?;
+        self.until.write_to(out)?;
+        Ok(())
+    }
+
+    fn read_from(alloc: Global, reader: &mut Reader<'_>) -> Result<Self, Fault> {
+        let path = Path::read_from(alloc, reader)?;
+        let description = Text::read_from(alloc, reader)?;
+        let size = ObjectSize::read_from(alloc, reader)?;
+        let mtime = reader.u64()?;
+        let digest = Digest::read_from(alloc, reader)?;
+        let object = reader.u64()?;
+        let pool = reader.u32()?;
+        let segments = Segments::read_from(alloc, reader)?;
+        let until = <Option<u32>>::read_from(alloc, reader)?;
+        Ok(NewHeldObject {
+            path,
+            description,
+            size,
+            mtime,
+            digest,
+            object,
+            pool,
+            segments,
+            until,
+        })
+    }
+
+    ghost is_form = { new_held_object_form };
+}
+
+#[tactic(auto, unfolding(crate::specs::ItemForms::new_held_object))]
+impl Fitting for NewHeldObject {
+    fn fits(&self) {
+        self.path.fits();
+        self.description.fits();
+        self.size.fits();
+        self.mtime.fits();
+        self.digest.fits();
+        self.object.fits();
+        self.pool.fits();
+        self.segments.fits();
+        self.until.fits();
     }
 }
 
@@ -226,8 +322,30 @@ pub struct MovedCopy {
 
 /// The fields one after the other.
 #[tactic(auto, unfolding(crate::specs::ItemForms::moved_copy))]
+impl<E: InEdition> Decoder<MovedCopy> for By<E> {
+    ghost form = { moved_copy E.edition };
+
+    fn take(alloc: Global, reader: &mut Reader<'_>) -> Result<MovedCopy, Fault> {
+        let object = reader.u64()?;
+        let from = reader.u32()?;
+        let placed = reader.u64()?;
+        let pool = reader.u32()?;
+        let segments: Segments = By::<E>::take(alloc, reader)?;
+        Ok(MovedCopy {
+            object,
+            from,
+            placed,
+            pool,
+            segments,
+        })
+    }
+
+    ghost is_form = { moved_copy_form E.edition };
+}
+
+#[tactic(auto, unfolding(crate::specs::ItemForms::moved_copy))]
 impl Formed for MovedCopy {
-    ghost form = { moved_copy };
+    ghost form = { moved_copy second_form };
 
     fn write_to(&self, out: &mut Vec<u8>) -> Result<(), Memory> {
         put_u64(out, self.object)?;
@@ -238,21 +356,10 @@ impl Formed for MovedCopy {
     }
 
     fn read_from(alloc: Global, reader: &mut Reader<'_>) -> Result<Self, Fault> {
-        let object = reader.u64()?;
-        let from = reader.u32()?;
-        let placed = reader.u64()?;
-        let pool = reader.u32()?;
-        let segments = Segments::read_from(alloc, reader)?;
-        Ok(MovedCopy {
-            object,
-            from,
-            placed,
-            pool,
-            segments,
-        })
+        By::<Second>::take(alloc, reader)
     }
 
-    ghost is_form = { moved_copy_form };
+    ghost is_form = { moved_copy_form second_form };
 }
 
 #[tactic(auto, unfolding(crate::specs::ItemForms::moved_copy))]
@@ -279,8 +386,26 @@ pub struct NewCopy {
 
 /// The fields one after the other.
 #[tactic(auto, unfolding(crate::specs::ItemForms::new_copy))]
+impl<E: InEdition> Decoder<NewCopy> for By<E> {
+    ghost form = { new_copy E.edition };
+
+    fn take(alloc: Global, reader: &mut Reader<'_>) -> Result<NewCopy, Fault> {
+        let object = reader.u64()?;
+        let pool = reader.u32()?;
+        let segments: Segments = By::<E>::take(alloc, reader)?;
+        Ok(NewCopy {
+            object,
+            pool,
+            segments,
+        })
+    }
+
+    ghost is_form = { new_copy_form E.edition };
+}
+
+#[tactic(auto, unfolding(crate::specs::ItemForms::new_copy))]
 impl Formed for NewCopy {
-    ghost form = { new_copy };
+    ghost form = { new_copy second_form };
 
     fn write_to(&self, out: &mut Vec<u8>) -> Result<(), Memory> {
         put_u64(out, self.object)?;
@@ -289,17 +414,10 @@ impl Formed for NewCopy {
     }
 
     fn read_from(alloc: Global, reader: &mut Reader<'_>) -> Result<Self, Fault> {
-        let object = reader.u64()?;
-        let pool = reader.u32()?;
-        let segments = Segments::read_from(alloc, reader)?;
-        Ok(NewCopy {
-            object,
-            pool,
-            segments,
-        })
+        By::<Second>::take(alloc, reader)
     }
 
-    ghost is_form = { new_copy_form };
+    ghost is_form = { new_copy_form second_form };
 }
 
 #[tactic(auto, unfolding(crate::specs::ItemForms::new_copy))]

@@ -12,12 +12,12 @@ mod reasons;
 mod tagged;
 
 pub use items::{
-    Batch, DiscardedVersion, DroppedCopy, MovedCopy, NamedVersion, NewCopy, NewVersion, Rebinding,
-    Scratch, ScratchVolume,
+    Batch, DiscardedVersion, DroppedCopy, MovedCopy, NamedVersion, NewCopy, NewHeldObject,
+    NewVersion, Rebinding, Scratch, ScratchVolume,
 };
 pub use lists::{
-    DiscardedVersions, DroppedCopies, MovedCopies, NamedVersions, NewCopies, NewVersions,
-    Rebindings,
+    DiscardedVersions, DroppedCopies, MovedCopies, NamedVersions, NewCopies, NewHeldObjects,
+    NewVersions, Rebindings,
 };
 pub use reasons::{DiscardReason, DropReason};
 pub use tagged::put_tagged;

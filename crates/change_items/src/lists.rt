@@ -1,12 +1,15 @@
 //! What transactions on stored objects change, by their kinds.
-ghost use Rattle.change_items.specs.BatchForms.{new_versions, new_versions_form, rebindings, rebindings_form, named_versions, named_versions_form, moved_copies, moved_copies_form, new_copies, new_copies_form, dropped_copies, dropped_copies_form, discarded_versions, discarded_versions_form};
+ghost use Rattle.fields.specs.Editions.{second_form};
+ghost use Rattle.change_items.specs.BatchForms.{new_versions, new_versions_form, new_held_objects, new_held_objects_form, rebindings, rebindings_form, named_versions, named_versions_form, moved_copies, moved_copies_form, new_copies, new_copies_form, dropped_copies, dropped_copies_form, discarded_versions, discarded_versions_form};
 
 use crate::items::{
-    Batch, DiscardedVersion, DroppedCopy, MovedCopy, NamedVersion, NewCopy, NewVersion, Rebinding,
-    Scratch,
+    Batch, DiscardedVersion, DroppedCopy, MovedCopy, NamedVersion, NewCopy, NewHeldObject,
+    NewVersion, Rebinding, Scratch,
 };
 use crate::reasons::{DiscardReason, DropReason};
-use fields::{Fault, Formed, Items, Memory, Reader, put_u32};
+use fields::{
+    By, Decoder, Fault, Formed, InEdition, Items, Memory, Reader, Second, put_u32, take_items,
+};
 use kinds::Fitting;
 use std::alloc::Global;
 
@@ -23,8 +26,65 @@ pub struct NewVersions {
 
 /// The fields one after the other.
 #[tactic(auto, unfolding(crate::specs::BatchForms::new_versions))]
+impl<E: InEdition> Decoder<NewVersions> for By<E> {
+    ghost form = { new_versions E.edition };
+
+    fn take(alloc: Global, reader: &mut Reader<'_>) -> Result<NewVersions, Fault> {
+        let filespace = reader.u32()?;
+        let scratch = Items::read_from(alloc, reader)?;
+        let items = take_items::<NewVersion, By<E>, 256>(alloc, reader)?;
+        Ok(NewVersions {
+            filespace,
+            scratch,
+            items,
+        })
+    }
+
+    ghost is_form = { new_versions_form E.edition };
+}
+
+#[tactic(auto, unfolding(crate::specs::BatchForms::new_versions))]
 impl Formed for NewVersions {
-    ghost form = { new_versions };
+    ghost form = { new_versions second_form };
+
+    fn write_to(&self, out: &mut Vec<u8>) -> Result<(), Memory> {
+        put_u32(out, self.filespace)?;
+        self.scratch.write_to(out)?;
+        self.items.write_to(out)?;
+        Ok(())
+    }
+
+    fn read_from(alloc: Global, reader: &mut Reader<'_>) -> Result<Self, Fault> {
+        By::<Second>::take(alloc, reader)
+    }
+
+    ghost is_form = { new_versions_form second_form };
+}
+
+#[tactic(auto, unfolding(crate::specs::BatchForms::new_versions))]
+impl Fitting for NewVersions {
+    fn fits(&self) {
+        self.filespace.fits();
+        self.scratch.fits();
+        self.items.fits();
+    }
+}
+
+/// Objects that a client archived, of one filespace.
+#[derive(Drop)]
+pub struct NewHeldObjects {
+    /// The filespace, by its number.
+    pub filespace: u32,
+    /// The scratch volumes that are made for them.
+    pub scratch: Scratch,
+    /// The objects.
+    pub items: Batch<NewHeldObject>,
+}
+
+/// The fields one after the other.
+#[tactic(auto, unfolding(crate::specs::BatchForms::new_held_objects))]
+impl Formed for NewHeldObjects {
+    ghost form = { new_held_objects };
 
     fn write_to(&self, out: &mut Vec<u8>) -> Result<(), Memory> {
         put_u32(out, self.filespace)?;
@@ -37,18 +97,18 @@ impl Formed for NewVersions {
         let filespace = reader.u32()?;
         let scratch = Items::read_from(alloc, reader)?;
         let items = Items::read_from(alloc, reader)?;
-        Ok(NewVersions {
+        Ok(NewHeldObjects {
             filespace,
             scratch,
             items,
         })
     }
 
-    ghost is_form = { new_versions_form };
+    ghost is_form = { new_held_objects_form };
 }
 
-#[tactic(auto, unfolding(crate::specs::BatchForms::new_versions))]
-impl Fitting for NewVersions {
+#[tactic(auto, unfolding(crate::specs::BatchForms::new_held_objects))]
+impl Fitting for NewHeldObjects {
     fn fits(&self) {
         self.filespace.fits();
         self.scratch.fits();
@@ -141,8 +201,21 @@ pub struct MovedCopies {
 
 /// The fields one after the other.
 #[tactic(auto, unfolding(crate::specs::BatchForms::moved_copies))]
+impl<E: InEdition> Decoder<MovedCopies> for By<E> {
+    ghost form = { moved_copies E.edition };
+
+    fn take(alloc: Global, reader: &mut Reader<'_>) -> Result<MovedCopies, Fault> {
+        let scratch = Items::read_from(alloc, reader)?;
+        let items = take_items::<MovedCopy, By<E>, 256>(alloc, reader)?;
+        Ok(MovedCopies { scratch, items })
+    }
+
+    ghost is_form = { moved_copies_form E.edition };
+}
+
+#[tactic(auto, unfolding(crate::specs::BatchForms::moved_copies))]
 impl Formed for MovedCopies {
-    ghost form = { moved_copies };
+    ghost form = { moved_copies second_form };
 
     fn write_to(&self, out: &mut Vec<u8>) -> Result<(), Memory> {
         self.scratch.write_to(out)?;
@@ -151,12 +224,10 @@ impl Formed for MovedCopies {
     }
 
     fn read_from(alloc: Global, reader: &mut Reader<'_>) -> Result<Self, Fault> {
-        let scratch = Items::read_from(alloc, reader)?;
-        let items = Items::read_from(alloc, reader)?;
-        Ok(MovedCopies { scratch, items })
+        By::<Second>::take(alloc, reader)
     }
 
-    ghost is_form = { moved_copies_form };
+    ghost is_form = { moved_copies_form second_form };
 }
 
 #[tactic(auto, unfolding(crate::specs::BatchForms::moved_copies))]
@@ -178,8 +249,21 @@ pub struct NewCopies {
 
 /// The fields one after the other.
 #[tactic(auto, unfolding(crate::specs::BatchForms::new_copies))]
+impl<E: InEdition> Decoder<NewCopies> for By<E> {
+    ghost form = { new_copies E.edition };
+
+    fn take(alloc: Global, reader: &mut Reader<'_>) -> Result<NewCopies, Fault> {
+        let scratch = Items::read_from(alloc, reader)?;
+        let items = take_items::<NewCopy, By<E>, 256>(alloc, reader)?;
+        Ok(NewCopies { scratch, items })
+    }
+
+    ghost is_form = { new_copies_form E.edition };
+}
+
+#[tactic(auto, unfolding(crate::specs::BatchForms::new_copies))]
 impl Formed for NewCopies {
-    ghost form = { new_copies };
+    ghost form = { new_copies second_form };
 
     fn write_to(&self, out: &mut Vec<u8>) -> Result<(), Memory> {
         self.scratch.write_to(out)?;
@@ -188,12 +272,10 @@ impl Formed for NewCopies {
     }
 
     fn read_from(alloc: Global, reader: &mut Reader<'_>) -> Result<Self, Fault> {
-        let scratch = Items::read_from(alloc, reader)?;
-        let items = Items::read_from(alloc, reader)?;
-        Ok(NewCopies { scratch, items })
+        By::<Second>::take(alloc, reader)
     }
 
-    ghost is_form = { new_copies_form };
+    ghost is_form = { new_copies_form second_form };
 }
 
 #[tactic(auto, unfolding(crate::specs::BatchForms::new_copies))]

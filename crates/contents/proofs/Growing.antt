@@ -1,5 +1,5 @@
 -- The frames of a copy that is written segment by segment.
-use Rattle.std.proofs.Common.{◌≡◌, ℕ, suc, ◌+◌, eqb, Bool, true, false, not, ◌||◌, nat_le, List, [], ◌∷◌, ◌++◌, length, take, drop, refl, sym, subst, ◌∙◌, arith}
+use Rattle.std.proofs.Common.{◌≡◌, inl, ℕ, suc, ◌+◌, eqb, Bool, true, false, not, ◌||◌, nat_le, List, [], ◌∷◌, ◌++◌, length, take, drop, refl, sym, subst, ◌∙◌, arith}
 use Rattle.std.specs.List.{AllByRecursion, list_all}
 use Rattle.std.proofs.lemmas.Bool.{eq-eqb}
 use Rattle.std.proofs.lemmas.List.{drop-append-le, drop_all, length-append, take-append-le, take_all}
@@ -13,7 +13,7 @@ use Rattle.inventory_rows.specs.State.{Inv}
 use Rattle.inventory_rules.specs.Valid.{high_of, low_of}
 use Rattle.inventory_laws.proofs.Facts.{first, rest}
 use Rattle.inventory_rules.specs.Segments.{are_all_clear, are_clear}
-use Rattle.contents.specs.Contents.{frame, FramesHave, InStore}
+use Rattle.contents.specs.Contents.{frame, FramesHave, HasFrame, InStore}
 use Rattle.contents.proofs.Kept.{firm_clear}
 use Rattle.contents.proofs.Segments.{Carries, all_weaker, frames_carried}
 
@@ -24,12 +24,12 @@ frames_more P object number [] s bytes part h long p =
     let whole : take s.len part ≡ part = take_all s.len part (omega (arith, long)) in
     let here : P s.file s.offset (frame object number part) = subst (λ (n : ℕ). P s.file s.offset (frame object n part)) (let e : number + 0 ≡ number = omega arith in e) p in
     subst (λ (l : List ℕ). FramesHave P object number (s ∷ []) (l ++ part)) (sym h)
-    (omega (arith, long), subst (λ (l : List ℕ). P s.file s.offset (frame object number l)) (sym whole) here, drop_all s.len part (omega (arith, long)))
+    (omega (arith, long), inl (subst (λ (l : List ℕ). P s.file s.offset (frame object number l)) (sym whole) here), drop_all s.len part (omega (arith, long)))
 frames_more P object number (t ∷ front) s bytes part h long p =
     let there : P s.file s.offset (frame object (suc number + length front) part) = subst (λ (n : ℕ). P s.file s.offset (frame object n part)) (let e : number + length (t ∷ front) ≡ suc number + length front = omega arith in e) p in
     let more = frames_more P object (suc number) front s (drop t.len bytes) part h.2 long there in (
       omega (arith, h.0, length-append bytes part),
-      subst (λ (l : List ℕ). P t.file t.offset (frame object number l)) (sym (take-append-le t.len bytes part h.0)) h.1,
+      subst (λ (l : List ℕ). HasFrame P t.file t.offset object number l) (sym (take-append-le t.len bytes part h.0)) h.1,
       subst (λ (l : List ℕ). FramesHave P object (suc number) (front ++ s ∷ []) l) (sym (drop-append-le t.len bytes part h.0)) more,
     )
 

@@ -1,20 +1,19 @@
 -- What a store keeps of a database: what stops leave of it, and what runs take away.
-use Rattle.std.proofs.Common.{◌≡◌, inl, inr, ℕ, ◌+◌, ◌<◌, ◌≤◌, Bool, true, List, [], ◌∷◌, sym, subst, arith}
-use Rattle.std.specs.List.{AllByRecursion, list_all}
+use Rattle.std.proofs.Common.{◌≡◌, inl, inr, ℕ, ◌+◌, ◌<◌, ◌≤◌, Bool, true, List, sym, subst, arith}
+use Rattle.std.specs.List.{list_all}
 use Rattle.std.proofs.lemmas.Bool.{cases_eq}
 use Rattle.kinds.specs.declared.segment.Segment.{Segment}
-use Rattle.inventory_rows.specs.version_groups.declared.copies.CopyRow.{CopyRow}
 use Rattle.inventory_rows.specs.version_groups.declared.versions.Version.{Version}
 use Rattle.store_api.specs.Disk.{History, standing, reads, now, ImageAt}
 use Rattle.store_api.specs.Runs.{Firm, Stands, GoesOn, EachImage, WroteWithin}
 use Rattle.store_api.proofs.Standings.{leaves_firm}
 use Rattle.store_api.proofs.Runs.{now_image}
-use Rattle.store_api.proofs.Pieces.{image_reads, firm_beside, firm_since, sound_firm}
+use Rattle.store_api.proofs.Pieces.{image_reads, firm_beside, firm_since}
 use Rattle.inventory_rows.specs.Search.{segments_on, versions}
 use Rattle.inventory_rows.specs.State.{Inv}
 use Rattle.inventory_rules.specs.Valid.{is_valid}
 use Rattle.inventory_rules.specs.Segments.{are_clear}
-use Rattle.contents.specs.Contents.{FramesHave, HaveAll, InImage, InStore, Holds, IsKept}
+use Rattle.contents.specs.Contents.{HaveAll, InImage, InStore, Holds, IsKept}
 use Rattle.contents.proofs.Segments.{EachSegment, Carries, all_carried, each_of, each_weaker, on_volumes, each_on, clear_outside}
 
 -- what is kept, each image of now has
@@ -85,32 +84,3 @@ written_since contents old new v sequential s wrote clear kept moment image from
     all_carried (InStore old) (InImage image) contents (versions v)
     (each_weaker (λ other. other.file ≡ s.file → are_clear sequential s other ≡ true) (Carries (InStore old) (InImage image)) (λ other c. since_clear sequential s other old new moment image wrote c from to here) (versions v)
     (each_on (are_clear sequential s) s.file v clear)) kept
-
--- ---- what each image of now holds is kept
-
-frames_firm : (h : History) (object number : ℕ) (segments : List Segment) (bytes : List ℕ) → ((image : ℕ → List ℕ) → ImageAt h (now h) image → FramesHave (InImage image) object number segments bytes) → FramesHave (InStore h) object number segments bytes
-frames_firm h object number [] bytes each = each (reads h) (image_reads h)
-frames_firm h object number (s ∷ segments) bytes each = (
-  (each (reads h) (image_reads h)).0,
-  sound_firm h s.file s.offset _ (λ image here. (each image here).1),
-  frames_firm h object _ segments _ (λ image here. (each image here).2),
-)
-
-copies_firm : (h : History) (object : ℕ) (cs : List CopyRow) (bytes : List ℕ) → ((image : ℕ → List ℕ) → ImageAt h (now h) image → AllByRecursion (λ (c : CopyRow). FramesHave (InImage image) object 0 c.segments bytes) cs)
-    → AllByRecursion (λ (c : CopyRow). FramesHave (InStore h) object 0 c.segments bytes) cs
-copies_firm h object [] bytes each = tt
-copies_firm h object (c ∷ cs) bytes each = (frames_firm h object 0 c.segments bytes (λ image here. (each image here).0), copies_firm h object cs bytes (λ image here. (each image here).1))
-
-all_firm : (contents : ℕ → List ℕ) (h : History) (list : List Version) → ((image : ℕ → List ℕ) → ImageAt h (now h) image → HaveAll (InImage image) contents list) → HaveAll (InStore h) contents list
-all_firm contents h [] each = tt
-all_firm contents h (w ∷ list) each = (
-  record {
-    size = (each (reads h) (image_reads h)).0.size;
-    digest = (each (reads h) (image_reads h)).0.digest;
-    copies = copies_firm h w.object w.copies (contents w.object) (λ image here. (each image here).0.copies);
-  },
-  all_firm contents h list (λ image here. (each image here).1),
-)
-
-pub left_kept : (contents : ℕ → List ℕ) (h : History) (v : Inv) → ((image : ℕ → List ℕ) → ImageAt h (now h) image → Holds contents image v) → IsKept contents h v
-left_kept contents h v each = all_firm contents h (versions v) each

@@ -1,5 +1,5 @@
 -- How the bytes of a copy come into a buffer, segment by segment.
-use Rattle.std.proofs.Common.{◌≡◌, ℕ, suc, ◌+◌, ◌<◌, ◌≤◌, eqb, true, false, ◌||◌, List, [], ◌∷◌, ◌++◌, length, get_or, take, drop, Option, Result, Ok, Err, refl, sym, ap, subst, ◌∙◌, arith}
+use Rattle.std.proofs.Common.{◌≡◌, inl, inr, ℕ, suc, ◌+◌, ◌<◌, ◌≤◌, eqb, true, false, ◌||◌, List, [], ◌∷◌, ◌++◌, length, get_or, take, drop, Option, Result, Ok, Err, refl, sym, ap, subst, ◌∙◌, arith}
 use Rattle.std.proofs.Math.Seq.{drop-cons, take-add}
 use Rattle.std.proofs.lemmas.List.{append-nil, drop-drop, drop_all, length-take-le, length-drop, take-append-drop, take_all}
 use Rattle.kinds.specs.declared.segment.Segment.{Segment}
@@ -10,9 +10,9 @@ use Rattle.store_api.specs.Runs.{Stands, GoesOn, ReadWithin}
 use Rattle.store_api.proofs.Pieces.{stands_right}
 use Rattle.store_api.proofs.Runs.{goes_none, goes_standing, goes_then, told_map, told_then}
 use Rattle.store_api.specs.Told.{Told}
-use Rattle.volume_frames.proofs.Copies.{length-frame_header}
-use Rattle.volume_frames.specs.Frames.{bytes_len, data_place, frame_header}
-use Rattle.contents.specs.Contents.{frame, FramesHave, InImage}
+use Rattle.volume_frames.proofs.Copies.{length-first_header, length-frame_header}
+use Rattle.volume_frames.specs.Frames.{bytes_len, data_place, first_header, frame_header}
+use Rattle.contents.specs.Contents.{first_frame, frame, FramesHave, HasFrame, InImage}
 use Rattle.contents.specs.Reading.{MayLack, ReadData, ReadCopy, lies_in_file}
 use Rattle.contents.specs.declared.frames.Unread.{Unread}
 use Rattle.contents.specs.declared.frames.Unread.TheVariants.{Fault, RunFull}
@@ -40,6 +40,15 @@ unfolding frame
 data_stands file at object number part some s =
     subst (λ (n : ℕ). Stands file (at + n) part) (length-frame_header object number (length part)) (stands_right file at (frame_header object number (length part)) part some s)
 
+first_data_stands : (file : List ℕ) (at object number : ℕ) (part : List ℕ) → 0 < length part → Stands file at (first_frame object number part) → Stands file (at + 32) part
+unfolding first_frame
+first_data_stands file at object number part some s =
+    subst (λ (n : ℕ). Stands file (at + n) part) (length-first_header object number (length part)) (stands_right file at (first_header object number (length part)) part some s)
+
+data_behind : (image : ℕ → List ℕ) (file at object number : ℕ) (part : List ℕ) → 0 < length part → HasFrame (InImage image) file at object number part → Stands (image file) (at + 32) part
+data_behind image file at object number part some (inl s) = data_stands (image file) at object number part some s
+data_behind image file at object number part some (inr s) = first_data_stands (image file) at object number part some s.1
+
 -- Segments were read into the front of a buffer, and these are left: where all stand in the frames of an object's bytes, the
 -- front has the front of those, and those that are left stand in the frames of the rest.
 pub record Going (all rest : List Segment) (at : ℕ) (buffer : List ℕ) (old new : History) : Type 0 where
@@ -51,11 +60,11 @@ pub going_start : (all : List Segment) (buffer : List ℕ) (h : History) → Goi
 going_start all buffer h = record { goes = goes_none (λ f. ⊥) h; front = λ object number bytes f. (number, f, refl) }
 
 -- a part that was read is the part of the bytes, also where it is empty
-part_read : {T : Type 0} (s : Segment) (object number : ℕ) (part buffer : List ℕ) (done : T) (old new : History) → length buffer ≡ s.len → length part ≡ s.len → Stands (reads old s.file) s.offset (frame object number part)
+part_read : {T : Type 0} (s : Segment) (object number : ℕ) (part buffer : List ℕ) (done : T) (old new : History) → length buffer ≡ s.len → length part ≡ s.len → HasFrame (InImage (reads old)) s.file s.offset object number part
     → (let result : Result T Unread = Ok done in ReadData s buffer result old new) → buffer ≡ part
 part_read s object number [] [] done old new long same stands read = refl
 part_read s object number [] (b ∷ buffer) done old new long same stands read = absurd (omega arith)
-part_read s object number (b ∷ part) buffer done old new long same stands read = read.bytes (b ∷ part) (same ∙ sym long) (data_stands (reads old s.file) s.offset object number (b ∷ part) (omega arith) stands)
+part_read s object number (b ∷ part) buffer done old new long same stands read = read.bytes (b ∷ part) (same ∙ sym long) (data_behind (reads old) s.file s.offset object number (b ∷ part) (omega arith) stands)
 
 pub going_next : {T : Type 0} (all : List Segment) (s : Segment) (rest : List Segment) (at : ℕ) (before after : List ℕ) (done : T) (old mid new : History) → at + s.len ≤ length after → take at after ≡ take at before
     → Going all (s ∷ rest) at before old mid → (let result : Result T Unread = Ok done in ReadData s (take s.len (drop at after)) result mid new) → Going all rest (at + s.len) after old new
@@ -69,7 +78,8 @@ going_next {T} all s rest at before after done old mid new room same g read = re
     next bytes object h =
         let part : List ℕ = take s.len (drop at bytes) in
         let long : length part ≡ s.len = length-take-le s.len (drop at bytes) h.1.0 in
-        let stands : Stands (reads mid s.file) s.offset (frame object h.0 part) = subst (λ (l : List ℕ). Stands l s.offset (frame object h.0 part)) (sym (looked_reads old mid s.file g.goes)) h.1.1 in
+        let stands : HasFrame (InImage (reads mid)) s.file s.offset object h.0 part =
+        subst (λ (l : List ℕ). HasFrame (λ (file : ℕ) (at : ℕ) (piece : List ℕ). Stands l at piece) s.file s.offset object h.0 part) (sym (looked_reads old mid s.file g.goes)) h.1.1 in
         let got : take s.len (drop at after) ≡ part = part_read s object h.0 part (take s.len (drop at after)) done mid new (length-take-le s.len (drop at after) (omega (arith, room, length-drop at after))) long stands read in
         let left : FramesHave (InImage (reads old)) object (suc h.0) rest (drop s.len (drop at bytes)) = h.1.2 in (
           suc h.0,

@@ -14,19 +14,23 @@ use Rattle.inventory_rows.specs.volume_rows.declared.volume.Volume.{Volume}
 use Rattle.inventory_rows.proofs.of_object_rows.Stands.{at-eqb}
 use Rattle.inventory_rows.specs.pool_tables.Rows.{row_at}
 use Rattle.store_api.specs.Runs.{IsOutside}
-use Rattle.volume_frames.proofs.Copies.{length-frame_header}
-use Rattle.volume_frames.specs.Frames.{frame_header}
+use Rattle.volume_frames.proofs.Copies.{length-first_header, length-frame_header}
+use Rattle.volume_frames.specs.Frames.{first_header, frame_header}
 use Rattle.inventory_rows.specs.Search.{pool, segments_on, versions}
 use Rattle.inventory_rows.specs.State.{Inv}
 use Rattle.inventory_rules.specs.Valid.{is_valid, is_of_pool, lie_in, high_of, low_of}
 use Rattle.inventory_laws.proofs.Facts.{facts_of, first, rest}
 use Rattle.inventory_rules.specs.Segments.{are_clear}
-use Rattle.contents.specs.Contents.{frame, FramesHave, HasVersion, HaveAll}
+use Rattle.contents.specs.Contents.{first_frame, frame, FramesHave, HasFrame, HasVersion, HaveAll}
 
 -- a frame is 32 bytes longer than its data
 pub length-frame : (object number : ℕ) (bytes : List ℕ) → length (frame object number bytes) ≡ 32 + length bytes
 unfolding frame
 length-frame object number bytes = omega (arith, length-append (frame_header object number (length bytes)) bytes, length-frame_header object number (length bytes))
+
+pub length-first_frame : (object number : ℕ) (bytes : List ℕ) → length (first_frame object number bytes) ≡ 32 + length bytes
+unfolding first_frame
+length-first_frame object number bytes = omega (arith, length-append (first_header object number (length bytes)) bytes, length-first_header object number (length bytes))
 
 -- R of each segment of each copy of these versions
 abbrev pub EachSegment : (Segment → Type 0) → List Version → Type 0
@@ -54,11 +58,14 @@ each_of P f list =
 abbrev pub Carries : (ℕ → ℕ → List ℕ → Type 0) → (ℕ → ℕ → List ℕ → Type 0) → Segment → Type 0
 Carries P Q s = (piece : List ℕ) → length piece ≡ 32 + s.len → P s.file s.offset piece → Q s.file s.offset piece
 
+frame_carried : (P Q : ℕ → ℕ → List ℕ → Type 0) (s : Segment) (object number : ℕ) (bytes : List ℕ) → Carries P Q s → length bytes ≡ s.len → HasFrame P s.file s.offset object number bytes → HasFrame Q s.file s.offset object number bytes
+frame_carried P Q s object number bytes c long (inl p) = inl (c (frame object number bytes) (length-frame object number bytes ∙ ap (λ (n : ℕ). 32 + n) long) p)
+frame_carried P Q s object number bytes c long (inr p) = inr (p.0, c (first_frame object number bytes) (length-first_frame object number bytes ∙ ap (λ (n : ℕ). 32 + n) long) p.1)
+
 pub frames_carried : (P Q : ℕ → ℕ → List ℕ → Type 0) (object number : ℕ) (segments : List Segment) (bytes : List ℕ) → AllByRecursion (Carries P Q) segments → FramesHave P object number segments bytes → FramesHave Q object number segments bytes
 frames_carried P Q object number [] bytes c h = h
 frames_carried P Q object number (s ∷ segments) bytes c h =
-    let long : length (frame object number (take s.len bytes)) ≡ 32 + s.len = length-frame object number (take s.len bytes) ∙ ap (λ (n : ℕ). 32 + n) (length-take-le s.len bytes h.0) in
-    (h.0, c.0 (frame object number (take s.len bytes)) long h.1, frames_carried P Q object (suc number) segments (drop s.len bytes) c.1 h.2)
+    (h.0, frame_carried P Q s object number (take s.len bytes) c.0 (length-take-le s.len bytes h.0) h.1, frames_carried P Q object (suc number) segments (drop s.len bytes) c.1 h.2)
 
 copies_carried : (P Q : ℕ → ℕ → List ℕ → Type 0) (object : ℕ) (bytes : List ℕ) (cs : List CopyRow) → AllByRecursion (λ (c : CopyRow). AllByRecursion (Carries P Q) c.segments) cs
     → AllByRecursion (λ (c : CopyRow). FramesHave P object 0 c.segments bytes) cs → AllByRecursion (λ (c : CopyRow). FramesHave Q object 0 c.segments bytes) cs

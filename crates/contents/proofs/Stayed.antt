@@ -1,6 +1,6 @@
--- Transactions that leave the versions as they are.
-use Rattle.std.proofs.Common.{◌≡◌, ℕ, ◌+◌, ◌-◌, ◌^◌, ◌<◌, eqb, ltb, leb, Bool, true, false, cond, ◌&&◌, is_some, if◌then◌else◌, List, [], ◌∷◌, ◌++◌, Option, Some, None, Result, Ok, Err, refl, sym, ap, subst, ◌∙◌, arith}
-use Rattle.std.specs.BTreeMap.{is_at, insert_entry}
+-- Transactions that leave what is kept as it is.
+use Rattle.std.proofs.Common.{◌≡◌, ℕ, ◌-◌, ◌^◌, ◌<◌, eqb, ltb, leb, Bool, true, false, cond, ◌&&◌, is_some, if◌then◌else◌, List, [], ◌∷◌, ◌++◌, Option, Some, None, Result, Ok, Err, refl, sym, ap, subst, ◌∙◌, arith}
+use Rattle.std.specs.BTreeMap.{insert_entry}
 use Rattle.std.specs.Map.{keys_of, lookup, remove_entry}
 use Rattle.std.specs.Ordering.{nat_cmp}
 use Rattle.std.proofs.lemmas.Bool.{eqb-true, ltb-true}
@@ -15,12 +15,14 @@ use Rattle.kinds.specs.declared.refusal.Refusal.{Refusal}
 use Rattle.kinds.specs.declared.refusal.Refusal.TheVariants as refusal
 use Rattle.entries.specs.declared.change.Change.TheVariants as change
 use Rattle.inventory_rows.specs.version_groups.declared.groups.Filespace.{Filespace}
+use Rattle.inventory_rows.specs.version_groups.declared.versions.Version.{Version}
 use Rattle.inventory_rows.specs.version_groups.Entries.{if_found}
 use Rattle.inventory_rows.specs.object_rows.declared.place.Node.{Node}
-use Rattle.inventory_rows.specs.object_rows.Changes.{by_object, filespaces_defined, filespaces_without, least_object, nodes_with, nodes_without, rows_changed, unless_used, with_nodes}
+use Rattle.inventory_rows.specs.object_rows.Changes.{by_object, least_in, least_object, nodes_with, nodes_without, rows_changed, unless_used, with_nodes}
 use Rattle.inventory_rows.specs.object_rows.Filespaces.{at_number, filespace_at, versions_in, versions_of}
+use Rattle.inventory_rows.specs.object_rows.HeldRows.{held_versions}
 use Rattle.inventory_rows.specs.object_rows.Names.{filespace_named}
-use Rattle.inventory_rows.specs.object_rows.Rows.{Rows, with_filespaces}
+use Rattle.inventory_rows.specs.object_rows.Rows.{Rows, kept_of, with_filespaces}
 use Rattle.inventory_rows.proofs.of_object_rows.Least.{least_of_none}
 use Rattle.inventory_rows.proofs.of_object_rows.Splices.{Splices, flatten-remove_entry, splice_new, splice_same}
 use Rattle.inventory_rows.proofs.of_object_rows.Stands.{at-eqb}
@@ -29,6 +31,7 @@ use Rattle.inventory_rows.specs.State.{Inv}
 use Rattle.inventory_rules.specs.Common.{or_same, full_at}
 use Rattle.inventory_rules.specs.Transactions.{effect, causes}
 use Rattle.inventory_rules.specs.Journal.{Journal}
+use Rattle.kinds.specs.Least.{lesser}
 use Rattle.kinds.specs.Refusals.{refusal_of, bad_value, unless}
 use Rattle.inventory_rules.specs.Clients.{client_bounds}
 use Rattle.inventory_rules.specs.Valid.{is_valid, lie_in}
@@ -84,12 +87,13 @@ next_free least next rows (Some x) all h = let lt = found_below least next next 
 
 -- ---- nodes and filespaces
 
-abbrev of : Rows → List (ℕ × Filespace)
-of rows = rows.filespaces
-
-nodes_only : (rows : Rows) (said : Result (List (ℕ × Node)) Refusal) → versions_of (of (or_same rows (with_nodes rows said))) ≡ versions_of rows.filespaces
+nodes_only : (rows : Rows) (said : Result (List (ℕ × Node)) Refusal) → kept_of (or_same rows (with_nodes rows said)) ≡ kept_of rows
 nodes_only rows (Ok nodes) = refl
 nodes_only rows (Err e) = refl
+
+-- the same versions, and the held objects
+kept_same : (rows : Rows) (new : List (ℕ × Filespace)) → versions_of new ≡ versions_of rows.filespaces → kept_of (or_same rows (with_filespaces rows (Ok new))) ≡ kept_of rows
+kept_same rows new same = ap (λ (l : List Version). l ++ held_versions rows.held) same
 
 -- a filespace without groups under a number that none has
 one_more : (n : ℕ) (f : Filespace) (fs : List (ℕ × Filespace)) → filespace_at n fs ≡ None → f.groups ≡ [] → versions_of (insert_entry nat_cmp fs n f) ≡ versions_of fs
@@ -97,20 +101,28 @@ one_more n f fs free bare =
     splice_same (subst (λ l. Splices [] (versions_in l) (versions_of fs) (versions_of (insert_entry nat_cmp fs n f))) bare (splice_new (λ (m : ℕ) (x : Filespace). versions_in x.groups) nat_cmp n f fs free))
 
 defined_as : {A : Type 0} (rows : Rows) (o : Option A) (b : Bool) (new : List (ℕ × Filespace)) → versions_of new ≡ versions_of rows.filespaces
-    → versions_of (of (or_same rows (with_filespaces rows (if_found o (λ _. if b then Err refusal.Exists else Ok new))))) ≡ versions_of rows.filespaces
+    → kept_of (or_same rows (with_filespaces rows (if_found o (λ _. if b then Err refusal.Exists else Ok new)))) ≡ kept_of rows
 defined_as rows None b new same = refl
 defined_as rows (Some x) true new same = refl
-defined_as rows (Some x) false new same = same
+defined_as rows (Some x) false new same = kept_same rows new same
 
-unused_as : (rows : Rows) (n : ℕ) (f : Filespace) (o : Option ℕ) → filespace_at n rows.filespaces ≡ Some f → least_object f.groups ≡ o
-    → versions_of (of (or_same rows (with_filespaces rows (unless_used (by_object o) (remove_entry (at_number n) rows.filespaces))))) ≡ versions_of rows.filespaces
-unused_as rows n f None there unused = flatten-remove_entry (λ (m : ℕ) (x : Filespace). versions_in x.groups) (at_number n) rows.filespaces f there (λ _. least_of_none (versions_in f.groups) unused)
+-- of two numbers, of which none is the lesser, the first is missing
+none_first : (a b : Option ℕ) → lesser a b ≡ None → a ≡ None
+none_first None b h = refl
+none_first (Some n) None h = absurd cc
+none_first (Some n) (Some m) h = absurd cc
+
+unused_as : (rows : Rows) (n : ℕ) (f : Filespace) (o : Option ℕ) → filespace_at n rows.filespaces ≡ Some f → lesser (least_object f.groups) (least_in n rows.held) ≡ o
+    → kept_of (or_same rows (with_filespaces rows (unless_used (by_object o) (remove_entry (at_number n) rows.filespaces)))) ≡ kept_of rows
+unused_as rows n f None there unused =
+    kept_same rows (remove_entry (at_number n) rows.filespaces) (flatten-remove_entry (λ (m : ℕ) (x : Filespace). versions_in x.groups) (at_number n) rows.filespaces f there
+    (λ _. least_of_none (versions_in f.groups) (none_first (least_object f.groups) (least_in n rows.held) unused)))
 unused_as rows n f (Some object) there used = refl
 
 gone_as : (rows : Rows) (n : ℕ) (o : Option Filespace) → filespace_at n rows.filespaces ≡ o
-    → versions_of (of (or_same rows (with_filespaces rows (if_found o (λ f. unless_used (by_object (least_object f.groups)) (remove_entry (at_number n) rows.filespaces)))))) ≡ versions_of rows.filespaces
+    → kept_of (or_same rows (with_filespaces rows (if_found o (λ f. unless_used (by_object (lesser (least_object f.groups) (least_in n rows.held))) (remove_entry (at_number n) rows.filespaces))))) ≡ kept_of rows
 gone_as rows n None there = refl
-gone_as rows n (Some f) there = unused_as rows n f (least_object f.groups) there refl
+gone_as rows n (Some f) there = unused_as rows n f (lesser (least_object f.groups) (least_in n rows.held)) there refl
 
 pub clients_same : (c : ObjectChange) (v : Inv) → is_valid v ≡ true → client_bounds c v ≡ [] → versions (effect (change.Object c) v) ≡ versions v
 unfolding effect

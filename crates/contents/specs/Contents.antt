@@ -1,11 +1,11 @@
 -- Which bytes the objects of a database have, and where they stand on the volumes.
-use Rattle.std.specs.Prelude.{◌≡◌, ℕ, ◌≤◌, suc, ◌==◌, if◌then◌else◌, List, [], ◌∷◌, ◌++◌, length, take, drop}
+use Rattle.std.specs.Prelude.{◌≡◌, ◌⊎◌, ℕ, ◌<◌, ◌≤◌, ◌^◌, suc, ◌==◌, if◌then◌else◌, List, [], ◌∷◌, ◌++◌, length, take, drop}
 use Rattle.std.specs.List.{AllByRecursion}
 use Rattle.sha2.specs.Sha256.{sha256}
 use Rattle.kinds.specs.declared.segment.Segment.{Segment}
 use Rattle.store_api.specs.Disk.{History, standing}
 use Rattle.store_api.specs.Runs.{Stands, Firm}
-use Rattle.volume_frames.specs.Frames.{frame_header}
+use Rattle.volume_frames.specs.Frames.{frame_header, first_header}
 use Rattle.inventory_rows.specs.version_groups.declared.versions.Version.{Version}
 use Rattle.inventory_rows.specs.Search.{versions}
 use Rattle.inventory_rows.specs.State.{Inv}
@@ -14,12 +14,20 @@ use Rattle.inventory_rows.specs.State.{Inv}
 unfoldable pub frame : ℕ → ℕ → List ℕ → List ℕ
 frame object number bytes = frame_header object number (length bytes) ++ bytes
 
+-- the frame as it was written before, with a header of the first form
+unfoldable pub first_frame : ℕ → ℕ → List ℕ → List ℕ
+first_frame object number bytes = first_header object number (length bytes) ++ bytes
+
+-- P of a segment's frame, in one of the two forms, at a place of a file; the first has no lengths from 2^32 on
+abbrev pub HasFrame : (ℕ → ℕ → List ℕ → Type 0) → ℕ → ℕ → ℕ → ℕ → List ℕ → Type 0
+HasFrame P file at object number bytes = P file at (frame object number bytes) ⊎ ((length bytes < 2 ^ 32) × P file at (first_frame object number bytes))
+
 -- Of the segments of a copy, numbered from there on, over which these bytes are spread one after the other: P of each
 -- one's file, its place and its frame. P says that a piece stands in a file at a place.
 abbrev pub FramesHave : (ℕ → ℕ → List ℕ → Type 0) → ℕ → ℕ → List Segment → List ℕ → Type 0
 FramesHave P object number [] bytes = bytes ≡ []
 FramesHave P object number (s ∷ segments) bytes =
-    (s.len ≤ length bytes) × P s.file s.offset (frame object number (take s.len bytes)) × FramesHave P object (suc number) segments (drop s.len bytes)
+    (s.len ≤ length bytes) × HasFrame P s.file s.offset object number (take s.len bytes) × FramesHave P object (suc number) segments (drop s.len bytes)
 
 -- a version's object has these bytes: as many as its size says, with its digest, and P of the frames of each of its copies
 pub record HasVersion (P : ℕ → ℕ → List ℕ → Type 0) (bytes : List ℕ) (version : Version) : Type 0 where

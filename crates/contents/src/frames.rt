@@ -26,10 +26,9 @@ pub enum Unread {
 /// The frame of an object's segment: its header of 32 bytes, which names the segment's number within the copy, and the data.
 #[tactic(auto, unfolding(crate::specs::Contents::frame))]
 pub fn framed(alloc: Global, object: u64, number: u32, bytes: &[u8]) -> Result<Vec<u8>, AllocError>
-    requires { length bytes.now < 2 ^ 32 }
     ensures { IfOk result (λ made. made.items ≡ frame object number bytes.now) }
 {
-    let header = frame_header(object, number, bytes.len() as u32);
+    let header = frame_header(object, number, bytes.len() as u64);
     let mut made = Vec::with_capacity(alloc, HEADER_LEN + bytes.len())?;
     made.extend_from_slice(&header)?;
     made.extend_from_slice(bytes)?;

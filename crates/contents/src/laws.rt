@@ -18,11 +18,6 @@ pub fn kept_is_left()
     ensures reads { (contents : ℕ → List ℕ) (h : History) (v : Inv) → IsKept contents h v → Holds contents (reads h) v }
 {}
 
-/// Where each image of now holds a database, the store keeps it.
-pub fn what_is_left_is_kept()
-    ensures { (contents : ℕ → List ℕ) (h : History) (v : Inv) → ((image : ℕ → List ℕ) → ImageAt h (now h) image → Holds contents image v) → IsKept contents h v }
-{}
-
 /// A run that changes only files that aren't volumes takes nothing of a valid database away, and each image of its
 /// moments holds it.
 pub fn other_files()

@@ -5,21 +5,23 @@ ghost use Rattle.kinds.specs.declared.change.ObjectChange.{ObjectChange};
 ghost use Rattle.kinds.specs.declared.change.PolicyChange.{PolicyChange};
 ghost use Rattle.kinds.specs.declared.change.PoolChange.{PoolChange};
 ghost use Rattle.store_api.specs.Disk.{History};
+ghost use Rattle.entries.specs.change_items.declared.items.NewHeldObject.{NewHeldObject};
 ghost use Rattle.entries.specs.change_items.declared.items.NewVersion.{NewVersion};
+ghost use Rattle.entries.specs.change_items.declared.lists.NewHeldObjects.{NewHeldObjects};
 ghost use Rattle.entries.specs.change_items.declared.lists.NewVersions.{NewVersions};
 ghost use Rattle.entries.specs.declared.change.Change.TheVariants as change;
 ghost use Rattle.inventory_rows.specs.pool_rows.PoolRows.{is_sequential};
 ghost use Rattle.inventory_rows.specs.Search.{segments_on, versions};
 ghost use Rattle.inventory_rows.specs.State.{Inv};
 ghost use Rattle.inventory_rules.specs.Transactions.{effect, causes, parts_fit};
-ghost use Rattle.inventory_rules.specs.Versions.{new_version};
+ghost use Rattle.inventory_rules.specs.Versions.{new_held, new_version};
 ghost use Rattle.inventory_rules.specs.Journal.{Journal};
 ghost use Rattle.inventory_rules.specs.Valid.{is_valid};
 ghost use Rattle.inventory_rules.specs.Segments.{are_all_clear, are_clear};
 ghost use Rattle.inventory_rows.specs.Ascending.{AreAscending};
 ghost use Rattle.contents.specs.Contents.{HasVersion, InImage, InStore, Holds, IsKept, with_content};
 
-/// A transaction on days, policy, clients, or device classes, pools and volumes leaves the versions as they are. A filespace
+/// A transaction on days, policy, clients, or device classes, pools and volumes leaves what is kept as it is. A filespace
 /// that is defined has no versions, and takes the place of none that has.
 pub fn versions_stay()
     ensures day { (day : ℕ) (v : Inv) → versions (effect (change.Day day) v) ≡ versions v }
@@ -28,7 +30,7 @@ pub fn versions_stay()
     ensures stores { (c : PoolChange) (v : Inv) → versions (effect (change.Pool c) v) ≡ versions v }
 {}
 
-/// Where the versions are the same, so is what is kept of them.
+/// Where the versions and held objects are the same, so is what is kept of them.
 pub fn same_versions()
     ensures kept { (contents : ℕ → List ℕ) (h : History) (v w : Inv) → versions w ≡ versions v → IsKept contents h v → IsKept contents h w }
     ensures held { (contents image : ℕ → List ℕ) (v w : Inv) → versions w ≡ versions v → Holds contents image v → Holds contents image w }
@@ -45,12 +47,32 @@ pub fn a_version_more()
         Holds contents image v → HasVersion (InImage image) bytes (new_version v item) → Holds (with_content item.object bytes contents) image (effect (change.Backup c) v) }
 {}
 
-/// Of such a transaction the segments lie on volumes, overlap no segment that lies there, and don't overlap one another.
+/// A transaction that brings one archived object, with no scratch volume, and that no cause refuses: the same of it.
+pub fn a_held_object_more()
+    ensures kept { (j : Journal) (contents : ℕ → List ℕ) (bytes : List ℕ) (h : History) (c : NewHeldObjects) (item : NewHeldObject) (v : Inv) →
+        is_valid v ≡ true → causes j (change.Hold c) v ≡ [] → c.scratch ≡ [] → c.items ≡ item ∷ [] →
+        IsKept contents h v → HasVersion (InStore h) bytes (new_held v item).version → IsKept (with_content item.object bytes contents) h (effect (change.Hold c) v) }
+    ensures held { (j : Journal) (contents image : ℕ → List ℕ) (bytes : List ℕ) (c : NewHeldObjects) (item : NewHeldObject) (v : Inv) →
+        is_valid v ≡ true → causes j (change.Hold c) v ≡ [] → c.scratch ≡ [] → c.items ≡ item ∷ [] →
+        Holds contents image v → HasVersion (InImage image) bytes (new_held v item).version → Holds (with_content item.object bytes contents) image (effect (change.Hold c) v) }
+{}
+
+/// Of a transaction that brings one version the segments lie on volumes, overlap no segment that lies there, and don't overlap one another.
 pub fn where_it_comes()
     ensures volumes { (c : NewVersions) (item : NewVersion) (v : Inv) → is_valid v ≡ true → parts_fit (change.Backup c) v ≡ true → c.scratch ≡ [] → c.items ≡ item ∷ [] →
         AllByRecursion (λ s. 4 ≤ s.file) item.segments }
     ensures clear { (c : NewVersions) (item : NewVersion) (v : Inv) → parts_fit (change.Backup c) v ≡ true → c.scratch ≡ [] → c.items ≡ item ∷ [] →
         AllByRecursion (λ s. list_all (λ e. are_clear (is_sequential item.pool v.stores) s e.1) (segments_on s.file v) ≡ true) item.segments }
     ensures apart { (c : NewVersions) (item : NewVersion) (v : Inv) → parts_fit (change.Backup c) v ≡ true → c.scratch ≡ [] → c.items ≡ item ∷ [] →
+        are_all_clear v item.segments ≡ true }
+{}
+
+/// The same of a transaction that brings one archived object.
+pub fn where_it_is_held()
+    ensures volumes { (c : NewHeldObjects) (item : NewHeldObject) (v : Inv) → is_valid v ≡ true → parts_fit (change.Hold c) v ≡ true → c.scratch ≡ [] → c.items ≡ item ∷ [] →
+        AllByRecursion (λ s. 4 ≤ s.file) item.segments }
+    ensures clear { (c : NewHeldObjects) (item : NewHeldObject) (v : Inv) → parts_fit (change.Hold c) v ≡ true → c.scratch ≡ [] → c.items ≡ item ∷ [] →
+        AllByRecursion (λ s. list_all (λ e. are_clear (is_sequential item.pool v.stores) s e.1) (segments_on s.file v) ≡ true) item.segments }
+    ensures apart { (c : NewHeldObjects) (item : NewHeldObject) (v : Inv) → parts_fit (change.Hold c) v ≡ true → c.scratch ≡ [] → c.items ≡ item ∷ [] →
         are_all_clear v item.segments ≡ true }
 {}

@@ -1,4 +1,4 @@
--- Which versions of a file a rule retains. A group's versions stand newest first, at places 0, 1 and so on.
+-- Which versions of a file a rule retains, and until when archived objects are kept. A group's versions stand newest first, at places 0, 1 and so on.
 use Rattle.std.specs.Prelude.{ℕ, ◌-◌, Bool, true, false, not, ◌==◌, ◌&&◌, ◌||◌, nat_lt, if◌then◌else◌, Option, Some, None, List, length, slice_index, drop, filter, reverse}
 use Rattle.std.specs.List.{range_with_len}
 use Rattle.kinds.specs.declared.rule.BackupRule.{BackupRule}
@@ -50,3 +50,8 @@ is_unretained rule active since today place = not (retained rule active (slice_i
 -- the places of a group's versions that aren't retained, in descending order
 abbrev pub unretained : RuleFound → Bool → List ℕ → ℕ → List ℕ
 unretained rule active since today = reverse (filter (is_unretained rule active since today) (range_with_len 0 (length since)))
+
+-- an archived object that is kept until a day, or without a limit, is owed before that day
+abbrev pub is_held_on : ℕ → Option ℕ → Bool
+is_held_on today None = true
+is_held_on today (Some day) = nat_lt today day

@@ -4,7 +4,7 @@
 ghost use Rattle.std.specs.Prelude.{◌≡◌, ◌≤◌, ◌<◌, ◌^◌, ◌-◌, ℕ, IsTrue, All, length};
 ghost use Rattle.kinds.specs.Answers.{AnswersBy};
 ghost use Rattle.kinds.specs.declared.rule.RuleFound.{RuleFound};
-ghost use Rattle.copy_groups.specs.Retention.{is_below, is_kept, is_kept_by, retained, is_owed, inactive, is_unretained, unretained};
+ghost use Rattle.copy_groups.specs.Retention.{is_below, is_kept, is_kept_by, retained, is_owed, is_held_on, inactive, is_unretained, unretained};
 ghost use Rattle.copy_groups.specs.Laws.{IsNotTighterRule, HasNoLimitRule};
 
 use kinds::{BackupRule, Day, Limit, Refusal, RuleFound};
@@ -76,6 +76,16 @@ pub fn retained(rule: &RuleFound, active: bool, since: Day, today: Day, place: u
     ensures unlimited { HasNoLimitRule rule.now → IsTrue result }
 {
     is_retained(rule, active, since, today, place as usize)
+}
+
+/// Whether an archived object that is kept until a day, or without a limit where there is none, is owed today: before that day.
+pub fn is_held_on(today: Day, until: Option<u32>) -> bool
+    ensures { result ≡ is_held_on today until }
+{
+    match until {
+        None => true,
+        Some(day) => today.number() < day,
+    }
 }
 
 /// Whether a version is retained by the rule that was found for it, where there is one: in a group that has an active version or not, inactive since

@@ -1,5 +1,5 @@
 -- Reading an image, from what its steps found.
-use Rattle.std.proofs.Common.{◌≡◌, ℕ, ◌+◌, ◌-◌, ◌≤◌, min, List, ◌∷◌, ◌++◌, length, take, drop, sym, ◌∙◌, ap, append_assoc, length-append, arith}
+use Rattle.std.proofs.Common.{◌≡◌, ℕ, ◌+◌, ◌-◌, ◌≤◌, min, List, ◌∷◌, ◌++◌, length, take, drop, sym, ◌∙◌, ap, subst, append_assoc, length-append, arith}
 use Rattle.std.proofs.Math.Seq.{take-add}
 use Rattle.std.proofs.lemmas.List.{take-append-drop, drop-drop, drop_at, length-take, length-drop}
 use Rattle.kinds.specs.declared.refusal.OpenRefused.{OpenRefused}
@@ -8,7 +8,7 @@ use Rattle.store_api.specs.Cause.{NoneFell}
 use Rattle.log_file.specs.Cursor.{MayRefuse}
 use Rattle.log_file.specs.Windows.{NoDamage}
 use Rattle.db_image.specs.declared.mark.Mark.{Mark}
-use Rattle.db_image.specs.Images.{head_bytes, HasHead, HasImage}
+use Rattle.db_image.specs.Images.{head_bytes, IsSpent, HasHead, HasImage}
 use Rattle.db_image.specs.Reads.{SaysDamage}
 use Rattle.db_image.proofs.Writing.{length-head_bytes}
 
@@ -47,6 +47,7 @@ image_found file number len mark bytes payload has read =
       rest = drop len has.rest;
       whole = has.whole ∙ ap (λ (l : List ℕ). 1 ∷ l) (ap (λ (l : List ℕ). head ++ l) (sym (take-append-drop len has.rest) ∙ ap (λ (l : List ℕ). l ++ drop len has.rest) (sym is)) ∙ sym (append_assoc head payload (drop len has.rest)) ∙ ap (λ n. (head_bytes mark number n ++ payload) ++ drop len has.rest) (sym many));
       allowed = has.allowed;
+      unspent = subst (λ (l : List ℕ). ¬ IsSpent mark number l) (sym (take-append-drop len has.rest) ∙ ap (λ (l : List ℕ). l ++ drop len has.rest) (sym is)) has.unspent;
       small = omega (arith, many, has.small);
     }
 

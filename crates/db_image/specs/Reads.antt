@@ -1,12 +1,12 @@
 -- What reading an image finds.
-use Rattle.std.specs.Prelude.{◌≡◌, ℕ, ◌-◌, List, ◌∷◌, Option, None, Some, Result, Ok, Err, Vec}
+use Rattle.std.specs.Prelude.{◌≡◌, ℕ, ◌-◌, List, ◌∷◌, ◌++◌, Option, None, Some, Result, Ok, Err, Vec}
 use Rattle.std.specs.declared.alloc.Global.{Global}
 use Rattle.kinds.specs.declared.refusal.OpenRefused.{OpenRefused}
 use Rattle.kinds.specs.declared.refusal.OpenRefused.TheVariants.{ReadFault, NotFormatted, Damaged, RunFull, Memory}
 use Rattle.log_file.specs.Blocks.{IsClosed}
 use Rattle.db_image.specs.declared.mark.Mark.{Mark}
 use Rattle.db_image.specs.declared.head.Head.{Head}
-use Rattle.db_image.specs.Images.{head_bytes, IsNumber, IsWrong, HasHead, HasImage, DamagedAt}
+use Rattle.db_image.specs.Images.{head_bytes, IsNumber, IsSpent, IsWrong, HasHead, HasImage, DamagedAt}
 
 -- Where a refusal says that what stands behind an open gate is damaged, this is the first of it that is wrong, so many bytes being left there.
 abbrev pub WrongIn : ℕ → Mark → ℕ → List ℕ → OpenRefused → Type 0
@@ -16,15 +16,15 @@ WrongIn file mark left rest NotFormatted = ⊥
 WrongIn file mark left rest RunFull = ⊥
 WrongIn file mark left rest Memory = ⊥
 
--- what stands behind an open gate, so many bytes being left there: a head whose payload lies within the file, or what is wrong
+-- what stands first behind an open gate, so many bytes being left there: a head that isn't spent, whose payload lies within the file, or what is wrong
 abbrev pub RestGives : ℕ → Mark → List ℕ → ℕ → Result Head OpenRefused → Type 0
-RestGives file mark rest left (Ok found) = (rest ≡ head_bytes mark found.number found.len) × IsNumber mark file found.number
+RestGives file mark rest left (Ok found) = (behind : List ℕ) × (rest ≡ head_bytes mark found.number found.len ++ behind) × IsNumber mark file found.number × ¬ IsSpent mark found.number behind
 RestGives file mark rest left (Err refusal) = WrongIn file mark left rest refusal
 
 -- what the first bytes of a file of this length say: no open gate, or a head, or what is wrong behind an open gate
 abbrev pub HeadGives : ℕ → Mark → List ℕ → ℕ → Result (Option Head) OpenRefused → Type 0
 HeadGives file mark bytes len (Ok None) = IsClosed bytes
-HeadGives file mark bytes len (Ok (Some found)) = (bytes ≡ 1 ∷ head_bytes mark found.number found.len) × IsNumber mark file found.number
+HeadGives file mark bytes len (Ok (Some found)) = (behind : List ℕ) × (bytes ≡ 1 ∷ (head_bytes mark found.number found.len ++ behind)) × IsNumber mark file found.number × ¬ IsSpent mark found.number behind
 HeadGives file mark bytes len (Err refusal) = (rest : List ℕ) × (bytes ≡ 1 ∷ rest) × WrongIn file mark (len - 1) rest refusal
 
 -- a refusal that says that the file is damaged says where

@@ -3,7 +3,7 @@ ghost use Rattle.std.specs.Prelude.{ℕ, ◌≡◌, ◌≤◌, ◌+◌, min, len
 ghost use Rattle.std.specs.Int.{w64, from_be_bytes, to_be_bytes};
 ghost use Rattle.fields.specs.Forms.{IsBytes};
 ghost use Rattle.kinds.specs.declared.refusal.OpenRefused.TheVariants.{Damaged};
-ghost use Rattle.db_image.specs.Images.{head_bytes, IsNumber};
+ghost use Rattle.db_image.specs.Images.{head_bytes, IsNumber, IsSpent};
 ghost use Rattle.db_image.specs.Reads.{RestGives, HeadGives};
 
 use crate::mark::Mark;
@@ -48,6 +48,17 @@ fn is_number(mark: Mark, file: u32, number: u64) -> bool
     }
 }
 
+/// Whether what stands behind the gate is a server's image of the last generation in the first form, given its number. No image
+/// can have the next one.
+fn is_spent(mark: Mark, number: u64, rest: &[u8]) -> bool
+    ensures { IsTrue result ↔ IsSpent mark number (drop 23 rest.now) }
+{
+    match mark {
+        Mark::Server => number == NUMBERS - 1 && rest.len() > 23 && rest[23] == 1,
+        Mark::Backup => false,
+    }
+}
+
 /// The number that eight bytes spell.
 fn word(bytes: &[u8]) -> u64
     requires { length bytes.now ≡ 8 }
@@ -66,9 +77,9 @@ fn number_at(bytes: &[u8], at: usize) -> u64
     word(&bytes[at..at + 8])
 }
 
-/// What stands behind an open gate: of the bytes there, of which `left` are in the file, all are given or 23.
+/// What stands first behind an open gate: of the bytes there, of which `left` are in the file, all are given or 24.
 fn parse_rest(rest: &[u8], mark: Mark, file: u32, left: u64) -> Result<Head, OpenRefused>
-    ensures gives { length rest.now ≡ min 23 left → RestGives file mark rest.now left result }
+    ensures gives { length rest.now ≡ min 24 left → RestGives file mark rest.now left result }
     ensures within { IfOk result (λ head. 23 + head.len ≤ left) }
     ensures file { IfErr result (λ refusal. (at : ℕ) × (refusal ≡ Damaged file at)) }
 {
@@ -82,6 +93,9 @@ fn parse_rest(rest: &[u8], mark: Mark, file: u32, left: u64) -> Result<Head, Ope
     if !is_number(mark, file, number) {
         return Err(OpenRefused::Damaged(file, 8));
     }
+    if is_spent(mark, number, rest) {
+        return Err(OpenRefused::Damaged(file, 8));
+    }
     if rest.len() < 23 || left < 23 {
         return Err(OpenRefused::Damaged(file, 16));
     }
@@ -92,14 +106,14 @@ fn parse_rest(rest: &[u8], mark: Mark, file: u32, left: u64) -> Result<Head, Ope
     Ok(Head { number, len })
 }
 
-/// What the first bytes of a file say, of which all are there or 24, of a file of `len` bytes.
+/// What the first bytes of a file say, of which all are there or 25, of a file of `len` bytes.
 pub(crate) fn parse_head(
     bytes: &[u8],
     mark: Mark,
     file: u32,
     len: u64,
 ) -> Result<Option<Head>, OpenRefused>
-    ensures gives { length bytes.now ≡ min 24 len → HeadGives file mark bytes.now len result }
+    ensures gives { length bytes.now ≡ min 25 len → HeadGives file mark bytes.now len result }
     ensures within { IfOk result (λ found. IfSome found (λ head. 24 + head.len ≤ len)) }
     ensures file { IfErr result (λ refusal. (at : ℕ) × (refusal ≡ Damaged file at)) }
 {

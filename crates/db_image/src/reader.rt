@@ -104,6 +104,10 @@ impl Image {
     /// is another, at 8 where the number is none that an image in this file may have, and at 16 where the payload leads
     /// past the file's end; with `ReadFault` only where a call on the file failed; and with `RunFull` only where the
     /// moment is, or came to, 2^62 - 2^24.
+    ///
+    /// A server's image of generation 2^62 - 1 in the first form (its payload begins with the byte 1) is `Damaged` at 8 too: to open
+    /// such a store the next generation has to be written, and there is none. Where the file ends before that byte, this is
+    /// not found.
     pub fn head<S: Store>(store: &mut S, file: u32, mark: Mark) -> Result<Option<Head>, OpenRefused>
         ensures looked { Told (S.told store.old) (S.told store.new) Looked }
         ensures finds { IfReads (S.told store.old) file (λ bytes. FindsHead file mark bytes result) }
@@ -115,14 +119,15 @@ impl Image {
             Ok(len) => len,
             Err(refused) => return Err(refused),
         };
-        let mut bytes = [0u8; 24];
+        let mut bytes = [0u8; 25];
         match read_piece(store, file, 0, &mut bytes) {
             Ok(count) => parse_head(&bytes[..count], mark, file, len),
             Err(refused) => Err(refused),
         }
     }
 
-    /// The number and the payload of an image, none where the gate isn't open. Refused as `head` is, and for want of memory.
+    /// The number and the payload of an image, none where the gate isn't open. Refused as `head` is, also a
+    /// server's image of generation 2^62 - 1 in the first form, which has no next one; and for want of memory.
     pub fn read<S: Store>(
         alloc: Global,
         store: &mut S,

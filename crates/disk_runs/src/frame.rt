@@ -13,12 +13,12 @@ fn segment(offset: &str, len: &str) -> Result<Segment, Fault> {
     Ok(Segment {
         file: 4,
         offset: large(offset)?,
-        len: number(len)?,
+        len: large(len)?,
     })
 }
 
 fn header(alloc: Global, object: &str, place: &str, len: &str) -> Result<String, Fault> {
-    let header = frame_header(large(object)?, number(place)?, number(len)?);
+    let header = frame_header(large(object)?, number(place)?, large(len)?);
     bytes_text(alloc, header.as_slice())
 }
 

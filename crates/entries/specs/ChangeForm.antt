@@ -3,21 +3,23 @@ use Rattle.std.specs.Prelude.{◌≡◌, ℕ, Bool, ◌==◌, ◌&&◌, ◌||◌
 use Rattle.std.specs.Int.{w32}
 use Rattle.std.proofs.Common.{sym, ap}
 use Rattle.std.proofs.lemmas.Option.{same_Some}
-use Rattle.fields.specs.Forms.{Form, IsForm, number, variant, row, no_more, tagged}
+use Rattle.fields.specs.Editions.{Edition, added, added_form, added_rows, added_rows_table}
+use Rattle.fields.specs.Forms.{Form, IsForm, number, pair, option, variant, row, no_more, tagged}
 use Rattle.fields.specs.FieldLaws.{number_form, wide32}
-use Rattle.fields.specs.FormLaws.{IsTable, row_table, no_more_table, variant_row, tagged_form}
+use Rattle.fields.specs.FormLaws.{IsTable, pair_form, option_form, row_table, no_more_table, variant_row, tagged_form}
 use Rattle.kinds.specs.declared.change.ObjectChange.{ObjectChange}
 use Rattle.kinds.specs.declared.change.PolicyChange.{PolicyChange}
 use Rattle.kinds.specs.declared.change.PoolChange.{PoolChange}
 use Rattle.kinds.specs.ValueForms.{day, day_form}
-use Rattle.change_items.specs.BatchForms.{new_versions, new_versions_form, rebindings, rebindings_form, named_versions, named_versions_form, moved_copies, moved_copies_form, new_copies, new_copies_form, dropped_copies, dropped_copies_form, discarded_versions, discarded_versions_form}
+use Rattle.change_items.specs.BatchForms.{new_versions, new_versions_form, new_held_objects, new_held_objects_form, rebindings, rebindings_form, named_versions, named_versions_form, moved_copies, moved_copies_form, new_copies, new_copies_form, dropped_copies, dropped_copies_form, discarded_versions, discarded_versions_form}
 use Rattle.entries.specs.NodeTags.{object_tag, object_body, object_table}
 use Rattle.entries.specs.PolicyTags.{policy_tag, policy_body, policy_table}
 use Rattle.entries.specs.PoolTags.{pool_tag, pool_body, pool_table}
 use Rattle.entries.specs.Tables.{rows, held, rows_table, held_table}
 use Rattle.entries.specs.declared.change.Change.{Change}
-use Rattle.entries.specs.declared.change.Change.TheVariants.{Day, Policy, Object, Pool, Backup, Rebind, Gone, Move, Copy, DropCopies, Expire, Discard, Reuse, DbBegin, DbEnd, DbDelete}
+use Rattle.entries.specs.declared.change.Change.TheVariants.{Day, Policy, Object, Pool, Backup, Rebind, Gone, Move, Copy, DropCopies, Expire, Discard, Reuse, DbBegin, DbEnd, DbDelete, Hold}
 use Rattle.change_items.specs.declared.lists.NewVersions.{NewVersions}
+use Rattle.change_items.specs.declared.lists.NewHeldObjects.{NewHeldObjects}
 use Rattle.change_items.specs.declared.lists.Rebindings.{Rebindings}
 use Rattle.change_items.specs.declared.lists.NamedVersions.{NamedVersions}
 use Rattle.change_items.specs.declared.lists.MovedCopies.{MovedCopies}
@@ -40,9 +42,10 @@ change_tag (DropCopies x) = 17
 change_tag (Expire x) = 18
 change_tag (Discard x) = 19
 change_tag (Reuse f) = 20
-change_tag (DbBegin f) = 21
+change_tag (DbBegin f a) = 21
 change_tag (DbEnd f) = 22
 change_tag (DbDelete f) = 23
+change_tag (Hold x) = 25
 
 -- ---- each variant, and what it holds
 
@@ -137,11 +140,18 @@ abbrev pub reuse_of : Change → Option ℕ
 reuse_of (Reuse x) = Some x
 reuse_of _ = None
 
-abbrev pub db_begin_with : ℕ → Change
-db_begin_with x = DbBegin x
+-- the file, and the backup that this one follows
+abbrev pub BeginFields : Type 0
+BeginFields = ℕ × Option ℕ
 
-abbrev pub db_begin_of : Change → Option ℕ
-db_begin_of (DbBegin x) = Some x
+abbrev pub begin_fields : Edition → Form BeginFields
+begin_fields e = pair (number w32) (added e None (option (number w32)))
+
+abbrev pub db_begin_with : BeginFields → Change
+db_begin_with x = DbBegin x.0 x.1
+
+abbrev pub db_begin_of : Change → Option BeginFields
+db_begin_of (DbBegin f a) = Some (f, a)
 db_begin_of _ = None
 
 abbrev pub db_end_with : ℕ → Change
@@ -158,20 +168,28 @@ abbrev pub db_delete_of : Change → Option ℕ
 db_delete_of (DbDelete x) = Some x
 db_delete_of _ = None
 
+abbrev pub hold_with : NewHeldObjects → Change
+hold_with x = Hold x
+
+abbrev pub hold_of : Change → Option NewHeldObjects
+hold_of (Hold x) = Some x
+hold_of _ = None
+
 -- ---- what follows each tag
 
--- the tags of the changes of stored objects: 12 to 20
-unfoldable pub data_body : ℕ → Form Change
-data_body = row 12 (variant backup_with backup_of new_versions) (row 13 (variant rebind_with rebind_of rebindings) (row 14 (variant gone_with gone_of named_versions)
-    (row 15 (variant move_with move_of moved_copies) (row 16 (variant copy_with copy_of new_copies) (row 17 (variant drop_copies_with drop_copies_of dropped_copies)
-    (row 18 (variant expire_with expire_of named_versions) (row 19 (variant discard_with discard_of discarded_versions) (row 20 (variant reuse_with reuse_of (number w32)) no_more))))))))
+-- the tags of the changes of stored objects: 12 to 20, and in the second form 25
+unfoldable pub data_body : Edition → ℕ → Form Change
+data_body e = row 12 (variant backup_with backup_of (new_versions e)) (row 13 (variant rebind_with rebind_of rebindings) (row 14 (variant gone_with gone_of named_versions)
+    (row 15 (variant move_with move_of (moved_copies e)) (row 16 (variant copy_with copy_of (new_copies e)) (row 17 (variant drop_copies_with drop_copies_of dropped_copies)
+    (row 18 (variant expire_with expire_of named_versions) (row 19 (variant discard_with discard_of discarded_versions) (row 20 (variant reuse_with reuse_of (number w32))
+    (added_rows e (row 25 (variant hold_with hold_of new_held_objects) no_more))))))))))
 
 -- the tags of the changes of database backups: 21 to 23
-unfoldable pub database_body : ℕ → Form Change
-database_body = row 21 (variant db_begin_with db_begin_of (number w32)) (row 22 (variant db_end_with db_end_of (number w32)) (row 23 (variant db_delete_with db_delete_of (number w32)) no_more))
+unfoldable pub database_body : Edition → ℕ → Form Change
+database_body e = row 21 (variant db_begin_with db_begin_of (begin_fields e)) (row 22 (variant db_end_with db_end_of (number w32)) (row 23 (variant db_delete_with db_delete_of (number w32)) no_more))
 
 abbrev pub is_policy : ℕ → Bool
-is_policy tag = nat_le 2 tag && nat_le tag 7
+is_policy tag = (nat_le 2 tag && nat_le tag 7) || tag == 26
 
 abbrev pub is_object : ℕ → Bool
 is_object tag = tag == 8 || tag == 24
@@ -180,17 +198,17 @@ abbrev pub is_pool : ℕ → Bool
 is_pool tag = nat_le 9 tag && nat_le tag 11
 
 abbrev pub is_data : ℕ → Bool
-is_data tag = nat_le 12 tag && nat_le tag 20
+is_data tag = (nat_le 12 tag && nat_le tag 20) || tag == 25
 
--- 1 is a new day, 2 to 7 change policy domains, 8 and 24 client nodes and filespaces, 9 to 11 device classes, storage pools
--- and volumes, 12 to 20 stored objects, 21 to 23 database backups
-unfoldable pub change_body : ℕ → Form Change
-change_body = row 1 (variant day_with day_of day) (rows is_policy (held policy_with policy_of policy_body) (rows is_object (held object_with object_of object_body)
-    (rows is_pool (held pool_with pool_of pool_body) (rows is_data data_body database_body))))
+-- 1 is a new day, 2 to 7 and 26 change policy domains, 8 and 24 client nodes and filespaces, 9 to 11 device classes, storage pools
+-- and volumes, 12 to 20 and 25 stored objects, 21 to 23 database backups
+unfoldable pub change_body : Edition → ℕ → Form Change
+change_body e = row 1 (variant day_with day_of day) (rows is_policy (held policy_with policy_of (policy_body e)) (rows is_object (held object_with object_of object_body)
+    (rows is_pool (held pool_with pool_of (pool_body e)) (rows is_data (data_body e) (database_body e)))))
 
 -- a change: its tag, and what follows it
-unfoldable pub change : Form Change
-change = tagged change_tag change_body
+unfoldable pub change : Edition → Form Change
+change e = tagged change_tag (change_body e)
 
 -- ---- laws
 
@@ -246,8 +264,8 @@ reuse_back : (c : Change) (x : ℕ) → reuse_of c ≡ Some x → reuse_with x �
 reuse_back (Reuse k) x e = ap reuse_with (sym (same_Some k x e))
 reuse_back _ x e = absurd cc
 
-db_begin_back : (c : Change) (x : ℕ) → db_begin_of c ≡ Some x → db_begin_with x ≡ c
-db_begin_back (DbBegin k) x e = ap db_begin_with (sym (same_Some k x e))
+db_begin_back : (c : Change) (x : BeginFields) → db_begin_of c ≡ Some x → db_begin_with x ≡ c
+db_begin_back (DbBegin k a) x e = ap db_begin_with (sym (same_Some (k, a) x e))
 db_begin_back _ x e = absurd cc
 
 db_end_back : (c : Change) (x : ℕ) → db_end_of c ≡ Some x → db_end_with x ≡ c
@@ -258,34 +276,39 @@ db_delete_back : (c : Change) (x : ℕ) → db_delete_of c ≡ Some x → db_del
 db_delete_back (DbDelete k) x e = ap db_delete_with (sym (same_Some k x e))
 db_delete_back _ x e = absurd cc
 
-pub data_table : IsTable change_tag data_body
+hold_back : (c : Change) (x : NewHeldObjects) → hold_of c ≡ Some x → hold_with x ≡ c
+hold_back (Hold k) x e = ap hold_with (sym (same_Some k x e))
+hold_back _ x e = absurd cc
+
+pub data_table : (e : Edition) → IsTable change_tag (data_body e)
 unfolding data_body
-data_table = (row_table (variant_row change_tag 12 backup_with backup_of (λ _. refl) (λ _. refl) backup_back new_versions_form)
+data_table e = (row_table (variant_row change_tag 12 backup_with backup_of (λ _. refl) (λ _. refl) backup_back (new_versions_form e))
     (row_table (variant_row change_tag 13 rebind_with rebind_of (λ _. refl) (λ _. refl) rebind_back rebindings_form)
     (row_table (variant_row change_tag 14 gone_with gone_of (λ _. refl) (λ _. refl) gone_back named_versions_form)
-    (row_table (variant_row change_tag 15 move_with move_of (λ _. refl) (λ _. refl) move_back moved_copies_form)
-    (row_table (variant_row change_tag 16 copy_with copy_of (λ _. refl) (λ _. refl) copy_back new_copies_form)
+    (row_table (variant_row change_tag 15 move_with move_of (λ _. refl) (λ _. refl) move_back (moved_copies_form e))
+    (row_table (variant_row change_tag 16 copy_with copy_of (λ _. refl) (λ _. refl) copy_back (new_copies_form e))
     (row_table (variant_row change_tag 17 drop_copies_with drop_copies_of (λ _. refl) (λ _. refl) drop_copies_back dropped_copies_form)
     (row_table (variant_row change_tag 18 expire_with expire_of (λ _. refl) (λ _. refl) expire_back named_versions_form)
     (row_table (variant_row change_tag 19 discard_with discard_of (λ _. refl) (λ _. refl) discard_back discarded_versions_form)
     (row_table (variant_row change_tag 20 reuse_with reuse_of (λ _. refl) (λ _. refl) reuse_back (number_form w32 wide32))
-    (no_more_table change_tag))))))))))
+    (added_rows_table e (row_table (variant_row change_tag 25 hold_with hold_of (λ _. refl) (λ _. refl) hold_back new_held_objects_form)
+    (no_more_table change_tag))))))))))))
 
-pub database_table : IsTable change_tag database_body
+pub database_table : (e : Edition) → IsTable change_tag (database_body e)
 unfolding database_body
-database_table = (row_table (variant_row change_tag 21 db_begin_with db_begin_of (λ _. refl) (λ _. refl) db_begin_back (number_form w32 wide32))
+database_table e = (row_table (variant_row change_tag 21 db_begin_with db_begin_of (λ _. refl) (λ _. refl) db_begin_back (pair_form (number_form w32 wide32) (added_form e None (option_form (number_form w32 wide32)))))
     (row_table (variant_row change_tag 22 db_end_with db_end_of (λ _. refl) (λ _. refl) db_end_back (number_form w32 wide32))
     (row_table (variant_row change_tag 23 db_delete_with db_delete_of (λ _. refl) (λ _. refl) db_delete_back (number_form w32 wide32))
     (no_more_table change_tag))))
 
-pub change_table : IsTable change_tag change_body
+pub change_table : (e : Edition) → IsTable change_tag (change_body e)
 unfolding change_body
-change_table = row_table (variant_row change_tag 1 day_with day_of (λ _. refl) (λ _. refl) day_back day_form)
-    (rows_table is_policy (held_table change_tag policy_with policy_of (λ _. refl) (λ _. refl) policy_back policy_table)
+change_table e = row_table (variant_row change_tag 1 day_with day_of (λ _. refl) (λ _. refl) day_back day_form)
+    (rows_table is_policy (held_table change_tag policy_with policy_of (λ _. refl) (λ _. refl) policy_back (policy_table e))
     (rows_table is_object (held_table change_tag object_with object_of (λ _. refl) (λ _. refl) object_back object_table)
-    (rows_table is_pool (held_table change_tag pool_with pool_of (λ _. refl) (λ _. refl) pool_back pool_table)
-    (rows_table is_data data_table database_table))))
+    (rows_table is_pool (held_table change_tag pool_with pool_of (λ _. refl) (λ _. refl) pool_back (pool_table e))
+    (rows_table is_data (data_table e) (database_table e)))))
 
-pub change_form : IsForm change
+pub change_form : (e : Edition) → IsForm (change e)
 unfolding change
-change_form = tagged_form change_table
+change_form e = tagged_form (change_table e)

@@ -1,16 +1,18 @@
--- The bytes of the changes of policy domains, by their tags: 2 a domain, 3 a policy set, 4 a management class, 5 a copy group,
--- 6 a set's default class, 7 an active set.
+-- The bytes of the changes of policy domains, by their tags: 2 a domain, 3 a policy set, 4 a management class, 5 a backup copy group,
+-- 6 a set's default class, 7 an active set, and in the second form 26 an archive copy group.
 use Rattle.std.specs.Prelude.{◌≡◌, ℕ, List, Option, Some, None, refl}
 use Rattle.std.proofs.Common.{sym, ap}
 use Rattle.std.proofs.lemmas.Option.{same_Some}
 use Rattle.fields.specs.Forms.{Form, IsForm, pair, variant, row, no_more}
+use Rattle.fields.specs.Editions.{Edition, added_rows, added_rows_table}
 use Rattle.fields.specs.FormLaws.{IsTable, pair_form, row_table, no_more_table, variant_row}
 use Rattle.kinds.specs.declared.change.DefineOrDelete.{DefineOrDelete}
 use Rattle.kinds.specs.declared.change.PolicyChange.{PolicyChange}
-use Rattle.kinds.specs.declared.change.PolicyChange.TheVariants.{Domain, Set, Class, Group, Assign, Activate}
+use Rattle.kinds.specs.declared.change.PolicyChange.TheVariants.{Domain, Set, Class, Group, ArchiveGroup, Assign, Activate}
 use Rattle.kinds.specs.declared.change.Verb.{Verb}
+use Rattle.kinds.specs.declared.rule.ArchiveRule.{ArchiveRule}
 use Rattle.kinds.specs.declared.rule.BackupRule.{BackupRule}
-use Rattle.kinds.specs.RuleForms.{group, group_form}
+use Rattle.kinds.specs.RuleForms.{group, group_form, archive_group, archive_group_form}
 use Rattle.kinds.specs.ValueForms.{name, name_form, days, days_form}
 use Rattle.kinds.specs.VerbForms.{verb, verb_form, define_or_delete, define_or_delete_form}
 
@@ -19,6 +21,7 @@ policy_tag (Domain v d b) = 2
 policy_tag (Set v d s) = 3
 policy_tag (Class v d s c) = 4
 policy_tag (Group v d s c r) = 5
+policy_tag (ArchiveGroup v d s c r) = 26
 policy_tag (Assign d s c) = 6
 policy_tag (Activate d s) = 7
 
@@ -95,6 +98,20 @@ abbrev pub group_of : PolicyChange → Option GroupFields
 group_of (Group v d s c r) = Some (v, ((d, (s, c)), r))
 group_of _ = None
 
+-- the verb, the class, and the rule of its archive copy group
+abbrev pub ArchiveFields : Type 0
+ArchiveFields = Verb × (ClassPath × ArchiveRule)
+
+abbrev pub archive_fields : Form ArchiveFields
+archive_fields = pair verb (pair class_path archive_group)
+
+abbrev pub archive_with : ArchiveFields → PolicyChange
+archive_with f = ArchiveGroup f.0 f.1.0.0 f.1.0.1.0 f.1.0.1.1 f.1.1
+
+abbrev pub archive_of : PolicyChange → Option ArchiveFields
+archive_of (ArchiveGroup v d s c r) = Some (v, ((d, (s, c)), r))
+archive_of _ = None
+
 -- the class that becomes the default
 abbrev pub assign_with : ClassPath → PolicyChange
 assign_with f = Assign f.0 f.1.0 f.1.1
@@ -112,9 +129,10 @@ activate_of (Activate d s) = Some (d, s)
 activate_of _ = None
 
 -- what follows each tag
-unfoldable pub policy_body : ℕ → Form PolicyChange
-policy_body = row 2 (variant domain_with domain_of domain_fields) (row 3 (variant set_with set_of set_fields) (row 4 (variant class_with class_of class_fields)
-    (row 5 (variant group_with group_of group_fields) (row 6 (variant assign_with assign_of class_path) (row 7 (variant activate_with activate_of set_path) no_more)))))
+unfoldable pub policy_body : Edition → ℕ → Form PolicyChange
+policy_body e = row 2 (variant domain_with domain_of domain_fields) (row 3 (variant set_with set_of set_fields) (row 4 (variant class_with class_of class_fields)
+    (row 5 (variant group_with group_of group_fields) (row 6 (variant assign_with assign_of class_path) (row 7 (variant activate_with activate_of set_path)
+    (added_rows e (row 26 (variant archive_with archive_of archive_fields) no_more)))))))
 
 -- ---- laws
 
@@ -134,6 +152,10 @@ group_back : (c : PolicyChange) (f : GroupFields) → group_of c ≡ Some f → 
 group_back (Group v d s k r) f e = ap group_with (sym (same_Some (v, ((d, (s, k)), r)) f e))
 group_back _ f e = absurd cc
 
+archive_back : (c : PolicyChange) (f : ArchiveFields) → archive_of c ≡ Some f → archive_with f ≡ c
+archive_back (ArchiveGroup v d s k r) f e = ap archive_with (sym (same_Some (v, ((d, (s, k)), r)) f e))
+archive_back _ f e = absurd cc
+
 assign_back : (c : PolicyChange) (f : ClassPath) → assign_of c ≡ Some f → assign_with f ≡ c
 assign_back (Assign d s k) f e = ap assign_with (sym (same_Some (d, (s, k)) f e))
 assign_back _ f e = absurd cc
@@ -148,12 +170,13 @@ set_path_form = pair_form (name_form 30) (name_form 30)
 pub class_path_form : IsForm class_path
 class_path_form = pair_form (name_form 30) (pair_form (name_form 30) (name_form 30))
 
-pub policy_table : IsTable policy_tag policy_body
+pub policy_table : (e : Edition) → IsTable policy_tag (policy_body e)
 unfolding policy_body
-policy_table = row_table (variant_row policy_tag 2 domain_with domain_of (λ _. refl) (λ _. refl) domain_back (pair_form verb_form (pair_form (name_form 30) days_form)))
+policy_table e = row_table (variant_row policy_tag 2 domain_with domain_of (λ _. refl) (λ _. refl) domain_back (pair_form verb_form (pair_form (name_form 30) days_form)))
     (row_table (variant_row policy_tag 3 set_with set_of (λ _. refl) (λ _. refl) set_back (pair_form define_or_delete_form set_path_form))
     (row_table (variant_row policy_tag 4 class_with class_of (λ _. refl) (λ _. refl) class_back (pair_form define_or_delete_form class_path_form))
     (row_table (variant_row policy_tag 5 group_with group_of (λ _. refl) (λ _. refl) group_back (pair_form verb_form (pair_form class_path_form group_form)))
     (row_table (variant_row policy_tag 6 assign_with assign_of (λ _. refl) (λ _. refl) assign_back class_path_form)
     (row_table (variant_row policy_tag 7 activate_with activate_of (λ _. refl) (λ _. refl) activate_back set_path_form)
-    (no_more_table policy_tag))))))
+    (added_rows_table e (row_table (variant_row policy_tag 26 archive_with archive_of (λ _. refl) (λ _. refl) archive_back (pair_form verb_form (pair_form class_path_form archive_group_form)))
+    (no_more_table policy_tag))))))))

@@ -5,6 +5,7 @@ use Rattle.std.proofs.Common.{sym, ap}
 use Rattle.std.proofs.lemmas.Option.{same_Some}
 use Rattle.fields.specs.Forms.{Form, IsForm, number, pair, variant, row, no_more}
 use Rattle.fields.specs.FieldLaws.{number_form, wide32}
+use Rattle.fields.specs.Editions.{Edition}
 use Rattle.fields.specs.FormLaws.{IsTable, pair_form, row_table, no_more_table, variant_row}
 use Rattle.kinds.specs.declared.change.DefineOrDelete.{DefineOrDelete}
 use Rattle.kinds.specs.declared.change.PoolChange.{PoolChange}
@@ -40,15 +41,15 @@ device_of _ = None
 abbrev pub Described : Type 0
 Described = List ℕ × (PoolKind × PoolRule)
 
-abbrev pub described : Form Described
-described = pair (name 30) (pair kind settings)
+abbrev pub described : Edition → Form Described
+described e = pair (name 30) (pair kind (settings e))
 
 -- the verb, the name, and what the pool is
 abbrev pub PoolFields : Type 0
 PoolFields = Verb × (List ℕ × Described)
 
-abbrev pub pool_fields : Form PoolFields
-pool_fields = pair verb (pair (name 30) described)
+abbrev pub pool_fields : Edition → Form PoolFields
+pool_fields e = pair verb (pair (name 30) (described e))
 
 abbrev pub pool_with : PoolFields → PoolChange
 pool_with f = Pool f.0 f.1.0 f.1.1.0 f.1.1.1.0 f.1.1.1.1
@@ -79,8 +80,8 @@ volume_of (Volume v n p f b a) = Some (v, (n, (p, (f, (b, a)))))
 volume_of _ = None
 
 -- what follows each tag
-unfoldable pub pool_body : ℕ → Form PoolChange
-pool_body = row 9 (variant device_with device_of device_fields) (row 10 (variant pool_with pool_of pool_fields) (row 11 (variant volume_with volume_of volume_fields) no_more))
+unfoldable pub pool_body : Edition → ℕ → Form PoolChange
+pool_body e = row 9 (variant device_with device_of device_fields) (row 10 (variant pool_with pool_of (pool_fields e)) (row 11 (variant volume_with volume_of volume_fields) no_more))
 
 -- ---- laws
 
@@ -96,15 +97,15 @@ volume_back : (c : PoolChange) (f : VolumeFields) → volume_of c ≡ Some f →
 volume_back (Volume v n p k b a) f e = ap volume_with (sym (same_Some (v, (n, (p, (k, (b, a))))) f e))
 volume_back _ f e = absurd cc
 
-pub described_form : IsForm described
-described_form = pair_form (name_form 30) (pair_form kind_form settings_form)
+pub described_form : (e : Edition) → IsForm (described e)
+described_form e = pair_form (name_form 30) (pair_form kind_form (settings_form e))
 
 pub located_form : IsForm located
 located_form = pair_form (number_form w32 wide32) (pair_form (number_form w32 wide32) (pair_form capacity_form access_form))
 
-pub pool_table : IsTable pool_tag pool_body
+pub pool_table : (e : Edition) → IsTable pool_tag (pool_body e)
 unfolding pool_body
-pool_table = row_table (variant_row pool_tag 9 device_with device_of (λ _. refl) (λ _. refl) device_back (pair_form define_or_delete_form (pair_form (name_form 30) capacity_form)))
-    (row_table (variant_row pool_tag 10 pool_with pool_of (λ _. refl) (λ _. refl) pool_back (pair_form verb_form (pair_form (name_form 30) described_form)))
+pool_table e = row_table (variant_row pool_tag 9 device_with device_of (λ _. refl) (λ _. refl) device_back (pair_form define_or_delete_form (pair_form (name_form 30) capacity_form)))
+    (row_table (variant_row pool_tag 10 pool_with pool_of (λ _. refl) (λ _. refl) pool_back (pair_form verb_form (pair_form (name_form 30) (described_form e))))
     (row_table (variant_row pool_tag 11 volume_with volume_of (λ _. refl) (λ _. refl) volume_back (pair_form verb_form (pair_form (name_form 30) located_form)))
     (no_more_table pool_tag)))

@@ -2,10 +2,11 @@
 ghost use Rattle.std.specs.Prelude.{◌≡◌, ◌⊎◌, ◌≤◌, ◌<◌, ◌^◌, ◌++◌, [], List, ℕ, length, IfOk, IfErr, IfSome, IfNone};
 ghost use Rattle.kinds.specs.Answers.{AnswersBy};
 ghost use Rattle.kinds.specs.declared.refusal.Refusal.TheVariants.{RecordFull, Memory as NoMemory};
-ghost use Rattle.entries.specs.EntryForm.{entry, entry_form, Spells};
+ghost use Rattle.fields.specs.Editions.{first_form, second_form};
+ghost use Rattle.entries.specs.EntryForm.{entry, entry_in, entry_in_form, Spells, SpellsIn, IsAlone};
 
 use crate::change::Change;
-use fields::{Fault, Formed, Memory, Reader, put_u32};
+use fields::{By, Decoder, Fault, First, Formed, InEdition, Memory, Reader, Second, put_u32};
 use kinds::{Fitting, Refusal};
 use std::alloc::Global;
 
@@ -22,9 +23,22 @@ pub struct Entry {
 }
 
 /// The actor's number in four bytes, and the change.
-#[tactic(auto, unfolding(crate::specs::EntryForm::entry))]
+#[tactic(auto, unfolding(crate::specs::EntryForm::entry_in))]
+impl<E: InEdition> Decoder<Entry> for By<E> {
+    ghost form = { entry_in E.edition };
+
+    fn take(alloc: Global, reader: &mut Reader<'_>) -> Result<Entry, Fault> {
+        let actor = reader.u32()?;
+        let change: Change = By::<E>::take(alloc, reader)?;
+        Ok(Entry { actor, change })
+    }
+
+    ghost is_form = { entry_in_form E.edition };
+}
+
+#[tactic(auto, unfolding(crate::specs::EntryForm::entry_in))]
 impl Formed for Entry {
-    ghost form = { entry };
+    ghost form = { entry_in second_form };
 
     fn write_to(&self, out: &mut Vec<u8>) -> Result<(), Memory> {
         put_u32(out, self.actor)?;
@@ -33,15 +47,13 @@ impl Formed for Entry {
     }
 
     fn read_from(alloc: Global, reader: &mut Reader<'_>) -> Result<Self, Fault> {
-        let actor = reader.u32()?;
-        let change = Change::read_from(alloc, reader)?;
-        Ok(Entry { actor, change })
+        By::<Second>::take(alloc, reader)
     }
 
-    ghost is_form = { entry_form };
+    ghost is_form = { entry_in_form second_form };
 }
 
-#[tactic(auto, unfolding(crate::specs::EntryForm::entry))]
+#[tactic(auto, unfolding(crate::specs::EntryForm::entry_in))]
 impl Fitting for Entry {
     fn fits(&self) {
         self.actor.fits();
@@ -56,7 +68,7 @@ impl Entry {
         ensures spelled { IfOk result (λ v. v.items ≡ entry.spell self.now) }
         ensures short { IfOk result (λ v. length v.items ≤ 2 ^ 24) }
         ensures full { IfErr result (λ e. (e ≡ NoMemory) ⊎ ((e ≡ RecordFull) × (2 ^ 24 < length (entry.spell self.now)))) }
-        ensures alone { IfOk result (λ v. (e : Entry) (rest : List ℕ) → entry.Fits e → v.items ++ rest ≡ entry.spell e → (e ≡ self.now) × (rest ≡ [])) }
+        ensures alone { IfOk result (λ v. IsAlone second_form v.items self.now) }
     {
         self.fits();
         let bytes = fields::encode(alloc, self)?;
@@ -70,9 +82,22 @@ impl Entry {
     pub fn decode(alloc: Global, bytes: &[u8]) -> Result<Option<Entry>, Refusal>
         ensures found { IfOk result (λ o. IfSome o (λ e. Spells bytes.now e)) }
         ensures none { IfOk result (λ o. IfNone o ((e : Entry) → Spells bytes.now e → ⊥)) }
+        ensures alone { IfOk result (λ o. IfSome o (λ e. IsAlone second_form bytes.now e)) }
         ensures memory { IfErr result (λ e. e ≡ NoMemory) }
     {
         let entry = fields::decode(alloc, bytes)?;
+        Ok(entry)
+    }
+
+    /// The entry whose spelling in the first form the bytes are; none where they are no entry's. What the second form adds is
+    /// none or 0 in it.
+    pub fn decode_one(alloc: Global, bytes: &[u8]) -> Result<Option<Entry>, Refusal>
+        ensures found { IfOk result (λ o. IfSome o (λ e. SpellsIn first_form bytes.now e)) }
+        ensures none { IfOk result (λ o. IfNone o ((e : Entry) → SpellsIn first_form bytes.now e → ⊥)) }
+        ensures alone { IfOk result (λ o. IfSome o (λ e. IsAlone first_form bytes.now e)) }
+        ensures memory { IfErr result (λ e. e ≡ NoMemory) }
+    {
+        let entry = fields::decode_by::<Entry, By<First>>(alloc, bytes)?;
         Ok(entry)
     }
 

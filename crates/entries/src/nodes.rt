@@ -4,6 +4,7 @@ ghost use Rattle.std.specs.Int.{w32};
 ghost use Rattle.fields.specs.Forms.{number, pair, variant};
 ghost use Rattle.kinds.specs.ValueForms.{path};
 ghost use Rattle.fields.specs.Gives.{Gives};
+ghost use Rattle.fields.specs.Editions.{second_form};
 ghost use Rattle.entries.specs.ChangeForm.{change};
 ghost use Rattle.entries.specs.declared.change.Change.TheVariants.{Object};
 ghost use Rattle.entries.specs.NodeTags.{object_body, node_with, node_of, node_fields, filespace_with, filespace_of, filespace_fields};
@@ -24,8 +25,8 @@ fn put_named(out: &mut Vec<u8>, name: &FilespaceName, filespace: u32) -> Result<
 /// Puts the spelling of the change at the end, its tag in front.
 #[tactic(auto, unfolding(crate::specs::ChangeForm::change, crate::specs::ChangeForm::change_body, crate::specs::NodeTags::object_body))]
 pub fn put_object(out: &mut Vec<u8>, object: &ObjectChange) -> Result<(), Memory>
-    requires { change.Fits (Object object.now) }
-    ensures { OnOk result (out.new.items ≡ out.old.items ++ change.spell (Object object.now)) }
+    requires { (change second_form).Fits (Object object.now) }
+    ensures { OnOk result (out.new.items ≡ out.old.items ++ (change second_form).spell (Object object.now)) }
 {
     match object {
         ObjectChange::Node { verb, node, domain } => {
@@ -53,7 +54,7 @@ pub fn put_object(out: &mut Vec<u8>, object: &ObjectChange) -> Result<(), Memory
 /// Nothing is done; the caller learns that the change has a spelling.
 #[tactic(auto, unfolding(crate::specs::ChangeForm::change, crate::specs::ChangeForm::change_body, crate::specs::NodeTags::object_body))]
 pub fn object_fits(object: &ObjectChange)
-    ensures { change.Fits (Object object.now) }
+    ensures { (change second_form).Fits (Object object.now) }
 {
     match object {
         ObjectChange::Node {

@@ -2,12 +2,13 @@
 ghost use Rattle.std.specs.Prelude.{◌≡◌, ◌++◌, OnOk};
 ghost use Rattle.fields.specs.Forms.{variant};
 ghost use Rattle.fields.specs.Gives.{Gives};
+ghost use Rattle.fields.specs.Editions.{second_form};
 ghost use Rattle.entries.specs.ChangeForm.{change};
 ghost use Rattle.entries.specs.declared.change.Change.TheVariants.{Policy};
-ghost use Rattle.entries.specs.PolicyTags.{policy_body, set_path, class_path, domain_with, domain_of, domain_fields, set_with, set_of, set_fields, class_with, class_of, class_fields, group_with, group_of, group_fields, assign_with, assign_of, activate_with, activate_of};
+ghost use Rattle.entries.specs.PolicyTags.{policy_body, set_path, class_path, domain_with, domain_of, domain_fields, set_with, set_of, set_fields, class_with, class_of, class_fields, group_with, group_of, group_fields, archive_with, archive_of, archive_fields, assign_with, assign_of, activate_with, activate_of};
 
-use fields::{Fault, Formed, Memory, Reader, put_u8};
-use kinds::{CopyGroup, Days, DefineOrDelete, Fitting, Name, PolicyChange, Verb};
+use fields::{Fault, Formed, InEdition, Memory, Reader, put_u8};
+use kinds::{ArchiveGroup, CopyGroup, Days, DefineOrDelete, Fitting, Name, PolicyChange, Verb};
 use std::alloc::Global;
 
 fn put_set(out: &mut Vec<u8>, domain: &Name, set: &Name) -> Result<(), Memory>
@@ -32,8 +33,8 @@ fn put_class(out: &mut Vec<u8>, domain: &Name, set: &Name, class: &Name) -> Resu
 /// Puts the spelling of the change at the end, its tag in front.
 #[tactic(auto, unfolding(crate::specs::ChangeForm::change, crate::specs::ChangeForm::change_body, crate::specs::PolicyTags::policy_body))]
 pub fn put_policy(out: &mut Vec<u8>, policy: &PolicyChange) -> Result<(), Memory>
-    requires { change.Fits (Policy policy.now) }
-    ensures { OnOk result (out.new.items ≡ out.old.items ++ change.spell (Policy policy.now)) }
+    requires { (change second_form).Fits (Policy policy.now) }
+    ensures { OnOk result (out.new.items ≡ out.old.items ++ (change second_form).spell (Policy policy.now)) }
 {
     match policy {
         PolicyChange::Domain {
@@ -77,6 +78,19 @@ pub fn put_policy(out: &mut Vec<u8>, policy: &PolicyChange) -> Result<(), Memory
             group.write_to(out)?;
             Ok(())
         }
+        PolicyChange::ArchiveGroup {
+            verb,
+            domain,
+            set,
+            class,
+            group,
+        } => {
+            put_u8(out, 26)?;
+            verb.write_to(out)?;
+            put_class(out, domain, set, class)?;
+            group.write_to(out)?;
+            Ok(())
+        }
         PolicyChange::Assign { domain, set, class } => {
             put_u8(out, 6)?;
             put_class(out, domain, set, class)?;
@@ -93,7 +107,7 @@ pub fn put_policy(out: &mut Vec<u8>, policy: &PolicyChange) -> Result<(), Memory
 /// Nothing is done; the caller learns that the change has a spelling.
 #[tactic(auto, unfolding(crate::specs::ChangeForm::change, crate::specs::ChangeForm::change_body, crate::specs::PolicyTags::policy_body))]
 pub fn policy_fits(policy: &PolicyChange)
-    ensures { change.Fits (Policy policy.now) }
+    ensures { (change second_form).Fits (Policy policy.now) }
 {
     match policy {
         PolicyChange::Domain {
@@ -123,6 +137,18 @@ pub fn policy_fits(policy: &PolicyChange)
             class.fits();
         }
         PolicyChange::Group {
+            verb: _,
+            domain,
+            set,
+            class,
+            group,
+        } => {
+            domain.fits();
+            set.fits();
+            class.fits();
+            group.fits();
+        }
+        PolicyChange::ArchiveGroup {
             verb: _,
             domain,
             set,
@@ -207,6 +233,21 @@ fn read_group(alloc: Global, reader: &mut Reader<'_>) -> Result<PolicyChange, Fa
     })
 }
 
+fn read_archive(alloc: Global, reader: &mut Reader<'_>) -> Result<PolicyChange, Fault>
+    ensures { Gives result reader.new.rest ((variant archive_with archive_of archive_fields).read reader.old.rest) }
+{
+    let verb = Verb::read_from(alloc, reader)?;
+    let (domain, (set, class)) = read_class_path(alloc, reader)?;
+    let group = ArchiveGroup::read_from(alloc, reader)?;
+    Ok(PolicyChange::ArchiveGroup {
+        verb,
+        domain,
+        set,
+        class,
+        group,
+    })
+}
+
 fn read_assign(alloc: Global, reader: &mut Reader<'_>) -> Result<PolicyChange, Fault>
     ensures { Gives result reader.new.rest ((variant assign_with assign_of class_path).read reader.old.rest) }
 {
@@ -221,10 +262,15 @@ fn read_activate(alloc: Global, reader: &mut Reader<'_>) -> Result<PolicyChange,
     Ok(PolicyChange::Activate { domain, set })
 }
 
-/// Takes what follows the tag of a change of policy domains: 2 to 7. After an `Err` the reader stands anywhere.
+/// Takes what follows the tag of a change of policy domains: 2 to 7, and in the second form 26. After an `Err` the reader stands
+/// anywhere.
 #[tactic(auto, unfolding(crate::specs::PolicyTags::policy_body))]
-pub fn read_policy(alloc: Global, tag: u8, reader: &mut Reader<'_>) -> Result<PolicyChange, Fault>
-    ensures { Gives result reader.new.rest ((policy_body tag).read reader.old.rest) }
+pub fn read_policy<E: InEdition>(
+    alloc: Global,
+    tag: u8,
+    reader: &mut Reader<'_>,
+) -> Result<PolicyChange, Fault>
+    ensures { Gives result reader.new.rest ((policy_body E.edition tag).read reader.old.rest) }
 {
     match tag {
         2 => read_domain(alloc, reader),
@@ -233,6 +279,13 @@ pub fn read_policy(alloc: Global, tag: u8, reader: &mut Reader<'_>) -> Result<Po
         5 => read_group(alloc, reader),
         6 => read_assign(alloc, reader),
         7 => read_activate(alloc, reader),
+        26 => {
+            if E::is_second() {
+                read_archive(alloc, reader)
+            } else {
+                Err(Fault::Malformed)
+            }
+        }
         _ => Err(Fault::Malformed),
     }
 }

@@ -2,11 +2,12 @@
 ghost use Rattle.std.specs.Prelude.{◌≡◌, ◌++◌, OnOk};
 ghost use Rattle.fields.specs.Forms.{variant};
 ghost use Rattle.fields.specs.Gives.{Gives};
+ghost use Rattle.fields.specs.Editions.{second_form};
 ghost use Rattle.entries.specs.ChangeForm.{change};
 ghost use Rattle.entries.specs.declared.change.Change.TheVariants.{Pool};
 ghost use Rattle.entries.specs.PoolTags.{pool_body, described, located, device_with, device_of, device_fields, pool_with, pool_of, pool_fields, volume_with, volume_of, volume_fields};
 
-use fields::{Fault, Formed, Memory, Reader, put_u8, put_u32};
+use fields::{By, Decoder, Fault, Formed, InEdition, Memory, Reader, put_u8, put_u32};
 use kinds::{
     Access, Capacity, DefineOrDelete, Fitting, Name, PoolChange, PoolKind, PoolSettings, Verb,
 };
@@ -18,8 +19,8 @@ fn put_described(
     kind: &PoolKind,
     settings: &PoolSettings,
 ) -> Result<(), Memory>
-    requires { described.Fits (class.now, (kind.now, settings.now)) }
-    ensures { OnOk result (out.new.items ≡ out.old.items ++ described.spell (class.now, (kind.now, settings.now))) }
+    requires { (described second_form).Fits (class.now, (kind.now, settings.now)) }
+    ensures { OnOk result (out.new.items ≡ out.old.items ++ (described second_form).spell (class.now, (kind.now, settings.now))) }
 {
     class.write_to(out)?;
     kind.write_to(out)?;
@@ -47,8 +48,8 @@ fn put_located(
 /// Puts the spelling of the change at the end, its tag in front.
 #[tactic(auto, unfolding(crate::specs::ChangeForm::change, crate::specs::ChangeForm::change_body, crate::specs::PoolTags::pool_body))]
 pub fn put_pool(out: &mut Vec<u8>, pool: &PoolChange) -> Result<(), Memory>
-    requires { change.Fits (Pool pool.now) }
-    ensures { OnOk result (out.new.items ≡ out.old.items ++ change.spell (Pool pool.now)) }
+    requires { (change second_form).Fits (Pool pool.now) }
+    ensures { OnOk result (out.new.items ≡ out.old.items ++ (change second_form).spell (Pool pool.now)) }
 {
     match pool {
         PoolChange::DevClass {
@@ -95,7 +96,7 @@ pub fn put_pool(out: &mut Vec<u8>, pool: &PoolChange) -> Result<(), Memory>
 /// Nothing is done; the caller learns that the change has a spelling.
 #[tactic(auto, unfolding(crate::specs::ChangeForm::change, crate::specs::ChangeForm::change_body, crate::specs::PoolTags::pool_body))]
 pub fn pool_fits(pool: &PoolChange)
-    ensures { change.Fits (Pool pool.now) }
+    ensures { (change second_form).Fits (Pool pool.now) }
 {
     match pool {
         PoolChange::DevClass {
@@ -146,14 +147,14 @@ fn read_device(alloc: Global, reader: &mut Reader<'_>) -> Result<PoolChange, Fau
     })
 }
 
-fn read_defined(alloc: Global, reader: &mut Reader<'_>) -> Result<PoolChange, Fault>
-    ensures { Gives result reader.new.rest ((variant pool_with pool_of pool_fields).read reader.old.rest) }
+fn read_defined<E: InEdition>(alloc: Global, reader: &mut Reader<'_>) -> Result<PoolChange, Fault>
+    ensures { Gives result reader.new.rest ((variant pool_with pool_of (pool_fields E.edition)).read reader.old.rest) }
 {
     let verb = Verb::read_from(alloc, reader)?;
     let pool = Name::read_from(alloc, reader)?;
     let class = Name::read_from(alloc, reader)?;
     let kind = PoolKind::read_from(alloc, reader)?;
-    let settings = PoolSettings::read_from(alloc, reader)?;
+    let settings: PoolSettings = By::<E>::take(alloc, reader)?;
     Ok(PoolChange::Pool {
         verb,
         pool,
@@ -184,12 +185,16 @@ fn read_volume(alloc: Global, reader: &mut Reader<'_>) -> Result<PoolChange, Fau
 
 /// Takes what follows the tag of a change of device classes, pools and volumes: 9 to 11. After an `Err` the reader stands anywhere.
 #[tactic(auto, unfolding(crate::specs::PoolTags::pool_body))]
-pub fn read_pool(alloc: Global, tag: u8, reader: &mut Reader<'_>) -> Result<PoolChange, Fault>
-    ensures { Gives result reader.new.rest ((pool_body tag).read reader.old.rest) }
+pub fn read_pool<E: InEdition>(
+    alloc: Global,
+    tag: u8,
+    reader: &mut Reader<'_>,
+) -> Result<PoolChange, Fault>
+    ensures { Gives result reader.new.rest ((pool_body E.edition tag).read reader.old.rest) }
 {
     match tag {
         9 => read_device(alloc, reader),
-        10 => read_defined(alloc, reader),
+        10 => read_defined::<E>(alloc, reader),
         11 => read_volume(alloc, reader),
         _ => Err(Fault::Malformed),
     }

@@ -5,7 +5,7 @@ use Rattle.std.specs.Int.{Width, byte_len, to_be_bytes}
 use Rattle.std.proofs.lemmas.Option.{same_Some}
 use Rattle.std.proofs.lemmas.Bool.{eqb-true, eqb-false, eq-eqb}
 use Rattle.fields.specs.Reading.{◌>>=◌, number_at}
-use Rattle.fields.specs.Forms.{Form, IsBytes, IsTaken, IsForm, pair, viewed, partly, variant, spell_part, FitsPart, only, marked, tagged, choose, row, no_more, option, option_tag, none, value_of, coded, flag, limit}
+use Rattle.fields.specs.Forms.{Form, IsBytes, IsTaken, IsForm, pair, viewed, partly, variant, spell_part, FitsPart, only, marked, tagged, choose, row, no_more, option, option_tag, fixed, value_of, coded, flag, limit}
 use Rattle.fields.specs.FieldLaws.{bind_some, goes_on_if, IsBytes-rest, number_form, nothing_form, IsWide}
 
 -- ---- one after the other
@@ -108,6 +108,12 @@ marked_form {X} {f} mark law = record { takes = taken; again = again } where
   again : (x : X) (rest : List ℕ) → (marked mark f).Fits x → (marked mark f).read ((marked mark f).spell x ++ rest) ≡ Some (x, rest)
   again x rest fits = rw (eq-eqb mark mark refl) (law.again x rest fits.1)
 
+-- ---- one of two
+
+pub choose_form : {X : Type 0} {f g : Form X} (b : Bool) → IsForm f → IsForm g → IsForm (choose b f g)
+choose_form true first second = first
+choose_form false first second = second
+
 -- ---- tagged
 
 -- the form of a tag: a form, and all its values have the tag
@@ -151,16 +157,16 @@ variant_row {A} {B} {f} tag_of k inject project told there back law = record { f
 
 -- ---- options, flags, limits
 
-none_row : {A : Type 0} → IsRow option_tag 0 (none {A = A})
-none_row {A} = record { form = record { takes = taken; again = again }; tells = tells } where
-  taken : (bytes : List ℕ) (read : Option A × List ℕ) → IsBytes bytes → (none {A = A}).read bytes ≡ Some read → IsTaken none bytes read
-  taken bytes read h e = subst (IsTaken none bytes) (same_Some (None, bytes) read e) (record { parts = refl; fits = refl })
+pub fixed_form : {X : Type 0} (x : X) → IsForm (fixed x)
+fixed_form {X} x = record { takes = taken; again = again } where
+  taken : (bytes : List ℕ) (read : X × List ℕ) → IsBytes bytes → (fixed x).read bytes ≡ Some read → IsTaken (fixed x) bytes read
+  taken bytes read h e = subst (IsTaken (fixed x) bytes) (same_Some (x, bytes) read e) (record { parts = refl; fits = refl })
 
-  again : (o : Option A) (rest : List ℕ) → (none {A = A}).Fits o → (none {A = A}).read ((none {A = A}).spell o ++ rest) ≡ Some (o, rest)
-  again o rest e = ap (λ (x : Option A). Some (x, rest)) (sym e)
+  again : (y : X) (rest : List ℕ) → (fixed x).Fits y → (fixed x).read ((fixed x).spell y ++ rest) ≡ Some (y, rest)
+  again y rest e = ap (λ (z : X). Some (z, rest)) (sym e)
 
-  tells : (bytes : List ℕ) (read : Option A × List ℕ) → (none {A = A}).read bytes ≡ Some read → option_tag read.0 ≡ 0
-  tells bytes read e = ap (λ (x : Option A × List ℕ). option_tag x.0) (sym (same_Some (None, bytes) read e))
+none_row : {A : Type 0} → IsRow option_tag 0 (fixed {X = Option A} None)
+none_row {A} = record { form = fixed_form None; tells = λ bytes read e. ap (λ (x : Option A × List ℕ). option_tag x.0) (sym (same_Some (None, bytes) read e)) }
 
 pub option_form : {A : Type 0} {f : Form A} → IsForm f → IsForm (option f)
 option_form {A} {f} law = tagged_form (row_table none_row (row_table (variant_row option_tag 1 Some (λ o. o) (λ a. refl) (λ a. refl) (λ b a e. sym e) law) (no_more_table option_tag)))

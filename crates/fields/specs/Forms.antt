@@ -43,6 +43,10 @@ block n = record { spell = λ bytes. bytes; read = bytes_at n; Fits = λ bytes. 
 abbrev pub text : Form (List ℕ)
 text = record { spell = λ bytes. to_be_bytes w16 (length bytes) ++ bytes; read = text_at; Fits = λ bytes. length bytes < 2 ^ 16 }
 
+-- nothing is spelled, and this value is read
+abbrev pub fixed : {X : Type 0} → X → Form X
+fixed x = record { spell = λ _. []; read = λ bytes. Some (x, bytes); Fits = λ y. y ≡ x }
+
 -- no value has a form
 abbrev pub nothing : {X : Type 0} → Form X
 nothing = record { spell = λ _. []; read = λ _. None; Fits = λ _. ⊥ }
@@ -131,13 +135,9 @@ abbrev pub option_tag : {A : Type 0} → Option A → ℕ
 option_tag None = 0
 option_tag (Some a) = 1
 
--- nothing to spell, for none
-abbrev pub none : {A : Type 0} → Form (Option A)
-none = record { spell = λ _. []; read = λ bytes. Some (None, bytes); Fits = λ o. o ≡ None }
-
 -- what follows the number in front
 abbrev pub option_body : {A : Type 0} → Form A → ℕ → Form (Option A)
-option_body f = row 0 none (row 1 (variant Some (λ o. o) f) no_more)
+option_body f = row 0 (fixed None) (row 1 (variant Some (λ o. o) f) no_more)
 
 -- 0 for none, or 1 and the value
 abbrev pub option : {A : Type 0} → Form A → Form (Option A)

@@ -9,15 +9,10 @@ use crate::formed::Formed;
 use crate::reader::Reader;
 use std::alloc::Global;
 
-/// How values of a type are spelled: each value that fits has one spelling, and the spelling tells the value.
-pub trait Codec<T: Drop> {
+/// How values of a type are read: each value that fits has one spelling, and the spelling tells the value.
+pub trait Decoder<T: Drop> {
     /// How a value is spelled, what is read from the front of some bytes, and which values have a spelling.
     ghost form: { Form T };
-
-    /// Puts the value's spelling at the end. After an `Err` a part of it may stand there.
-    fn put(out: &mut Vec<u8>, value: &T) -> Result<(), Memory>
-        requires { form.Fits value.now }
-        ensures { OnOk result (out.new.items ≡ out.old.items ++ form.spell value.now) };
 
     /// Takes the value that the bytes begin with. After an `Err` the reader stands anywhere.
     fn take(alloc: Global, reader: &mut Reader<'_>) -> Result<T, Fault>
@@ -27,19 +22,29 @@ pub trait Codec<T: Drop> {
     ghost is_form: { IsForm form };
 }
 
+/// How values of a type are read and written.
+pub trait Codec<T: Drop>: Decoder<T> {
+    /// Puts the value's spelling at the end. After an `Err` a part of it may stand there.
+    fn put(out: &mut Vec<u8>, value: &T) -> Result<(), Memory>
+        requires { Self.form.Fits value.now }
+        ensures { OnOk result (out.new.items ≡ out.old.items ++ Self.form.spell value.now) };
+}
+
 /// The codec of a type that has a form of its own.
 pub struct Own;
 
-impl<T: Formed> Codec<T> for Own {
+impl<T: Formed> Decoder<T> for Own {
     ghost form = { T.form };
-
-    fn put(out: &mut Vec<u8>, value: &T) -> Result<(), Memory> {
-        value.write_to(out)
-    }
 
     fn take(alloc: Global, reader: &mut Reader<'_>) -> Result<T, Fault> {
         T::read_from(alloc, reader)
     }
 
     ghost is_form = { T.is_form };
+}
+
+impl<T: Formed> Codec<T> for Own {
+    fn put(out: &mut Vec<u8>, value: &T) -> Result<(), Memory> {
+        value.write_to(out)
+    }
 }

@@ -4,6 +4,7 @@ ghost use Rattle.std.specs.Prelude.{◌≡◌, ℕ, List, [], ◌++◌, OnOk, If
 ghost use Rattle.fields.specs.Forms.{Form, IsForm};
 ghost use Rattle.fields.specs.Gives.{Gives};
 
+use crate::codec::{Decoder, Own};
 use crate::errors::{Fault, Memory};
 use crate::reader::Reader;
 use std::alloc::Global;
@@ -27,26 +28,40 @@ pub trait Formed: Drop {
 }
 
 /// The value that the bytes begin with, if there is one. The reader then stands behind it.
-pub fn take_front<T: Formed>(alloc: Global, reader: &mut Reader<'_>) -> Result<Option<T>, Memory>
-    ensures found { IfOk result (λ o. IfSome o (λ x. T.form.Fits x × (reader.old.rest ≡ T.form.spell x ++ reader.new.rest))) }
-    ensures none { IfOk result (λ o. IfNone o ((x : T) (rest : List ℕ) → T.form.Fits x → reader.old.rest ≡ T.form.spell x ++ rest → ⊥)) }
+pub fn take_front<T: Drop, D: Decoder<T>>(
+    alloc: Global,
+    reader: &mut Reader<'_>,
+) -> Result<Option<T>, Memory>
+    ensures found { IfOk result (λ o. IfSome o (λ x. D.form.Fits x × (reader.old.rest ≡ D.form.spell x ++ reader.new.rest))) }
+    ensures none { IfOk result (λ o. IfNone o ((x : T) (rest : List ℕ) → D.form.Fits x → reader.old.rest ≡ D.form.spell x ++ rest → ⊥)) }
 {
     let _bytes = reader.rest();
-    match T::read_from(alloc, reader) {
+    match D::take(alloc, reader) {
         Ok(value) => Ok(Some(value)),
         Err(Fault::Malformed) => Ok(None),
         Err(Fault::Memory) => Err(Memory),
     }
 }
 
-/// The value whose spelling the bytes are, or `None` where they are no value's.
+/// The value whose spelling by this decoder the bytes are, or `None` where they are no value's. No other value's spelling begins with
+/// them.
+pub fn decode_by<T: Drop, D: Decoder<T>>(alloc: Global, bytes: &[u8]) -> Result<Option<T>, Memory>
+    ensures found { IfOk result (λ o. IfSome o (λ x. D.form.Fits x × (bytes.now ≡ D.form.spell x))) }
+    ensures none { IfOk result (λ o. IfNone o ((x : T) → D.form.Fits x → bytes.now ≡ D.form.spell x → ⊥)) }
+    ensures alone { IfOk result (λ o. IfSome o (λ x. (y : T) (rest : List ℕ) → D.form.Fits y → bytes.now ++ rest ≡ D.form.spell y → (y ≡ x) × (rest ≡ []))) }
+{
+    let mut reader = Reader::new(bytes);
+    let value = take_front::<T, D>(alloc, &mut reader)?;
+    if reader.at_end() { Ok(value) } else { Ok(None) }
+}
+
+/// The value whose spelling the bytes are, or `None` where they are no value's. No other value's spelling begins with them.
 pub fn decode<T: Formed>(alloc: Global, bytes: &[u8]) -> Result<Option<T>, Memory>
     ensures found { IfOk result (λ o. IfSome o (λ x. T.form.Fits x × (bytes.now ≡ T.form.spell x))) }
     ensures none { IfOk result (λ o. IfNone o ((x : T) → T.form.Fits x → bytes.now ≡ T.form.spell x → ⊥)) }
+    ensures alone { IfOk result (λ o. IfSome o (λ x. (y : T) (rest : List ℕ) → T.form.Fits y → bytes.now ++ rest ≡ T.form.spell y → (y ≡ x) × (rest ≡ []))) }
 {
-    let mut reader = Reader::new(bytes);
-    let value = take_front(alloc, &mut reader)?;
-    if reader.at_end() { Ok(value) } else { Ok(None) }
+    decode_by::<T, Own>(alloc, bytes)
 }
 
 /// The value's spelling. No other value's begins with it.

@@ -2,9 +2,10 @@
 
 ghost use Rattle.std.specs.Prelude.{◌≡◌, ◌<◌, ◌≤◌, ◌++◌, ◌∷◌, [], length, OnOk, OnErr};
 ghost use Rattle.fields.specs.Forms.{items};
+ghost use Rattle.fields.specs.Gives.{Gives};
 ghost use Rattle.fields.specs.ListLaws.{items_form};
 
-use crate::codec::Own;
+use crate::codec::{Decoder, Own};
 use crate::errors::{Fault, Memory};
 use crate::formed::Formed;
 use crate::lists::{put_list, take_list};
@@ -67,6 +68,17 @@ impl<T: Drop, const MOST: u32> Items<T, MOST> {
     }
 }
 
+/// Takes a list of at most `MOST` values by a decoder of its values. After an `Err` the reader stands anywhere.
+pub fn take_items<T: Drop, D: Decoder<T>, const MOST: u32>(
+    alloc: Global,
+    reader: &mut Reader<'_>,
+) -> Result<Items<T, MOST>, Fault>
+    ensures { Gives result reader.new.rest ((items MOST D.form).read reader.old.rest) }
+{
+    let values = take_list::<T, D>(alloc, reader, MOST)?;
+    Ok(Items { values })
+}
+
 /// The values' number in four bytes, and the values.
 impl<T: Formed, const MOST: u32> Formed for Items<T, MOST> {
     ghost form = { items MOST T.form };
@@ -76,8 +88,7 @@ impl<T: Formed, const MOST: u32> Formed for Items<T, MOST> {
     }
 
     fn read_from(alloc: Global, reader: &mut Reader<'_>) -> Result<Self, Fault> {
-        let values = take_list::<T, Own>(alloc, reader, MOST)?;
-        Ok(Items { values })
+        take_items::<T, Own, MOST>(alloc, reader)
     }
 
     ghost is_form = { items_form MOST T.is_form };

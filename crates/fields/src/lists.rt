@@ -5,7 +5,7 @@ ghost use Rattle.std.specs.List.{flat_map, AllByRecursion};
 ghost use Rattle.fields.specs.Forms.{items, times_at};
 ghost use Rattle.fields.specs.Gives.{GivesBy};
 
-use crate::codec::Codec;
+use crate::codec::{Codec, Decoder};
 use crate::errors::{Fault, Memory};
 use crate::puts::put_u32;
 use crate::reader::Reader;
@@ -34,34 +34,34 @@ pub fn put_list<T: Drop, C: Codec<T>>(out: &mut Vec<u8>, values: &[T]) -> Result
 }
 
 /// Takes so many values.
-fn take_times<T: Drop, C: Codec<T>>(
+fn take_times<T: Drop, D: Decoder<T>>(
     alloc: Global,
     reader: &mut Reader<'_>,
     count: u32,
 ) -> Result<Vec<T>, Fault>
-    ensures gives { GivesBy (λ v. v.items) result reader.new.rest (times_at C.form.read count reader.old.rest) }
+    ensures gives { GivesBy (λ v. v.items) result reader.new.rest (times_at D.form.read count reader.old.rest) }
     ensures count { IfOk result (λ v. length v.items ≡ count) }
 {
     let mut values = Vec::new(alloc);
     'values: for _ in 0..count {
-        let value = C::take(alloc, reader)?;
+        let value = D::take(alloc, reader)?;
         values.push(value)?;
     }
     Ok(values)
 }
 
 /// Takes a list of at most `most` values. After an `Err` the reader stands anywhere.
-pub fn take_list<T: Drop, C: Codec<T>>(
+pub fn take_list<T: Drop, D: Decoder<T>>(
     alloc: Global,
     reader: &mut Reader<'_>,
     most: u32,
 ) -> Result<Vec<T>, Fault>
-    ensures gives { GivesBy (λ v. v.items) result reader.new.rest ((items most C.form).read reader.old.rest) }
+    ensures gives { GivesBy (λ v. v.items) result reader.new.rest ((items most D.form).read reader.old.rest) }
     ensures few { IfOk result (λ v. length v.items ≤ most) }
 {
     let count = reader.u32()?;
     if count > most {
         return Err(Fault::Malformed);
     }
-    take_times::<T, C>(alloc, reader, count)
+    take_times::<T, D>(alloc, reader, count)
 }

@@ -7,7 +7,7 @@ ghost use Rattle.std.specs.declared.cmp.Ordering.TheVariants.{Greater};
 ghost use Rattle.fields.specs.Forms.{pair, ascending, ascending_at, entry_at, is_behind, last_key};
 ghost use Rattle.fields.specs.Gives.{Fails, GivesBy};
 
-use crate::codec::Codec;
+use crate::codec::{Codec, Decoder};
 use crate::errors::{Fault, Memory};
 use crate::formed::Formed;
 use crate::puts::put_u32;
@@ -56,17 +56,17 @@ fn is_next<K: Ord, V>(map: &BTreeMap<K, V>, key: &K) -> bool
 }
 
 /// Takes the next entry, whose key comes behind all that the map has.
-fn take_entry<K: Ord + Formed, V: Drop, C: Codec<V>>(
+fn take_entry<K: Ord + Formed, V: Drop, D: Decoder<V>>(
     alloc: Global,
     map: &mut BTreeMap<K, V>,
     reader: &mut Reader<'_>,
 ) -> Result<(), Fault>
     ensures ok { OnOk result ((e : K × V) × (map.new.entries ≡ map.old.entries ++ e ∷ [])
-        × (entry_at K.cmp (pair K.form C.form).read (last_key map.old.entries) reader.old.rest ≡ Some (e, reader.new.rest))) }
-    ensures err { IfErr result (λ f. Fails f (entry_at K.cmp (pair K.form C.form).read (last_key map.old.entries) reader.old.rest)) }
+        × (entry_at K.cmp (pair K.form D.form).read (last_key map.old.entries) reader.old.rest ≡ Some (e, reader.new.rest))) }
+    ensures err { IfErr result (λ f. Fails f (entry_at K.cmp (pair K.form D.form).read (last_key map.old.entries) reader.old.rest)) }
 {
     let key = K::read_from(alloc, reader)?;
-    let value = C::take(alloc, reader)?;
+    let value = D::take(alloc, reader)?;
     if !is_next(map, &key) {
         return Err(Fault::Malformed);
     }
@@ -75,33 +75,33 @@ fn take_entry<K: Ord + Formed, V: Drop, C: Codec<V>>(
 }
 
 /// Takes so many entries.
-fn take_entries<K: Ord + Formed, V: Drop, C: Codec<V>>(
+fn take_entries<K: Ord + Formed, V: Drop, D: Decoder<V>>(
     alloc: Global,
     reader: &mut Reader<'_>,
     count: u32,
 ) -> Result<BTreeMap<K, V>, Fault>
-    ensures gives { GivesBy (λ m. m.entries) result reader.new.rest (ascending_at K.cmp (pair K.form C.form).read None count reader.old.rest) }
+    ensures gives { GivesBy (λ m. m.entries) result reader.new.rest (ascending_at K.cmp (pair K.form D.form).read None count reader.old.rest) }
     ensures count { IfOk result (λ m. length m.entries ≡ count) }
 {
     let mut map = BTreeMap::new(alloc);
     'entries: for _ in 0..count {
-        take_entry::<K, V, C>(alloc, &mut map, reader)?;
+        take_entry::<K, V, D>(alloc, &mut map, reader)?;
     }
     Ok(map)
 }
 
 /// Takes a map of at most `most` entries. After an `Err` the reader stands anywhere.
-pub fn take_table<K: Ord + Formed, V: Drop, C: Codec<V>>(
+pub fn take_table<K: Ord + Formed, V: Drop, D: Decoder<V>>(
     alloc: Global,
     reader: &mut Reader<'_>,
     most: u32,
 ) -> Result<BTreeMap<K, V>, Fault>
-    ensures gives { GivesBy (λ m. m.entries) result reader.new.rest ((ascending K.cmp most K.form C.form).read reader.old.rest) }
+    ensures gives { GivesBy (λ m. m.entries) result reader.new.rest ((ascending K.cmp most K.form D.form).read reader.old.rest) }
     ensures few { IfOk result (λ m. length m.entries ≤ most) }
 {
     let count = reader.u32()?;
     if count > most {
         return Err(Fault::Malformed);
     }
-    take_entries::<K, V, C>(alloc, reader, count)
+    take_entries::<K, V, D>(alloc, reader, count)
 }

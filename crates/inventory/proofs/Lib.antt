@@ -1,3 +1,4 @@
+pub mod Forms
 pub mod Nothing
 pub mod Orders
 pub mod Sooner

@@ -1,5 +1,5 @@
 -- The causes that refuse a transaction which brings items come before a database that would be too large.
-use Rattle.std.proofs.Common.{◌≡◌, ℕ, ◌+◌, ◌^◌, ◌-◌, max, Bool, true, false, cond, not, ◌&&◌, List, [], ◌∷◌, ◌++◌, map, length, Option, Some, None, is_some, Result, Ok, Err, refl, sym, ap, ◌∙◌}
+use Rattle.std.proofs.Common.{◌≡◌, ℕ, ◌+◌, ◌^◌, ◌-◌, max, Bool, true, false, cond, not, ◌&&◌, List, [], ◌∷◌, ◌++◌, map, length, Option, Some, None, is_some, Result, Ok, Err, refl}
 use Rattle.std.specs.Prelude.{◌==◌, nat_le, nat_lt}
 use Rattle.std.specs.BTreeMap.{insert_entry}
 use Rattle.std.specs.Cmp.Lexicographic.{slice_cmp}
@@ -7,6 +7,7 @@ use Rattle.std.specs.List.{flat_map, list_all}
 use Rattle.std.specs.Map.{lookup}
 use Rattle.std.specs.Ordering.{nat_cmp}
 use Rattle.std.proofs.lemmas.Bool.{and_from}
+use Rattle.kinds.specs.Names.{is_same_name}
 use Rattle.kinds.specs.Refusals.{bad_value, place_of, refusal_of, unless}
 use Rattle.kinds.specs.declared.change.DefineOrDelete.TheVariants as two
 use Rattle.kinds.specs.declared.change.ObjectChange.{ObjectChange}
@@ -20,21 +21,22 @@ use Rattle.kinds.specs.declared.pool.Access.{Access}
 use Rattle.kinds.specs.declared.pool.PoolKind.{PoolKind}
 use Rattle.kinds.specs.declared.pool.PoolRule.{PoolRule}
 use Rattle.kinds.specs.declared.refusal.Refusal.{Refusal}
-use Rattle.kinds.specs.declared.rule.BackupRule.{BackupRule}
 use Rattle.kinds.specs.declared.refusal.Refusal.TheVariants as refusal
 use Rattle.entries.specs.change_items.declared.items.MovedCopy.{MovedCopy}
 use Rattle.entries.specs.change_items.declared.items.NewCopy.{NewCopy}
+use Rattle.entries.specs.change_items.declared.items.NewHeldObject.{NewHeldObject}
 use Rattle.entries.specs.change_items.declared.items.NewVersion.{NewVersion}
 use Rattle.entries.specs.change_items.declared.items.ScratchVolume.{ScratchVolume}
 use Rattle.entries.specs.declared.change.Change.{Change}
 use Rattle.entries.specs.declared.change.Change.TheVariants as change
 use Rattle.inventory_rows.specs.policy_domains.Changes.{after, names_active}
 use Rattle.inventory_rows.specs.policy_domains.Rows.{DomainRow, SetRow, active_set, changed, changed_row, defined, row_of, with_row, within}
-use Rattle.inventory_rows.specs.policy_domains.Sets.{activated, class_changed, empty_domain, empty_set, in_sets, set_changed, to_activate}
+use Rattle.inventory_rows.specs.policy_domains.declared.classes.ManagementClass.{ManagementClass}
+use Rattle.inventory_rows.specs.policy_domains.Sets.{activated, bare_class, class_changed, empty_domain, empty_set, in_sets, set_changed, to_activate}
 use Rattle.inventory_rows.specs.object_rows.Changes.{filespaces_defined, nodes_with, rows_changed}
 use Rattle.inventory_rows.specs.object_rows.Filespaces.{at_number, filespace_at}
 use Rattle.inventory_rows.specs.object_rows.Names.{filespace_named, node_named}
-use Rattle.inventory_rows.specs.object_rows.Rows.{Rows, most_versions}
+use Rattle.inventory_rows.specs.object_rows.Rows.{Rows, most_kept}
 use Rattle.inventory_rows.specs.object_rows.declared.place.Node.{Node}
 use Rattle.inventory_rows.specs.pool_rows.Changed.{changed as store_after}
 use Rattle.inventory_rows.specs.pool_rows.Changes.{define_pool, define_volume, is_next_there, new_pool, new_volume}
@@ -48,15 +50,17 @@ use Rattle.inventory_rows.specs.version_groups.declared.copies.CopyRow.{CopyRow}
 use Rattle.inventory_rows.specs.version_groups.declared.versions.Version.{Version}
 use Rattle.inventory_rows.specs.Search.{copy_in, version, versions}
 use Rattle.inventory_rows.specs.State.{Inv}
+use Rattle.inventory_rules.specs.Backups.{after_refused, backup_at, is_done}
 use Rattle.inventory_rules.specs.Clients.{client_bounds, client_refused, is_new_client}
 use Rattle.inventory_rules.specs.Common.{file_bound, files_refused, full_at, is_free_file}
 use Rattle.inventory_rules.specs.Copies.{copied_refused, copy_list_refused, copy_refused, move_refused, moved_refused, stale_copy}
 use Rattle.inventory_rules.specs.Journal.{Journal}
 use Rattle.inventory_rules.specs.Policy.{destination_refused, domain_used, is_new_policy, policy_refused}
 use Rattle.inventory_rules.specs.Segments.{scratch_refused}
-use Rattle.inventory_rules.specs.Stores.{is_new_store, store_bounds, store_refused}
+use Rattle.inventory_rules.specs.Stores.{is_new_store, collocation_refused, store_bounds, store_refused}
 use Rattle.inventory_rules.specs.Transactions.{brings_items, causes}
-use Rattle.inventory_rules.specs.Versions.{backup_refused, filespace_there, gone_or_unknown, is_new_object, name_once, object_refused, objects_refused, of_version}
+use Rattle.inventory_rules.specs.Valid.{disk}
+use Rattle.inventory_rules.specs.Versions.{arrivals_refused, filespace_there, gone_or_unknown, is_new_object, name_once, new_refused, object_refused, objects_refused, of_version}
 use Rattle.inventory_laws.proofs.VolumeRows.{list_all-append}
 
 -- a refusal that is answered before a database that would be too large, or is that one
@@ -139,11 +143,11 @@ with_sets d sets = record { back_retention = d.back_retention; sets = sets }
 in_sets_sooner : (step : List (List ℕ × SetRow) → Result (List (List ℕ × SetRow)) Refusal) → ((sets : List (List ℕ × SetRow)) → are_sooner (refusal_of (step sets)) ≡ true) → (d : DomainRow) → are_sooner (refusal_of (in_sets step d)) ≡ true
 in_sets_sooner step all d = within_sooner (with_sets d) (step d.sets) (all d.sets)
 
-abbrev with_classes : SetRow → List (List ℕ × Option BackupRule) → SetRow
+abbrev with_classes : SetRow → List (List ℕ × ManagementClass) → SetRow
 with_classes s classes = record { default_class = s.default_class; classes = classes }
 
 class_sooner : (class : List ℕ) (s : SetRow) → are_sooner (refusal_of (class_changed two.Define class s)) ≡ true
-class_sooner class s = within_sooner (with_classes s) (defined class None s.classes) (defined_sooner class None s.classes)
+class_sooner class s = within_sooner (with_classes s) (defined class bare_class s.classes) (defined_sooner class bare_class s.classes)
 
 to_activate_sooner : (o : Option SetRow) → are_sooner (refusal_of (to_activate o)) ≡ true
 to_activate_sooner None = refl
@@ -174,6 +178,7 @@ policy_sooner (policy.Class two.Define domain set class) v b =
     (in_sets_sooner (changed set (class_changed two.Define class)) (λ sets. changed_sooner set (class_changed two.Define class) sets (class_sooner class)))) refl
 policy_sooner (policy.Class two.Delete domain set class) v b = absurd cc
 policy_sooner (policy.Group v1 domain set class rule) v b = absurd cc
+policy_sooner (policy.ArchiveGroup v1 domain set class rule) v b = absurd cc
 policy_sooner (policy.Assign domain set class) v b = absurd cc
 policy_sooner (policy.Activate domain set) v b = policy_causes (policy.Activate domain set) v (changed_sooner domain (activated set) v.domains (activated_sooner set)) refl
 
@@ -183,7 +188,7 @@ full_sooner : (next bound : ℕ) → are_sooner (full_at next bound) ≡ true
 full_sooner next bound = unless_sooner (nat_lt (next + 1) bound) refusal.InventoryFull refl
 
 abbrev with_node_rows : Rows → List (ℕ × Node) → Rows
-with_node_rows rows nodes = record { nodes = nodes; filespaces = rows.filespaces }
+with_node_rows rows nodes = record { nodes = nodes; filespaces = rows.filespaces; held = rows.held }
 
 abbrev new_node : List ℕ → List ℕ → Node
 new_node name domain = record { name = name; domain = domain }
@@ -192,7 +197,7 @@ nodes_sooner : (name domain : List ℕ) (number : ℕ) (nodes : List (ℕ × Nod
 nodes_sooner name domain number nodes = unless_err (is_some (node_named name nodes)) refusal.Exists (Ok (insert_entry nat_cmp nodes number (new_node name domain))) refl refl
 
 abbrev with_filespace_rows : Rows → List (ℕ × Filespace) → Rows
-with_filespace_rows rows filespaces = record { nodes = rows.nodes; filespaces = filespaces }
+with_filespace_rows rows filespaces = record { nodes = rows.nodes; filespaces = filespaces; held = rows.held }
 
 abbrev new_filespace : ℕ → List ℕ → Filespace
 new_filespace node name = record { node = node; name = name; groups = [] }
@@ -258,7 +263,8 @@ store_causes c v rows bounds = both (refusal_of (store_after c v.next_pool v.sto
 store_sooner : (c : PoolChange) (v : Inv) → is_new_store c ≡ true → are_sooner (store_refused c v) ≡ true
 store_sooner (store.DevClass two.Define class capacity) v b = store_causes (store.DevClass two.Define class capacity) v (new_class_sooner class capacity v.stores) refl
 store_sooner (store.DevClass two.Delete class capacity) v b = absurd cc
-store_sooner (store.Pool verb.Define name class kind rule) v b = store_causes (store.Pool verb.Define name class kind rule) v (new_pool_sooner v.next_pool name class kind rule v.stores) (full_sooner v.next_pool (2 ^ 16))
+store_sooner (store.Pool verb.Define name class kind rule) v b = store_causes (store.Pool verb.Define name class kind rule) v (new_pool_sooner v.next_pool name class kind rule v.stores)
+    (both (collocation_refused class rule) (full_at v.next_pool (2 ^ 16)) (unless_sooner (not (rule.collocate && is_same_name disk class)) bad_value refl) (full_sooner v.next_pool (2 ^ 16)))
 store_sooner (store.Pool verb.Update name class kind rule) v b = absurd cc
 store_sooner (store.Pool verb.Delete name class kind rule) v b = absurd cc
 store_sooner (store.Volume verb.Define name number file capacity access) v b = store_causes (store.Volume verb.Define name number file capacity access) v (new_volume_sooner name number file capacity access v.stores) (new_file_sooner file v)
@@ -272,17 +278,20 @@ new_scratch_sooner scratch v =
     both (files_refused (map (λ (s : ScratchVolume). s.file) scratch) v) (flat_map (λ (s : ScratchVolume). file_bound s.file v) scratch) (files_sooner (map (λ (s : ScratchVolume). s.file) scratch) v)
     (each_sooner (λ (s : ScratchVolume). file_bound s.file v) (λ s. file_sooner s.file v) scratch)
 
-object_sooner : (v : Inv) (i : NewVersion) → are_sooner (object_refused v i.object) ≡ true
-object_sooner v i =
-    both (unless (is_new_object v i.object) bad_value) (unless (nat_lt (max v.next_object (i.object + 1)) (2 ^ 62)) refusal.InventoryFull) (unless_sooner (is_new_object v i.object) bad_value refl)
-    (unless_sooner (nat_lt (max v.next_object (i.object + 1)) (2 ^ 62)) refusal.InventoryFull refl)
+object_sooner : (v : Inv) (object : ℕ) → are_sooner (object_refused v object) ≡ true
+object_sooner v object =
+    both (unless (is_new_object v object) bad_value) (unless (nat_lt (max v.next_object (object + 1)) (2 ^ 62)) refusal.InventoryFull) (unless_sooner (is_new_object v object) bad_value refl)
+    (unless_sooner (nat_lt (max v.next_object (object + 1)) (2 ^ 62)) refusal.InventoryFull refl)
 
-new_versions_sooner : (filespace : ℕ) (items : List NewVersion) (v : Inv) → are_sooner (backup_refused filespace items v) ≡ true
-new_versions_sooner filespace items v =
-    both (filespace_there filespace v) (unless (name_once (map (λ (i : NewVersion). i.object) items)) bad_value ++ unless (nat_le (length (versions v) + length items) most_versions) refusal.InventoryFull)
+-- new objects, versions or held ones, with the volumes that are made for them
+arrivals_sooner : (filespace : ℕ) (objects : List ℕ) (scratch : List ScratchVolume) (v : Inv) → are_sooner (new_refused filespace objects v ++ (scratch_refused scratch v ++ objects_refused objects v)) ≡ true
+arrivals_sooner filespace objects scratch v =
+    both (new_refused filespace objects v) (scratch_refused scratch v ++ objects_refused objects v)
+    (both (filespace_there filespace v) (arrivals_refused objects v)
     (unless_sooner (is_some (filespace_at filespace v.clients.filespaces)) refusal.NotFound refl)
-    (both (unless (name_once (map (λ (i : NewVersion). i.object) items)) bad_value) (unless (nat_le (length (versions v) + length items) most_versions) refusal.InventoryFull)
-    (unless_sooner (name_once (map (λ (i : NewVersion). i.object) items)) bad_value refl) (unless_sooner (nat_le (length (versions v) + length items) most_versions) refusal.InventoryFull refl))
+    (both (unless (name_once objects) bad_value) (unless (nat_le (length (versions v) + length objects) most_kept) refusal.InventoryFull)
+    (unless_sooner (name_once objects) bad_value refl) (unless_sooner (nat_le (length (versions v) + length objects) most_kept) refusal.InventoryFull refl)))
+    (both (scratch_refused scratch v) (objects_refused objects v) (new_scratch_sooner scratch v) (each_sooner (object_refused v) (object_sooner v) objects))
 
 moves_sooner : (j : Journal) (items : List MovedCopy) (v : Inv) → are_sooner (move_refused j items v) ≡ true
 moves_sooner j items v =
@@ -294,6 +303,12 @@ copy_list_sooner j items v =
     both (unless (name_once (map (λ (i : NewCopy). i.object) items)) bad_value) (flat_map (copied_refused j v) items) (unless_sooner (name_once (map (λ (i : NewCopy). i.object) items)) bad_value refl)
     (each_sooner (copied_refused j v) (copied_sooner j v) items)
 
+-- ---- database backups
+
+after_sooner : (after : Option ℕ) (v : Inv) → are_sooner (after_refused after v) ≡ true
+after_sooner None v = refl
+after_sooner (Some file) v = unless_sooner (is_done (backup_at file v)) refusal.NotFound refl
+
 -- ---- every transaction that brings items
 
 pub sooner_causes : (j : Journal) (c : Change) (v : Inv) → brings_items c ≡ true → are_sooner (causes j c v) ≡ true
@@ -301,9 +316,8 @@ sooner_causes j (change.Day day) v b = absurd cc
 sooner_causes j (change.Policy c) v b = policy_sooner c v b
 sooner_causes j (change.Object c) v b = client_sooner c v b
 sooner_causes j (change.Pool c) v b = store_sooner c v b
-sooner_causes j (change.Backup c) v b =
-    both (backup_refused c.filespace c.items v) (scratch_refused c.scratch v ++ objects_refused c.items v) (new_versions_sooner c.filespace c.items v)
-    (both (scratch_refused c.scratch v) (objects_refused c.items v) (new_scratch_sooner c.scratch v) (each_sooner (λ (i : NewVersion). object_refused v i.object) (object_sooner v) c.items))
+sooner_causes j (change.Backup c) v b = arrivals_sooner c.filespace (map (λ (i : NewVersion). i.object) c.items) c.scratch v
+sooner_causes j (change.Hold c) v b = arrivals_sooner c.filespace (map (λ (i : NewHeldObject). i.object) c.items) c.scratch v
 sooner_causes j (change.Rebind c) v b = absurd cc
 sooner_causes j (change.Gone c) v b = absurd cc
 sooner_causes j (change.Move c) v b = both (move_refused j c.items v) (scratch_refused c.scratch v) (moves_sooner j c.items v) (new_scratch_sooner c.scratch v)
@@ -312,6 +326,6 @@ sooner_causes j (change.DropCopies c) v b = absurd cc
 sooner_causes j (change.Expire c) v b = absurd cc
 sooner_causes j (change.Discard c) v b = absurd cc
 sooner_causes j (change.Reuse file) v b = absurd cc
-sooner_causes j (change.DbBegin file) v b = new_file_sooner file v
+sooner_causes j (change.DbBegin file after) v b = both (after_refused after v) (files_refused (file ∷ []) v ++ file_bound file v) (after_sooner after v) (new_file_sooner file v)
 sooner_causes j (change.DbEnd file) v b = absurd cc
 sooner_causes j (change.DbDelete file) v b = absurd cc

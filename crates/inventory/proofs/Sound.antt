@@ -15,7 +15,6 @@ use Rattle.inventory_rows.specs.object_rows.declared.place.Node.{Node}
 use Rattle.inventory_rows.specs.object_rows.Index.{AreDistinct}
 use Rattle.inventory_rows.specs.object_rows.Names.{named, named_of}
 use Rattle.inventory_rows.specs.object_rows.Places.{are_all_full, are_full}
-use Rattle.inventory_rows.specs.object_rows.Rows as rows
 use Rattle.inventory_rows.specs.pool_tables.Names.{are_apart, pool_name, row_named}
 use Rattle.kinds.specs.Names.{is_same_name}
 use Rattle.inventory_rows.specs.pool_tables.Rows.{row_at}
@@ -30,6 +29,7 @@ use Rattle.inventory_laws.proofs.Others.{full_groups}
 use Rattle.inventory_rules.specs.Valid.{is_of_pool, is_orderly, names_apart}
 use Rattle.inventory_bytes.specs.Payload.{AreSound}
 use Rattle.inventory_bytes.specs.Segments.{all_lie, is_there}
+use Rattle.inventory.specs.Meaningful.{held_stand}
 
 -- a name that none of the others is isn't found among them
 unnamed_behind : {V : Type 0} (name_of : V → List ℕ) (name : List ℕ) (e : ℕ × V) (es : List (ℕ × V)) → not (is_same_name name (name_of e.1)) ≡ true → is_none (row_named name_of name es) ≡ true → (b : Bool) → is_same_name (name_of e.1) name ≡ b → is_none (cond b (Some e.0) (row_named name_of name es)) ≡ true
@@ -115,7 +115,13 @@ all_full (f ∷ filespaces) h =
 
 pub sound : (v : Inv) → Facts v → AreSound v
 sound v f = record {
-  clients = record { names = nodes_distinct v.clients.nodes f.node_names; spaces = spaces_distinct v.clients.filespaces f.filespace_names; objects = f.objects_apart; full = all_full v.clients.filespaces f.groups_orderly };
+  clients = record {
+    names = nodes_distinct v.clients.nodes f.node_names;
+    spaces = spaces_distinct v.clients.filespaces f.filespace_names;
+    objects = f.objects_apart;
+    full = all_full v.clients.filespaces f.groups_orderly;
+    held = held_stand v f;
+  };
   stores =
       ap (λ b. if b then Some v.stores else None)
       (both (are_apart pool_name v.stores.pools) _ (rows_apart pool_name v.stores.pools f.pool_names)

@@ -1,9 +1,9 @@
 -- What the tests made before a transaction refuse is what the rules refuse.
-use Rattle.std.proofs.Common.{◌≡◌, ℕ, ◌+◌, ◌≤◌, ◌^◌, Bool, true, false, cond, ◌&&◌, List, [], ◌∷◌, ◌++◌, Option, Some, None, refl, sym, ap, ◌∙◌, arith}
+use Rattle.std.proofs.Common.{◌≡◌, ◌+◌, ◌≤◌, ◌^◌, Bool, true, false, cond, List, [], ◌∷◌, ◌++◌, Option, Some, None, refl, sym, ap, ◌∙◌, arith}
 use Rattle.std.specs.Prelude.{nat_le, nat_lt}
 use Rattle.std.specs.Map.{keys_of}
 use Rattle.std.proofs.lemmas.Bool.{le-leb, leb-true, ltb-true}
-use Rattle.kinds.specs.Refusals.{bad_value, foremost, place_of, sooner_of, unless}
+use Rattle.kinds.specs.Refusals.{foremost, place_of, sooner_of, unless}
 use Rattle.kinds.specs.declared.change.PolicyChange.{PolicyChange}
 use Rattle.kinds.specs.declared.change.PolicyChange.TheVariants as policy
 use Rattle.kinds.specs.declared.change.DefineOrDelete.TheVariants as two
@@ -77,9 +77,10 @@ none_added (change.Policy c) v b = no_policy_added c v b
 none_added (change.Object c) v b = ap one_if b
 none_added (change.Pool c) v b = ap one_if b
 none_added (change.Backup c) v b = absurd cc
+none_added (change.Hold c) v b = absurd cc
 none_added (change.Move c) v b = absurd cc
 none_added (change.Copy c) v b = absurd cc
-none_added (change.DbBegin file) v b = absurd cc
+none_added (change.DbBegin file after) v b = absurd cc
 none_added _ v b = refl
 
 -- so nothing is refused for its size, neither by a count before it nor by one afterwards

@@ -1,5 +1,5 @@
 -- The tests by which it is decided, before a transaction is made, whether and why the database refuses it.
-use Rattle.std.specs.Prelude.{◌≡◌, ⊤, ◌^◌, true, nat_lt, Option, List, ◌++◌}
+use Rattle.std.specs.Prelude.{◌≡◌, ◌^◌, true, Option, List, ◌++◌}
 use Rattle.std.specs.Map.{keys_of}
 use Rattle.kinds.specs.declared.refusal.Refusal.{Refusal}
 use Rattle.kinds.specs.declared.refusal.Refusal.TheVariants as refusal

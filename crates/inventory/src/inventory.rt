@@ -4,7 +4,9 @@ ghost use Rattle.kinds.specs.Answers.{Answers, AnswersBy};
 ghost use Rattle.kinds.specs.declared.refusal.Refusal.TheVariants.{Memory};
 ghost use Rattle.inventory_answers.specs.Answered.{answered};
 ghost use Rattle.inventory_rows.specs.Fresh.{fresh};
-ghost use Rattle.inventory_rows.specs.State.{inv_of};
+ghost use Rattle.fields.specs.Editions.{Edition};
+ghost use Rattle.entries.specs.Meaning.{Spells};
+ghost use Rattle.inventory_rows.specs.State.{Inv, inv_of};
 ghost use Rattle.inventory_rules.specs.Held.{IsTied};
 ghost use Rattle.inventory_rules.specs.Transactions.{refused};
 ghost use Rattle.inventory_rules.specs.Valid.{is_valid};
@@ -14,6 +16,7 @@ ghost use Rattle.inventory.specs.Meaningful.{is_meaning};
 use crate::bounds::count_items;
 use crate::made::make;
 use entries::{Change, Database, Entry};
+use fields::{First, InEdition, Second};
 use inventory_answers::{Answer, Query};
 use inventory_bytes::tables_fit;
 use inventory_check::is_valid;
@@ -62,6 +65,19 @@ fn checked(alloc: Global, tables: Tables) -> Result<Option<Inventory>, Refusal>
     }
 }
 
+/// The inventory whose bytes these are in one of the two forms; none exactly where they are no inventory's in it.
+fn read<E: InEdition>(alloc: Global, bytes: &[u8]) -> Result<Option<Inventory>, Refusal>
+    ensures found { IfOk result (λ o. IfSome o (λ d. Spells meaning E.edition bytes.now d)) }
+    ensures none { IfOk result (λ o. IfNone o ((d : Inv) → Spells meaning E.edition bytes.now d → ⊥)) }
+    ensures memory { IfErr result (λ e. e ≡ Memory) }
+{
+    match inventory_bytes::decode::<E>(alloc, bytes) {
+        Ok(Some(tables)) => checked(alloc, tables),
+        Ok(None) => Ok(None),
+        Err(_) => Err(Refusal::Memory),
+    }
+}
+
 impl Inventory {
     /// What a server has that was just formatted.
     pub fn fresh(alloc: Global) -> Result<Inventory, Refusal>
@@ -88,6 +104,20 @@ impl Inventory {
         ensures { result ≡ refused (J.journal past.now) change.now self.now }
     {
         crate::legal::refused(past, &self.tables, change, self.most_items)
+    }
+
+    /// The inventory whose bytes these are in one of the two forms, which their first byte tells; none exactly where they are no inventory's in either.
+    /// Refused only for want of memory.
+    pub fn decode(alloc: Global, bytes: &[u8]) -> Result<Option<Inventory>, Refusal>
+        ensures found { IfOk result (λ o. IfSome o (λ d. (form : Edition) × Spells meaning form bytes.now d)) }
+        ensures none { IfOk result (λ o. IfNone o ((form : Edition) (d : Inv) → Spells meaning form bytes.now d → ⊥)) }
+        ensures memory { IfErr result (λ e. e ≡ Memory) }
+    {
+        match read::<Second>(alloc, bytes) {
+            Ok(Some(inventory)) => Ok(Some(inventory)),
+            Ok(None) => read::<First>(alloc, bytes),
+            Err(refusal) => Err(refusal),
+        }
     }
 
     /// The answer to a query: `NotFound` exactly where what it names isn't there, or want of memory.
@@ -122,12 +152,12 @@ impl Database for Inventory {
         Ok(bytes)
     }
 
-    fn decode(alloc: Global, bytes: &[u8]) -> Result<Option<Self>, Refusal> {
-        match inventory_bytes::decode(alloc, bytes) {
-            Ok(Some(tables)) => checked(alloc, tables),
-            Ok(None) => Ok(None),
-            Err(_) => Err(Refusal::Memory),
-        }
+    fn decode_two(alloc: Global, bytes: &[u8]) -> Result<Option<Self>, Refusal> {
+        read::<Second>(alloc, bytes)
+    }
+
+    fn decode_one(alloc: Global, bytes: &[u8]) -> Result<Option<Self>, Refusal> {
+        read::<First>(alloc, bytes)
     }
 
     fn copy(&self, _alloc: Global) -> Result<Self, Refusal> {

@@ -15,6 +15,7 @@ use Rattle.inventory_answers.specs.declared.query.Query.{Query}
 use Rattle.inventory_answers.specs.declared.query.Query.TheVariants as query
 use Rattle.inventory_answers.specs.Clients.{node_lines, filespaces_of, versions_of}
 use Rattle.inventory_answers.specs.Content.{content_of}
+use Rattle.inventory_answers.specs.Held.{held_of}
 use Rattle.inventory_answers.specs.Policy.{domain_lines, sets_of, classes_of, groups_of}
 use Rattle.inventory_answers.specs.Stores.{device_lines, pools_of, volumes_of, backup_lines}
 
@@ -33,6 +34,7 @@ rows_of (query.Volumes volume pool) v = on_ok rows.Volumes (volumes_of volume po
 rows_of (query.Content volume) v = on_ok rows.Content (content_of volume v)
 rows_of query.History v = Ok (rows.History (backup_lines v.backups))
 rows_of (query.Versions node filespace) v = on_ok rows.Versions (versions_of node filespace v)
+rows_of (query.Held filespace) v = on_ok rows.Held (held_of filespace v)
 rows_of (query.Lookup named) v = on_ok rows.Lookup (find_named named v)
 rows_of (query.Rules node) v = on_ok rows.Rules (rules_of node v)
 rows_of (query.OnPool pool) v = on_ok rows.OnPool (on_pool pool v)

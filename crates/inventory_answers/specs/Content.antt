@@ -33,7 +33,7 @@ counted counts (e ∷ held) = counted (with_segment counts e) held
 abbrev pub segments_of : ℕ → List (HeldSegment × ℕ) → ℕ
 segments_of object held = sum_by (λ e. if at_number object e.0.object then e.1 + 1 else 0) held
 
--- the size of an object of which a version is kept
+-- the size of an object, where it is kept
 abbrev pub size_of_object : ℕ → Inv → Option ℕ
 size_of_object object v = option_map (λ w. w.size) (version object v)
 

@@ -1,9 +1,10 @@
 -- The rows of policy domains, policy sets, management classes and copy groups.
-use Rattle.std.specs.Prelude.{ℕ, List, [], ◌∷◌, map, is_some, Option, Result, Ok}
+use Rattle.std.specs.Prelude.{ℕ, List, [], ◌∷◌, map, is_some, Result, Ok}
 use Rattle.std.specs.List.{flat_map}
 use Rattle.std.specs.Option.{option_map_or}
 use Rattle.kinds.specs.declared.refusal.Refusal.{Refusal}
 use Rattle.kinds.specs.declared.rule.BackupRule.{BackupRule}
+use Rattle.inventory_rows.specs.policy_domains.declared.classes.ManagementClass.{ManagementClass}
 use Rattle.inventory_rows.specs.policy_domains.Rows.{SetRow, DomainRow, active_set, row_of}
 use Rattle.inventory_rows.specs.version_groups.Entries.{on_ok, if_found}
 use Rattle.inventory_rows.specs.pool_rows.PoolRows.{PoolRows}
@@ -32,9 +33,9 @@ set_lines domain row = map (set_line domain) row.sets
 abbrev pub sets_of : List ℕ → List (List ℕ × DomainRow) → Result (List SetLine) Refusal
 sets_of domain domains = if_found (row_of domain domains) (λ row. Ok (set_lines domain row))
 
--- a management class of a set, and whether it has a copy group
-abbrev pub class_line : List ℕ → List ℕ → List ℕ × Option BackupRule → ClassLine
-class_line domain set c = record { domain = domain; set = set; class = c.0; group = is_some c.1 }
+-- a management class of a set, whether it has a backup copy group, and the rule of its archive copy group
+abbrev pub class_line : List ℕ → List ℕ → List ℕ × ManagementClass → ClassLine
+class_line domain set c = record { domain = domain; set = set; class = c.0; group = is_some c.1.backup; archive = c.1.archive }
 
 abbrev pub class_lines : List ℕ → List ℕ → SetRow → List ClassLine
 class_lines domain set row = map (class_line domain set) row.classes
@@ -43,18 +44,18 @@ class_lines domain set row = map (class_line domain set) row.classes
 abbrev pub classes_of : List ℕ → List ℕ → List (List ℕ × DomainRow) → Result (List ClassLine) Refusal
 classes_of domain set domains = on_ok (class_lines domain set) (set_row domain set domains)
 
--- a copy group of a class, with the name of its destination
+-- a backup copy group of a class, with the name of its destination
 abbrev pub group_line : List ℕ → List ℕ → List ℕ → PoolRows → BackupRule → GroupLine
 group_line domain set class s rule =
     record { domain = domain; set = set; class = class; rule = rule; destination = name_of_pool rule.destination s }
 
--- the copy group of a class, where it has one
-abbrev pub group_lines_of : List ℕ → List ℕ → PoolRows → List ℕ × Option BackupRule → List GroupLine
-group_lines_of domain set s c = option_map_or (λ rule. group_line domain set c.0 s rule ∷ []) c.1 []
+-- the backup copy group of a class, where it has one
+abbrev pub group_lines_of : List ℕ → List ℕ → PoolRows → List ℕ × ManagementClass → List GroupLine
+group_lines_of domain set s c = option_map_or (λ rule. group_line domain set c.0 s rule ∷ []) c.1.backup []
 
 abbrev pub group_lines : List ℕ → List ℕ → PoolRows → SetRow → List GroupLine
 group_lines domain set s row = flat_map (group_lines_of domain set s) row.classes
 
--- the copy groups of a set, which has to be there
+-- the backup copy groups of a set, which has to be there
 abbrev pub groups_of : List ℕ → List ℕ → List (List ℕ × DomainRow) → PoolRows → Result (List GroupLine) Refusal
 groups_of domain set domains s = on_ok (group_lines domain set s) (set_row domain set domains)

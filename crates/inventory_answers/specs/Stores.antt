@@ -59,6 +59,7 @@ volume_line s e = record {
   access = e.1.access;
   used = used_on (is_sequential e.1.pool s) e.1;
   capacity = e.1.capacity;
+  end = e.1.end;
 }
 
 -- the volume, where it lies in the pool that is asked for
@@ -80,7 +81,7 @@ volumes_of volume pool s = volumes_asked (volume_asked volume s) (pool_asked poo
 
 -- a database backup
 abbrev pub backup_line : ℕ × Backup → BackupLine
-backup_line b = record { file = b.0; taken = b.1.taken; number = b.1.number; done = b.1.is_done }
+backup_line b = record { file = b.0; taken = b.1.taken; number = b.1.number; done = b.1.is_done; after = b.1.after }
 
 -- all database backups, by the numbers of their files
 abbrev pub backup_lines : List (ℕ × Backup) → List BackupLine

@@ -5,6 +5,7 @@ ghost use Rattle.inventory_answers.specs.Answered.{rows_of, answered};
 
 use crate::clients::{filespaces_of, node_lines, versions_of};
 use crate::content::content_of;
+use crate::held::held_of;
 use crate::policy::{classes_of, domain_lines, groups_of, sets_of};
 use crate::query::Query;
 use crate::reply::{Answer, Rows};
@@ -44,6 +45,7 @@ fn rows_of(alloc: Global, tables: &Tables, query: &Query) -> Result<Rows, Refusa
         Query::Versions { node, filespace } => {
             Ok(Rows::Versions(versions_of(alloc, tables, node, filespace)?))
         }
+        Query::Held { filespace } => Ok(Rows::Held(held_of(alloc, tables, *filespace)?)),
         Query::Lookup { named } => Ok(Rows::Lookup(find_named(tables, named)?)),
         Query::Rules { node } => Ok(Rows::Rules(rules_of(alloc, tables, *node)?)),
         Query::OnPool { pool } => Ok(Rows::OnPool(on_pool(alloc, tables, *pool)?)),

@@ -12,7 +12,7 @@ use inventory_rows::Tables;
 use inventory_rows::pool_rows::Pools;
 use inventory_rows::volume_rows::{HeldSegment, Volume};
 use inventory_work::Listed;
-use kinds::{Name, Refusal};
+use kinds::{Name, ObjectSize, Refusal};
 use std::alloc::Global;
 use std::collections::BTreeMap;
 
@@ -48,7 +48,7 @@ fn counted(alloc: Global, held: &BTreeMap<HeldSegment, u64>) -> Result<BTreeMap<
     Ok(counts)
 }
 
-fn size_of_object(tables: &Tables, object: u64) -> Option<u32>
+fn size_of_object(tables: &Tables, object: u64) -> Option<ObjectSize>
     ensures { result ≡ size_of_object object (inv_of tables.now) }
 {
     match tables.objects.find(object) {

@@ -4,6 +4,7 @@
 mod answers;
 mod clients;
 mod content;
+mod held;
 mod lines;
 mod look;
 mod policy;
@@ -14,8 +15,8 @@ mod stores;
 pub use answers::answer;
 pub use content::segments_are_counted;
 pub use lines::{
-    BackupLine, ClassLine, ContentLine, DeviceLine, DomainLine, FilespaceLine, GroupLine, NodeLine,
-    PoolLine, SetLine, VersionLine, VolumeLine,
+    BackupLine, ClassLine, ContentLine, DeviceLine, DomainLine, FilespaceLine, GroupLine, HeldLine,
+    NodeLine, PoolLine, SetLine, VersionLine, VolumeLine,
 };
 pub use query::Query;
 pub use reply::{Answer, Rows};

@@ -1,7 +1,7 @@
 use inventory_rows::volume_rows::Status;
 use kinds::{
-    Access, BackupRule, Capacity, Day, Days, Digest, FilespaceName, Name, NodeName, Path, PoolKind,
-    PoolRule,
+    Access, ArchiveRule, BackupRule, Capacity, Day, Days, Digest, FilespaceName, Name, NodeName,
+    ObjectSize, Path, PoolKind, PoolRule, Text,
 };
 
 /// A policy domain.
@@ -31,6 +31,8 @@ pub struct ClassLine {
     pub class: Name,
     /// Whether the class has a backup copy group.
     pub group: bool,
+    /// The rule of its archive copy group, where it has one.
+    pub archive: Option<ArchiveRule>,
 }
 
 /// A backup copy group.
@@ -72,7 +74,7 @@ pub struct VersionLine {
     /// The object's number.
     pub object: u64,
     /// How many bytes the file has.
-    pub size: u32,
+    pub size: ObjectSize,
     /// When the file was changed last, as the client said.
     pub mtime: u64,
     /// The day on which the version was stored.
@@ -85,6 +87,28 @@ pub struct VersionLine {
     pub owed: bool,
     /// The SHA-256 of the file's bytes.
     pub digest: Digest,
+}
+
+/// An object that a client archived.
+#[derive(Drop)]
+pub struct HeldLine {
+    pub path: Path,
+    /// What the client says of it.
+    pub description: Text,
+    /// The object's number.
+    pub object: u64,
+    /// How many bytes the file has.
+    pub size: ObjectSize,
+    /// When the file was changed last, as the client said.
+    pub mtime: u64,
+    /// The SHA-256 of the file's bytes.
+    pub digest: Digest,
+    /// The day on which the object was stored.
+    pub stored: Day,
+    /// The day from which on it is no longer kept; none where it is kept without a limit.
+    pub until: Option<u32>,
+    /// Whether the object is still kept: that day lies ahead, or there is none.
+    pub owed: bool,
 }
 
 /// A device class.
@@ -124,6 +148,8 @@ pub struct VolumeLine {
     /// How many bytes are used: those of used blocks on a random volume, of live frames on a sequential one.
     pub used: u64,
     pub capacity: Capacity,
+    /// Where the next frame is written on a sequential volume; 0 on one of random access.
+    pub end: u64,
 }
 
 /// An object on a volume.
@@ -132,8 +158,8 @@ pub struct ContentLine {
     pub volume: Name,
     /// The object's number.
     pub object: u64,
-    /// How many bytes the object has, where a version of it is kept.
-    pub size: Option<u32>,
+    /// How many bytes the object has, where it is kept.
+    pub size: Option<ObjectSize>,
     /// How many of the object's segments lie on the volume.
     pub segments: u64,
 }
@@ -149,4 +175,6 @@ pub struct BackupLine {
     pub number: u64,
     /// Whether its file is whole.
     pub done: bool,
+    /// The backup that it follows, by the number of its file, where it follows one.
+    pub after: Option<u32>,
 }

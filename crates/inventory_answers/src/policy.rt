@@ -7,10 +7,10 @@ ghost use Rattle.inventory_answers.specs.Policy.{domain_line, domain_lines, set_
 
 use crate::lines::{ClassLine, DomainLine, GroupLine, SetLine};
 use crate::look::{active_name, domain_row, name_of_pool, set_row};
-use inventory_rows::policy_domains::{Domains, PolicyDomain, PolicySet};
+use inventory_rows::policy_domains::{Domains, ManagementClass, PolicyDomain, PolicySet};
 use inventory_rows::pool_rows::Pools;
 use inventory_work::Listed;
-use kinds::{CopyGroup, Name, Refusal};
+use kinds::{ArchiveGroup, ArchiveRule, CopyGroup, Name, Refusal};
 use std::alloc::Global;
 
 fn domain_line(active: &Name, name: &Name, domain: &PolicyDomain) -> Result<DomainLine, Refusal>
@@ -70,19 +70,29 @@ pub(crate) fn sets_of(
     }
 }
 
+fn archive_rule(group: Option<ArchiveGroup>) -> Option<ArchiveRule>
+    ensures { result ≡ group }
+{
+    match group {
+        None => None,
+        Some(group) => Some(group.rule()),
+    }
+}
+
 fn class_line(
     domain: &Name,
     set: &Name,
     name: &Name,
-    group: &Option<CopyGroup>,
+    row: &ManagementClass,
 ) -> Result<ClassLine, Refusal>
-    ensures { AnswersBy (λ line. line) result (class_line domain.now set.now (name.now, group.now)) }
+    ensures { AnswersBy (λ line. line) result (class_line domain.now set.now (name.now, row.now)) }
 {
     Ok(ClassLine {
         domain: domain.clone()?,
         set: set.clone()?,
         class: name.clone()?,
-        group: group.is_some(),
+        group: row.backup.is_some(),
+        archive: archive_rule(row.archive),
     })
 }
 
@@ -95,8 +105,8 @@ fn class_lines(
     ensures { AnswersBy (λ lines. lines) result (class_lines domain.now set.now row.now) }
 {
     let mut lines = Vec::new(alloc);
-    'classes: for (name, group) in row.classes() {
-        lines.push(class_line(domain, set, name, group)?)?;
+    'classes: for (name, class) in row.classes() {
+        lines.push(class_line(domain, set, name, class)?)?;
     }
     Ok(Listed::from_vec(lines))
 }
@@ -141,11 +151,11 @@ fn write_group(
     domain: &Name,
     set: &Name,
     class: &Name,
-    group: &Option<CopyGroup>,
+    row: &ManagementClass,
 ) -> Result<(), Refusal>
-    ensures { Writes result lines.old.items lines.new.items (group_lines_of domain.now set.now pools.now (class.now, group.now)) }
+    ensures { Writes result lines.old.items lines.new.items (group_lines_of domain.now set.now pools.now (class.now, row.now)) }
 {
-    match group {
+    match &row.backup {
         None => Ok(()),
         Some(group) => {
             lines.push(group_line(pools, domain, set, class, group)?)?;
@@ -164,8 +174,8 @@ fn group_lines(
     ensures { AnswersBy (λ lines. lines) result (group_lines domain.now set.now pools.now row.now) }
 {
     let mut lines = Vec::new(alloc);
-    'classes: for (name, group) in row.classes() {
-        write_group(&mut lines, pools, domain, set, name, group)?;
+    'classes: for (name, class) in row.classes() {
+        write_group(&mut lines, pools, domain, set, name, class)?;
     }
     Ok(Listed::from_vec(lines))
 }

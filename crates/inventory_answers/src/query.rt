@@ -50,6 +50,10 @@ pub enum Query {
         node: NodeName,
         filespace: FilespaceName,
     },
+    /// The objects that are held in the filespace with this number.
+    Held {
+        filespace: u32,
+    },
     /// What a name leads to.
     Lookup {
         named: Named,
@@ -76,7 +80,7 @@ pub enum Query {
         pool: u32,
         threshold: u8,
     },
-    /// The versions that their rules do not retain today.
+    /// The objects that are not retained today.
     Unretained,
     /// The volumes that may be reused today.
     Emptied,

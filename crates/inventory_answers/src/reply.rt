@@ -1,6 +1,6 @@
 use crate::lines::{
-    BackupLine, ClassLine, ContentLine, DeviceLine, DomainLine, FilespaceLine, GroupLine, NodeLine,
-    PoolLine, SetLine, VersionLine, VolumeLine,
+    BackupLine, ClassLine, ContentLine, DeviceLine, DomainLine, FilespaceLine, GroupLine, HeldLine,
+    NodeLine, PoolLine, SetLine, VersionLine, VolumeLine,
 };
 use inventory_work::{CopyLine, Found, Listed, MissingLine, Rules, UnretainedLine};
 use kinds::Day;
@@ -33,17 +33,19 @@ pub enum Rows {
     History(Listed<BackupLine>),
     /// By path, the newest first.
     Versions(Listed<VersionLine>),
+    /// By object.
+    Held(Listed<HeldLine>),
     Lookup(Found),
     Rules(Rules),
-    /// By filespace, path and version, the newest first.
+    /// By object.
     OnPool(Listed<CopyLine>),
-    /// By filespace, path and version, the newest first.
+    /// By object.
     OnVolume(Listed<CopyLine>),
-    /// By filespace, path and version, the newest first.
+    /// By object.
     Missing(Listed<MissingLine>),
     /// File numbers, in ascending order.
     Eligible(Listed<u32>),
-    /// By filespace, path and version, the oldest first.
+    /// By object.
     Unretained(Listed<UnretainedLine>),
     /// File numbers, in ascending order.
     Emptied(Listed<u32>),

@@ -117,6 +117,7 @@ fn volume_line(pools: &Pools, file: u32, volume: &Volume) -> Result<VolumeLine, 
         access: volume.access,
         used: used_on(sequential, volume)?,
         capacity: volume.capacity,
+        end: volume.end,
     })
 }
 
@@ -205,6 +206,7 @@ fn backup_line(file: u32, backup: &Backup) -> BackupLine
         taken: backup.taken,
         number: backup.number,
         done: backup.is_done,
+        after: backup.after,
     }
 }
 

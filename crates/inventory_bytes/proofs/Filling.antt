@@ -1,6 +1,6 @@
 -- Volumes on which segments are put one after the other.
-use Rattle.std.proofs.Common.{◌≡◌, ℕ, Bool, true, false, cond, ◌&&◌, List, [], ◌∷◌, ◌++◌, filter, Option, Some, None, refl, sym, ap, subst, ◌∙◌}
-use Rattle.std.specs.Prelude.{◌==◌, is_some}
+use Rattle.std.proofs.Common.{◌≡◌, ℕ, Bool, true, false, cond, ◌&&◌, List, [], ◌∷◌, ◌++◌, filter, Option, Some, None, Result, Ok, Err, refl, sym, ap, subst, ◌∙◌}
+use Rattle.std.specs.Prelude.{◌==◌, is_some, IfOk}
 use Rattle.std.specs.BTreeMap.{is_at}
 use Rattle.std.specs.List.{list_all, AllByRecursion}
 use Rattle.std.specs.List.Sorted.{IsStrictlySortedBy}
@@ -33,7 +33,7 @@ filled-through (s ∷ xs) ys vs ws h =
       | false ↦ λ g. absurd (cc)
     ] h
 
-filled-short : (xs ys : List (ℕ × Segment)) (vs : List (ℕ × Volume)) → filled xs vs ≡ None → filled (xs ++ ys) vs ≡ None
+pub filled-short : (xs ys : List (ℕ × Segment)) (vs : List (ℕ × Volume)) → filled xs vs ≡ None → filled (xs ++ ys) vs ≡ None
 filled-short [] ys vs h = absurd (cc)
 filled-short (s ∷ xs) ys vs h =
     elim (is_there vs s.1) as (λ b. cond b (filled xs (with_held (held_with s) vs)) None ≡ None → cond b (filled (xs ++ ys) (with_held (held_with s) vs)) None ≡ None) [
@@ -46,6 +46,12 @@ goes_on part rest all old now new h put = sym (filled-through part rest now new 
 
 pub stops : (part rest all : List (ℕ × Segment)) (old now : List (ℕ × Volume)) → filled (part ++ rest) now ≡ filled all old → filled part now ≡ None → filled all old ≡ None
 stops part rest all old now h short = sym h ∙ filled-short part rest now short
+
+-- both parts are put, or a segment of the second lies on no volume that is there
+pub both : {E : Type 0} (xs ys : List (ℕ × Segment)) (old mid new : List (ℕ × Volume)) (r : Result Bool E) → filled xs old ≡ Some mid → IfOk r (λ there. Fills there mid new ys) → IfOk r (λ there. Fills there old new (xs ++ ys))
+both xs ys old mid new (Ok true) put then = filled-through xs ys old mid put ∙ then
+both xs ys old mid new (Ok false) put then = filled-through xs ys old mid put ∙ then
+both xs ys old mid new (Err e) put then = tt
 
 -- ---- what the volumes hold then
 

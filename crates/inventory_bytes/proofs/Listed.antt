@@ -11,9 +11,11 @@ use Rattle.inventory_rows.specs.version_groups.declared.group.Group.{Group}
 use Rattle.inventory_rows.specs.version_groups.declared.groups.Filespace.{Filespace}
 use Rattle.inventory_rows.specs.version_groups.declared.versions.Version.{Version}
 use Rattle.inventory_rows.specs.object_rows.Filespaces.{versions_in, versions_of}
+use Rattle.inventory_rows.specs.object_rows.HeldRows.{held_versions}
+use Rattle.inventory_rows.specs.object_rows.Rows.{Rows, kept_of}
 use Rattle.inventory_rows.specs.Search.{copies, segments_on}
 use Rattle.inventory_rows.specs.State.{Inv}
-use Rattle.inventory_bytes.specs.Segments.{is_there, are_there, all_lie, of_segments, of_copies, of_versions, of_groups, of_filespaces}
+use Rattle.inventory_bytes.specs.Segments.{is_there, are_there, all_lie, of_segments, of_copies, of_versions, of_groups, of_filespaces, of_kept}
 
 abbrev of_pair : ℕ × CopyRow → List (ℕ × Segment)
 of_pair e = of_segments e.0 e.1.segments
@@ -41,8 +43,13 @@ by_filespace (f ∷ filespaces) =
     ∙ ap (λ (l : List (ℕ × Segment)). of_versions (versions_in f.1.groups) ++ l) (by_filespace filespaces)
     ∙ sym (flat_map-append (λ (v : Version). of_copies v.object v.copies) (versions_in f.1.groups) (versions_of filespaces))
 
-all_listed : (v : Inv) → of_filespaces v.clients.filespaces ≡ flat_map of_pair (copies v)
-all_listed v = by_filespace v.clients.filespaces ∙ by_version (versions_of v.clients.filespaces)
+by_rows : (rows : Rows) → of_kept rows.filespaces rows.held ≡ of_versions (kept_of rows)
+by_rows rows =
+    ap (λ (l : List (ℕ × Segment)). l ++ of_versions (held_versions rows.held)) (by_filespace rows.filespaces)
+    ∙ sym (flat_map-append (λ (v : Version). of_copies v.object v.copies) (versions_of rows.filespaces) (held_versions rows.held))
+
+all_listed : (v : Inv) → of_kept v.clients.filespaces v.clients.held ≡ flat_map of_pair (copies v)
+all_listed v = by_rows v.clients ∙ by_version (kept_of v.clients)
 
 -- ---- which of them pass a test
 
@@ -73,9 +80,9 @@ module _ (test : Segment → Bool) where
       ∙ ap (λ b. list_all test e.1.segments && b) (all_passing es)
 
 -- those on a volume
-pub listed_on : (v : Inv) (file : ℕ) → filter (λ s. s.1.file == file) (of_filespaces v.clients.filespaces) ≡ segments_on file v
+pub listed_on : (v : Inv) (file : ℕ) → filter (λ s. s.1.file == file) (of_kept v.clients.filespaces v.clients.held) ≡ segments_on file v
 listed_on v file = ap (filter (λ (s : ℕ × Segment). s.1.file == file)) (all_listed v) ∙ passing (λ s. s.file == file) (copies v)
 
 -- each of them lies on a volume that is there
-pub listed_lie : (v : Inv) → are_there v.clients.filespaces v.stores.volumes ≡ all_lie v
+pub listed_lie : (v : Inv) → are_there v.clients.filespaces v.clients.held v.stores.volumes ≡ all_lie v
 listed_lie v = ap (list_all (λ (s : ℕ × Segment). is_there v.stores.volumes s.1)) (all_listed v) ∙ all_passing (is_there v.stores.volumes) (copies v)

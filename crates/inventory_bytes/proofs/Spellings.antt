@@ -12,7 +12,7 @@ use Rattle.fields.specs.FieldLaws.{IsWide}
 use Rattle.fields.specs.Forms.{Form, byte, number, block, text, pair, viewed, partly, variant, spell_part, FitsPart, only, marked, option, coded, limit, items, ascending}
 use Rattle.kinds.specs.Names.{is_name_byte, is_within}
 use Rattle.kinds.specs.Paths.{is_rooted, has_no_zero}
-use Rattle.kinds.specs.ValueForms.{name, path}
+use Rattle.kinds.specs.ValueForms.{name, path, description}
 use Rattle.std.specs.Str.{is_utf8}
 
 -- each value that fits is spelled in at most so many bytes
@@ -58,6 +58,13 @@ path_within most = record { bound = bound } where
       let rooted = and_parts (nat_le (length bytes) most && is_rooted bytes) (has_no_zero bytes) parts.0 in
       let sizes = and_parts (nat_le (length bytes) most) (is_rooted bytes) rooted.0 in
       omega (arith, text_length bytes, leb-true (length bytes) most sizes.0)
+
+pub description_within : IsWithin description (λ _. 257)
+description_within = record { bound = bound } where
+  bound : (bytes : List ℕ) → description.Fits bytes → length (description.spell bytes) ≤ 257
+  bound bytes fits =
+      let parts = and_parts (nat_le (length bytes) 255) (is_utf8 bytes) fits.1 in
+      omega (arith, text_length bytes, leb-true (length bytes) 255 parts.0)
 
 -- ---- forms that are made of others
 

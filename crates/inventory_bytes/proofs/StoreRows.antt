@@ -5,6 +5,7 @@ use Rattle.std.specs.Int.{w16, w32, w64}
 use Rattle.std.specs.List.{sum_by}
 use Rattle.std.specs.Ordering.{nat_cmp}
 use Rattle.std.specs.Prelude.{unwrap_or}
+use Rattle.fields.specs.Editions.{second_form}
 use Rattle.fields.specs.FieldLaws.{wide16, wide32, wide64}
 use Rattle.fields.specs.Forms.{Form}
 use Rattle.kinds.specs.PoolForms.{kind, kind_number, access, access_number, accesses, size_with, size_number, size_limit, pool_rule, settings}
@@ -36,11 +37,11 @@ access_within = coded_within access_number accesses
 size_within : IsWithin size_limit (λ _. 8)
 size_within = viewed_within size_with size_number (limit_within w64 wide64)
 
-settings_within : IsWithin settings (λ _. 19)
+settings_within : IsWithin (settings second_form) (λ _. 20)
 settings_within = only_within is_pool (viewed_within rules.pool_with rules.pool_fields (pair_within size_within (pair_within (or_zero_within (number_within w32 wide32))
-    (pair_within byte_within (pair_within byte_within (pair_within byte_within (pair_within days_within (number_within w16 wide16))))))))
+    (pair_within byte_within (pair_within byte_within (pair_within byte_within (pair_within days_within (pair_within (number_within w16 wide16) flag_within))))))))
 
-pool_within : IsWithin pool_row (λ _. 84)
+pool_within : IsWithin (pool_row second_form) (λ _. 85)
 unfolding pool_row
 pool_within = viewed_within pool_with pool_fields (pair_within (name_within 30) (pair_within (name_within 30) (pair_within kind_within settings_within)))
 
@@ -54,18 +55,18 @@ module _ {k : ℕ} (large : 4000 ≤ k) where
   pub classes_within : IsWithin classes (λ cs. 4 + k * length cs)
   classes_within = table_of_rows k (slice_cmp nat_cmp) 4294967295 (name_within 30) class_within (omega (arith, large))
 
-  pub pools_within : IsWithin pools (λ ps. 4 + k * length ps)
+  pub pools_within : IsWithin (pools second_form) (λ ps. 4 + k * length ps)
   pools_within = table_of_rows k nat_cmp 4294967295 (number_within w32 wide32) pool_within (omega (arith, large))
 
   pub volumes_within : IsWithin volumes (λ vs. 4 + k * length vs)
   volumes_within = table_of_rows k nat_cmp 4294967295 (number_within w32 wide32) volume_within (omega (arith, large))
 
-  backup_within : IsWithin backup_row (λ b. 17 + k * length b.delays)
+  backup_within : IsWithin (backup_row second_form) (λ b. 22 + k * length b.delays)
   unfolding backup_row
   backup_within =
       weakened (viewed_within backup_with backup_fields (pair_within day_within (pair_within (number_within w64 wide64) (pair_within flag_within
-      (table_of_rows k nat_cmp 4294967295 (number_within w32 wide32) days_within (omega (arith, large)))))))
+      (pair_within (option_within (number_within w32 wide32)) (table_of_rows k nat_cmp 4294967295 (number_within w32 wide32) days_within (omega (arith, large))))))))
       (λ b. omega arith)
 
-  pub backups_within : IsWithin backups (λ bs. 4 + k * (length bs + sum_by (λ b. length b.1.delays) bs))
-  backups_within = table_of_lists k 17 (λ b. length b.delays) nat_cmp 4294967295 (number_within w32 wide32) backup_within (omega (arith, large))
+  pub backups_within : IsWithin (backups second_form) (λ bs. 4 + k * (length bs + sum_by (λ b. length b.1.delays) bs))
+  backups_within = table_of_lists k 22 (λ b. length b.delays) nat_cmp 4294967295 (number_within w32 wide32) backup_within (omega (arith, large))

@@ -1,11 +1,13 @@
 -- The segments of the copies, put on their volumes.
-use Rattle.std.specs.Prelude.{◌≡◌, ℕ, ◌==◌, Bool, true, false, is_some, List, [], ◌∷◌, map, Option, Some, None, if◌then◌else◌}
+use Rattle.std.specs.Prelude.{◌≡◌, ℕ, ◌==◌, Bool, true, false, is_some, List, [], ◌∷◌, ◌++◌, map, Option, Some, None, if◌then◌else◌}
 use Rattle.std.specs.List.{flat_map, list_all}
 use Rattle.kinds.specs.declared.segment.Segment.{Segment}
 use Rattle.inventory_rows.specs.version_groups.declared.copies.CopyRow.{CopyRow}
 use Rattle.inventory_rows.specs.version_groups.declared.group.Group.{Group}
 use Rattle.inventory_rows.specs.version_groups.declared.groups.Filespace.{Filespace}
 use Rattle.inventory_rows.specs.version_groups.declared.versions.Version.{Version}
+use Rattle.inventory_rows.specs.object_rows.declared.held_object.HeldRow.{HeldRow}
+use Rattle.inventory_rows.specs.object_rows.HeldRows.{held_versions}
 use Rattle.inventory_rows.specs.volume_rows.declared.held.HeldSegment.{HeldSegment}
 use Rattle.inventory_rows.specs.volume_rows.declared.volume.Volume.{Volume}
 use Rattle.inventory_rows.specs.volume_rows.Held.{held_of}
@@ -40,6 +42,10 @@ of_groups groups = flat_map (λ g. of_versions g.1.versions) groups
 abbrev pub of_filespaces : List (ℕ × Filespace) → List (ℕ × Segment)
 of_filespaces filespaces = flat_map (λ f. of_groups f.1.groups) filespaces
 
+-- those of all that is kept: of the versions in the filespaces, and of the held objects
+abbrev pub of_kept : List (ℕ × Filespace) → List (ℕ × HeldRow) → List (ℕ × Segment)
+of_kept filespaces held = of_filespaces filespaces ++ of_versions (held_versions held)
+
 -- ---- the volumes
 
 -- the volumes with other segments on them
@@ -61,12 +67,12 @@ Fills true old new segments = filled segments old ≡ Some new
 Fills false old new segments = filled segments old ≡ None
 
 -- each segment of the copies lies on a volume that is there
-abbrev pub are_there : List (ℕ × Filespace) → List (ℕ × Volume) → Bool
-are_there filespaces volumes = list_all (λ s. is_there volumes s.1) (of_filespaces filespaces)
+abbrev pub are_there : List (ℕ × Filespace) → List (ℕ × HeldRow) → List (ℕ × Volume) → Bool
+are_there filespaces held volumes = list_all (λ s. is_there volumes s.1) (of_kept filespaces held)
 
 -- the second rows are the first ones with the segments of all copies put on the volumes
-pub record AreFilled (filespaces : List (ℕ × Filespace)) (s t : PoolRows) : Type 0 where
-  pub filled : filled (of_filespaces filespaces) s.volumes ≡ Some t.volumes
+pub record AreFilled (filespaces : List (ℕ × Filespace)) (held : List (ℕ × HeldRow)) (s t : PoolRows) : Type 0 where
+  pub filled : filled (of_kept filespaces held) s.volumes ≡ Some t.volumes
   pub only : t ≡ record s { volumes = t.volumes }
 
 -- the database with these volumes
@@ -75,5 +81,5 @@ with_volumes volumes v = record v { stores = record v.stores { volumes = volumes
 
 -- the second database is the first one with the segments of all copies put on its volumes
 pub record IsFilled (v w : Inv) : Type 0 where
-  pub filled : filled (of_filespaces v.clients.filespaces) v.stores.volumes ≡ Some w.stores.volumes
+  pub filled : filled (of_kept v.clients.filespaces v.clients.held) v.stores.volumes ≡ Some w.stores.volumes
   pub only : w ≡ with_volumes w.stores.volumes v

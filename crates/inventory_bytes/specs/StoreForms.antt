@@ -9,6 +9,7 @@ use Rattle.fields.specs.Forms.{Form, IsForm, number, pair, viewed, only, partly,
 use Rattle.fields.specs.FieldLaws.{number_form, wide32, wide64}
 use Rattle.fields.specs.FormLaws.{pair_form, viewed_form, partly_form, only_form, flag_form, option_form}
 use Rattle.fields.specs.ListLaws.{ascending_form}
+use Rattle.fields.specs.Editions.{Edition, added, added_form}
 use Rattle.kinds.specs.declared.pool.Access.{Access}
 use Rattle.kinds.specs.declared.pool.PoolKind.{PoolKind}
 use Rattle.kinds.specs.declared.pool.PoolRule.{PoolRule}
@@ -38,12 +39,12 @@ pool_with f = record { name = f.0; class = f.1.0; kind = f.1.1.0; settings = f.1
 abbrev pub pool_fields : Pool → List ℕ × (List ℕ × (PoolKind × PoolRule))
 pool_fields p = (p.name, (p.class, (p.kind, p.settings)))
 
-unfoldable pub pool_row : Form Pool
-pool_row = viewed pool_with pool_fields (pair (name 30) (pair (name 30) (pair kind settings)))
+unfoldable pub pool_row : Edition → Form Pool
+pool_row e = viewed pool_with pool_fields (pair (name 30) (pair (name 30) (pair kind (settings e))))
 
 -- the pools by number
-abbrev pub pools : Form (List (ℕ × Pool))
-pools = ascending nat_cmp 4294967295 (number w32) pool_row
+abbrev pub pools : Edition → Form (List (ℕ × Pool))
+pools e = ascending nat_cmp 4294967295 (number w32) (pool_row e)
 
 -- a volume without its segments, which stand with the copies: its name, its pool, whether it is a scratch volume, its capacity, its access,
 -- where the next frame is written, and the day on which it was emptied, where it is
@@ -75,19 +76,23 @@ volume_row = partly (λ f. Some (volume_with f)) volume_fields volume_bytes
 abbrev pub volumes : Form (List (ℕ × Volume))
 volumes = ascending nat_cmp 4294967295 (number w32) volume_row
 
--- a database backup: the day on which it was taken, its number, whether it is whole, and its least delays by pool
-abbrev pub backup_with : ℕ × (ℕ × (Bool × List (ℕ × ℕ))) → Backup
-backup_with f = record { taken = f.0; number = f.1.0; is_done = f.1.1.0; delays = f.1.1.1 }
+-- a database backup: the day on which it was taken, its number, whether it is whole, the backup that it follows, which the second form adds, and its
+-- least delays by pool
+abbrev pub BackupFields : Type 0
+BackupFields = ℕ × (ℕ × (Bool × (Option ℕ × List (ℕ × ℕ))))
 
-abbrev pub backup_fields : Backup → ℕ × (ℕ × (Bool × List (ℕ × ℕ)))
-backup_fields b = (b.taken, (b.number, (b.is_done, b.delays)))
+abbrev pub backup_with : BackupFields → Backup
+backup_with f = record { taken = f.0; number = f.1.0; is_done = f.1.1.0; after = f.1.1.1.0; delays = f.1.1.1.1 }
 
-unfoldable pub backup_row : Form Backup
-backup_row = viewed backup_with backup_fields (pair day (pair (number w64) (pair flag (ascending nat_cmp 4294967295 (number w32) days))))
+abbrev pub backup_fields : Backup → BackupFields
+backup_fields b = (b.taken, (b.number, (b.is_done, (b.after, b.delays))))
+
+unfoldable pub backup_row : Edition → Form Backup
+backup_row e = viewed backup_with backup_fields (pair day (pair (number w64) (pair flag (pair (added e None (option (number w32))) (ascending nat_cmp 4294967295 (number w32) days)))))
 
 -- the listed backups by file number
-abbrev pub backups : Form (List (ℕ × Backup))
-backups = ascending nat_cmp 4294967295 (number w32) backup_row
+abbrev pub backups : Edition → Form (List (ℕ × Backup))
+backups e = ascending nat_cmp 4294967295 (number w32) (backup_row e)
 
 -- ---- laws
 
@@ -98,12 +103,12 @@ class_row_form = only_form is_class (or_zero_form (number_form w64 wide64))
 pub classes_form : IsForm classes
 classes_form = ascending_form (slice_cmp nat_cmp) 4294967295 (name_form 30) class_row_form
 
-pub pool_row_form : IsForm pool_row
+pub pool_row_form : (e : Edition) → IsForm (pool_row e)
 unfolding pool_row
-pool_row_form = viewed_form pool_with pool_fields (λ _. refl) (λ _. refl) (pair_form (name_form 30) (pair_form (name_form 30) (pair_form kind_form settings_form)))
+pool_row_form e = viewed_form pool_with pool_fields (λ _. refl) (λ _. refl) (pair_form (name_form 30) (pair_form (name_form 30) (pair_form kind_form (settings_form e))))
 
-pub pools_form : IsForm pools
-pools_form = ascending_form nat_cmp 4294967295 (number_form w32 wide32) pool_row_form
+pub pools_form : (e : Edition) → IsForm (pools e)
+pools_form e = ascending_form nat_cmp 4294967295 (number_form w32 wide32) (pool_row_form e)
 
 volume_back : (f : VolumeFields) (v : Volume) → Some (volume_with f) ≡ Some v → volume_fields v ≡ f
 volume_back f v e = ap volume_fields (sym (same_Some (volume_with f) v e))
@@ -116,9 +121,10 @@ volume_row_form = partly_form (λ f. Some (volume_with f)) volume_fields volume_
 pub volumes_form : IsForm volumes
 volumes_form = ascending_form nat_cmp 4294967295 (number_form w32 wide32) volume_row_form
 
-pub backup_row_form : IsForm backup_row
+pub backup_row_form : (e : Edition) → IsForm (backup_row e)
 unfolding backup_row
-backup_row_form = viewed_form backup_with backup_fields (λ _. refl) (λ _. refl) (pair_form day_form (pair_form (number_form w64 wide64) (pair_form flag_form (ascending_form nat_cmp 4294967295 (number_form w32 wide32) days_form))))
+backup_row_form e = viewed_form backup_with backup_fields (λ _. refl) (λ _. refl)
+    (pair_form day_form (pair_form (number_form w64 wide64) (pair_form flag_form (pair_form (added_form e None (option_form (number_form w32 wide32))) (ascending_form nat_cmp 4294967295 (number_form w32 wide32) days_form)))))
 
-pub backups_form : IsForm backups
-backups_form = ascending_form nat_cmp 4294967295 (number_form w32 wide32) backup_row_form
+pub backups_form : (e : Edition) → IsForm (backups e)
+backups_form e = ascending_form nat_cmp 4294967295 (number_form w32 wide32) (backup_row_form e)

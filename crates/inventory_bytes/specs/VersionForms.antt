@@ -9,9 +9,10 @@ use Rattle.fields.specs.Forms.{Form, IsForm, number, pair, viewed, only, variant
 use Rattle.fields.specs.FieldLaws.{number_form, wide32, wide64}
 use Rattle.fields.specs.FormLaws.{pair_form, viewed_form, variant_form, partly_form, only_form, flag_form}
 use Rattle.fields.specs.ListLaws.{items_form}
+use Rattle.fields.specs.Editions.{Edition}
 use Rattle.kinds.specs.declared.segment.Digest.{Digest}
 use Rattle.kinds.specs.declared.segment.Segment.{Segment}
-use Rattle.kinds.specs.ValueForms.{name, name_form, day, day_form, digest, digest_form, segments, segments_form}
+use Rattle.kinds.specs.ValueForms.{name, name_form, day, day_form, size, size_form, digest, digest_form, segments, segments_form}
 use Rattle.inventory_rows.specs.version_groups.declared.copies.CopyRow.{CopyRow}
 use Rattle.inventory_rows.specs.version_groups.declared.group.Group.{Group}
 use Rattle.inventory_rows.specs.version_groups.declared.versions.Version.{Version}
@@ -25,12 +26,12 @@ copy_with f = record { pool = f.0; placed = f.1.0; segments = f.1.1 }
 abbrev pub copy_fields : CopyRow → ℕ × (ℕ × List Segment)
 copy_fields c = (c.pool, (c.placed, c.segments))
 
-unfoldable pub copy_row : Form CopyRow
-copy_row = viewed copy_with copy_fields (pair (number w32) (pair (number w64) segments))
+unfoldable pub copy_row : Edition → Form CopyRow
+copy_row e = viewed copy_with copy_fields (pair (number w32) (pair (number w64) (segments e)))
 
--- the copies of a version, in ascending order of their pools
-unfoldable pub copies : Form (List CopyRow)
-copies = only are_by_pool (items 4294967295 copy_row)
+-- the copies of an object, in ascending order of their pools
+unfoldable pub copies : Edition → Form (List CopyRow)
+copies e = only are_by_pool (items 4294967295 (copy_row e))
 
 -- A version that is spelled with a day since which it is inactive: its object, size, time and digest, the day on which it was stored, that
 -- day, and its copies.
@@ -58,11 +59,11 @@ fields_at v (Some day) = Some (fields_since v day)
 abbrev pub version_fields : Version → Option VersionFields
 version_fields v = fields_at v v.since
 
-unfoldable pub dated_fields : Form VersionFields
-dated_fields = pair (number w64) (pair (number w32) (pair (number w64) (pair digest (pair day (pair day copies)))))
+unfoldable pub dated_fields : Edition → Form VersionFields
+dated_fields e = pair (number w64) (pair (size e) (pair (number w64) (pair digest (pair day (pair day (copies e))))))
 
-unfoldable pub dated : Form Version
-dated = variant version_with version_fields dated_fields
+unfoldable pub dated : Edition → Form Version
+dated e = variant version_with version_fields (dated_fields e)
 
 -- the day with which a version is spelled: 0 for an active one
 abbrev pub day_of : Option ℕ → ℕ
@@ -97,22 +98,22 @@ group_fields g = (g.class, (has_active g.versions, as_spelled g.versions))
 abbrev group_shown : List ℕ → Bool → Version → List Version → List ℕ × (Bool × List Version)
 group_shown class active newest older = (class, (active, newest ∷ older))
 
-unfoldable pub group_row : Form Group
-group_row = partly group_with group_fields (pair (name 30) (pair flag (items 4294967295 dated)))
+unfoldable pub group_row : Edition → Form Group
+group_row e = partly group_with group_fields (pair (name 30) (pair flag (items 4294967295 (dated e))))
 
 -- ---- laws
 
-pub copy_row_form : IsForm copy_row
+pub copy_row_form : (e : Edition) → IsForm (copy_row e)
 unfolding copy_row
-copy_row_form = viewed_form copy_with copy_fields (λ _. refl) (λ _. refl) (pair_form (number_form w32 wide32) (pair_form (number_form w64 wide64) segments_form))
+copy_row_form e = viewed_form copy_with copy_fields (λ _. refl) (λ _. refl) (pair_form (number_form w32 wide32) (pair_form (number_form w64 wide64) (segments_form e)))
 
-pub copies_form : IsForm copies
+pub copies_form : (e : Edition) → IsForm (copies e)
 unfolding copies
-copies_form = only_form are_by_pool (items_form 4294967295 copy_row_form)
+copies_form e = only_form are_by_pool (items_form 4294967295 (copy_row_form e))
 
-pub dated_fields_form : IsForm dated_fields
+pub dated_fields_form : (e : Edition) → IsForm (dated_fields e)
 unfolding dated_fields
-dated_fields_form = pair_form (number_form w64 wide64) (pair_form (number_form w32 wide32) (pair_form (number_form w64 wide64) (pair_form digest_form (pair_form day_form (pair_form day_form copies_form)))))
+dated_fields_form e = pair_form (number_form w64 wide64) (pair_form (size_form e) (pair_form (number_form w64 wide64) (pair_form digest_form (pair_form day_form (pair_form day_form (copies_form e))))))
 
 abbrev version_since : Version → Option ℕ → Version
 version_since v since = record v { since = since }
@@ -121,13 +122,13 @@ dated_back : (v : Version) (f : VersionFields) (since : Option ℕ) → v.since 
 dated_back v f None e h = absurd cc
 dated_back v f (Some day) e h = ap version_with (sym (same_Some (fields_since v day) f h)) ∙ ap (λ (o : Option ℕ). version_since v o) (sym e)
 
-pub dated_form : IsForm dated
+pub dated_form : (e : Edition) → IsForm (dated e)
 unfolding dated
-dated_form = variant_form version_with version_fields (λ _. refl) (λ v f h. dated_back v f v.since refl h) dated_fields_form
+dated_form e = variant_form version_with version_fields (λ _. refl) (λ v f h. dated_back v f v.since refl h) (dated_fields_form e)
 
-pub group_row_form : IsForm group_row
+pub group_row_form : (e : Edition) → IsForm (group_row e)
 unfolding group_row
-group_row_form = partly_form group_with group_fields back (pair_form (name_form 30) (pair_form flag_form (items_form 4294967295 dated_form))) where
+group_row_form e = partly_form group_with group_fields back (pair_form (name_form 30) (pair_form flag_form (items_form 4294967295 (dated_form e)))) where
   made : (class : List ℕ) (versions : List Version) (g : Group) (distinct : Bool) → (if distinct then Some (record { class = class; versions = versions }) else None) ≡ Some g → g ≡ record { class = class; versions = versions }
   made class versions g true e = cc
   made class versions g false e = absurd cc

@@ -4,6 +4,7 @@
 
 mod client_codecs;
 mod client_fits;
+mod held_rows;
 mod numbers;
 mod parts;
 mod payload;

@@ -1,9 +1,11 @@
 //! The segments of the copies, put on their volumes.
-ghost use Rattle.std.specs.Prelude.{◌≡◌, ◌∷◌, [], OnOk, IfOk};
+ghost use Rattle.std.specs.Prelude.{◌≡◌, ◌∷◌, ◌++◌, [], OnOk, IfOk};
 ghost use Rattle.inventory_rows.specs.volume_rows.Holdings.{with_segment};
-ghost use Rattle.inventory_bytes.specs.Segments.{of_segments, of_copies, of_versions, of_groups, of_filespaces, Fills};
+ghost use Rattle.inventory_rows.specs.object_rows.HeldRows.{held_versions};
+ghost use Rattle.inventory_bytes.specs.Segments.{of_segments, of_copies, of_versions, of_groups, of_filespaces, of_kept, Fills};
 
 use fields::Memory;
+use inventory_rows::object_rows::HeldRow;
 use inventory_rows::version_groups::{CopyRow, Filespace, Group, Version};
 use inventory_rows::volume_rows::{HeldSegment, Volume};
 use kinds::{Path, Segment};
@@ -97,8 +99,8 @@ fn put_groups(
     Ok(true)
 }
 
-/// Puts the segments of all copies on their volumes; false where one of these isn't there.
-pub(crate) fn put_filespaces(
+/// Puts the segments of the versions' copies on their volumes; false where one of these isn't there.
+fn put_filespaces(
     volumes: &mut BTreeMap<u32, Volume>,
     filespaces: &BTreeMap<u32, Filespace>,
 ) -> Result<bool, Memory>
@@ -110,4 +112,37 @@ pub(crate) fn put_filespaces(
         }
     }
     Ok(true)
+}
+
+/// Puts the segments of the held objects' copies on their volumes; false where one of these isn't there.
+fn put_held(
+    volumes: &mut BTreeMap<u32, Volume>,
+    held: &BTreeMap<u64, HeldRow>,
+) -> Result<bool, Memory>
+    ensures { IfOk result (λ there. Fills there volumes.old.entries volumes.new.entries (of_versions (held_versions held.now.entries))) }
+{
+    'held: for (_, row) in held.iter() {
+        if !put_copies(
+            volumes,
+            row.held.version.object,
+            row.held.version.copies.as_slice(),
+        )? {
+            return Ok(false);
+        }
+    }
+    Ok(true)
+}
+
+/// Puts the segments of all copies on their volumes; false where one of these isn't there.
+pub(crate) fn put_all(
+    volumes: &mut BTreeMap<u32, Volume>,
+    filespaces: &BTreeMap<u32, Filespace>,
+    held: &BTreeMap<u64, HeldRow>,
+) -> Result<bool, Memory>
+    ensures { IfOk result (λ there. Fills there volumes.old.entries volumes.new.entries (of_kept filespaces.now.entries held.now.entries)) }
+{
+    if !put_filespaces(volumes, filespaces)? {
+        return Ok(false);
+    }
+    put_held(volumes, held)
 }

@@ -1,12 +1,13 @@
 //! Device classes, storage pools, volumes and listed backups.
 ghost use Rattle.std.specs.Prelude.{◌<◌, ◌^◌, ⊤, length};
+ghost use Rattle.fields.specs.Editions.{second_form};
 ghost use Rattle.inventory_bytes.specs.StoreForms.{class_row, pool_row, volume_row, backup_row};
 ghost use Rattle.inventory_bytes.specs.Payload.{unheld_volume};
 
 use crate::row_fits::{FittingRow, table_fits};
 use crate::store_codecs::{BackupRow, ClassRow, PoolRow};
 use crate::volume_codecs::VolumeRow;
-use fields::Own;
+use fields::{Own, Second};
 use inventory_rows::Backup;
 use inventory_rows::pool_tables::Pool;
 use inventory_rows::volume_rows::Volume;
@@ -26,10 +27,10 @@ impl FittingRow<Option<Capacity>> for ClassRow {
 }
 
 #[tactic(auto, unfolding(crate::specs::StoreForms::pool_row))]
-impl FittingRow<Pool> for PoolRow {
+impl FittingRow<Pool> for PoolRow<Second> {
     ghost within = { λ _. ⊤ };
 
-    ghost spelled = { pool_row.Fits };
+    ghost spelled = { (pool_row second_form).Fits };
 
     fn fits(value: &Pool) {
         value.name.fits();
@@ -58,15 +59,16 @@ impl FittingRow<Volume> for VolumeRow {
 }
 
 #[tactic(auto, unfolding(crate::specs::StoreForms::backup_row))]
-impl FittingRow<Backup> for BackupRow {
+impl FittingRow<Backup> for BackupRow<Second> {
     ghost within = { λ backup. length backup.delays < 2 ^ 32 };
 
-    ghost spelled = { backup_row.Fits };
+    ghost spelled = { (backup_row second_form).Fits };
 
     fn fits(value: &Backup) {
         value.taken.fits();
         value.number.fits();
         value.is_done.fits();
+        value.after.fits();
         table_fits::<u32, Days, Own>(value.delays.as_map());
     }
 }

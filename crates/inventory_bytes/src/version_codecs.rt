@@ -1,4 +1,5 @@
 //! Versions of files, their copies, and the groups of paths.
+ghost use Rattle.fields.specs.Editions.{second_form};
 ghost use Rattle.std.specs.Prelude.{◌≡◌, ◌++◌, OnOk, Some, None, IsTrue, Vec, option_map};
 ghost use Rattle.std.specs.Option.{option_copied};
 ghost use Rattle.fields.specs.Forms.{items};
@@ -7,30 +8,27 @@ ghost use Rattle.inventory_rows.specs.version_groups.Copies.{are_by_pool};
 ghost use Rattle.inventory_bytes.specs.VersionForms.{copy_row, copy_row_form, copies, version_with, fields_since, dated_fields, dated, dated_form, as_spelled, as_meant, day_of, group_of, group_row, group_row_form};
 
 use fields::{
-    Codec, Fault, Formed, Memory, Reader, put_each, put_list, put_u32, put_u64, take_list,
+    By, Codec, Decoder, Fault, Formed, InEdition, Memory, Reader, Second, put_each, put_list,
+    put_u32, put_u64, take_list,
 };
 use inventory_rows::version_groups::{Copies, CopyRow, Group, Version, Versions};
-use kinds::{Day, Digest, Name, Segments};
+use kinds::{Day, Digest, Name, ObjectSize, Segments};
 use std::alloc::Global;
+use std::marker::PhantomData;
 
 /// A copy: its pool, the transaction that placed it, and its segments.
-pub struct CopyBytes;
+pub struct CopyBytes<E> {
+    edition: PhantomData<E>,
+}
 
 #[tactic(auto, unfolding(crate::specs::VersionForms::copy_row))]
-impl Codec<CopyRow> for CopyBytes {
-    ghost form = { copy_row };
-
-    fn put(out: &mut Vec<u8>, value: &CopyRow) -> Result<(), Memory> {
-        put_u32(out, value.pool)?;
-        put_u64(out, value.placed)?;
-        value.segments.write_to(out)?;
-        Ok(())
-    }
+impl<E: InEdition> Decoder<CopyRow> for CopyBytes<E> {
+    ghost form = { copy_row E.edition };
 
     fn take(alloc: Global, reader: &mut Reader<'_>) -> Result<CopyRow, Fault> {
         let pool = reader.u32()?;
         let placed = reader.u64()?;
-        let segments = Segments::read_from(alloc, reader)?;
+        let segments: Segments = By::<E>::take(alloc, reader)?;
         Ok(CopyRow {
             pool,
             placed,
@@ -38,24 +36,37 @@ impl Codec<CopyRow> for CopyBytes {
         })
     }
 
-    ghost is_form = { copy_row_form };
+    ghost is_form = { copy_row_form E.edition };
 }
 
-/// Puts the copies of a version.
-#[tactic(auto, unfolding(crate::specs::VersionForms::copies))]
-fn put_copies(out: &mut Vec<u8>, value: &Copies) -> Result<(), Memory>
-    requires { copies.Fits value.now }
-    ensures { OnOk result (out.new.items ≡ out.old.items ++ copies.spell value.now) }
-{
-    put_list::<CopyRow, CopyBytes>(out, value.as_slice())
+#[tactic(auto, unfolding(crate::specs::VersionForms::copy_row))]
+impl Codec<CopyRow> for CopyBytes<Second> {
+    fn put(out: &mut Vec<u8>, value: &CopyRow) -> Result<(), Memory> {
+        put_u32(out, value.pool)?;
+        put_u64(out, value.placed)?;
+        value.segments.write_to(out)?;
+        Ok(())
+    }
 }
 
-/// Takes the copies of a version, which stand in ascending order of their pools.
+/// Puts the copies of an object.
 #[tactic(auto, unfolding(crate::specs::VersionForms::copies))]
-fn take_copies(alloc: Global, reader: &mut Reader<'_>) -> Result<Copies, Fault>
-    ensures { Gives result reader.new.rest (copies.read reader.old.rest) }
+pub(crate) fn put_copies(out: &mut Vec<u8>, value: &Copies) -> Result<(), Memory>
+    requires { (copies second_form).Fits value.now }
+    ensures { OnOk result (out.new.items ≡ out.old.items ++ (copies second_form).spell value.now) }
 {
-    let taken = take_list::<CopyRow, CopyBytes>(alloc, reader, u32::MAX)?;
+    put_list::<CopyRow, CopyBytes<Second>>(out, value.as_slice())
+}
+
+/// Takes the copies of an object, which stand in ascending order of their pools.
+#[tactic(auto, unfolding(crate::specs::VersionForms::copies))]
+pub(crate) fn take_copies<E: InEdition>(
+    alloc: Global,
+    reader: &mut Reader<'_>,
+) -> Result<Copies, Fault>
+    ensures { Gives result reader.new.rest ((copies E.edition).read reader.old.rest) }
+{
+    let taken = take_list::<CopyRow, CopyBytes<E>>(alloc, reader, u32::MAX)?;
     match Copies::from_vec(taken) {
         Some(by_pool) => Ok(by_pool),
         None => Err(Fault::Malformed),
@@ -65,11 +76,11 @@ fn take_copies(alloc: Global, reader: &mut Reader<'_>) -> Result<Copies, Fault>
 /// Puts a version as one that is inactive since a day.
 #[tactic(auto, unfolding(crate::specs::VersionForms::dated_fields))]
 fn put_dated(out: &mut Vec<u8>, value: &Version, since: Day) -> Result<(), Memory>
-    requires { dated_fields.Fits (fields_since value.now since) }
-    ensures { OnOk result (out.new.items ≡ out.old.items ++ dated_fields.spell (fields_since value.now since)) }
+    requires { (dated_fields second_form).Fits (fields_since value.now since) }
+    ensures { OnOk result (out.new.items ≡ out.old.items ++ (dated_fields second_form).spell (fields_since value.now since)) }
 {
     put_u64(out, value.object)?;
-    put_u32(out, value.size)?;
+    value.size.write_to(out)?;
     put_u64(out, value.mtime)?;
     value.digest.write_to(out)?;
     value.stored.write_to(out)?;
@@ -79,28 +90,22 @@ fn put_dated(out: &mut Vec<u8>, value: &Version, since: Day) -> Result<(), Memor
 }
 
 /// A version that is inactive since a day.
-pub struct DatedVersion;
+pub struct DatedVersion<E> {
+    edition: PhantomData<E>,
+}
 
-impl Codec<Version> for DatedVersion {
-    ghost form = { dated };
-
-    #[tactic(auto, unfolding(crate::specs::VersionForms::dated))]
-    fn put(out: &mut Vec<u8>, value: &Version) -> Result<(), Memory> {
-        match value.since {
-            Some(since) => put_dated(out, value, since),
-            None => Ok(()),
-        }
-    }
+impl<E: InEdition> Decoder<Version> for DatedVersion<E> {
+    ghost form = { dated E.edition };
 
     #[tactic(auto, unfolding(crate::specs::VersionForms::dated, crate::specs::VersionForms::dated_fields))]
     fn take(alloc: Global, reader: &mut Reader<'_>) -> Result<Version, Fault> {
         let object = reader.u64()?;
-        let size = reader.u32()?;
+        let size: ObjectSize = By::<E>::take(alloc, reader)?;
         let mtime = reader.u64()?;
         let digest = Digest::read_from(alloc, reader)?;
         let stored = Day::read_from(alloc, reader)?;
         let since = Day::read_from(alloc, reader)?;
-        let copies = take_copies(alloc, reader)?;
+        let copies = take_copies::<E>(alloc, reader)?;
         Ok(Version {
             object,
             size,
@@ -112,7 +117,17 @@ impl Codec<Version> for DatedVersion {
         })
     }
 
-    ghost is_form = { dated_form };
+    ghost is_form = { dated_form E.edition };
+}
+
+impl Codec<Version> for DatedVersion<Second> {
+    #[tactic(auto, unfolding(crate::specs::VersionForms::dated))]
+    fn put(out: &mut Vec<u8>, value: &Version) -> Result<(), Memory> {
+        match value.since {
+            Some(since) => put_dated(out, value, since),
+            None => Ok(()),
+        }
+    }
 }
 
 /// The first day, with which an active version is spelled.
@@ -138,23 +153,23 @@ fn day_of(since: Option<Day>) -> Day
 /// Puts the newest version of a path, with the first day where it is active.
 #[tactic(auto, unfolding(crate::specs::VersionForms::dated))]
 fn put_newest(out: &mut Vec<u8>, newest: &Version) -> Result<(), Memory>
-    requires { dated.Fits (record newest.now { since = Some (day_of newest.now.since) }) }
-    ensures { OnOk result (out.new.items ≡ out.old.items ++ dated.spell (record newest.now { since = Some (day_of newest.now.since) })) }
+    requires { (dated second_form).Fits (record newest.now { since = Some (day_of newest.now.since) }) }
+    ensures { OnOk result (out.new.items ≡ out.old.items ++ (dated second_form).spell (record newest.now { since = Some (day_of newest.now.since) })) }
 {
     put_dated(out, newest, day_of(newest.since))
 }
 
 /// Puts the versions of a path, the newest first.
 fn put_versions(out: &mut Vec<u8>, versions: &[Version]) -> Result<(), Memory>
-    requires { (items 4294967295 dated).Fits (as_spelled versions.now) }
-    ensures { OnOk result (out.new.items ≡ out.old.items ++ (items 4294967295 dated).spell (as_spelled versions.now)) }
+    requires { (items 4294967295 (dated second_form)).Fits (as_spelled versions.now) }
+    ensures { OnOk result (out.new.items ≡ out.old.items ++ (items 4294967295 (dated second_form)).spell (as_spelled versions.now)) }
 {
     put_u32(out, versions.len() as u32)?;
     match versions {
         [] => Ok(()),
         [newest, older @ ..] => {
             put_newest(out, newest)?;
-            put_each::<Version, DatedVersion>(out, older)?;
+            put_each::<Version, DatedVersion<Second>>(out, older)?;
             Ok(())
         }
     }
@@ -183,23 +198,18 @@ fn as_meant(active: bool, spelled: Vec<Version>) -> Option<Vec<Version>>
 }
 
 /// The group of a path: its class, whether it has an active version, and its versions, the newest first.
-pub struct GroupRow;
+pub struct GroupRow<E> {
+    edition: PhantomData<E>,
+}
 
 #[tactic(auto, unfolding(crate::specs::VersionForms::group_row))]
-impl Codec<Group> for GroupRow {
-    ghost form = { group_row };
-
-    fn put(out: &mut Vec<u8>, value: &Group) -> Result<(), Memory> {
-        value.class.write_to(out)?;
-        value.versions.has_active().write_to(out)?;
-        put_versions(out, value.versions.as_slice())?;
-        Ok(())
-    }
+impl<E: InEdition> Decoder<Group> for GroupRow<E> {
+    ghost form = { group_row E.edition };
 
     fn take(alloc: Global, reader: &mut Reader<'_>) -> Result<Group, Fault> {
         let class = Name::read_from(alloc, reader)?;
         let active = bool::read_from(alloc, reader)?;
-        let spelled = take_list::<Version, DatedVersion>(alloc, reader, u32::MAX)?;
+        let spelled = take_list::<Version, DatedVersion<E>>(alloc, reader, u32::MAX)?;
         match as_meant(active, spelled) {
             None => Err(Fault::Malformed),
             Some(meant) => match Versions::from_vec(meant) {
@@ -209,5 +219,15 @@ impl Codec<Group> for GroupRow {
         }
     }
 
-    ghost is_form = { group_row_form };
+    ghost is_form = { group_row_form E.edition };
+}
+
+#[tactic(auto, unfolding(crate::specs::VersionForms::group_row))]
+impl Codec<Group> for GroupRow<Second> {
+    fn put(out: &mut Vec<u8>, value: &Group) -> Result<(), Memory> {
+        value.class.write_to(out)?;
+        value.versions.has_active().write_to(out)?;
+        put_versions(out, value.versions.as_slice())?;
+        Ok(())
+    }
 }

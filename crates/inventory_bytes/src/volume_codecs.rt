@@ -5,7 +5,7 @@ ghost use Rattle.std.specs.Int.{w32};
 ghost use Rattle.fields.specs.Forms.{number, pair, ascending};
 ghost use Rattle.inventory_bytes.specs.StoreForms.{volume_row, volume_row_form, volume_bytes, volume_fields, volumes};
 
-use fields::{Codec, Fault, Formed, Memory, Reader, put_u32, put_u64};
+use fields::{Decoder, Fault, Formed, Memory, Reader, put_u32, put_u64};
 use inventory_rows::volume_rows::{Holdings, Volume};
 use kinds::{Access, Capacity, Day, Name};
 use std::alloc::Global;
@@ -31,12 +31,8 @@ pub fn put_volume(out: &mut Vec<u8>, value: &Volume) -> Result<(), Memory>
 pub struct VolumeRow;
 
 #[tactic(auto, unfolding(crate::specs::StoreForms::volume_row))]
-impl Codec<Volume> for VolumeRow {
+impl Decoder<Volume> for VolumeRow {
     ghost form = { volume_row };
-
-    fn put(out: &mut Vec<u8>, value: &Volume) -> Result<(), Memory> {
-        put_volume(out, value)
-    }
 
     fn take(alloc: Global, reader: &mut Reader<'_>) -> Result<Volume, Fault> {
         let name = Name::read_from(alloc, reader)?;

@@ -1,4 +1,4 @@
--- What is asked of each version, and how all versions are walked.
+-- What is asked of each object that is kept, and how all are walked.
 use Rattle.std.specs.Prelude.{ℕ, Bool, true, nat_lt, nat_le, ◌&&◌, is_some, List}
 use Rattle.std.specs.List.{list_all}
 use Rattle.std.specs.Option.{option_map_or}
@@ -6,6 +6,7 @@ use Rattle.inventory_rows.specs.version_groups.declared.copies.CopyRow.{CopyRow}
 use Rattle.inventory_rows.specs.version_groups.declared.group.Group.{Group}
 use Rattle.inventory_rows.specs.version_groups.declared.groups.Filespace.{Filespace}
 use Rattle.inventory_rows.specs.version_groups.declared.versions.Version.{Version}
+use Rattle.inventory_rows.specs.object_rows.declared.held_object.HeldRow.{HeldRow}
 use Rattle.inventory_rows.specs.pool_tables.Rows.{row_at}
 use Rattle.inventory_rows.specs.Search.{pool}
 use Rattle.inventory_rows.specs.State.{Inv}
@@ -35,3 +36,7 @@ all_in_groups test groups = list_all (λ g. list_all test g.1.versions) groups
 
 abbrev pub all_in_filespaces : (Version → Bool) → List (ℕ × Filespace) → Bool
 all_in_filespaces test filespaces = list_all (λ f. all_in_groups test f.1.groups) filespaces
+
+-- each held object passes
+abbrev pub all_in_held : (Version → Bool) → List (ℕ × HeldRow) → Bool
+all_in_held test held = list_all (λ h. test h.1.held.version) held

@@ -1,7 +1,8 @@
 -- What is asked of the rows of each table, row by row.
 use Rattle.std.specs.Prelude.{ℕ, Bool, true, nat_le, ◌&&◌, is_some, List, [], ◌∷◌, map, Option, Some, None}
 use Rattle.std.specs.List.{list_all}
-use Rattle.kinds.specs.declared.rule.BackupRule.{BackupRule}
+use Rattle.std.specs.Option.{option_map_or}
+use Rattle.inventory_rows.specs.policy_domains.declared.classes.ManagementClass.{ManagementClass}
 use Rattle.inventory_rows.specs.policy_domains.Rows.{SetRow, DomainRow}
 use Rattle.inventory_rows.specs.version_groups.declared.group.Group.{Group}
 use Rattle.inventory_rows.specs.version_groups.declared.versions.Version.{Version}
@@ -24,10 +25,10 @@ days_fall bound (version ∷ older) = is_not_later bound version.since && days_f
 abbrev pub groups_orderly : List (List ℕ × Group) → Bool
 groups_orderly groups = list_all (λ g. is_orderly g.1) groups
 
--- the pool to which a class's copy group sends is there
-abbrev pub class_cites : Inv → Option BackupRule → Bool
-class_cites v None = true
-class_cites v (Some rule) = is_some (pool rule.destination v)
+-- the pools to which a class's copy groups send are there
+abbrev pub class_cites : Inv → ManagementClass → Bool
+class_cites v class =
+    option_map_or (λ rule. is_some (pool rule.destination v)) class.backup true && option_map_or (λ rule. is_some (pool rule.destination v)) class.archive true
 
 abbrev pub set_cites : Inv → SetRow → Bool
 set_cites v set = list_all (λ c. class_cites v c.1) set.classes

@@ -1,13 +1,15 @@
-//! What is asked of client nodes, filespaces and groups.
+//! What is asked of client nodes, filespaces, groups and held objects.
 
-ghost use Rattle.std.specs.Prelude.{◌≡◌, is_some};
+ghost use Rattle.std.specs.Prelude.{◌≡◌, ◌&&◌, is_some};
+ghost use Rattle.inventory_rows.specs.object_rows.Filespaces.{filespace_at};
+ghost use Rattle.inventory_rows.specs.object_rows.HeldRows.{is_held_row};
 ghost use Rattle.inventory_rows.specs.policy_domains.Rows.{row_of};
 ghost use Rattle.inventory_rows.specs.State.{inv_of};
-ghost use Rattle.inventory_rules.specs.Valid.{are_all_inactive, filespaces_cite, groups_are_orderly, is_orderly, nodes_cite};
+ghost use Rattle.inventory_rules.specs.Valid.{are_all_inactive, filespaces_cite, groups_are_orderly, held_cite, is_orderly, nodes_cite};
 ghost use Rattle.inventory_check.specs.Rows.{days_fall, groups_orderly, is_not_later};
 
 use inventory_rows::Tables;
-use inventory_rows::object_rows::Node;
+use inventory_rows::object_rows::{HeldRow, Node};
 use inventory_rows::policy_domains::Domains;
 use inventory_rows::version_groups::{Group, Version};
 use kinds::{Day, Path};
@@ -37,6 +39,25 @@ pub fn filespaces_cite(tables: &Tables) -> bool
 {
     'filespaces: for (_, filespace) in tables.objects.filespaces() {
         if !tables.objects.nodes().contains_key(&filespace.node) {
+            return false;
+        }
+    }
+    true
+}
+
+fn is_held(tables: &Tables, object: u64, row: &HeldRow) -> bool
+    ensures { result ≡ (is_held_row (object, row.now) && is_some (filespace_at row.now.filespace (inv_of tables.now).clients.filespaces)) }
+{
+    let numbered = row.held.version.object == object && row.held.version.since.is_none();
+    numbered && tables.objects.filespaces().contains_key(&row.filespace)
+}
+
+/// Whether each held object stands under its number, has no day from which it is inactive, and lies in a filespace that is there.
+pub fn held_cite(tables: &Tables) -> bool
+    ensures { result ≡ held_cite (inv_of tables.now) }
+{
+    'held: for (object, row) in tables.objects.held() {
+        if !is_held(tables, *object, row) {
             return false;
         }
     }

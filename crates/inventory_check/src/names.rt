@@ -47,7 +47,7 @@ fn numbers_apart(alloc: Global, tables: &Tables) -> Result<bool, Refusal>
     Ok(files_apart(tables.pools.volumes(), &tables.backups) && apart)
 }
 
-/// Whether objects, files and backups have numbers of their own. The table of versions sees to those of objects. Its one refusal is want of memory.
+/// Whether objects, files and backups have numbers of their own. The table of objects sees to theirs. Its one refusal is want of memory.
 pub fn are_numbered(alloc: Global, tables: &Tables) -> Result<bool, Refusal>
     ensures { AnswersBy (λ numbered. numbered) result (are_numbered (inv_of tables.now)) }
 {

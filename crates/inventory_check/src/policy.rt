@@ -1,6 +1,8 @@
 //! What is asked of policy domains.
 
-ghost use Rattle.std.specs.Prelude.{◌≡◌, is_some};
+ghost use Rattle.std.specs.Prelude.{◌≡◌, is_some, true};
+ghost use Rattle.std.specs.Option.{option_map_or};
+ghost use Rattle.inventory_rows.specs.Search.{pool};
 ghost use Rattle.kinds.specs.Names.{is_same_name};
 ghost use Rattle.inventory_rows.specs.policy_domains.Rows.{active_set, row_of};
 ghost use Rattle.inventory_rows.specs.State.{inv_of};
@@ -8,11 +10,11 @@ ghost use Rattle.inventory_rules.specs.Valid.{defaults_are_there, is_default_the
 ghost use Rattle.inventory_check.specs.Rows.{class_cites, domain_cites, domain_has_defaults, domains_cite, set_cites};
 
 use inventory_rows::Tables;
-use inventory_rows::policy_domains::{PolicyDomain, PolicySet};
-use kinds::{CopyGroup, Name};
+use inventory_rows::policy_domains::{ManagementClass, PolicyDomain, PolicySet};
+use kinds::{ArchiveGroup, CopyGroup, Name};
 
-fn class_cites(tables: &Tables, group: Option<CopyGroup>) -> bool
-    ensures { result ≡ class_cites (inv_of tables.now) group }
+fn backup_cites(tables: &Tables, group: Option<CopyGroup>) -> bool
+    ensures { result ≡ option_map_or (λ rule. is_some (pool rule.destination (inv_of tables.now))) group true }
 {
     match group {
         None => true,
@@ -23,11 +25,29 @@ fn class_cites(tables: &Tables, group: Option<CopyGroup>) -> bool
     }
 }
 
+fn archive_cites(tables: &Tables, group: Option<ArchiveGroup>) -> bool
+    ensures { result ≡ option_map_or (λ rule. is_some (pool rule.destination (inv_of tables.now))) group true }
+{
+    match group {
+        None => true,
+        Some(group) => {
+            let destination = group.rule().destination;
+            tables.pools.pools().contains_key(&destination)
+        }
+    }
+}
+
+fn class_cites(tables: &Tables, class: &ManagementClass) -> bool
+    ensures { result ≡ class_cites (inv_of tables.now) class.now }
+{
+    backup_cites(tables, class.backup) && archive_cites(tables, class.archive)
+}
+
 fn set_cites(tables: &Tables, set: &PolicySet) -> bool
     ensures { result ≡ set_cites (inv_of tables.now) set.now }
 {
-    'classes: for (_, group) in set.classes() {
-        if !class_cites(tables, *group) {
+    'classes: for (_, class) in set.classes() {
+        if !class_cites(tables, class) {
             return false;
         }
     }

@@ -9,7 +9,7 @@ ghost use Rattle.inventory_check.specs.Together.{agree, all_cited, together};
 
 use crate::backups::{are_by_today, are_past};
 use crate::classes::classes_are;
-use crate::clients::{filespaces_cite, groups_are_orderly, nodes_cite};
+use crate::clients::{filespaces_cite, groups_are_orderly, held_cite, nodes_cite};
 use crate::counts::is_small;
 use crate::names::{are_named, are_numbered};
 use crate::numbers::{are_bounded, are_drawn};
@@ -27,11 +27,12 @@ fn all_cited(tables: &Tables) -> bool
 {
     nodes_cite(tables)
         && (filespaces_cite(tables)
-            && (rules_cite(tables)
-                && (pools_cite(tables) && (volumes_cite(tables) && copies_cite(tables)))))
+            && (held_cite(tables)
+                && (rules_cite(tables)
+                    && (pools_cite(tables) && (volumes_cite(tables) && copies_cite(tables))))))
 }
 
-/// Whether defaults, groups, versions, volumes, the hierarchy of pools, the days and the device classes are as they have to be.
+/// Whether defaults, groups, objects, volumes, the hierarchy of pools, the days and the device classes are as they have to be.
 fn agree(tables: &Tables) -> bool
     requires { IsTied (inv_of tables.now) }
     ensures { result ≡ agree (inv_of tables.now) }

@@ -1,4 +1,4 @@
-//! What is asked of each version.
+//! What is asked of each object that is kept.
 
 ghost use Rattle.std.specs.Prelude.{◌≡◌, ◌==◌, length, filter, map, nat_le};
 ghost use Rattle.std.specs.List.{list_all, sum_by};
@@ -7,16 +7,17 @@ ghost use Rattle.inventory_rows.specs.version_groups.Copies.{are_by_pool};
 ghost use Rattle.inventory_rows.specs.Search.{copies, is_primary, versions};
 ghost use Rattle.inventory_rows.specs.State.{inv_of};
 ghost use Rattle.inventory_rules.specs.Valid.{copies_cite, is_copied, is_of_pool, lie_in, versions_are_copied};
-ghost use Rattle.inventory_check.specs.Asked.{all_in_filespaces, all_in_groups, copy_cites, holds, is_by_today};
+ghost use Rattle.inventory_check.specs.Asked.{all_in_filespaces, all_in_groups, all_in_held, copy_cites, holds, is_by_today};
 
 use crate::days::{is_by, is_none_or_by};
+use inventory_rows::object_rows::HeldRow;
 use inventory_rows::pool_rows::Pools;
 use inventory_rows::version_groups::{Copies, CopyRow, Filespace, Group, Version};
 use inventory_rows::{Tables, is_primary};
 use kinds::{Day, Path, Segment};
 use std::collections::BTreeMap;
 
-/// What is asked of each version.
+/// What is asked of each object that is kept.
 #[derive(Clone, Copy)]
 pub(crate) enum Asked {
     /// Each copy's pool is there, and each of its segments lies on a volume of that pool.
@@ -82,7 +83,7 @@ fn count_primary(tables: &Tables, copies: &[CopyRow]) -> usize
 }
 
 /// Whether the segments have so many bytes in all.
-fn have_size(size: u32, segments: &[Segment]) -> bool
+fn have_size(size: u64, segments: &[Segment]) -> bool
     ensures { result ≡ (sum_by (λ s. s.len) segments.now == size) }
 {
     let mut left = size;
@@ -95,7 +96,7 @@ fn have_size(size: u32, segments: &[Segment]) -> bool
     left == 0
 }
 
-fn are_whole(size: u32, copies: &[CopyRow]) -> bool
+fn are_whole(size: u64, copies: &[CopyRow]) -> bool
     ensures { result ≡ list_all (λ c. sum_by (λ s. s.len) c.segments == size) copies.now }
 {
     copies
@@ -117,7 +118,7 @@ fn is_copied(tables: &Tables, version: &Version) -> bool
     let copies = version.copies.as_slice();
     !copies.is_empty()
         && (count_primary(tables, copies) <= 1
-            && (are_by_pool(&version.copies) && are_whole(version.size, copies)))
+            && (are_by_pool(&version.copies) && are_whole(version.size.bytes(), copies)))
 }
 
 fn holds(asked: Asked, tables: &Tables, version: &Version) -> bool
@@ -160,11 +161,23 @@ fn all_in_filespaces(asked: Asked, tables: &Tables, filespaces: &BTreeMap<u32, F
     true
 }
 
-/// Whether each version has what is asked.
+fn all_in_held(asked: Asked, tables: &Tables, held: &BTreeMap<u64, HeldRow>) -> bool
+    ensures { result ≡ all_in_held (holds asked (inv_of tables.now)) held.now.entries }
+{
+    'held: for (_, row) in held {
+        if !holds(asked, tables, &row.held.version) {
+            return false;
+        }
+    }
+    true
+}
+
+/// Whether each object that is kept has what is asked.
 pub(crate) fn all_versions(asked: Asked, tables: &Tables) -> bool
     ensures { result ≡ list_all (holds asked (inv_of tables.now)) (versions (inv_of tables.now)) }
 {
     all_in_filespaces(asked, tables, tables.objects.filespaces())
+        && all_in_held(asked, tables, tables.objects.held())
 }
 
 /// Whether each object's number is from the first one on and below the next one.
@@ -188,7 +201,7 @@ pub fn copies_cite(tables: &Tables) -> bool
     all_versions(Asked::Cited, tables)
 }
 
-/// Whether each version's copies are as they have to be.
+/// Whether each object's copies are as they have to be.
 pub fn versions_are_copied(tables: &Tables) -> bool
     ensures { result ≡ versions_are_copied (inv_of tables.now) }
 {

@@ -16,11 +16,13 @@ use Rattle.inventory_rows.specs.version_groups.Copies.{has_copy, with_copy, with
 use Rattle.inventory_rows.specs.version_groups.Entries.{on_ok, if_found}
 use Rattle.inventory_rows.specs.version_groups.Versions.{has_object, are_distinct, having_copies, version_of, with_copies}
 use Rattle.inventory_rows.proofs.of_version_groups.Lists.{are_of_others}
-use Rattle.inventory_rows.specs.object_rows.Filespaces.{filespaces_altered, filespaces_copied, filespace_copied, groups_copied, group_copied, versions_in, versions_of}
-use Rattle.inventory_rows.specs.object_rows.Rows.{Rows, FreePool, rows_altered, with_filespaces}
+use Rattle.inventory_rows.specs.object_rows.declared.held_object.HeldRow.{HeldRow}
+use Rattle.inventory_rows.specs.object_rows.Filespaces.{filespaces_copied, filespace_copied, groups_copied, group_copied, versions_in, versions_of}
+use Rattle.inventory_rows.specs.object_rows.HeldRows.{held_copied, held_versions, row_copied}
+use Rattle.inventory_rows.specs.object_rows.Rows.{Rows, FreePool, kept_of, rows_altered, rows_copied}
 use Rattle.inventory_rows.proofs.of_object_rows.VersionLists.{none_of_others}
 use Rattle.inventory_rows.specs.State.{Inv}
-use Rattle.inventory_rules.proofs.CopiedLists.{versions_of-copied}
+use Rattle.inventory_rules.proofs.CopiedLists.{kept_of-copied}
 use Rattle.inventory_rules.specs.Common.{or_same}
 use Rattle.inventory_rules.specs.Copies.{change_copy}
 use Rattle.inventory_effects.specs.Undoing.{KeepsWay}
@@ -105,6 +107,17 @@ spaces_stay k cs (f ∷ fs) a =
     let p = split_all (λ (v : Version). having_copies k cs v ≡ v) (versions_in f.1.groups) (versions_of fs) a in
     ap (λ (gs : List (List ℕ × Group)). (f.0, record f.1 { groups = gs }) ∷ filespaces_copied k cs fs) (groups_stay k cs f.1.groups p.0) ∙ ap (λ l. f ∷ l) (spaces_stay k cs fs p.1)
 
+held_stay : (k : ℕ) (cs : List CopyRow) (held : List (ℕ × HeldRow)) → Stays k cs (held_versions held) → held_copied k cs held ≡ held
+held_stay k cs [] a = refl
+held_stay k cs (h ∷ held) a =
+    ap (λ (x : Version). (h.0, record h.1 { held = record (h.1.held) { version = x } }) ∷ held_copied k cs held) a.0 ∙ ap (λ l. h ∷ l) (held_stay k cs held a.1)
+
+rows_stay : (k : ℕ) (cs : List CopyRow) (rows : Rows) → Stays k cs (kept_of rows) → rows_copied k cs rows ≡ rows
+rows_stay k cs rows a =
+    let p = split_all (λ (v : Version). having_copies k cs v ≡ v) (versions_of rows.filespaces) (held_versions rows.held) a in
+    ap (λ (fs : List (ℕ × Filespace)). record rows { filespaces = fs; held = held_copied k cs rows.held }) (spaces_stay k cs rows.filespaces p.0)
+    ∙ ap (λ (held : List (ℕ × HeldRow)). record rows { held = held }) (held_stay k cs rows.held p.1)
+
 -- ---- of two lists of copies, one after the other, the second stays
 
 having-having : (k : ℕ) (cs ds : List CopyRow) (v : Version) → having_copies k ds (having_copies k cs v) ≡ having_copies k ds v
@@ -130,6 +143,17 @@ spaces_twice k cs ds (f ∷ fs) =
     ap (λ (gs : List (List ℕ × Group)). (f.0, record f.1 { groups = gs }) ∷ filespaces_copied k ds (filespaces_copied k cs fs)) (groups_twice k cs ds f.1.groups)
     ∙ ap (λ l. (f.0, filespace_copied k ds f.1) ∷ l) (spaces_twice k cs ds fs)
 
+held_twice : (k : ℕ) (cs ds : List CopyRow) (held : List (ℕ × HeldRow)) → held_copied k ds (held_copied k cs held) ≡ held_copied k ds held
+held_twice k cs ds [] = refl
+held_twice k cs ds (h ∷ held) =
+    ap (λ (x : Version). (h.0, record h.1 { held = record (h.1.held) { version = x } }) ∷ held_copied k ds (held_copied k cs held)) (having-having k cs ds h.1.held.version)
+    ∙ ap (λ l. (h.0, row_copied k ds h.1) ∷ l) (held_twice k cs ds held)
+
+rows_twice : (k : ℕ) (cs ds : List CopyRow) (rows : Rows) → rows_copied k ds (rows_copied k cs rows) ≡ rows_copied k ds rows
+rows_twice k cs ds rows =
+    ap (λ (fs : List (ℕ × Filespace)). record rows { filespaces = fs; held = held_copied k ds (held_copied k cs rows.held) }) (spaces_twice k cs ds rows.filespaces)
+    ∙ ap (λ (held : List (ℕ × HeldRow)). record rows { filespaces = filespaces_copied k ds rows.filespaces; held = held }) (held_twice k cs ds rows.held)
+
 -- ---- the version that is found has the copies
 
 found-copied : (k : ℕ) (cs : List CopyRow) (w : Version) (vs : List Version) → version_of k vs ≡ Some w → version_of k (with_copies k cs vs) ≡ Some (record w { copies = cs })
@@ -144,41 +168,39 @@ found-copied k cs w (v ∷ vs) h =
 
 -- ---- a copy that came, and goes again
 
-abbrev alter : ℕ → copies.CopyChange → List (ℕ × Filespace) → Option Version → Result (List (ℕ × Filespace)) Refusal
-alter k change fs found = if_found found (λ v. on_ok (λ copies. filespaces_copied k copies fs) (copies_after change v.copies))
+abbrev alter : ℕ → copies.CopyChange → Rows → Option Version → Result Rows Refusal
+alter k change rows found = if_found found (λ v. on_ok (λ copies. rows_copied k copies rows) (copies_after change v.copies))
 
-back : (k : ℕ) (row : CopyRow) (w : Version) (fs : List (ℕ × Filespace)) → version_of k (versions_of fs) ≡ Some w → are_distinct (versions_of fs) ≡ true → has_copy row.pool w.copies ≡ false
-    → filespaces_altered k (copy.Drop row.pool) (filespaces_copied k (with_copy row w.copies) fs) ≡ Ok fs
-back k row w fs found d free =
+back : (k : ℕ) (row : CopyRow) (w : Version) (rows : Rows) → version_of k (kept_of rows) ≡ Some w → are_distinct (kept_of rows) ≡ true → has_copy row.pool w.copies ≡ false
+    → rows_altered k (copy.Drop row.pool) (rows_copied k (with_copy row w.copies) rows) ≡ Ok rows
+back k row w rows found d free =
     let more : List CopyRow = with_copy row w.copies in
-    let here : version_of k (versions_of (filespaces_copied k more fs)) ≡ Some (record w { copies = more }) = ap (version_of k) (versions_of-copied k more fs) ∙ found-copied k more w (versions_of fs) found in
-    ap (alter k (copy.Drop row.pool) (filespaces_copied k more fs)) here
-    ∙ ap (on_ok (λ (cs : List CopyRow). filespaces_copied k cs (filespaces_copied k more fs))) (dropped-added row w.copies free)
-    ∙ ap Ok (spaces_twice k more w.copies fs ∙ spaces_stay k w.copies fs (found_stays k w (versions_of fs) found d))
+    let here : version_of k (kept_of (rows_copied k more rows)) ≡ Some (record w { copies = more }) = ap (version_of k) (kept_of-copied k more rows) ∙ found-copied k more w (kept_of rows) found in
+    ap (alter k (copy.Drop row.pool) (rows_copied k more rows)) here
+    ∙ ap (on_ok (λ (cs : List CopyRow). rows_copied k cs (rows_copied k more rows))) (dropped-added row w.copies free)
+    ∙ ap Ok (rows_twice k more w.copies rows ∙ rows_stay k w.copies rows (found_stays k w (kept_of rows) found d))
 
-pub placed_goes : (object pool : ℕ) (row : CopyRow) (v : Inv) (rows : Rows) (log more : List Undo) → is_some (version_of object (versions_of v.clients.filespaces)) ≡ true → are_distinct (versions_of v.clients.filespaces) ≡ true → FreePool (copy.Add row) object v.clients → row.pool ≡ pool
+pub placed_goes : (object pool : ℕ) (row : CopyRow) (v : Inv) (rows : Rows) (log more : List Undo) → is_some (version_of object (kept_of v.clients)) ≡ true → are_distinct (kept_of v.clients) ≡ true → FreePool (copy.Add row) object v.clients → row.pool ≡ pool
     → (let a : Result (List Undo) Refusal = Ok (undo.Copy object pool ∷ log) in a ≡ Ok more) → rows_altered object (copy.Add row) v.clients ≡ Ok rows
     → (record v { clients = rows } ≡ change_copy object (copy.Add row) v) × KeepsWay log v more (record v { clients = rows })
-placed_goes object pool row v rows log more there d free same pushed said = go (version_of object (versions_of v.clients.filespaces)) refl free said where
-  go : (o : Option Version) → version_of object (versions_of v.clients.filespaces) ≡ o → not (has_copy row.pool (option_map_or (λ (w : Version). w.copies) o [])) ≡ true → with_filespaces v.clients (alter object (copy.Add row) v.clients.filespaces o) ≡ Ok rows
+placed_goes object pool row v rows log more there d free same pushed said = go (version_of object (kept_of v.clients)) refl free said where
+  go : (o : Option Version) → version_of object (kept_of v.clients) ≡ o → not (has_copy row.pool (option_map_or (λ (w : Version). w.copies) o [])) ≡ true → alter object (copy.Add row) v.clients o ≡ Ok rows
       → (record v { clients = rows } ≡ change_copy object (copy.Add row) v) × KeepsWay log v more (record v { clients = rows })
   go None found free h = absurd (cc)
   go (Some w) found free h =
-      let new : List (ℕ × Filespace) = filespaces_copied object (with_copy row w.copies) v.clients.filespaces in
-      let is : record { nodes = v.clients.nodes; filespaces = new } ≡ rows = same_Ok (record { nodes = v.clients.nodes; filespaces = new }) rows h in (
-        ap (λ (r : Rows). record v { clients = r }) (sym is)
-            ∙ ap (λ (o : Option Version). record v { clients = record { nodes = v.clients.nodes; filespaces = or_same v.clients.filespaces (alter object (copy.Add row) v.clients.filespaces o) } }) (sym found),
+      let new : Rows = rows_copied object (with_copy row w.copies) v.clients in
+      let is : new ≡ rows = same_Ok new rows h in (
+        ap (λ (r : Result Rows Refusal). record v { clients = or_same v.clients r }) (sym said),
         keeps_step (undo.Copy object pool) log more v (record v { clients = rows }) pushed tt
             (ap (λ (r : Rows). record v { clients = or_same r (rows_altered object (copy.Drop pool) r) }) (sym is)
-            ∙ ap (λ (p : ℕ). record v { clients = or_same (record { nodes = v.clients.nodes; filespaces = new }) (rows_altered object (copy.Drop p) (record { nodes = v.clients.nodes; filespaces = new })) }) (sym same)
-            ∙ ap (λ (r : Result (List (ℕ × Filespace)) Refusal). record v { clients = or_same (record { nodes = v.clients.nodes; filespaces = new }) (with_filespaces (record { nodes = v.clients.nodes; filespaces = new }) r) })
-            (back object row w v.clients.filespaces found d (not-true (has_copy row.pool w.copies) free))),
+            ∙ ap (λ (p : ℕ). record v { clients = or_same new (rows_altered object (copy.Drop p) new) }) (sym same)
+            ∙ ap (λ (r : Result Rows Refusal). record v { clients = or_same new r }) (back object row w v.clients found d (not-true (has_copy row.pool w.copies) free))),
       )
 
--- of a version that is there adding a copy isn't refused
-pub placed_for_memory : (object : ℕ) (row : CopyRow) (old : Rows) (e : Refusal) → is_some (version_of object (versions_of old.filespaces)) ≡ true → (e ≡ Memory) ⊎ (rows_altered object (copy.Add row) old ≡ Err e) → e ≡ Memory
+-- of an object that is there adding a copy isn't refused
+pub placed_for_memory : (object : ℕ) (row : CopyRow) (old : Rows) (e : Refusal) → is_some (version_of object (kept_of old)) ≡ true → (e ≡ Memory) ⊎ (rows_altered object (copy.Add row) old ≡ Err e) → e ≡ Memory
 placed_for_memory object row old e there (inl m) = m
-placed_for_memory object row old e there (inr h) = absurd (go (version_of object (versions_of old.filespaces)) there h) where
-  go : (o : Option Version) → is_some o ≡ true → with_filespaces old (alter object (copy.Add row) old.filespaces o) ≡ Err e → ⊥
+placed_for_memory object row old e there (inr h) = absurd (go (version_of object (kept_of old)) there h) where
+  go : (o : Option Version) → is_some o ≡ true → alter object (copy.Add row) old o ≡ Err e → ⊥
   go None t h = false≢true t
   go (Some w) t h = cc

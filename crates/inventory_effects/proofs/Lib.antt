@@ -1,8 +1,8 @@
 pub mod CopyLaws
 pub mod Delays
-pub mod Discards
 pub mod InsertLaws
 pub mod Loops
+pub mod Numbers
 pub mod PutLaws
 pub mod Taken
 pub mod Ways

@@ -6,7 +6,7 @@ use Rattle.inventory_rows.specs.version_groups.declared.copies.CopyChange.TheVar
 use Rattle.inventory_rows.specs.version_groups.declared.group.GroupChange.TheVariants as group
 use Rattle.inventory_rows.specs.volume_rows.Held.{held_of}
 use Rattle.inventory_rows.specs.object_rows.Filespaces.{versions_at}
-use Rattle.inventory_rows.specs.object_rows.Rows.{rows_after, rows_altered}
+use Rattle.inventory_rows.specs.object_rows.Rows.{rows_after, rows_altered, rows_without}
 use Rattle.inventory_rows.specs.pool_tables.Rows.{row_at, without_row}
 use Rattle.inventory_rows.specs.pool_rows.Segments.{undo_segment, is_there, is_bare_scratch}
 use Rattle.inventory_rows.specs.State.{Inv}
@@ -19,6 +19,7 @@ abbrev pub undone : Undo → Inv → Inv
 undone (undo.Scratch file next) v = record v { next_file = next; stores = record v.stores { volumes = without_row file v.stores.volumes } }
 undone (undo.Segment object segment end emptied) v = with_stores (undo_segment object segment end emptied v.stores) v
 undone (undo.Version filespace path class active next) v = record v { next_object = next; clients = or_same v.clients (rows_after filespace path (group.Undo class active) v.clients) }
+undone (undo.Held object next) v = record v { next_object = next; clients = or_same v.clients (rows_without object v.clients) }
 undone (undo.Copy object pool) v = record v { clients = or_same v.clients (rows_altered object (copy.Drop pool) v.clients) }
 
 -- what was made is there
@@ -26,6 +27,7 @@ abbrev pub CanUndo : Undo → Inv → Type 0
 CanUndo (undo.Scratch file next) v = IsTrue (is_bare_scratch (row_at file v.stores.volumes))
 CanUndo (undo.Segment object segment end emptied) v = IsTrue (is_there (held_of object segment) (row_at segment.file v.stores.volumes))
 CanUndo (undo.Version filespace path class active next) v = 0 < length (versions_at filespace path v.clients.filespaces)
+CanUndo (undo.Held object next) v = ⊤
 CanUndo (undo.Copy object pool) v = ⊤
 
 -- the database once all steps are undone

@@ -61,18 +61,24 @@ fn delays_now(alloc: Global, tables: &Tables) -> Result<BTreeMap<u32, Days>, Ref
     Ok(delays)
 }
 
-/// A backup into a file begins. It holds what was before the next transaction, and that transaction itself. Its one refusal is
-/// want of memory; then all is as it was. It walks the pools.
-pub fn begin_backup(alloc: Global, tables: &mut Tables, file: u32) -> Result<(), Refusal>
+/// A backup into a file begins. It holds what was before the next transaction, and that transaction itself; where it follows another, by its
+/// file, only what came behind that one. Its one refusal is want of memory; then all is as it was. It walks the pools.
+pub fn begin_backup(
+    alloc: Global,
+    tables: &mut Tables,
+    file: u32,
+    after: Option<u32>,
+) -> Result<(), Refusal>
     requires next { file + 1 < 2 ^ 32 }
     requires number { tables.old.number + 1 < 2 ^ 64 }
-    ensures { Becomes result (inv_of tables.old) (inv_of tables.new) (Ok (begin_backup file (inv_of tables.old))) }
+    ensures { Becomes result (inv_of tables.old) (inv_of tables.new) (Ok (begin_backup file after (inv_of tables.old))) }
 {
     let delays = delays_now(alloc, tables)?;
     let backup = Backup {
         taken: tables.today,
         number: tables.number + 1,
         is_done: false,
+        after,
         delays: Delays::from_map(delays),
     };
     tables.backups.insert(file, backup)?;

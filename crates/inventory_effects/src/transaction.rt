@@ -7,10 +7,10 @@ ghost use Rattle.inventory_rules.specs.Common.{each, CanEach};
 ghost use Rattle.inventory_rules.specs.Copies.{add_copy, move_copy, put_moved, CanCopy, CanMoveAll};
 ghost use Rattle.inventory_rules.specs.Segments.{make_scratch, CanScratch};
 ghost use Rattle.inventory_rules.specs.Transactions.{changed, effect, CanChange, CanMake};
-ghost use Rattle.inventory_rules.specs.Versions.{back_up, CanBackUp};
+ghost use Rattle.inventory_rules.specs.Versions.{back_up, hold, CanBackUp, CanHold};
 ghost use Rattle.inventory_effects.specs.Undoing.{Ends, Goes};
 
-use crate::arrivals::back_up_all;
+use crate::arrivals::{back_up_all, hold_all};
 use crate::backups::{begin_backup, delete_backup, end_backup};
 use crate::copies::drop_copies;
 use crate::moves::move_all;
@@ -21,7 +21,7 @@ use crate::rows::{change_clients, change_policy, change_stores, reuse, set_day};
 use crate::undo::{UndoLog, undo_all};
 use crate::versions::{discard_all, expire_all, mark_all_gone};
 use entries::Change;
-use entries::change_items::{MovedCopies, NewCopies, NewVersions};
+use entries::change_items::{MovedCopies, NewCopies, NewHeldObjects, NewVersions};
 use inventory_rows::Tables;
 use kinds::Refusal;
 use std::alloc::Global;
@@ -39,6 +39,27 @@ fn back_up(
 {
     make_scratch(tables, log, change.scratch.as_slice())?;
     back_up_all(
+        alloc,
+        tables,
+        log,
+        change.filespace,
+        change.items.as_slice(),
+    )
+}
+
+/// Scratch volumes are made, and objects are held from now on.
+fn hold(
+    alloc: Global,
+    tables: &mut Tables,
+    log: &mut UndoLog,
+    change: &NewHeldObjects,
+) -> Result<(), Refusal>
+    requires scratch { CanEach CanScratch make_scratch change.now.scratch (inv_of tables.old) }
+    requires items { CanEach (CanHold change.now.filespace) (hold change.now.filespace) change.now.items (each make_scratch change.now.scratch (inv_of tables.old)) }
+    ensures { Goes result log.old (inv_of tables.old) log.new (inv_of tables.new) (each (hold change.now.filespace) change.now.items (each make_scratch change.now.scratch (inv_of tables.old))) }
+{
+    make_scratch(tables, log, change.scratch.as_slice())?;
+    hold_all(
         alloc,
         tables,
         log,
@@ -92,6 +113,7 @@ fn make(
         Change::Object(change) => change_clients(tables, change),
         Change::Pool(change) => change_stores(tables, change),
         Change::Backup(change) => back_up(alloc, tables, log, change),
+        Change::Hold(change) => hold(alloc, tables, log, change),
         Change::Rebind(change) => {
             rebind_all(alloc, tables, change.filespace, change.items.as_slice())
         }
@@ -117,7 +139,7 @@ fn make(
             reuse(tables, *file);
             Ok(())
         }
-        Change::DbBegin { file } => begin_backup(alloc, tables, *file),
+        Change::DbBegin { file, after } => begin_backup(alloc, tables, *file, *after),
         Change::DbEnd { file } => {
             end_backup(tables, *file);
             Ok(())

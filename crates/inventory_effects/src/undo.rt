@@ -34,6 +34,11 @@ pub enum Undo {
         active: bool,
         next_object: u64,
     },
+    /// An object is held that wasn't; the next object number was this.
+    Held {
+        object: u64,
+        next_object: u64,
+    },
     /// A copy of an object was added in a pool.
     Copy {
         object: u64,
@@ -106,6 +111,16 @@ fn undo_step(tables: &mut Tables, step: Undo)
             next_object,
         } => {
             tables.objects.undo_insert(filespace, &path, class, active);
+            tables.next_object = next_object;
+        }
+        Undo::Held {
+            object,
+            next_object,
+        } => {
+            match tables.objects.discard(object) {
+                Ok(()) => {}
+                Err(_) => {}
+            }
             tables.next_object = next_object;
         }
         Undo::Copy { object, pool } => match tables.objects.drop_copy(object, pool) {

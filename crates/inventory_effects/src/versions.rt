@@ -1,14 +1,13 @@
-//! Versions that become inactive or go.
+//! Versions that become inactive, and objects that go.
 
 ghost use Rattle.std.specs.Prelude.{◌≡◌};
 ghost use Rattle.inventory_rows.specs.State.{inv_of};
 ghost use Rattle.inventory_rules.specs.Common.{each, CanEach};
-ghost use Rattle.inventory_rules.specs.Versions.{discard, expire, mark_gone, remove, take_versions, CanBeGone};
+ghost use Rattle.inventory_rules.specs.Versions.{discard, expire, mark_gone, take_versions, CanBeGone};
 
 use crate::segments::take_all;
 use entries::change_items::{DiscardedVersion, NamedVersion};
 use inventory_rows::Tables;
-use kinds::Path;
 
 /// The active version of a path becomes inactive today.
 fn mark_gone(tables: &mut Tables, filespace: u32, item: &NamedVersion)
@@ -35,7 +34,7 @@ pub fn mark_all_gone(tables: &mut Tables, filespace: u32, items: &[NamedVersion]
     }
 }
 
-/// The segments of all copies of an object's version go from their volumes.
+/// The segments of all copies of an object go from their volumes.
 fn take_version(tables: &mut Tables, object: u64)
     ensures { inv_of tables.new ≡ take_versions object (inv_of tables.old) }
 {
@@ -49,25 +48,18 @@ fn take_version(tables: &mut Tables, object: u64)
     }
 }
 
-/// A version goes, and its copies with it. A version that isn't there is left. It takes no memory.
-pub fn remove(tables: &mut Tables, filespace: u32, path: &Path, object: u64)
-    ensures { inv_of tables.new ≡ remove filespace path.now object (inv_of tables.old) }
+/// An object that is kept under a path goes, and its copies with it.
+fn expire(tables: &mut Tables, filespace: u32, item: &NamedVersion)
+    ensures { inv_of tables.new ≡ expire filespace item.now (inv_of tables.old) }
 {
-    take_version(tables, object);
-    match tables.objects.remove(filespace, path, object) {
+    take_version(tables, item.object);
+    match tables.objects.remove(filespace, &item.path, item.object) {
         Ok(()) => {}
         Err(_) => {}
     }
 }
 
-/// A version goes from the path that is named.
-fn expire(tables: &mut Tables, filespace: u32, item: &NamedVersion)
-    ensures { inv_of tables.new ≡ expire filespace item.now (inv_of tables.old) }
-{
-    remove(tables, filespace, &item.path, item.object);
-}
-
-/// Some versions go, one after the other. It takes no memory.
+/// Some objects go from the paths under which they are kept, one after the other; one that isn't there is left out. It takes no memory.
 pub fn expire_all(tables: &mut Tables, filespace: u32, items: &[NamedVersion])
     ensures { inv_of tables.new ≡ each (expire filespace) items.now (inv_of tables.old) }
 {
@@ -76,7 +68,7 @@ pub fn expire_all(tables: &mut Tables, filespace: u32, items: &[NamedVersion])
     }
 }
 
-/// A version goes, and its copies with it, wherever it stands.
+/// An object goes, wherever it is kept, and its copies with it.
 fn discard(tables: &mut Tables, item: &DiscardedVersion)
     ensures { inv_of tables.new ≡ discard item.now (inv_of tables.old) }
 {
@@ -87,7 +79,7 @@ fn discard(tables: &mut Tables, item: &DiscardedVersion)
     }
 }
 
-/// Some versions go, one after the other, wherever they stand. It takes no memory.
+/// Some objects go, one after the other, wherever they are kept; one that isn't there is left out. It takes no memory.
 pub fn discard_all(tables: &mut Tables, items: &[DiscardedVersion])
     ensures { inv_of tables.new ≡ each discard items.now (inv_of tables.old) }
 {

@@ -10,8 +10,7 @@ use Rattle.inventory_rows.specs.version_groups.declared.versions.Version.{Versio
 use Rattle.inventory_rows.specs.version_groups.Copies.{has_copy, without_copy}
 use Rattle.inventory_rows.specs.version_groups.Entries.{is_nil}
 use Rattle.inventory_rows.specs.version_groups.Versions.{version_of}
-use Rattle.inventory_rows.specs.object_rows.Filespaces.{versions_of}
-use Rattle.inventory_rows.specs.object_rows.Rows.{Rows}
+use Rattle.inventory_rows.specs.object_rows.Rows.{Rows, kept_of}
 use Rattle.inventory_rows.specs.pool_tables.declared.pool.Pool.{Pool}
 use Rattle.inventory_rows.specs.pool_tables.Rows.{row_at}
 use Rattle.inventory_rows.specs.Search.{is_primary, is_primary_kind, version, versions}
@@ -47,7 +46,7 @@ primary_copies_stay : (scratch : List ScratchVolume) (v : Inv) (w : Version) →
 primary_copies_stay scratch v w = ap (λ pools. filter (λ (c : CopyRow). is_primary_in c.pool pools) w.copies) (same_pools scratch v)
 
 versions_stay : (scratch : List ScratchVolume) (v : Inv) → versions (made scratch v) ≡ versions v
-versions_stay scratch v = ap (λ (rows : Rows). versions_of rows.filespaces) (same_clients scratch v)
+versions_stay scratch v = ap kept_of (same_clients scratch v)
 
 added_seen : (scratch : List ScratchVolume) (v : Inv) (item : NewCopy) (w : Version) → added_fits_at scratch v item w ≡ added_fits (made scratch v) item w
 added_seen scratch v item w =

@@ -7,8 +7,7 @@ use Rattle.entries.specs.change_items.declared.items.ScratchVolume.{ScratchVolum
 use Rattle.inventory_rows.specs.version_groups.declared.copies.CopyRow.{CopyRow}
 use Rattle.inventory_rows.specs.version_groups.declared.versions.Version.{Version}
 use Rattle.inventory_rows.specs.volume_rows.declared.volume.Volume.{Volume}
-use Rattle.inventory_rows.specs.object_rows.Filespaces.{versions_of}
-use Rattle.inventory_rows.specs.object_rows.Rows.{Rows}
+use Rattle.inventory_rows.specs.object_rows.Rows.{Rows, kept_of}
 use Rattle.inventory_rows.specs.pool_tables.Rows.{row_at}
 use Rattle.inventory_rows.specs.pool_rows.PoolRows.{is_sequential, is_sequential_at, is_sequential_row}
 use Rattle.inventory_rows.specs.Search.{pool, segments_on}
@@ -26,7 +25,7 @@ lies_by_target q number s None = refl
 lies_by_target q number s (Some volume) = refl
 
 abbrev segments_in_rows : ℕ → Rows → List (ℕ × Segment)
-segments_in_rows file rows = flat_map (λ (e : ℕ × CopyRow). map (λ (s : Segment). (e.0, s)) (filter (λ (s : Segment). eqb s.file file) e.1.segments)) (flat_map (λ (w : Version). map (λ (c : CopyRow). (w.object, c)) w.copies) (versions_of rows.filespaces))
+segments_in_rows file rows = flat_map (λ (e : ℕ × CopyRow). map (λ (s : Segment). (e.0, s)) (filter (λ (s : Segment). eqb s.file file) e.1.segments)) (flat_map (λ (w : Version). map (λ (c : CopyRow). (w.object, c)) w.copies) (kept_of rows))
 
 segments_stay : (file : ℕ) (scratch : List ScratchVolume) (v : Inv) → segments_on file (made scratch v) ≡ segments_on file v
 segments_stay file scratch v = ap (segments_in_rows file) (same_clients scratch v)

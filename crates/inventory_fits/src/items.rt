@@ -1,4 +1,4 @@
-//! Whether new versions, new copies and copies that move fit where they come.
+//! Whether new objects, new copies and copies that move fit where they come.
 
 ghost use Rattle.std.specs.Prelude.{◌≡◌, ◌&&◌, ◌||◌, not, Bool, List, []};
 ghost use Rattle.std.specs.List.{list_all};
@@ -6,17 +6,17 @@ ghost use Rattle.inventory_rows.specs.Search.{is_primary};
 ghost use Rattle.inventory_rows.specs.State.{Inv, inv_of};
 ghost use Rattle.inventory_rules.specs.Copies.{new_copy_fits, moved_copy_fits};
 ghost use Rattle.inventory_rules.specs.Segments.{items_fit};
-ghost use Rattle.inventory_rules.specs.Versions.{new_version_fits};
+ghost use Rattle.inventory_rules.specs.Versions.{new_held_fits, new_version_fits};
 ghost use Rattle.inventory_fits.specs.Fitting.{has_primary, has_other, are_primary_in, copy_fits_at, added_fits_at, new_copy_fits_at, replaced_fits_at, moved_copy_fits_at};
 ghost use Rattle.inventory_fits.specs.Lying.{Lying};
 ghost use Rattle.inventory_fits.specs.Targets.{made};
 
 use crate::overlaps::{Placed, are_all_clear};
 use crate::placing::copy_fits;
-use entries::change_items::{MovedCopy, NewCopy, NewVersion, ScratchVolume};
+use entries::change_items::{MovedCopy, NewCopy, NewHeldObject, NewVersion, ScratchVolume};
 use inventory_rows::version_groups::{CopyRow, Version};
 use inventory_rows::{Tables, is_primary};
-use kinds::Segment;
+use kinds::{ObjectSize, Segment};
 
 /// What a transaction places, which has to fit.
 pub(crate) trait Fitted: Placed {
@@ -65,18 +65,17 @@ fn are_primary_in(tables: &Tables, copies: &[CopyRow], from: u32) -> bool
     true
 }
 
-fn new_version_fits(tables: &Tables, scratch: &[ScratchVolume], item: &NewVersion) -> bool
+fn new_object_fits(
+    tables: &Tables,
+    scratch: &[ScratchVolume],
+    pool: u32,
+    size: ObjectSize,
+    segments: &[Segment],
+) -> bool
     requires { Lying (inv_of tables.now) }
-    ensures { result ≡ copy_fits_at [] scratch.now (inv_of tables.now) item.now.pool item.now.size item.now.segments }
+    ensures { result ≡ copy_fits_at [] scratch.now (inv_of tables.now) pool size segments.now }
 {
-    copy_fits(
-        tables,
-        &[],
-        scratch,
-        item.pool,
-        item.size,
-        item.segments.as_slice(),
-    )
+    copy_fits(tables, &[], scratch, pool, size.bytes(), segments)
 }
 
 /// Whether a copy in this pool would be no second one in a primary pool.
@@ -95,7 +94,7 @@ fn added_fits(tables: &Tables, scratch: &[ScratchVolume], item: &NewCopy, versio
         &[],
         scratch,
         item.pool,
-        version.size,
+        version.size.bytes(),
         item.segments.as_slice(),
     ) && is_only_primary(tables, item.pool, version)
 }
@@ -133,7 +132,7 @@ fn replaced_fits(
         moved,
         scratch,
         item.pool,
-        version.size,
+        version.size.bytes(),
         item.segments.as_slice(),
     ) && is_free(tables, item.from, item.pool, version)
 }
@@ -165,7 +164,25 @@ impl Fitted for NewVersion {
     ghost fits = { λ items. new_version_fits };
 
     fn fits(&self, _items: &[NewVersion], tables: &Tables, scratch: &[ScratchVolume]) -> bool {
-        new_version_fits(tables, scratch, self)
+        let segments = self.segments.as_slice();
+        new_object_fits(tables, scratch, self.pool, self.size, segments)
+    }
+}
+
+impl Placed for NewHeldObject {
+    ghost segments = { λ i. i.segments };
+
+    fn segments(&self) -> &[Segment] {
+        self.segments.as_slice()
+    }
+}
+
+impl Fitted for NewHeldObject {
+    ghost fits = { λ items. new_held_fits };
+
+    fn fits(&self, _items: &[NewHeldObject], tables: &Tables, scratch: &[ScratchVolume]) -> bool {
+        let segments = self.segments.as_slice();
+        new_object_fits(tables, scratch, self.pool, self.size, segments)
     }
 }
 

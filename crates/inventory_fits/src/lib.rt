@@ -1,4 +1,4 @@
-//! Whether what a transaction brings fits where it comes: segments on their volumes, copies beside others, versions, scratch volumes and
+//! Whether what a transaction brings fits where it comes: segments on their volumes, copies beside others, new objects, scratch volumes and
 //! volumes that are defined; and whether what it takes away is of no use.
 #![tactic(auto)]
 

@@ -104,7 +104,7 @@ fn segments_fit(
 }
 
 /// Whether the segments have so many bytes in all.
-fn have_bytes(segments: &[Segment], size: u32) -> bool
+fn have_bytes(segments: &[Segment], size: u64) -> bool
     ensures { result ≡ have_bytes size segments.now }
 {
     let mut left = size;
@@ -124,7 +124,7 @@ pub(crate) fn copy_fits(
     moved: &[MovedCopy],
     scratch: &[ScratchVolume],
     number: u32,
-    size: u32,
+    size: u64,
     segments: &[Segment],
 ) -> bool
     requires { Lying (inv_of tables.now) }

@@ -7,14 +7,14 @@ ghost use Rattle.inventory_rules.specs.Valid.{is_valid};
 ghost use Rattle.inventory_rules.specs.Copies.{moved_copy_fits, new_copy_fits};
 ghost use Rattle.inventory_rules.specs.Segments.{items_fit, scratch_fits};
 ghost use Rattle.inventory_rules.specs.Transactions.{parts_fit};
-ghost use Rattle.inventory_rules.specs.Versions.{new_version_fits};
+ghost use Rattle.inventory_rules.specs.Versions.{new_held_fits, new_version_fits};
 ghost use Rattle.inventory_fits.specs.Lying.{Lying};
 ghost use Rattle.inventory_fits.specs.Targets.{made};
 
 use crate::items::items_fit;
 use crate::pools::{scratch_fits, store_fits};
 use entries::Change;
-use entries::change_items::{MovedCopies, NewCopies, NewVersions};
+use entries::change_items::{MovedCopies, NewCopies, NewHeldObjects, NewVersions};
 use inventory_rows::Tables;
 
 fn versions_fit(tables: &Tables, versions: &NewVersions) -> bool
@@ -28,6 +28,15 @@ fn versions_fit(tables: &Tables, versions: &NewVersions) -> bool
             versions.scratch.as_slice(),
             versions.items.as_slice(),
         )
+}
+
+fn held_fit(tables: &Tables, objects: &NewHeldObjects) -> bool
+    requires { Lying (inv_of tables.now) }
+    ensures { result ≡ (scratch_fits (inv_of tables.now) objects.now.scratch
+        && items_fit new_held_fits (λ i. i.segments) objects.now.items (made objects.now.scratch (inv_of tables.now))) }
+{
+    scratch_fits(tables, objects.scratch.as_slice())
+        && items_fit(tables, objects.scratch.as_slice(), objects.items.as_slice())
 }
 
 fn moves_fit(tables: &Tables, moved: &MovedCopies) -> bool
@@ -56,6 +65,7 @@ fn change_fits(tables: &Tables, change: &Change) -> bool
     match change {
         Change::Pool(change) => store_fits(tables, change),
         Change::Backup(versions) => versions_fit(tables, versions),
+        Change::Hold(objects) => held_fit(tables, objects),
         Change::Move(moved) => moves_fit(tables, moved),
         Change::Copy(copies) => copies_fit(tables, copies),
         _ => true,
@@ -64,7 +74,7 @@ fn change_fits(tables: &Tables, change: &Change) -> bool
 
 /// Whether what a change of a valid database brings fits where it comes, and what it takes away is of no use: a pool that goes holds no copy; a
 /// volume that is defined has a name, a capacity and an access that its pool's volumes may have; scratch volumes are made for sequential
-/// pools; and new versions, new copies and copies that move have their pools, the bytes of their versions, and segments that lie on volumes
+/// pools; and new objects, new copies and copies that move have their pools, the bytes of their objects, and segments that lie on volumes
 /// of their pools, end within them and overlap nothing but what copies that move with them leave. It takes no memory; for each new segment the
 /// logarithm of what lies on its volume and as many steps as the transaction has scratch volumes and other segments, and where it comes to
 /// segments that move, as many steps as the list has items for each of these.

@@ -10,11 +10,11 @@ use Rattle.inventory_rows.specs.pool_tables.declared.pool.Pool.{Pool}
 use Rattle.inventory_rows.specs.pool_tables.Rows.{named}
 use Rattle.inventory_rows.specs.declared.backup.Backup.{Backup}
 use Rattle.inventory_rows.specs.Items.{count_items, most_items}
-use Rattle.inventory_rows.specs.Search.{copies, pool, versions}
+use Rattle.inventory_rows.specs.Search.{copies, pool}
 use Rattle.inventory_rows.specs.State.{Inv}
 use Rattle.inventory_rules.specs.Held.{IsTied}
 use Rattle.inventory_rules.specs.Transactions.{OnlyData}
-use Rattle.inventory_rules.specs.Valid.{copies_cite, next_is_there, pools_cite}
+use Rattle.inventory_rules.specs.Valid.{next_is_there, pools_cite}
 use Rattle.inventory_rules.specs.Facts.{Facts}
 use Rattle.inventory_laws.specs.Steady.{IsSteady}
 use Rattle.inventory_laws.proofs.Ends.{facts_begin, tied_end, volumes_end}
@@ -41,7 +41,7 @@ mixed w today node filespace pool domains nodes classes pools backups = record {
   next_file = w.next_file;
   next_object = w.next_object;
   domains = domains;
-  clients = record { nodes = nodes; filespaces = w.clients.filespaces };
+  clients = record w.clients { nodes = nodes };
   stores = record { classes = classes; pools = pools; volumes = w.stores.volumes };
   backups = backups;
 }
@@ -84,6 +84,7 @@ facts_of_rest : (v w : Inv) → Facts v → IsSteady w.number [] (rest_of v w) �
 facts_of_rest v w f s b = record {
   nodes_cite = f.nodes_cite;
   filespaces_cite = s.versions.cite;
+  held_cite = s.versions.held;
   rules_cite = f.rules_cite;
   pools_cite = pools_same v w ∙ f.pools_cite;
   volumes_cite = s.volumes.cite;

@@ -7,26 +7,27 @@ use Rattle.entries.specs.declared.change.Change.TheVariants as change
 use Rattle.inventory_rows.specs.declared.backup.Backup.{Backup}
 use Rattle.inventory_rows.specs.Items.{count_items}
 use Rattle.inventory_rows.specs.State.{Inv}
-use Rattle.inventory_rules.specs.Backups.{backup_ended, begin_backup, delays_now, delete_backup, end_backup}
+use Rattle.inventory_rules.specs.Backups.{after_refused, backup_ended, begin_backup, delays_now, delete_backup, end_backup}
 use Rattle.inventory_rules.specs.Common.{this, file_bound, files_refused}
 use Rattle.inventory_rules.specs.Transactions.{effect}
 use Rattle.inventory_laws.proofs.Absent.{free_backup, one_free}
-use Rattle.inventory_laws.proofs.CountedParts.{fourth_less, fourth_more, in_backups, in_clients, in_domains, in_stores, nothing_first}
+use Rattle.inventory_laws.proofs.CountedParts.{fourth_less, fourth_more, in_backups, in_clients, in_domains, in_stores, nothing_first, nothing_then}
 use Rattle.inventory_laws.proofs.Weights.{rows-inserted, rows-removed, rows-set}
 
-abbrev new_backup : Inv → Backup
-new_backup v = record { taken = v.today; number = this v; is_done = false; delays = delays_now v }
+abbrev new_backup : Option ℕ → Inv → Backup
+new_backup after v = record { taken = v.today; number = this v; is_done = false; after = after; delays = delays_now v }
 
 begun : (w k n : ℕ) → w ≡ 1 + (n + k) → w + 0 ≡ k + (1 + n)
 begun w k n h = omega (arith, h)
 
-pub begin_counted : (file : ℕ) (v : Inv) → files_refused (file ∷ []) v ++ file_bound file v ≡ [] → count_items (effect (change.DbBegin file) v) + 0 ≡ count_items v + (1 + length (delays_now v))
+pub begin_counted : (file : ℕ) (after : Option ℕ) (v : Inv) → after_refused after v ++ (files_refused (file ∷ []) v ++ file_bound file v) ≡ [] → count_items (effect (change.DbBegin file after) v) + 0 ≡ count_items v + (1 + length (delays_now v))
 unfolding effect
-begin_counted file v h =
-    let w : in_backups (begin_backup file v).backups ≡ 1 + (length (delays_now v) + in_backups v.backups) =
-    rows-inserted (λ (b : Backup). length b.delays) nat_cmp v.backups file (new_backup v) (free_backup file v (one_free file v (nothing_first (files_refused (file ∷ []) v) (file_bound file v) h))) in
-    fourth_more (in_domains v.domains) (in_clients v.clients) (in_stores v.stores) (in_backups v.backups) (in_backups (begin_backup file v).backups) 0 (1 + length (delays_now v))
-    (begun (in_backups (begin_backup file v).backups) (in_backups v.backups) (length (delays_now v)) w)
+begin_counted file after v h =
+    let numbered : files_refused (file ∷ []) v ++ file_bound file v ≡ [] = nothing_then (after_refused after v) (files_refused (file ∷ []) v ++ file_bound file v) h in
+    let w : in_backups (begin_backup file after v).backups ≡ 1 + (length (delays_now v) + in_backups v.backups) =
+    rows-inserted (λ (b : Backup). length b.delays) nat_cmp v.backups file (new_backup after v) (free_backup file v (one_free file v (nothing_first (files_refused (file ∷ []) v) (file_bound file v) numbered))) in
+    fourth_more (in_domains v.domains) (in_clients v.clients) (in_stores v.stores) (in_backups v.backups) (in_backups (begin_backup file after v).backups) 0 (1 + length (delays_now v))
+    (begun (in_backups (begin_backup file after v).backups) (in_backups v.backups) (length (delays_now v)) w)
 
 same_less : (w k n : ℕ) → w + n ≡ k + n → w ≤ k
 same_less w k n h = omega (arith, h)

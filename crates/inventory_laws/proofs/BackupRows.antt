@@ -9,11 +9,11 @@ use Rattle.std.specs.Ordering.{nat_cmp}
 use Rattle.kinds.specs.declared.refusal.Refusal.TheVariants as refusal
 use Rattle.entries.specs.declared.change.Change.TheVariants as change
 use Rattle.inventory_rows.specs.volume_rows.declared.volume.Volume.{Volume}
-use Rattle.inventory_rows.specs.object_rows.Filespaces.{versions_of}
 use Rattle.inventory_rows.specs.pool_tables.Rows.{row_at}
 use Rattle.inventory_rows.specs.declared.backup.Backup.{Backup}
+use Rattle.inventory_rows.specs.Search.{versions}
 use Rattle.inventory_rows.specs.State.{Inv}
-use Rattle.inventory_rules.specs.Backups.{backup_ended, delays_now}
+use Rattle.inventory_rules.specs.Backups.{after_refused, backup_ended, delays_now}
 use Rattle.inventory_rules.specs.Transactions.{effect, causes, sizes_refused}
 use Rattle.inventory_rules.specs.Held.{IsTied}
 use Rattle.inventory_rules.specs.Journal.{Journal}
@@ -95,7 +95,7 @@ parts-end file v sizes p = record {
   stores = p.stores;
   files = ended-at (v.number + 1) v.today v.next_file v.stores.volumes v.backups (files_later v.number (v.number + 1) v.today v.today v.next_file v.stores.volumes v.backups (le_more v.number) (le_itself v.today) p.files)
       file (lookup (is_at (nat_cmp file)) v.backups) refl;
-  versions = versions_later v.number (v.number + 1) v.today v.today v.next_object v.stores (versions_of v.clients.filespaces) (le_more v.number) (le_itself v.today) p.versions;
+  versions = versions_later v.number (v.number + 1) v.today v.today v.next_object v.stores (versions v) (le_more v.number) (le_itself v.today) p.versions;
   clock = clock_later v.number (v.number + 1) v.today v.today v.stores.volumes (number_bounded (change.DbEnd file) v sizes) p.clock.day_bounded (le_itself v.today) p.clock;
   few_items = few_items (change.DbEnd file) v sizes;
 }
@@ -107,22 +107,22 @@ parts-delete file v sizes p = record {
   clients = p.clients;
   stores = p.stores;
   files = deleted (v.number + 1) v.today v.next_file v.stores.volumes v.backups (files_later v.number (v.number + 1) v.today v.today v.next_file v.stores.volumes v.backups (le_more v.number) (le_itself v.today) p.files) file;
-  versions = versions_later v.number (v.number + 1) v.today v.today v.next_object v.stores (versions_of v.clients.filespaces) (le_more v.number) (le_itself v.today) p.versions;
+  versions = versions_later v.number (v.number + 1) v.today v.today v.next_object v.stores (versions v) (le_more v.number) (le_itself v.today) p.versions;
   clock = clock_later v.number (v.number + 1) v.today v.today v.stores.volumes (number_bounded (change.DbDelete file) v sizes) p.clock.day_bounded (le_itself v.today) p.clock;
   few_items = few_items (change.DbDelete file) v sizes;
 }
 
-parts-begin : (file : ℕ) (v : Inv) → is_free_file v file ≡ true → ltb (max v.next_file (file + 1)) (2 ^ 32 - 1) ≡ true → sizes_refused (change.DbBegin file) v ≡ [] → Parts v → Parts (effect (change.DbBegin file) v)
+parts-begin : (file : ℕ) (after : Option ℕ) (v : Inv) → is_free_file v file ≡ true → ltb (max v.next_file (file + 1)) (2 ^ 32 - 1) ≡ true → sizes_refused (change.DbBegin file after) v ≡ [] → Parts v → Parts (effect (change.DbBegin file after) v)
 unfolding effect
-parts-begin file v free below sizes p = record {
+parts-begin file after v free below sizes p = record {
   policy = p.policy;
   clients = p.clients;
   stores = p.stores;
-  files = begun v.number v.today v.next_file file v.stores.volumes v.backups (record { taken = v.today; number = v.number + 1; is_done = false; delays = delays_now v }) refl refl
+  files = begun v.number v.today v.next_file file v.stores.volumes v.backups (record { taken = v.today; number = v.number + 1; is_done = false; after = after; delays = delays_now v }) refl refl
       (first _ _ free) (first _ _ (rest _ _ free)) (rest _ _ (rest _ _ free)) below p.files;
-  versions = versions_later v.number (v.number + 1) v.today v.today v.next_object v.stores (versions_of v.clients.filespaces) (le_more v.number) (le_itself v.today) p.versions;
-  clock = clock_later v.number (v.number + 1) v.today v.today v.stores.volumes (number_bounded (change.DbBegin file) v sizes) p.clock.day_bounded (le_itself v.today) p.clock;
-  few_items = few_items (change.DbBegin file) v sizes;
+  versions = versions_later v.number (v.number + 1) v.today v.today v.next_object v.stores (versions v) (le_more v.number) (le_itself v.today) p.versions;
+  clock = clock_later v.number (v.number + 1) v.today v.today v.stores.volumes (number_bounded (change.DbBegin file after) v sizes) p.clock.day_bounded (le_itself v.today) p.clock;
+  few_items = few_items (change.DbBegin file after) v sizes;
 }
 
 pub end_stays : (j : Journal) (file : ℕ) (v : Inv) → is_valid v ≡ true → IsTied v → causes j (change.DbEnd file) v ≡ [] → sizes_refused (change.DbEnd file) v ≡ []
@@ -133,9 +133,10 @@ pub delete_stays : (j : Journal) (file : ℕ) (v : Inv) → is_valid v ≡ true 
     → (is_valid (effect (change.DbDelete file) v) ≡ true) × IsTied (effect (change.DbDelete file) v)
 delete_stays j file v h t c s = valid_from (effect (change.DbDelete file) v) (parts-delete file v s (parts_of v h t))
 
-pub begin_stays : (j : Journal) (file : ℕ) (v : Inv) → is_valid v ≡ true → IsTied v → causes j (change.DbBegin file) v ≡ [] → sizes_refused (change.DbBegin file) v ≡ []
-    → (is_valid (effect (change.DbBegin file) v) ≡ true) × IsTied (effect (change.DbBegin file) v)
-begin_stays j file v h t c s =
-    let free : ((is_free_file v file && true) && true) ≡ true = met ((is_free_file v file && true) && true) bad_value (front_nil (files_refused (file ∷ []) v) (file_bound file v) c) in
-    let below : ltb (max v.next_file (file + 1)) (2 ^ 32 - 1) ≡ true = met (ltb (max v.next_file (file + 1)) (2 ^ 32 - 1)) refusal.InventoryFull (behind_nil (files_refused (file ∷ []) v) (file_bound file v) c) in
-    valid_from (effect (change.DbBegin file) v) (parts-begin file v (first _ _ (first _ _ free)) below s (parts_of v h t))
+pub begin_stays : (j : Journal) (file : ℕ) (after : Option ℕ) (v : Inv) → is_valid v ≡ true → IsTied v → causes j (change.DbBegin file after) v ≡ [] → sizes_refused (change.DbBegin file after) v ≡ []
+    → (is_valid (effect (change.DbBegin file after) v) ≡ true) × IsTied (effect (change.DbBegin file after) v)
+begin_stays j file after v h t c s =
+    let numbered : files_refused (file ∷ []) v ++ file_bound file v ≡ [] = behind_nil (after_refused after v) (files_refused (file ∷ []) v ++ file_bound file v) c in
+    let free : ((is_free_file v file && true) && true) ≡ true = met ((is_free_file v file && true) && true) bad_value (front_nil (files_refused (file ∷ []) v) (file_bound file v) numbered) in
+    let below : ltb (max v.next_file (file + 1)) (2 ^ 32 - 1) ≡ true = met (ltb (max v.next_file (file + 1)) (2 ^ 32 - 1)) refusal.InventoryFull (behind_nil (files_refused (file ∷ []) v) (file_bound file v) numbered) in
+    valid_from (effect (change.DbBegin file after) v) (parts-begin file after v (first _ _ (first _ _ free)) below s (parts_of v h t))

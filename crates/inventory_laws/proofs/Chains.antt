@@ -1,21 +1,22 @@
 -- A transaction on data, each of whose items finds what it names: what holds within it is kept by each step, one after the other.
-use Rattle.std.proofs.Common.{◌≡◌, ℕ, ◌+◌, true, List, [], ◌∷◌, ◌++◌, Option, refl, sym, subst, ◌∙◌}
+use Rattle.std.proofs.Common.{◌≡◌, ℕ, ◌+◌, true, List, [], ◌∷◌, ◌++◌, Result, refl, ◌∙◌}
 use Rattle.std.specs.List.{list_all, flat_map}
 use Rattle.std.proofs.lemmas.Bool.{and_parts}
+use Rattle.kinds.specs.declared.refusal.Refusal.{Refusal}
 use Rattle.kinds.specs.declared.segment.Segment.{Segment}
-use Rattle.entries.specs.change_items.declared.items.DiscardedVersion.{DiscardedVersion}
 use Rattle.entries.specs.change_items.declared.items.MovedCopy.{MovedCopy}
 use Rattle.inventory_rows.specs.version_groups.declared.group.GroupChange.{GroupChange}
-use Rattle.inventory_rows.specs.object_rows.declared.place.Place.{Place}
+use Rattle.inventory_rows.specs.object_rows.Rows.{Rows}
 use Rattle.inventory_rows.specs.State.{Inv}
 use Rattle.inventory_rules.specs.Common.{each}
 use Rattle.inventory_rules.specs.Copies.{move_copy, moved_copy_fits, put_moved}
 use Rattle.inventory_rules.specs.Segments.{are_all_clear, items_fit}
-use Rattle.inventory_rules.specs.Versions.{change_group, discard, discard_at, remove}
+use Rattle.inventory_rules.specs.Versions.{change_group, take_versions}
 use Rattle.inventory_rules.specs.Held.{IsTied}
 use Rattle.inventory_rules.specs.Facts.{Facts}
-use Rattle.inventory_laws.specs.Chains.{Discards, EachCan, Moves, Removes, Rewrites}
+use Rattle.inventory_laws.specs.Chains.{EachCan, Moves, Removes, Rewrites}
 use Rattle.inventory_laws.specs.Coming.{in_pool, in_pools, MayCome}
+use Rattle.inventory_laws.specs.Kept.{clients_after}
 use Rattle.inventory_laws.specs.Steady.{IsSteady}
 use Rattle.inventory_laws.proofs.Assembled.{steady_begins}
 use Rattle.inventory_laws.proofs.Cited.{cite_swapped, cited_kept}
@@ -47,13 +48,10 @@ each_comes n number segments Can step comes (i ∷ items) v c m s =
 pub start : (v : Inv) → Facts v → IsTied v → IsSteady (v.number + 1) [] v
 start v f t = steady_begins (v.number + 1) v f t (before_next v.number)
 
--- ---- a version goes
+-- ---- an object goes
 
-pub remove_one : (n filespace object : ℕ) (path : List ℕ) (v : Inv) → Removes n filespace path object v → IsSteady n [] v → IsSteady n [] (remove filespace path object v)
-remove_one n filespace object path v d s = remove_steady n [] filespace path object v d.old d.found d.facts d.order s.volumes s.cite
-
-pub discard_one : (n : ℕ) (item : DiscardedVersion) (v : Inv) → Discards n item v → IsSteady n [] v → IsSteady n [] (discard item v)
-discard_one n item v d s = subst (λ (o : Option Place). IsSteady n [] (discard_at item.object o v)) (sym d.stands) (remove_one n d.at.filespace item.object d.at.path v d.removes s)
+pub remove_one : (n : ℕ) (step : Rows → Result Rows Refusal) (object : ℕ) (v : Inv) → Removes n step object v → IsSteady n [] v → IsSteady n [] (clients_after step (take_versions object v))
+remove_one n step object v d s = remove_steady n [] step object v d.old d.found d.facts d.order s.volumes s.cite
 
 -- ---- no copy comes or goes
 

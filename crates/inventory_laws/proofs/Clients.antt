@@ -1,5 +1,5 @@
 -- A change of nodes and filespaces leaves a valid database.
-use Rattle.std.proofs.Common.{◌≡◌, ℕ, ◌+◌, ◌-◌, ◌^◌, ◌≤◌, ◌<◌, max, true, not, ltb, leb, eqb, ◌&&◌, ◌||◌, is_some, if◌then◌else◌, List, [], Option, Some, None, Result, Ok, Err, refl, sym, ap, subst, ◌∙◌, arith, le-leb, lt-ltb, ltb-true, eqb-true}
+use Rattle.std.proofs.Common.{◌≡◌, ℕ, ◌+◌, ◌-◌, ◌^◌, ◌≤◌, ◌<◌, max, true, false, not, ltb, leb, eqb, ◌&&◌, ◌||◌, is_some, if◌then◌else◌, List, [], ◌∷◌, ◌++◌, Option, Some, None, Result, Ok, Err, refl, sym, ap, subst, ◌∙◌, arith, le-leb, lt-ltb, ltb-true, eqb-true}
 use Rattle.std.specs.BTreeMap.{insert_entry}
 use Rattle.std.specs.List.{list_all}
 use Rattle.std.specs.Map.{keys_of, lookup, remove_entry}
@@ -13,15 +13,19 @@ use Rattle.entries.specs.declared.change.Change.TheVariants as change
 use Rattle.inventory_rows.specs.policy_domains.Rows.{row_of}
 use Rattle.inventory_rows.specs.version_groups.declared.groups.Filespace.{Filespace}
 use Rattle.inventory_rows.specs.version_groups.Entries.{if_found}
+use Rattle.inventory_rows.specs.object_rows.declared.held_object.HeldRow.{HeldRow}
 use Rattle.inventory_rows.specs.object_rows.declared.place.Node.{Node}
-use Rattle.inventory_rows.specs.object_rows.Changes.{by_filespace, by_object, filespaces_defined, filespaces_without, least_object, nodes_with, nodes_without, rows_changed, unless_used, with_nodes}
+use Rattle.inventory_rows.specs.object_rows.Changes.{by_filespace, by_object, filespaces_defined, filespaces_without, least, least_in, least_object, nodes_with, nodes_without, numbers_in, rows_changed, unless_used, with_nodes}
 use Rattle.inventory_rows.specs.object_rows.Filespaces.{at_number, filespace_at, versions_in, versions_of}
+use Rattle.inventory_rows.specs.object_rows.HeldRows.{held_versions, is_held_row}
 use Rattle.inventory_rows.specs.object_rows.Names.{filespace_named, filespace_of, node_named}
-use Rattle.inventory_rows.specs.object_rows.Rows.{Rows, with_filespaces}
+use Rattle.inventory_rows.specs.object_rows.Rows.{Rows, kept_of, with_filespaces}
 use Rattle.inventory_rows.proofs.of_object_rows.Least.{least_of_none}
 use Rattle.inventory_rows.proofs.of_object_rows.Splices.{flatten-remove_entry}
+use Rattle.kinds.specs.Least.{lesser}
 use Rattle.kinds.specs.Names.{is_same_name}
 use Rattle.inventory_rows.specs.Items.{count_items, most_items}
+use Rattle.inventory_rows.specs.Search.{versions}
 use Rattle.inventory_rows.specs.State.{Inv}
 use Rattle.inventory_rules.specs.Common.{or_same, full_at}
 use Rattle.inventory_rules.specs.Transactions.{effect, causes, sizes_refused}
@@ -39,24 +43,24 @@ use Rattle.inventory_laws.proofs.RowsKept.{AreLeft, Adds, adds-insert_entry, add
 -- ---- what the changes make of the rows
 
 node_defined : (name domain : List ℕ) (number : ℕ) (rows new : Rows) → with_nodes rows (nodes_with name domain number rows.nodes) ≡ Ok new
-    → (node_named name rows.nodes ≡ None) × (new ≡ record { nodes = insert_entry nat_cmp rows.nodes number (record { name = name; domain = domain }); filespaces = rows.filespaces })
+    → (node_named name rows.nodes ≡ None) × (new ≡ record rows { nodes = insert_entry nat_cmp rows.nodes number (record { name = name; domain = domain }) })
 node_defined name domain number rows new h =
     elim (node_named name rows.nodes) as (λ o. with_nodes rows (if is_some o then Err refusal.Exists else Ok (insert_entry nat_cmp rows.nodes number (record { name = name; domain = domain }))) ≡ Ok new
-    → (o ≡ None) × (new ≡ record { nodes = insert_entry nat_cmp rows.nodes number (record { name = name; domain = domain }); filespaces = rows.filespaces })) [
+    → (o ≡ None) × (new ≡ record rows { nodes = insert_entry nat_cmp rows.nodes number (record { name = name; domain = domain }) })) [
       | None ↦ λ t. (refl, cc)
       | Some n ↦ λ t. absurd (cc)
     ] h
 
 node_gone : (name : List ℕ) (rows new : Rows) → with_nodes rows (nodes_without name rows.filespaces rows.nodes) ≡ Ok new
-    → (n : ℕ) × (filespace_of n rows.filespaces ≡ None) × (new ≡ record { nodes = remove_entry (at_number n) rows.nodes; filespaces = rows.filespaces })
+    → (n : ℕ) × (filespace_of n rows.filespaces ≡ None) × (new ≡ record rows { nodes = remove_entry (at_number n) rows.nodes })
 node_gone name rows new h =
     elim (node_named name rows.nodes) as (λ o. with_nodes rows (if_found o (λ n. unless_used (by_filespace (filespace_of n rows.filespaces)) (remove_entry (at_number n) rows.nodes))) ≡ Ok new
-    → (n : ℕ) × (filespace_of n rows.filespaces ≡ None) × (new ≡ record { nodes = remove_entry (at_number n) rows.nodes; filespaces = rows.filespaces })) [
+    → (n : ℕ) × (filespace_of n rows.filespaces ≡ None) × (new ≡ record rows { nodes = remove_entry (at_number n) rows.nodes })) [
       | None ↦ λ t. absurd (cc)
       | Some n ↦ λ t.
-          let w : (filespace_of n rows.filespaces ≡ None) × (new ≡ record { nodes = remove_entry (at_number n) rows.nodes; filespaces = rows.filespaces }) =
+          let w : (filespace_of n rows.filespaces ≡ None) × (new ≡ record rows { nodes = remove_entry (at_number n) rows.nodes }) =
           elim (filespace_of n rows.filespaces) as (λ o. with_nodes rows (unless_used (by_filespace o) (remove_entry (at_number n) rows.nodes)) ≡ Ok new
-          → (o ≡ None) × (new ≡ record { nodes = remove_entry (at_number n) rows.nodes; filespaces = rows.filespaces })) [
+          → (o ≡ None) × (new ≡ record rows { nodes = remove_entry (at_number n) rows.nodes })) [
             | None ↦ λ u. (refl, cc)
             | Some m ↦ λ u. absurd (cc)
           ] t in
@@ -68,32 +72,48 @@ if_free o new = if is_some o then Err refusal.Exists else Ok new
 
 space_defined : (node : ℕ) (name : List ℕ) (number : ℕ) (rows new : Rows) → with_filespaces rows (filespaces_defined node name number rows.nodes rows.filespaces) ≡ Ok new
     → (is_some (lookup (at_number node) rows.nodes) ≡ true) × (filespace_named node name rows.filespaces ≡ None)
-    × (new ≡ record { nodes = rows.nodes; filespaces = insert_entry nat_cmp rows.filespaces number (record { node = node; name = name; groups = [] }) })
+    × (new ≡ record rows { filespaces = insert_entry nat_cmp rows.filespaces number (record { node = node; name = name; groups = [] }) })
 space_defined node name number rows new h =
     elim (lookup (at_number node) rows.nodes) as (λ x. with_filespaces rows (if_found x (λ _. if_free (filespace_named node name rows.filespaces) (insert_entry nat_cmp rows.filespaces number (record { node = node; name = name; groups = [] })))) ≡ Ok new
     → (is_some x ≡ true) × (filespace_named node name rows.filespaces ≡ None)
-    × (new ≡ record { nodes = rows.nodes; filespaces = insert_entry nat_cmp rows.filespaces number (record { node = node; name = name; groups = [] }) })) [
+    × (new ≡ record rows { filespaces = insert_entry nat_cmp rows.filespaces number (record { node = node; name = name; groups = [] }) })) [
       | None ↦ λ t. absurd (cc)
       | Some x ↦ λ t.
-          let w : (filespace_named node name rows.filespaces ≡ None) × (new ≡ record { nodes = rows.nodes; filespaces = insert_entry nat_cmp rows.filespaces number (record { node = node; name = name; groups = [] }) }) =
+          let w : (filespace_named node name rows.filespaces ≡ None) × (new ≡ record rows { filespaces = insert_entry nat_cmp rows.filespaces number (record { node = node; name = name; groups = [] }) }) =
           elim (filespace_named node name rows.filespaces) as (λ o. with_filespaces rows (if_free o (insert_entry nat_cmp rows.filespaces number (record { node = node; name = name; groups = [] }))) ≡ Ok new
-          → (o ≡ None) × (new ≡ record { nodes = rows.nodes; filespaces = insert_entry nat_cmp rows.filespaces number (record { node = node; name = name; groups = [] }) })) [
+          → (o ≡ None) × (new ≡ record rows { filespaces = insert_entry nat_cmp rows.filespaces number (record { node = node; name = name; groups = [] }) })) [
             | None ↦ λ u. (refl, cc)
             | Some m ↦ λ u. absurd (cc)
           ] t in
           (refl, w.0, w.1)
     ] h
 
-space_gone : (number : ℕ) (rows new : Rows) → with_filespaces rows (filespaces_without number rows.filespaces) ≡ Ok new
-    → (f : Filespace) × (filespace_at number rows.filespaces ≡ Some f) × (least_object f.groups ≡ None) × (new ≡ record { nodes = rows.nodes; filespaces = remove_entry (at_number number) rows.filespaces })
+-- of two numbers neither is there where the lesser one isn't
+neither : (a b : Option ℕ) → lesser a b ≡ None → (a ≡ None) × (b ≡ None)
+neither None b h = (refl, h)
+neither (Some n) None h = absurd (cc)
+neither (Some n) (Some m) h = absurd (cc)
+
+-- no object is held in the filespace
+none_in : (n : ℕ) (held : List (ℕ × HeldRow)) → least_in n held ≡ None → list_all (λ h. not (eqb h.1.filespace n)) held ≡ true
+none_in n [] h = refl
+none_in n (e ∷ held) h =
+    elim (eqb e.1.filespace n) as (λ b. least (if b then e.0 ∷ numbers_in n held else numbers_in n held) ≡ None → (not b && list_all (λ h. not (eqb h.1.filespace n)) held) ≡ true) [
+      | true ↦ λ t. let first_one : Some e.0 ≡ None = (neither (Some e.0) (least (numbers_in n held)) t).0 in absurd (cc)
+      | false ↦ λ t. none_in n held t
+    ] h
+
+space_gone : (number : ℕ) (rows new : Rows) → with_filespaces rows (filespaces_without number rows.held rows.filespaces) ≡ Ok new
+    → (f : Filespace) × (filespace_at number rows.filespaces ≡ Some f) × (lesser (least_object f.groups) (least_in number rows.held) ≡ None) × (new ≡ record rows { filespaces = remove_entry (at_number number) rows.filespaces })
 space_gone number rows new h =
-    elim (filespace_at number rows.filespaces) as (λ o. filespace_at number rows.filespaces ≡ o → with_filespaces rows (if_found o (λ f. unless_used (by_object (least_object f.groups)) (remove_entry (at_number number) rows.filespaces))) ≡ Ok new
-    → (f : Filespace) × (filespace_at number rows.filespaces ≡ Some f) × (least_object f.groups ≡ None) × (new ≡ record { nodes = rows.nodes; filespaces = remove_entry (at_number number) rows.filespaces })) [
+    elim (filespace_at number rows.filespaces) as (λ o. filespace_at number rows.filespaces ≡ o
+    → with_filespaces rows (if_found o (λ f. unless_used (by_object (lesser (least_object f.groups) (least_in number rows.held))) (remove_entry (at_number number) rows.filespaces))) ≡ Ok new
+    → (f : Filespace) × (filespace_at number rows.filespaces ≡ Some f) × (lesser (least_object f.groups) (least_in number rows.held) ≡ None) × (new ≡ record rows { filespaces = remove_entry (at_number number) rows.filespaces })) [
       | None ↦ λ _ t. absurd (cc)
       | Some f ↦ λ there t.
-          let w : (least_object f.groups ≡ None) × (new ≡ record { nodes = rows.nodes; filespaces = remove_entry (at_number number) rows.filespaces }) =
-          elim (least_object f.groups) as (λ o. with_filespaces rows (unless_used (by_object o) (remove_entry (at_number number) rows.filespaces)) ≡ Ok new
-          → (o ≡ None) × (new ≡ record { nodes = rows.nodes; filespaces = remove_entry (at_number number) rows.filespaces })) [
+          let w : (lesser (least_object f.groups) (least_in number rows.held) ≡ None) × (new ≡ record rows { filespaces = remove_entry (at_number number) rows.filespaces }) =
+          elim (lesser (least_object f.groups) (least_in number rows.held)) as (λ o. with_filespaces rows (unless_used (by_object o) (remove_entry (at_number number) rows.filespaces)) ≡ Ok new
+          → (o ≡ None) × (new ≡ record rows { filespaces = remove_entry (at_number number) rows.filespaces })) [
             | None ↦ λ u. (refl, cc)
             | Some m ↦ λ u. absurd (cc)
           ] t in
@@ -129,17 +149,18 @@ spaces_swap : (f g : ℕ × Filespace) → (not (eqb f.1.node g.1.node) || not (
 spaces_swap f g =
     ap (λ b. not b || not (is_same_name f.1.name g.1.name)) (swap f.1.node g.1.node) ∙ ap (λ b. not (eqb g.1.node f.1.node) || not b) (names_swap f.1.name g.1.name)
 
-module _ (next_node next_filespace : ℕ) (nodes : List (ℕ × Node)) (fs : List (ℕ × Filespace)) (p : ClientParts next_node next_filespace nodes fs) where
+module _ (next_node next_filespace : ℕ) (nodes : List (ℕ × Node)) (fs : List (ℕ × Filespace)) (held : List (ℕ × HeldRow)) (p : ClientParts next_node next_filespace nodes fs held) where
   node_free : lookup (at_number next_node) nodes ≡ None
   node_free = none_at next_node nodes (below-apart 1 next_node (keys_of nodes) p.nodes_drawn)
 
   -- a node gets the next number
-  more_nodes : (x : Node) → node_named x.name nodes ≡ None → ltb (next_node + 1) (2 ^ 32 - 1) ≡ true → ClientParts (next_node + 1) next_filespace (insert_entry nat_cmp nodes next_node x) fs
+  more_nodes : (x : Node) → node_named x.name nodes ≡ None → ltb (next_node + 1) (2 ^ 32 - 1) ≡ true → ClientParts (next_node + 1) next_filespace (insert_entry nat_cmp nodes next_node x) fs held
   more_nodes x fresh below =
       let adds : Adds (next_node, x) nodes (insert_entry nat_cmp nodes next_node x) = adds-insert_entry nat_cmp next_node x nodes node_free in
       record {
         filespaces_cite = list_all-mono (λ f. is_some (lookup (at_number f.1.node) nodes)) (λ f. is_some (lookup (at_number f.1.node) (insert_entry nat_cmp nodes next_node x)))
             (λ f h. found-insert_entry (at_number f.1.node) nat_cmp next_node x nodes h) fs p.filespaces_cite;
+        held_cite = p.held_cite;
         nodes_drawn = list_all-adds (λ n. leb 1 n && ltb n (next_node + 1)) (adds-map (λ (e : ℕ × Node). e.0) adds) (bound-grows 1 next_node (next_node + 1) (le_next next_node) (keys_of nodes) p.nodes_drawn)
             (next_drawn next_node (first _ _ (first _ _ p.bounded)));
         filespaces_drawn = p.filespaces_drawn;
@@ -150,12 +171,13 @@ module _ (next_node next_filespace : ℕ) (nodes : List (ℕ × Node)) (fs : Lis
       }
 
   -- a node without filespaces goes
-  fewer_nodes : (n : ℕ) → filespace_of n fs ≡ None → ClientParts next_node next_filespace (remove_entry (at_number n) nodes) fs
+  fewer_nodes : (n : ℕ) → filespace_of n fs ≡ None → ClientParts next_node next_filespace (remove_entry (at_number n) nodes) fs held
   fewer_nodes n unused =
       let left : AreLeft (remove_entry (at_number n) nodes) nodes = left-remove_entry (at_number n) nodes in
       record {
         filespaces_cite = list_all-two (λ f. not (eqb f.1.node n)) (λ f. is_some (lookup (at_number f.1.node) nodes)) (λ f. is_some (lookup (at_number f.1.node) (remove_entry (at_number n) nodes)))
             (λ f other there. ap is_some (found-remove_entry (at_number f.1.node) (at_number n) (λ k at. not_at_other f.1.node n k other at) nodes) ∙ there) fs (no_space n fs unused) p.filespaces_cite;
+        held_cite = p.held_cite;
         nodes_drawn = list_all-left (λ n. leb 1 n && ltb n next_node) (left-map (λ (e : ℕ × Node). e.0) left) p.nodes_drawn;
         filespaces_drawn = p.filespaces_drawn;
         bounded = p.bounded;
@@ -172,11 +194,13 @@ module _ (next_node next_filespace : ℕ) (nodes : List (ℕ × Node)) (fs : Lis
   -- a filespace without groups gets a number that none has
   more_spaces : (n : ℕ) (f : Filespace) → lookup (at_number n) fs ≡ None → leb 1 n ≡ true → ltb (max next_filespace (n + 1)) (2 ^ 32 - 1) ≡ true
       → f.groups ≡ [] → is_some (lookup (at_number f.node) nodes) ≡ true → filespace_named f.node f.name fs ≡ None
-      → ClientParts next_node (max next_filespace (n + 1)) nodes (insert_entry nat_cmp fs n f)
+      → ClientParts next_node (max next_filespace (n + 1)) nodes (insert_entry nat_cmp fs n f) held
   more_spaces n f free least below bare there fresh =
       let adds : Adds (n, f) fs (insert_entry nat_cmp fs n f) = adds-insert_entry nat_cmp n f fs free in
       record {
         filespaces_cite = list_all-adds (λ f. is_some (lookup (at_number f.1.node) nodes)) adds p.filespaces_cite there;
+        held_cite = list_all-mono (λ h. is_held_row h && is_some (filespace_at h.1.filespace fs)) (λ h. is_held_row h && is_some (filespace_at h.1.filespace (insert_entry nat_cmp fs n f)))
+            (λ h t. both _ _ (first _ _ t) (found-insert_entry (at_number h.1.filespace) nat_cmp n f fs (rest _ _ t))) held p.held_cite;
         nodes_drawn = p.nodes_drawn;
         filespaces_drawn = list_all-adds (λ m. leb 1 m && ltb m (max next_filespace (n + 1))) (adds-map (λ (e : ℕ × Filespace). e.0) adds)
             (bound-grows 1 next_filespace (max next_filespace (n + 1)) (le_max next_filespace n) (keys_of fs) p.filespaces_drawn)
@@ -187,12 +211,14 @@ module _ (next_node next_filespace : ℕ) (nodes : List (ℕ × Node)) (fs : Lis
         groups_orderly = list_all-adds (λ f. list_all (λ g. is_orderly g.1) f.1.groups) adds p.groups_orderly (ap (list_all (λ g. is_orderly g.1)) bare);
       }
 
-  -- a filespace goes
-  fewer_spaces : (n : ℕ) → ClientParts next_node next_filespace nodes (remove_entry (at_number n) fs)
-  fewer_spaces n =
+  -- a filespace goes in which no object is held
+  fewer_spaces : (n : ℕ) → list_all (λ h. not (eqb h.1.filespace n)) held ≡ true → ClientParts next_node next_filespace nodes (remove_entry (at_number n) fs) held
+  fewer_spaces n none =
       let left : AreLeft (remove_entry (at_number n) fs) fs = left-remove_entry (at_number n) fs in
       record {
         filespaces_cite = list_all-left (λ f. is_some (lookup (at_number f.1.node) nodes)) left p.filespaces_cite;
+        held_cite = list_all-two (λ h. not (eqb h.1.filespace n)) (λ h. is_held_row h && is_some (filespace_at h.1.filespace fs)) (λ h. is_held_row h && is_some (filespace_at h.1.filespace (remove_entry (at_number n) fs)))
+            (λ h other t. both _ _ (first _ _ t) (ap is_some (found-remove_entry (at_number h.1.filespace) (at_number n) (λ k at. not_at_other h.1.filespace n k other at) fs) ∙ rest _ _ t)) held none p.held_cite;
         nodes_drawn = p.nodes_drawn;
         filespaces_drawn = list_all-left (λ n. leb 1 n && ltb n next_filespace) (left-map (λ (e : ℕ × Filespace). e.0) left) p.filespaces_drawn;
         bounded = p.bounded;
@@ -212,26 +238,26 @@ fewer_spaces-versions n fs f there unused =
 
 -- what holds of the rows of clients and of what speaks of them, with these numbers to come
 record ClientsHold (v : Inv) (next_node next_filespace : ℕ) (rows : Rows) : Type 0 where
-  clients : ClientParts next_node next_filespace rows.nodes rows.filespaces
+  clients : ClientParts next_node next_filespace rows.nodes rows.filespaces rows.held
   policy : PolicyParts v.domains rows.nodes v.stores.pools
-  versions : VersionParts (v.number + 1) v.today v.next_object v.stores (versions_of rows.filespaces)
+  versions : VersionParts (v.number + 1) v.today v.next_object v.stores (kept_of rows)
 
 module _ (v : Inv) (p : Parts v) where
-  counted : VersionParts (v.number + 1) v.today v.next_object v.stores (versions_of v.clients.filespaces)
-  counted = versions_later v.number (v.number + 1) v.today v.today v.next_object v.stores (versions_of v.clients.filespaces) (le_more v.number) (le_itself v.today) p.versions
+  counted : VersionParts (v.number + 1) v.today v.next_object v.stores (versions v)
+  counted = versions_later v.number (v.number + 1) v.today v.today v.next_object v.stores (versions v) (le_more v.number) (le_itself v.today) p.versions
 
   hold-node_defined : (name domain : List ℕ) (new : Rows) → client_bounds (client.Node two.Define name domain) v ≡ [] → rows_changed (client.Node two.Define name domain) v.next_node v.clients ≡ Ok new
       → ClientsHold v (v.next_node + 1) v.next_filespace new
   hold-node_defined name domain new h said =
-      let w : (node_named name v.clients.nodes ≡ None) × (new ≡ record { nodes = insert_entry nat_cmp v.clients.nodes v.next_node (record { name = name; domain = domain }); filespaces = v.clients.filespaces }) = node_defined name domain v.next_node v.clients new said in
+      let w : (node_named name v.clients.nodes ≡ None) × (new ≡ record v.clients { nodes = insert_entry nat_cmp v.clients.nodes v.next_node (record { name = name; domain = domain }) }) = node_defined name domain v.next_node v.clients new said in
       let there : is_some (row_of domain v.domains) ≡ true = met (is_some (row_of domain v.domains)) refusal.NotFound (front_nil (unless (is_some (row_of domain v.domains)) refusal.NotFound) (full_at v.next_node (2 ^ 32 - 1)) h) in
       let below : ltb (v.next_node + 1) (2 ^ 32 - 1) ≡ true = below_bound v.next_node (2 ^ 32 - 1) (behind_nil (unless (is_some (row_of domain v.domains)) refusal.NotFound) (full_at v.next_node (2 ^ 32 - 1)) h) in
       let node : Node = record { name = name; domain = domain } in
       subst (ClientsHold v (v.next_node + 1) v.next_filespace) (sym w.1)
       (record {
-        clients = more_nodes v.next_node v.next_filespace v.clients.nodes v.clients.filespaces p.clients node w.0 below;
+        clients = more_nodes v.next_node v.next_filespace v.clients.nodes v.clients.filespaces v.clients.held p.clients node w.0 below;
         policy = record {
-          nodes_cite = list_all-adds (λ n. is_some (row_of n.1.domain v.domains)) (adds-insert_entry nat_cmp v.next_node node v.clients.nodes (node_free v.next_node v.next_filespace v.clients.nodes v.clients.filespaces p.clients)) p.policy.nodes_cite there;
+          nodes_cite = list_all-adds (λ n. is_some (row_of n.1.domain v.domains)) (adds-insert_entry nat_cmp v.next_node node v.clients.nodes (node_free v.next_node v.next_filespace v.clients.nodes v.clients.filespaces v.clients.held p.clients)) p.policy.nodes_cite there;
           rules_cite = p.policy.rules_cite;
           defaults_there = p.policy.defaults_there;
         };
@@ -240,10 +266,10 @@ module _ (v : Inv) (p : Parts v) where
 
   hold-node_gone : (name domain : List ℕ) (new : Rows) → rows_changed (client.Node two.Delete name domain) v.next_node v.clients ≡ Ok new → ClientsHold v v.next_node v.next_filespace new
   hold-node_gone name domain new said =
-      let w : (n : ℕ) × (filespace_of n v.clients.filespaces ≡ None) × (new ≡ record { nodes = remove_entry (at_number n) v.clients.nodes; filespaces = v.clients.filespaces }) = node_gone name v.clients new said in
+      let w : (n : ℕ) × (filespace_of n v.clients.filespaces ≡ None) × (new ≡ record v.clients { nodes = remove_entry (at_number n) v.clients.nodes }) = node_gone name v.clients new said in
       subst (ClientsHold v v.next_node v.next_filespace) (sym w.2)
       (record {
-        clients = fewer_nodes v.next_node v.next_filespace v.clients.nodes v.clients.filespaces p.clients w.0 w.1;
+        clients = fewer_nodes v.next_node v.next_filespace v.clients.nodes v.clients.filespaces v.clients.held p.clients w.0 w.1;
         policy = record {
           nodes_cite = list_all-left (λ n. is_some (row_of n.1.domain v.domains)) (left-remove_entry (at_number w.0) v.clients.nodes) p.policy.nodes_cite;
           rules_cite = p.policy.rules_cite;
@@ -257,27 +283,28 @@ module _ (v : Inv) (p : Parts v) where
   hold-space_defined node name n new h said =
       let fs : List (ℕ × Filespace) = v.clients.filespaces in
       let f : Filespace = record { node = node; name = name; groups = [] } in
-      let w : (is_some (lookup (at_number node) v.clients.nodes) ≡ true) × (filespace_named node name v.clients.filespaces ≡ None) × (new ≡ record { nodes = v.clients.nodes; filespaces = insert_entry nat_cmp v.clients.filespaces n (record { node = node; name = name; groups = [] }) }) = space_defined node name n v.clients new said in
+      let w : (is_some (lookup (at_number node) v.clients.nodes) ≡ true) × (filespace_named node name v.clients.filespaces ≡ None) × (new ≡ record v.clients { filespaces = insert_entry nat_cmp v.clients.filespaces n (record { node = node; name = name; groups = [] }) }) = space_defined node name n v.clients new said in
       let same : n ≡ v.next_filespace = eqb-true n v.next_filespace (met (eqb n v.next_filespace) bad_value (front_nil (unless (eqb n v.next_filespace) bad_value) (full_at v.next_filespace (2 ^ 32 - 1)) h)) in
       let below : ltb (v.next_filespace + 1) (2 ^ 32 - 1) ≡ true = below_bound v.next_filespace (2 ^ 32 - 1) (behind_nil (unless (eqb n v.next_filespace) bad_value) (full_at v.next_filespace (2 ^ 32 - 1)) h) in
-      let free : lookup (at_number n) v.clients.filespaces ≡ None = ap (λ m. lookup (at_number m) v.clients.filespaces) same ∙ space_free v.next_node v.next_filespace v.clients.nodes v.clients.filespaces p.clients in
+      let free : lookup (at_number n) v.clients.filespaces ≡ None = ap (λ m. lookup (at_number m) v.clients.filespaces) same ∙ space_free v.next_node v.next_filespace v.clients.nodes v.clients.filespaces v.clients.held p.clients in
       subst (ClientsHold v v.next_node (max v.next_filespace (n + 1))) (sym w.2)
       (record {
-        clients = more_spaces v.next_node v.next_filespace v.clients.nodes v.clients.filespaces p.clients n f free
+        clients = more_spaces v.next_node v.next_filespace v.clients.nodes v.clients.filespaces v.clients.held p.clients n f free
             (ap (leb 1) same ∙ first _ _ (first _ _ (rest _ _ p.clients.bounded)))
             (ap (λ m. ltb (max v.next_filespace (m + 1)) (2 ^ 32 - 1)) same ∙ max_next v.next_filespace (2 ^ 32 - 1) below) refl w.0 w.1;
         policy = p.policy;
-        versions = subst (VersionParts (v.number + 1) v.today v.next_object v.stores) (sym (more_spaces-versions n v.clients.filespaces f free refl)) counted;
+        versions = subst (VersionParts (v.number + 1) v.today v.next_object v.stores) (sym (ap (λ vs. vs ++ held_versions v.clients.held) (more_spaces-versions n v.clients.filespaces f free refl))) counted;
       })
 
   hold-space_gone : (node : ℕ) (name : List ℕ) (n : ℕ) (new : Rows) → rows_changed (client.Filespace two.Delete node name n) v.next_node v.clients ≡ Ok new → ClientsHold v v.next_node v.next_filespace new
   hold-space_gone node name n new said =
-      let w : (f : Filespace) × (filespace_at n v.clients.filespaces ≡ Some f) × (least_object f.groups ≡ None) × (new ≡ record { nodes = v.clients.nodes; filespaces = remove_entry (at_number n) v.clients.filespaces }) = space_gone n v.clients new said in
+      let w : (f : Filespace) × (filespace_at n v.clients.filespaces ≡ Some f) × (lesser (least_object f.groups) (least_in n v.clients.held) ≡ None) × (new ≡ record v.clients { filespaces = remove_entry (at_number n) v.clients.filespaces }) = space_gone n v.clients new said in
+      let unused : (least_object w.0.groups ≡ None) × (least_in n v.clients.held ≡ None) = neither (least_object w.0.groups) (least_in n v.clients.held) w.2 in
       subst (ClientsHold v v.next_node v.next_filespace) (sym w.3)
       (record {
-        clients = fewer_spaces v.next_node v.next_filespace v.clients.nodes v.clients.filespaces p.clients n;
+        clients = fewer_spaces v.next_node v.next_filespace v.clients.nodes v.clients.filespaces v.clients.held p.clients n (none_in n v.clients.held unused.1);
         policy = p.policy;
-        versions = subst (VersionParts (v.number + 1) v.today v.next_object v.stores) (sym (fewer_spaces-versions n v.clients.filespaces w.0 w.1 w.2)) counted;
+        versions = subst (VersionParts (v.number + 1) v.today v.next_object v.stores) (sym (ap (λ vs. vs ++ held_versions v.clients.held) (fewer_spaces-versions n v.clients.filespaces w.0 w.1 unused.0))) counted;
       })
 
   parts-clients : (next_node next_filespace : ℕ) (rows : Rows) → ltb (v.number + 1) (2 ^ 62) ≡ true

@@ -8,6 +8,7 @@ use Rattle.std.proofs.lemmas.List.{map-append}
 use Rattle.kinds.specs.declared.segment.Segment.{Segment}
 use Rattle.entries.specs.change_items.declared.items.MovedCopy.{MovedCopy}
 use Rattle.entries.specs.change_items.declared.items.NewCopy.{NewCopy}
+use Rattle.entries.specs.change_items.declared.items.NewHeldObject.{NewHeldObject}
 use Rattle.entries.specs.change_items.declared.items.NewVersion.{NewVersion}
 use Rattle.inventory_rows.specs.version_groups.declared.copies.CopyRow.{CopyRow}
 use Rattle.inventory_rows.specs.version_groups.declared.versions.Version.{Version}
@@ -22,7 +23,7 @@ use Rattle.inventory_rules.specs.Segments.{put, are_all_clear, are_clear, copy_f
 use Rattle.inventory_rules.specs.Halfway.{lying, segments_of}
 use Rattle.inventory_rules.specs.Valid.{primary_copies}
 use Rattle.inventory_rules.specs.Copies.{added_fits, moved_copy_fits, new_copy_fits, replaced_fits}
-use Rattle.inventory_rules.specs.Versions.{new_version_fits}
+use Rattle.inventory_rules.specs.Versions.{new_held_fits, new_version_fits}
 use Rattle.inventory_rules.specs.Reordered.{IsReordered}
 use Rattle.inventory_laws.specs.Coming.{in_pool, in_pools, is_clear_of, is_clear_there, MayCome}
 use Rattle.inventory_laws.specs.Kept.{OnlyVolumes}
@@ -178,6 +179,9 @@ items_come fits number segments v step items h =
 
 pub new_versions_come : (items : List NewVersion) (v : Inv) → items_fit new_version_fits (λ i. i.segments) items v ≡ true → MayCome [] v (in_pools (λ (i : NewVersion). i.pool) (λ i. i.segments) items)
 new_versions_come items v h = items_come new_version_fits (λ i. i.pool) (λ i. i.segments) v (new_version_segments v) items h
+
+pub new_held_come : (items : List NewHeldObject) (v : Inv) → items_fit new_held_fits (λ i. i.segments) items v ≡ true → MayCome [] v (in_pools (λ (i : NewHeldObject). i.pool) (λ i. i.segments) items)
+new_held_come items v h = items_come new_held_fits (λ i. i.pool) (λ i. i.segments) v (λ i h. copy_segments v i.pool i.size i.segments h) items h
 
 pub new_copies_come : (items : List NewCopy) (v : Inv) → items_fit new_copy_fits (λ i. i.segments) items v ≡ true → MayCome [] v (in_pools (λ (i : NewCopy). i.pool) (λ i. i.segments) items)
 new_copies_come items v h = items_come new_copy_fits (λ i. i.pool) (λ i. i.segments) v (new_copy_segments v) items h

@@ -1,8 +1,8 @@
--- A change of the copies of a version.
+-- A change of the copies of an object.
 use Rattle.std.proofs.Common.{◌≡◌, ℕ, Bool, true, false, cond, eqb, not, ◌&&◌, List, [], ◌∷◌, ◌++◌, map, Some, Ok, Result, refl, sym, ap, ap₂, subst, ◌∙◌}
 use Rattle.std.specs.Prelude.{nat_le}
 use Rattle.std.proofs.lemmas.Bool.{and_parts, and_from, eqb-true}
-use Rattle.std.proofs.lemmas.List.{append-nil, map-append}
+use Rattle.std.proofs.lemmas.List.{append-nil}
 use Rattle.std.specs.List.{list_all}
 use Rattle.std.specs.Option.{is_some}
 use Rattle.kinds.specs.declared.refusal.Refusal.{Refusal}
@@ -13,23 +13,25 @@ use Rattle.inventory_rows.specs.version_groups.declared.groups.Filespace.{Filesp
 use Rattle.inventory_rows.specs.version_groups.declared.versions.Version.{Version}
 use Rattle.inventory_rows.specs.version_groups.Copies.{copies_after}
 use Rattle.inventory_rows.specs.version_groups.Entries.{on_ok, if_found}
-use Rattle.inventory_rows.specs.version_groups.Versions.{are_distinct, has_object, having_copies, version_of, with_copies, without_object}
+use Rattle.inventory_rows.specs.version_groups.Versions.{are_distinct, has_object, version_of, with_copies, without_object}
 use Rattle.inventory_rows.proofs.of_version_groups.Lists.{are_of_others, distinct-with_copies}
-use Rattle.inventory_rows.specs.object_rows.Filespaces.{filespaces_altered, filespaces_copied, groups_copied, group_copied, versions_in, versions_of}
+use Rattle.inventory_rows.specs.object_rows.Filespaces.{filespaces_copied, groups_copied, group_copied}
+use Rattle.inventory_rows.specs.object_rows.Rows.{Rows, kept_of, rows_altered, rows_copied}
 use Rattle.inventory_rows.proofs.of_object_rows.Splices.{Splices, splice_behind}
 use Rattle.inventory_rows.proofs.of_object_rows.VersionLists.{none_of_others, with_copies-others, without_object-others}
 use Rattle.inventory_rows.specs.Search.{copies, pool, version, versions}
 use Rattle.inventory_rows.specs.State.{Inv}
-use Rattle.inventory_rules.specs.Common.{or_same, with_filespaces}
+use Rattle.inventory_rules.specs.Common.{or_same, with_clients}
 use Rattle.inventory_rules.specs.Copies.{change_copy}
 use Rattle.inventory_rules.specs.Valid.{is_copied, is_orderly}
 use Rattle.inventory_rules.specs.Halfway.{VersionFacts}
+use Rattle.inventory_rules.proofs.CopiedLists.{kept_of-copied}
 use Rattle.inventory_laws.proofs.VersionDays.{days-with_copies, days_are_orderly, orderly-days}
 use Rattle.inventory_laws.proofs.Frames.{frames-copied}
-use Rattle.inventory_laws.proofs.Kept.{Sound, are_orderly, copies_in, facts_from, sound_all, sound_come, sound_gone}
+use Rattle.inventory_laws.proofs.Kept.{Sound, are_orderly, copies_in, facts_objects, held_there-copied, sound_all, sound_come, sound_gone}
 use Rattle.inventory_laws.proofs.Spliced.{splice_flat}
 
--- ---- one version in the list of all
+-- ---- one object in the list of all
 pub version_altered : (k : ℕ) (cs : List CopyRow) (vs : List Version) (w : Version) → are_distinct vs ≡ true → version_of k vs ≡ Some w → Splices (w ∷ []) (record w { copies = cs } ∷ []) vs (with_copies k cs vs)
 version_altered k cs [] w d h = absurd (cc)
 version_altered k cs (v ∷ vs) w d h =
@@ -64,17 +66,6 @@ version_goes k (v ∷ vs) w d h =
     ] refl h
 
 -- ---- all filespaces
-versions-copied_in : (k : ℕ) (cs : List CopyRow) (groups : List (List ℕ × Group)) → versions_in (groups_copied k cs groups) ≡ with_copies k cs (versions_in groups)
-versions-copied_in k cs [] = refl
-versions-copied_in k cs (g ∷ groups) = ap (λ z. with_copies k cs g.1.versions ++ z) (versions-copied_in k cs groups) ∙ sym (map-append (having_copies k cs) g.1.versions (versions_in groups))
-
-pub versions-copied : (k : ℕ) (cs : List CopyRow) (fs : List (ℕ × Filespace)) → versions_of (filespaces_copied k cs fs) ≡ with_copies k cs (versions_of fs)
-versions-copied k cs [] = refl
-versions-copied k cs (f ∷ fs) =
-    ap (λ z. versions_in (groups_copied k cs f.1.groups) ++ z) (versions-copied k cs fs)
-    ∙ ap (λ z. z ++ with_copies k cs (versions_of fs)) (versions-copied_in k cs f.1.groups)
-    ∙ sym (map-append (having_copies k cs) (versions_in f.1.groups) (versions_of fs))
-
 orderly-copied : (k : ℕ) (cs : List CopyRow) (g : Group) → is_orderly (group_copied k cs g) ≡ is_orderly g
 orderly-copied k cs g = orderly-days (group_copied k cs g) ∙ ap days_are_orderly (days-with_copies k cs g.versions) ∙ sym (orderly-days g)
 
@@ -121,32 +112,32 @@ sound_altered n v w cs a c i p = record {
 }
 
 pub facts_copied : (n k : ℕ) (v : Inv) (w : Version) (cs : List CopyRow) → VersionFacts n v → version k v ≡ Some w → is_copied v (record w { copies = cs }) ≡ true → list_all (λ (c : CopyRow). is_some (pool c.pool v)) cs ≡ true → list_all (λ (c : CopyRow). nat_le c.placed n) cs ≡ true
-    → VersionFacts n (with_filespaces (filespaces_copied k cs v.clients.filespaces) v)
+    → VersionFacts n (with_clients (rows_copied k cs v.clients) v)
 facts_copied n k v w cs f there c i p =
-    let fs : List (ℕ × Filespace) = v.clients.filespaces in
+    let new : Rows = rows_copied k cs v.clients in
     let s : Splices (w ∷ []) (record w { copies = cs } ∷ []) (versions v) (with_copies k cs (versions v)) = version_altered k cs (versions v) w f.objects_apart there in
     let all : Sound n v (versions v) = sound_all n v f in
     let one : Sound n v (record w { copies = cs } ∷ []) = sound_altered n v w cs (sound_gone n v s all) c i p in
-    facts_from n v (filespaces_copied k cs fs) f (frames-copied k cs fs)
-    (subst (Sound n v) (sym (versions-copied k cs fs)) (sound_come n v s all one))
-    (ap are_distinct (versions-copied k cs fs) ∙ distinct-with_copies k cs (versions v) ∙ f.objects_apart)
-    (orderly-copied_of k cs fs ∙ f.orderly)
+    facts_objects n v new.filespaces new.held f (frames-copied k cs v.clients.filespaces) (held_there-copied k cs v.clients.filespaces v.clients.held ∙ f.held)
+    (subst (Sound n v) (sym (kept_of-copied k cs v.clients)) (sound_come n v s all one))
+    (ap are_distinct (kept_of-copied k cs v.clients) ∙ distinct-with_copies k cs (versions v) ∙ f.objects_apart)
+    (orderly-copied_of k cs v.clients.filespaces ∙ f.orderly)
 
--- the copies of all versions
+-- the copies of all objects
 pub copies_spliced : (k : ℕ) (v : Inv) (w : Version) (cs : List CopyRow) → are_distinct (versions v) ≡ true → version k v ≡ Some w
-    → Splices (map (λ c. (w.object, c)) w.copies) (map (λ c. (w.object, c)) cs) (copies v) (copies (with_filespaces (filespaces_copied k cs v.clients.filespaces) v))
+    → Splices (map (λ c. (w.object, c)) w.copies) (map (λ c. (w.object, c)) cs) (copies v) (copies (with_clients (rows_copied k cs v.clients) v))
 copies_spliced k v w cs d there =
-    let fs : List (ℕ × Filespace) = v.clients.filespaces in
+    let new : Rows = rows_copied k cs v.clients in
     let s : Splices (copies_in (w ∷ [])) (copies_in (record w { copies = cs } ∷ [])) (copies_in (versions v)) (copies_in (with_copies k cs (versions v))) =
     splice_flat (λ (x : Version). map (λ c. (x.object, c)) x.copies) (version_altered k cs (versions v) w d there) in
-    subst (λ t. Splices t (map (λ c. (w.object, c)) cs) (copies v) (copies_in (versions_of (filespaces_copied k cs fs)))) (append-nil (map (λ c. (w.object, c)) w.copies))
-    (subst (λ t. Splices (map (λ c. (w.object, c)) w.copies ++ []) t (copies v) (copies_in (versions_of (filespaces_copied k cs fs)))) (append-nil (map (λ c. (w.object, c)) cs))
-    (subst (λ t. Splices (map (λ c. (w.object, c)) w.copies ++ []) (map (λ c. (w.object, c)) cs ++ []) (copies v) (copies_in t)) (sym (versions-copied k cs fs)) s))
+    subst (λ t. Splices t (map (λ c. (w.object, c)) cs) (copies v) (copies_in (kept_of new))) (append-nil (map (λ c. (w.object, c)) w.copies))
+    (subst (λ t. Splices (map (λ c. (w.object, c)) w.copies ++ []) t (copies v) (copies_in (kept_of new))) (append-nil (map (λ c. (w.object, c)) cs))
+    (subst (λ t. Splices (map (λ c. (w.object, c)) w.copies ++ []) (map (λ c. (w.object, c)) cs ++ []) (copies v) (copies_in t)) (sym (kept_of-copied k cs v.clients)) s))
 
--- what the change makes of the filespaces
-pub altered : (k : ℕ) (step : CopyChange) (v : Inv) (w : Version) (cs : List CopyRow) → version k v ≡ Some w → copies_after step w.copies ≡ Ok cs → with_filespaces (filespaces_copied k cs v.clients.filespaces) v ≡ change_copy k step v
+-- what the change makes of the rows
+pub altered : (k : ℕ) (step : CopyChange) (v : Inv) (w : Version) (cs : List CopyRow) → version k v ≡ Some w → copies_after step w.copies ≡ Ok cs → with_clients (rows_copied k cs v.clients) v ≡ change_copy k step v
 altered k step v w cs there said =
-    let fs : List (ℕ × Filespace) = v.clients.filespaces in
-    let r : filespaces_altered k step fs ≡ Ok (filespaces_copied k cs fs) =
-    ap (λ o. if_found o (λ (x : Version). on_ok (λ c. filespaces_copied k c fs) (copies_after step x.copies))) there ∙ ap (λ (x : Result (List CopyRow) Refusal). on_ok (λ c. filespaces_copied k c fs) x) said in
-    sym (ap (λ (x : Result (List (ℕ × Filespace)) Refusal). with_filespaces (or_same fs x) v) r)
+    let rows : Rows = v.clients in
+    let r : rows_altered k step rows ≡ Ok (rows_copied k cs rows) =
+    ap (λ o. if_found o (λ (x : Version). on_ok (λ c. rows_copied k c rows) (copies_after step x.copies))) there ∙ ap (λ (x : Result (List CopyRow) Refusal). on_ok (λ c. rows_copied k c rows) x) said in
+    sym (ap (λ (x : Result Rows Refusal). with_clients (or_same rows x) v) r)

@@ -12,9 +12,8 @@ use Rattle.inventory_rows.specs.version_groups.declared.copies.CopyRow.{CopyRow}
 use Rattle.inventory_rows.specs.version_groups.declared.versions.Version.{Version}
 use Rattle.inventory_rows.specs.version_groups.Entries.{all_later, is_nil}
 use Rattle.inventory_rows.specs.version_groups.Versions.{version_of}
-use Rattle.inventory_rows.specs.object_rows.Filespaces.{versions_of}
-use Rattle.inventory_rows.specs.object_rows.Rows.{Rows}
-use Rattle.inventory_rows.specs.Search.{copy_in, is_primary, pool, version, versions}
+use Rattle.inventory_rows.specs.object_rows.Rows.{Rows, kept_of}
+use Rattle.inventory_rows.specs.Search.{copy_in, is_primary, pool, version}
 use Rattle.inventory_rows.specs.State.{Inv}
 use Rattle.inventory_rules.specs.Common.{each, this}
 use Rattle.inventory_rules.specs.Copies.{add_copy, added, change_copy, placed_now, copied_refused, copy_list_refused, stale_copy, added_fits, new_copy_fits}
@@ -130,7 +129,7 @@ may v i h k = go (version i.object v) h k where
 
 -- where the versions are the same
 free_still : (v u : Inv) → u.clients ≡ v.clients → (i : NewCopy) → is_free v i ≡ true → is_free u i ≡ true
-free_still v u same i h = ap (λ (c : Rows). option_map_or (λ w. not (is_some (copy_in i.pool w))) (version_of i.object (versions_of c.filespaces)) false) same ∙ h
+free_still v u same i h = ap (λ (c : Rows). option_map_or (λ w. not (is_some (copy_in i.pool w))) (version_of i.object (kept_of c)) false) same ∙ h
 
 pub parts_of : (c : NewCopies) (v : Inv) → parts_fit (change.Copy c) v ≡ true → (scratch_fits v c.scratch ≡ true) × (items_fit new_copy_fits (λ i. i.segments) c.items (each make_scratch c.scratch v) ≡ true)
 unfolding parts_fit

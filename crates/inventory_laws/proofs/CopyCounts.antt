@@ -13,15 +13,14 @@ use Rattle.entries.specs.declared.change.Change.TheVariants as change
 use Rattle.inventory_rows.specs.version_groups.declared.copies.CopyChange.{CopyChange}
 use Rattle.inventory_rows.specs.version_groups.declared.copies.CopyChange.TheVariants as copy
 use Rattle.inventory_rows.specs.version_groups.declared.copies.CopyRow.{CopyRow}
-use Rattle.inventory_rows.specs.version_groups.declared.groups.Filespace.{Filespace}
 use Rattle.inventory_rows.specs.version_groups.declared.versions.Version.{Version}
 use Rattle.inventory_rows.specs.version_groups.Copies.{copies_after, has_copy, with_copy, without_copy}
 use Rattle.inventory_rows.specs.version_groups.Entries.{if_found, on_ok}
 use Rattle.inventory_rows.specs.version_groups.Versions.{are_distinct, having_copies, version_of, with_copies}
 use Rattle.inventory_rows.proofs.of_version_groups.Lists.{distinct-with_copies}
-use Rattle.inventory_rows.specs.object_rows.Filespaces.{filespaces_altered, filespaces_copied, versions_of}
-use Rattle.inventory_rows.specs.Items.{count_items, items_of_filespace}
-use Rattle.inventory_rows.specs.Search.{copy_in, version}
+use Rattle.inventory_rows.specs.object_rows.Rows.{Rows, kept_of, rows_altered, rows_copied}
+use Rattle.inventory_rows.specs.Items.{count_items}
+use Rattle.inventory_rows.specs.Search.{copy_in, version, versions}
 use Rattle.inventory_rows.specs.State.{Inv}
 use Rattle.inventory_rules.specs.Common.{each, or_same}
 use Rattle.inventory_rules.specs.Copies.{add_copy, added, change_copy, drop_copy, placed_now, segments_in, version_at, copied_refused, copy_list_refused, stale_copy}
@@ -30,13 +29,14 @@ use Rattle.inventory_rules.specs.Transactions.{effect}
 use Rattle.inventory_rules.specs.Journal.{Journal}
 use Rattle.kinds.specs.Refusals.{bad_value, unless}
 use Rattle.inventory_rules.specs.Versions.{name_once, of_version}
+use Rattle.inventory_rules.proofs.CopiedLists.{kept_of-copied}
 use Rattle.inventory_rules.proofs.Touched.{effect-data}
-use Rattle.inventory_rules.proofs.CopiedLists.{versions_of-copied}
 use Rattle.inventory_laws.proofs.Facts.{both, first, rest}
-use Rattle.inventory_laws.proofs.Flat.{in_copies, spaces-copied}
+use Rattle.inventory_laws.proofs.Flat.{in_copies, in_rows, in_rows-copied}
+use Rattle.inventory_laws.proofs.Kept.{object-having}
 use Rattle.inventory_laws.proofs.CountedParts.{nothing_first, nothing_then}
 use Rattle.inventory_laws.proofs.Stays.{Scratched, Stays, data_less, data_more, in_data, put_stays, scratched, take_away_stays}
-use Rattle.inventory_laws.proofs.Weights.{rows, weigh-cons, weigh-filter}
+use Rattle.inventory_laws.proofs.Weights.{weigh-cons, weigh-filter}
 
 -- ---- a version that is found, and its copies
 
@@ -44,30 +44,27 @@ pub is_found : {X : Type 0} (o : Option X) → is_some o ≡ true → (x : X) ×
 is_found (Some x) h = (x, refl)
 is_found None h = absurd cc
 
-pub number_stays : (k : ℕ) (cs : List CopyRow) (v : Version) → (having_copies k cs v).object ≡ v.object
-number_stays k cs v = elim (eqb v.object k) as (λ b. (cond {A = Version} b (record v { copies = cs }) v).object ≡ v.object) [ true ↦ refl | false ↦ refl ]
-
 -- each object has a version that had one
 pub still_there : (k j : ℕ) (cs : List CopyRow) (vs : List Version) → is_some (version_of j (with_copies k cs vs)) ≡ is_some (version_of j vs)
 still_there k j cs [] = refl
 still_there k j cs (v ∷ vs) =
-    ap (λ n. is_some (cond (eqb n j) (Some (having_copies k cs v)) (version_of j (with_copies k cs vs)))) (number_stays k cs v)
+    ap (λ n. is_some (cond (eqb n j) (Some (having_copies k cs v)) (version_of j (with_copies k cs vs)))) (object-having k cs v)
     ∙ elim (eqb v.object j) as (λ b. is_some (cond b (Some (having_copies k cs v)) (version_of j (with_copies k cs vs))) ≡ is_some (cond b (Some v) (version_of j vs))) [
       | true ↦ refl
       | false ↦ still_there k j cs vs
     ]
 
-abbrev alter : ℕ → CopyChange → List (ℕ × Filespace) → Option Version → Result (List (ℕ × Filespace)) Refusal
-alter k step fs found = if_found found (λ v. on_ok (λ copies. filespaces_copied k copies fs) (copies_after step v.copies))
+abbrev alter : ℕ → CopyChange → Rows → Option Version → Result Rows Refusal
+alter k step rows found = if_found found (λ v. on_ok (λ copies. rows_copied k copies rows) (copies_after step v.copies))
 
 -- what a change of the copies gives, where the version is there and the change isn't refused
-pub altered_is : (k : ℕ) (step : CopyChange) (fs : List (ℕ × Filespace)) (w : Version) (cs : List CopyRow) → version_of k (versions_of fs) ≡ Some w → copies_after step w.copies ≡ Ok cs → or_same fs (filespaces_altered k step fs) ≡ filespaces_copied k cs fs
-altered_is k step fs w cs h g =
-    ap (λ o. or_same fs (alter k step fs o)) h ∙ ap (λ r. or_same fs (on_ok (λ copies. filespaces_copied k copies fs) r)) g
+pub altered_is : (k : ℕ) (step : CopyChange) (rows : Rows) (w : Version) (cs : List CopyRow) → version_of k (kept_of rows) ≡ Some w → copies_after step w.copies ≡ Ok cs → or_same rows (rows_altered k step rows) ≡ rows_copied k cs rows
+altered_is k step rows w cs h g =
+    ap (λ o. or_same rows (alter k step rows o)) h ∙ ap (λ r. or_same rows (on_ok (λ copies. rows_copied k copies rows) r)) g
 
--- the versions of the filespaces that a change of copies leaves are distinct
-pub distinct_copied : (k : ℕ) (cs : List CopyRow) (fs : List (ℕ × Filespace)) → are_distinct (versions_of fs) ≡ true → are_distinct (versions_of (filespaces_copied k cs fs)) ≡ true
-distinct_copied k cs fs d = ap are_distinct (versions_of-copied k cs fs) ∙ distinct-with_copies k cs (versions_of fs) ∙ d
+-- the objects of the rows that a change of copies leaves are distinct
+pub distinct_copied : (k : ℕ) (cs : List CopyRow) (rows : Rows) → are_distinct (kept_of rows) ≡ true → are_distinct (kept_of (rows_copied k cs rows)) ≡ true
+distinct_copied k cs rows d = ap are_distinct (kept_of-copied k cs rows) ∙ distinct-with_copies k cs (kept_of rows) ∙ d
 
 -- ---- one copy more
 
@@ -86,37 +83,34 @@ in_copies-with row (c ∷ cs) =
 one_more : (a w f n s : ℕ) → a + w ≡ f + n → n ≡ 1 + (s + w) → a ≡ f + (1 + s)
 one_more a w f n s h g = omega (arith, h, g)
 
-abbrev pub spaces : Inv → List (ℕ × Filespace)
-spaces v = v.clients.filespaces
-
 -- what stands once a copy is made of a version that is there
 pub record CopyMade (item : NewCopy) (v : Inv) (w : Inv) : Type 0 where
-  pub adds : rows items_of_filespace (spaces w) ≡ rows items_of_filespace (spaces v) + (1 + length item.segments)
+  pub adds : in_rows w.clients ≡ in_rows v.clients + (1 + length item.segments)
   pub volumes : length w.stores.volumes ≡ length v.stores.volumes
-  pub distinct : are_distinct (versions_of (spaces w)) ≡ true
-  pub there : (j : ℕ) → is_some (version_of j (versions_of (spaces w))) ≡ is_some (version_of j (versions_of (spaces v)))
+  pub distinct : are_distinct (versions w) ≡ true
+  pub there : (j : ℕ) → is_some (version_of j (versions w)) ≡ is_some (version_of j (versions v))
 
-copy_made : (item : NewCopy) (v : Inv) → are_distinct (versions_of (spaces v)) ≡ true → is_some (version_of item.object (versions_of (spaces v))) ≡ true → CopyMade item v (add_copy item v)
+copy_made : (item : NewCopy) (v : Inv) → are_distinct (versions v) ≡ true → is_some (version_of item.object (versions v)) ≡ true → CopyMade item v (add_copy item v)
 copy_made item v d h =
-    let w : (x : Version) × (version_of item.object (versions_of (spaces v)) ≡ Some x) = is_found (version_of item.object (versions_of (spaces v))) h in
+    let w : (x : Version) × (version_of item.object (versions v) ≡ Some x) = is_found (version_of item.object (versions v)) h in
     let row : CopyRow = placed_now item.pool item.segments v in
     let cs : List CopyRow = with_copy row w.0.copies in
-    let is : spaces (change_copy item.object (added item v) v) ≡ filespaces_copied item.object cs (spaces v) = altered_is item.object (copy.Add row) (spaces v) w.0 cs w.1 refl in
+    let is : (change_copy item.object (added item v) v).clients ≡ rows_copied item.object cs v.clients = altered_is item.object (copy.Add row) v.clients w.0 cs w.1 refl in
     let s : Stays (change_copy item.object (added item v) v) (add_copy item v) = put_stays item.object item.segments (change_copy item.object (added item v) v) in
-    let now : spaces (add_copy item v) ≡ filespaces_copied item.object cs (spaces v) = ap (λ c. c.filespaces) s.clients ∙ is in
+    let now : (add_copy item v).clients ≡ rows_copied item.object cs v.clients = s.clients ∙ is in
     record {
-      adds = ap (λ fs. rows items_of_filespace fs) now
-          ∙ one_more (rows items_of_filespace (filespaces_copied item.object cs (spaces v))) (in_copies w.0.copies) (rows items_of_filespace (spaces v)) (in_copies cs) (length item.segments)
-          (spaces-copied item.object cs (spaces v) w.0 d w.1) (in_copies-with row w.0.copies);
+      adds = ap in_rows now
+          ∙ one_more (in_rows (rows_copied item.object cs v.clients)) (in_copies w.0.copies) (in_rows v.clients) (in_copies cs) (length item.segments)
+          (in_rows-copied item.object cs v.clients w.0 d w.1) (in_copies-with row w.0.copies);
       volumes = s.volumes;
-      distinct = ap (λ fs. are_distinct (versions_of fs)) now ∙ distinct_copied item.object cs (spaces v) d;
-      there = λ j. ap (λ fs. is_some (version_of j (versions_of fs))) now ∙ ap (λ vs. is_some (version_of j vs)) (versions_of-copied item.object cs (spaces v)) ∙ still_there item.object j cs (versions_of (spaces v));
+      distinct = ap (λ c. are_distinct (kept_of c)) now ∙ distinct_copied item.object cs v.clients d;
+      there = λ j. ap (λ c. is_some (version_of j (kept_of c))) now ∙ ap (λ vs. is_some (version_of j vs)) (kept_of-copied item.object cs v.clients) ∙ still_there item.object j cs (versions v);
     }
 
 abbrev with_version : Inv → NewCopy → Bool
-with_version v i = is_some (version_of i.object (versions_of (spaces v)))
+with_version v i = is_some (version_of i.object (versions v))
 
-all_still : (v w : Inv) → ((j : ℕ) → is_some (version_of j (versions_of (spaces w))) ≡ is_some (version_of j (versions_of (spaces v)))) → (items : List NewCopy) → list_all (with_version v) items ≡ true → list_all (with_version w) items ≡ true
+all_still : (v w : Inv) → ((j : ℕ) → is_some (version_of j (versions w)) ≡ is_some (version_of j (versions v))) → (items : List NewCopy) → list_all (with_version v) items ≡ true → list_all (with_version w) items ≡ true
 all_still v w same [] h = refl
 all_still v w same (i ∷ items) h =
     both (with_version w i) (list_all (with_version w) items)
@@ -130,16 +124,16 @@ first_and_more : (a b f n s t : ℕ) → a ≡ b + s → b ≡ f + n → t ≡ n
 first_and_more a b f n s t h g e = omega (arith, h, g, e)
 
 record CopiesMade (items : List NewCopy) (v w : Inv) : Type 0 where
-  pub adds : rows items_of_filespace (spaces w) ≡ rows items_of_filespace (spaces v) + sum_by of_copy items
+  pub adds : in_rows w.clients ≡ in_rows v.clients + sum_by of_copy items
   pub volumes : length w.stores.volumes ≡ length v.stores.volumes
 
-copies_made : (items : List NewCopy) (v : Inv) → are_distinct (versions_of (spaces v)) ≡ true → list_all (with_version v) items ≡ true → CopiesMade items v (each add_copy items v)
+copies_made : (items : List NewCopy) (v : Inv) → are_distinct (versions v) ≡ true → list_all (with_version v) items ≡ true → CopiesMade items v (each add_copy items v)
 copies_made [] v d h = record { adds = omega arith; volumes = refl }
 copies_made (i ∷ items) v d h =
     let m : CopyMade i v (add_copy i v) = copy_made i v d (first (with_version v i) (list_all (with_version v) items) h) in
     let r : CopiesMade items (add_copy i v) (each add_copy items (add_copy i v)) = copies_made items (add_copy i v) m.distinct (all_still v (add_copy i v) m.there items (rest (with_version v i) (list_all (with_version v) items) h)) in
     record {
-      adds = first_and_more (rows items_of_filespace (spaces (each add_copy items (add_copy i v)))) (rows items_of_filespace (spaces (add_copy i v))) (rows items_of_filespace (spaces v)) (of_copy i) (sum_by of_copy items) (sum_by of_copy (i ∷ items))
+      adds = first_and_more (in_rows (each add_copy items (add_copy i v)).clients) (in_rows (add_copy i v).clients) (in_rows v.clients) (of_copy i) (sum_by of_copy items) (sum_by of_copy (i ∷ items))
           r.adds m.adds (sum_by-cons of_copy i items);
       volumes = r.volumes ∙ m.volumes;
     }
@@ -159,61 +153,61 @@ each_there j v (i ∷ items) h =
 all_copies : (a f s w u v n : ℕ) → a ≡ f + s → w ≡ u → u ≡ n + v → a + w + 0 ≡ f + v + (n + s)
 all_copies a f s w u v n h g e = omega (arith, h, g, e)
 
-pub copies_counted : (j : Journal) (c : NewCopies) (v : Inv) → are_distinct (versions_of v.clients.filespaces) ≡ true → copy_list_refused j c.items v ++ scratch_refused c.scratch v ≡ []
+pub copies_counted : (j : Journal) (c : NewCopies) (v : Inv) → are_distinct (versions v) ≡ true → copy_list_refused j c.items v ++ scratch_refused c.scratch v ≡ []
     → count_items (effect (change.Copy c) v) + 0 ≡ count_items v + (length c.scratch + sum_by of_copy c.items)
 unfolding effect
 copies_counted j c v d h =
     let u : Inv = each make_scratch c.scratch v in
     let s : Scratched (length c.scratch) v u = scratched c.scratch v (nothing_then (copy_list_refused j c.items v) (scratch_refused c.scratch v) h) in
     let named : flat_map (copied_refused j v) c.items ≡ [] = nothing_then (unless (name_once (map (λ i. i.object) c.items)) bad_value) (flat_map (copied_refused j v) c.items) (nothing_first (copy_list_refused j c.items v) (scratch_refused c.scratch v) h) in
-    let there : list_all (with_version u) c.items ≡ true = all_still v u (λ k. ap (λ cl. is_some (version_of k (versions_of cl.filespaces))) s.clients) c.items (each_there j v c.items named) in
-    let m : CopiesMade c.items u (each add_copy c.items u) = copies_made c.items u (ap (λ cl. are_distinct (versions_of cl.filespaces)) s.clients ∙ d) there in
+    let there : list_all (with_version u) c.items ≡ true = all_still v u (λ k. ap (λ cl. is_some (version_of k (kept_of cl))) s.clients) c.items (each_there j v c.items named) in
+    let m : CopiesMade c.items u (each add_copy c.items u) = copies_made c.items u (ap (λ cl. are_distinct (kept_of cl)) s.clients ∙ d) there in
     data_more v (effect (change.Copy c) v) 0 (length c.scratch + sum_by of_copy c.items) (effect-data (change.Copy c) v refl)
-    (all_copies (rows items_of_filespace (spaces (each add_copy c.items u))) (rows items_of_filespace (spaces v)) (sum_by of_copy c.items) (length (each add_copy c.items u).stores.volumes) (length u.stores.volumes) (length v.stores.volumes) (length c.scratch)
-    (m.adds ∙ ap (λ cl. rows items_of_filespace cl.filespaces + sum_by of_copy c.items) s.clients) m.volumes s.volumes)
+    (all_copies (in_rows (each add_copy c.items u).clients) (in_rows v.clients) (sum_by of_copy c.items) (length (each add_copy c.items u).stores.volumes) (length u.stores.volumes) (length v.stores.volumes) (length c.scratch)
+    (m.adds ∙ ap (λ cl. in_rows cl + sum_by of_copy c.items) s.clients) m.volumes s.volumes)
 
 -- ---- copies that go
 
 fewer_copies : (a w f n : ℕ) → a + w ≡ f + n → n ≤ w → a ≤ f
 fewer_copies a w f n h g = omega (arith, h, g)
 
-record CopyGone (fs new : List (ℕ × Filespace)) : Type 0 where
-  pub less : rows items_of_filespace new ≤ rows items_of_filespace fs
-  pub distinct : are_distinct (versions_of new) ≡ true
+record CopyGone (rows new : Rows) : Type 0 where
+  pub less : in_rows new ≤ in_rows rows
+  pub distinct : are_distinct (kept_of new) ≡ true
 
-copy_gone : (k pool : ℕ) (fs : List (ℕ × Filespace)) → are_distinct (versions_of fs) ≡ true → CopyGone fs (or_same fs (filespaces_altered k (copy.Drop pool) fs))
-copy_gone k pool fs d = there (version_of k (versions_of fs)) refl where
-  dropping : (w : Version) → version_of k (versions_of fs) ≡ Some w → (b : Bool) → CopyGone fs (or_same fs (on_ok (λ copies. filespaces_copied k copies fs) (cond {A = Result (List CopyRow) Refusal} b (Ok (without_copy pool w.copies)) (Err NotFound))))
+copy_gone : (k pool : ℕ) (rows : Rows) → are_distinct (kept_of rows) ≡ true → CopyGone rows (or_same rows (rows_altered k (copy.Drop pool) rows))
+copy_gone k pool rows d = there (version_of k (kept_of rows)) refl where
+  dropping : (w : Version) → version_of k (kept_of rows) ≡ Some w → (b : Bool) → CopyGone rows (or_same rows (on_ok (λ copies. rows_copied k copies rows) (cond {A = Result (List CopyRow) Refusal} b (Ok (without_copy pool w.copies)) (Err NotFound))))
   dropping w e true = record {
-    less = fewer_copies (rows items_of_filespace (filespaces_copied k (without_copy pool w.copies) fs)) (in_copies w.copies) (rows items_of_filespace fs) (in_copies (without_copy pool w.copies))
-        (spaces-copied k (without_copy pool w.copies) fs w d e) (weigh-filter (λ (c : CopyRow). length c.segments) (λ (c : CopyRow). not (c.pool == pool)) w.copies);
-    distinct = distinct_copied k (without_copy pool w.copies) fs d;
+    less = fewer_copies (in_rows (rows_copied k (without_copy pool w.copies) rows)) (in_copies w.copies) (in_rows rows) (in_copies (without_copy pool w.copies))
+        (in_rows-copied k (without_copy pool w.copies) rows w d e) (weigh-filter (λ (c : CopyRow). length c.segments) (λ (c : CopyRow). not (c.pool == pool)) w.copies);
+    distinct = distinct_copied k (without_copy pool w.copies) rows d;
   }
   dropping w e false = record { less = omega arith; distinct = d }
 
-  there : (o : Option Version) → version_of k (versions_of fs) ≡ o → CopyGone fs (or_same fs (alter k (copy.Drop pool) fs o))
+  there : (o : Option Version) → version_of k (kept_of rows) ≡ o → CopyGone rows (or_same rows (alter k (copy.Drop pool) rows o))
   there None e = record { less = omega arith; distinct = d }
   there (Some w) e = dropping w e (has_copy pool w.copies)
 
 record Dropped (v w : Inv) : Type 0 where
   pub less : in_data w ≤ in_data v
-  pub distinct : are_distinct (versions_of (spaces w)) ≡ true
+  pub distinct : are_distinct (versions w) ≡ true
 
-drop_one : (item : DroppedCopy) (v : Inv) → are_distinct (versions_of (spaces v)) ≡ true → Dropped v (drop_copy item v)
+drop_one : (item : DroppedCopy) (v : Inv) → are_distinct (versions v) ≡ true → Dropped v (drop_copy item v)
 drop_one item v d =
     let u : Inv = take_away item.object (segments_in item.pool (version_at item.object v)) v in
     let s : Stays v u = take_away_stays item.object (segments_in item.pool (version_at item.object v)) v in
-    let g : CopyGone (spaces u) (or_same (spaces u) (filespaces_altered item.object (copy.Drop item.pool) (spaces u))) = copy_gone item.object item.pool (spaces u) (ap (λ cl. are_distinct (versions_of cl.filespaces)) s.clients ∙ d) in
+    let g : CopyGone u.clients (or_same u.clients (rows_altered item.object (copy.Drop item.pool) u.clients)) = copy_gone item.object item.pool u.clients (ap (λ cl. are_distinct (kept_of cl)) s.clients ∙ d) in
     record {
-      less = drops (rows items_of_filespace (or_same (spaces u) (filespaces_altered item.object (copy.Drop item.pool) (spaces u)))) (rows items_of_filespace (spaces u)) (rows items_of_filespace (spaces v)) (length u.stores.volumes) (length v.stores.volumes)
-          g.less (ap (λ cl. rows items_of_filespace cl.filespaces) s.clients) s.volumes;
+      less = drops (in_rows (or_same u.clients (rows_altered item.object (copy.Drop item.pool) u.clients))) (in_rows u.clients) (in_rows v.clients) (length u.stores.volumes) (length v.stores.volumes)
+          g.less (ap in_rows s.clients) s.volumes;
       distinct = g.distinct;
     }
   where
     drops : (a b c u w : ℕ) → a ≤ b → b ≡ c → u ≡ w → a + u ≤ c + w
     drops a b c u w h g e = omega (arith, h, g, e)
 
-drop_all : (items : List DroppedCopy) (v : Inv) → are_distinct (versions_of (spaces v)) ≡ true → in_data (each drop_copy items v) ≤ in_data v
+drop_all : (items : List DroppedCopy) (v : Inv) → are_distinct (versions v) ≡ true → in_data (each drop_copy items v) ≤ in_data v
 drop_all [] v d = omega arith
 drop_all (i ∷ items) v d =
     let o : Dropped v (drop_copy i v) = drop_one i v d in
@@ -222,6 +216,6 @@ drop_all (i ∷ items) v d =
     then_less : (a b c : ℕ) → a ≤ b → b ≤ c → a ≤ c
     then_less a b c h g = omega (arith, h, g)
 
-pub drops_take : (c : DroppedCopies) (v : Inv) → are_distinct (versions_of v.clients.filespaces) ≡ true → count_items (effect (change.DropCopies c) v) ≤ count_items v
+pub drops_take : (c : DroppedCopies) (v : Inv) → are_distinct (versions v) ≡ true → count_items (effect (change.DropCopies c) v) ≤ count_items v
 unfolding effect
 drops_take c v d = data_less v (effect (change.DropCopies c) v) (effect-data (change.DropCopies c) v refl) (drop_all c.items v d)

@@ -12,11 +12,11 @@ use Rattle.inventory_rows.specs.version_groups.declared.versions.Version.{Versio
 use Rattle.inventory_rows.specs.version_groups.Copies.{are_by_pool, copies_after, has_copy, with_copy, without_copy}
 use Rattle.inventory_rows.specs.version_groups.Entries.{is_nil}
 use Rattle.inventory_rows.proofs.of_version_groups.Lists.{list_all-filter, version_of-object}
-use Rattle.inventory_rows.specs.object_rows.Filespaces.{filespaces_copied}
+use Rattle.inventory_rows.specs.object_rows.Rows.{rows_copied}
 use Rattle.inventory_rows.proofs.of_object_rows.Splices.{Splices, splice_in}
 use Rattle.inventory_rows.specs.Search.{copies, copy_in, is_primary, pool, version, versions}
 use Rattle.inventory_rows.specs.State.{Inv}
-use Rattle.inventory_rules.specs.Common.{with_filespaces}
+use Rattle.inventory_rules.specs.Common.{with_clients}
 use Rattle.inventory_rules.specs.Copies.{change_copy}
 use Rattle.inventory_rules.specs.Valid.{primary_copies}
 use Rattle.inventory_rules.specs.Halfway.{VersionFacts}
@@ -69,14 +69,14 @@ dropped n object from v w old f there held two =
     let o : Own n v w = own_of n object v w f there in
     let cs : List CopyRow = without_copy from w.copies in
     let kept : CopyRow → Bool = λ (c : CopyRow). not (eqb c.pool from) in
-    let facts : VersionFacts n (with_filespaces (filespaces_copied object cs v.clients.filespaces) v) =
+    let facts : VersionFacts n (with_clients (rows_copied object cs v.clients) v) =
     facts_copied n object v w cs f there (sound_dropped (is_primary_copy v) w.size from w.copies old held two o.copied) (list_all-filter (in_a_pool v) kept w.copies o.in_pools) (list_all-filter (placed_by n) kept w.copies o.past) in
     let inner : Splices {A = ℕ × CopyRow} ((w.object, old) ∷ []) [] (map (λ c. (w.object, c)) w.copies) (map (λ c. (w.object, c)) cs) =
     goes w.object from w.copies old (sound_by_pool (is_primary_copy v) w.size w.copies o.copied) held in
-    let all : Splices {A = ℕ × CopyRow} ((w.object, old) ∷ []) [] (copies v) (copies (with_filespaces (filespaces_copied object cs v.clients.filespaces) v)) = splice_in inner (copies_spliced object v w cs f.objects_apart there) in
+    let all : Splices {A = ℕ × CopyRow} ((w.object, old) ∷ []) [] (copies v) (copies (with_clients (rows_copied object cs v.clients) v)) = splice_in inner (copies_spliced object v w cs f.objects_apart there) in
     let named : w.object ≡ object = version_of-object object (versions v) w there in
     subst (Dropped n object old v) (altered object (Drop from) v w cs there (said_drop from w.copies old held))
-    (facts, subst (λ k. IsReordered (copies v) ((k, old) ∷ copies (with_filespaces (filespaces_copied object cs v.clients.filespaces) v))) named (less (w.object, old) all))
+    (facts, subst (λ k. IsReordered (copies v) ((k, old) ∷ copies (with_clients (rows_copied object cs v.clients) v))) named (less (w.object, old) all))
 
 abbrev pub Added : ℕ → ℕ → CopyRow → Inv → Inv → Type 0
 Added n object new v w = VersionFacts n w × IsReordered {A = ℕ × CopyRow} ((object, new) ∷ copies v) (copies w)
@@ -87,15 +87,15 @@ added n object v w new f there free lies full alone placed =
     let o : Own n v w = own_of n object v w f there in
     let cs : List CopyRow = with_copy new w.copies in
     let none : has_copy new.pool w.copies ≡ false = has-in_pool new.pool w.copies ∙ free in
-    let facts : VersionFacts n (with_filespaces (filespaces_copied object cs v.clients.filespaces) v) =
+    let facts : VersionFacts n (with_clients (rows_copied object cs v.clients) v) =
     facts_copied n object v w cs f there (sound_more (is_primary_copy v) w.size new w.copies o.copied none full alone)
     (all_come (in_a_pool v) (copy_comes new w.copies) o.in_pools (and_from (in_a_pool v new) true lies refl))
     (all_come (placed_by n) (copy_comes new w.copies) o.past (and_from (placed_by n new) true placed refl)) in
     let inner : Splices {A = ℕ × CopyRow} [] ((w.object, new) ∷ []) (map (λ c. (w.object, c)) w.copies) (map (λ c. (w.object, c)) cs) = comes w.object new w.copies in
-    let all : Splices {A = ℕ × CopyRow} [] ((w.object, new) ∷ []) (copies v) (copies (with_filespaces (filespaces_copied object cs v.clients.filespaces) v)) = splice_in inner (copies_spliced object v w cs f.objects_apart there) in
+    let all : Splices {A = ℕ × CopyRow} [] ((w.object, new) ∷ []) (copies v) (copies (with_clients (rows_copied object cs v.clients) v)) = splice_in inner (copies_spliced object v w cs f.objects_apart there) in
     let named : w.object ≡ object = version_of-object object (versions v) w there in
     subst (Added n object new v) (altered object (Add new) v w cs there refl)
-    (facts, subst (λ k. IsReordered {A = ℕ × CopyRow} ((k, new) ∷ copies v) (copies (with_filespaces (filespaces_copied object cs v.clients.filespaces) v))) named (more (w.object, new) all))
+    (facts, subst (λ k. IsReordered {A = ℕ × CopyRow} ((k, new) ∷ copies v) (copies (with_clients (rows_copied object cs v.clients) v))) named (more (w.object, new) all))
 
 abbrev pub Replaced : ℕ → ℕ → CopyRow → CopyRow → Inv → Inv → Type 0
 Replaced n object old new v w = VersionFacts n w × IsReordered {A = ℕ × CopyRow} ((object, new) ∷ copies v) ((object, old) ∷ copies w)
@@ -108,7 +108,7 @@ replaced n object from v w old new f there held lies full free alone placed =
     let fewer : List CopyRow = without_copy from w.copies in
     let cs : List CopyRow = with_copy new fewer in
     let kept : CopyRow → Bool = λ (c : CopyRow). not (eqb c.pool from) in
-    let facts : VersionFacts n (with_filespaces (filespaces_copied object cs v.clients.filespaces) v) =
+    let facts : VersionFacts n (with_clients (rows_copied object cs v.clients) v) =
     facts_copied n object v w cs f there (sound_replaced (is_primary_copy v) w.size from new w.copies old held (not-true (has_copy new.pool fewer) free) full alone o.copied)
     (all_come (in_a_pool v) (copy_comes new fewer) (list_all-filter (in_a_pool v) kept w.copies o.in_pools) (and_from (in_a_pool v new) true lies refl))
     (all_come (placed_by n) (copy_comes new fewer) (list_all-filter (placed_by n) kept w.copies o.past) (and_from (placed_by n new) true placed refl)) in
@@ -117,8 +117,8 @@ replaced n object from v w old new f there held lies full free alone placed =
     let into : IsReordered {A = ℕ × CopyRow} ((w.object, new) ∷ map (λ c. (w.object, c)) fewer) (map (λ c. (w.object, c)) cs) = more (w.object, new) (comes w.object new fewer) in
     let here : IsReordered {A = ℕ × CopyRow} ((w.object, new) ∷ map (λ c. (w.object, c)) w.copies) ((w.object, old) ∷ map (λ c. (w.object, c)) cs) =
     replaces (w.object, new) (w.object, old) (map (λ c. (w.object, c)) w.copies) (map (λ c. (w.object, c)) fewer) (map (λ c. (w.object, c)) cs) out into in
-    let all : IsReordered {A = ℕ × CopyRow} ((w.object, new) ∷ copies v) ((w.object, old) ∷ copies (with_filespaces (filespaces_copied object cs v.clients.filespaces) v)) =
+    let all : IsReordered {A = ℕ × CopyRow} ((w.object, new) ∷ copies v) ((w.object, old) ∷ copies (with_clients (rows_copied object cs v.clients) v)) =
     splice_reordered ((w.object, new) ∷ []) ((w.object, old) ∷ []) (copies_spliced object v w cs f.objects_apart there) here in
     let named : w.object ≡ object = version_of-object object (versions v) w there in
     subst (Replaced n object old new v) (altered object (Replace from new) v w cs there (said_replace from new w.copies old held))
-    (facts, subst (λ k. IsReordered {A = ℕ × CopyRow} ((k, new) ∷ copies v) ((k, old) ∷ copies (with_filespaces (filespaces_copied object cs v.clients.filespaces) v))) named all)
+    (facts, subst (λ k. IsReordered {A = ℕ × CopyRow} ((k, new) ∷ copies v) ((k, old) ∷ copies (with_clients (rows_copied object cs v.clients) v))) named all)

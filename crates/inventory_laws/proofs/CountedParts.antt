@@ -2,6 +2,7 @@
 use Rattle.std.proofs.Common.{◌≡◌, ℕ, ◌+◌, ◌≤◌, List, [], ◌∷◌, ◌++◌, length, Result, Ok, Err, refl, arith}
 use Rattle.kinds.specs.declared.refusal.Refusal.{Refusal}
 use Rattle.inventory_rows.specs.policy_domains.Rows.{DomainRow}
+use Rattle.inventory_rows.specs.object_rows.Items.{items_of_held}
 use Rattle.inventory_rows.specs.object_rows.Rows.{Rows}
 use Rattle.inventory_rows.specs.pool_rows.PoolRows.{PoolRows}
 use Rattle.inventory_rows.specs.declared.backup.Backup.{Backup}
@@ -13,7 +14,7 @@ abbrev pub in_domains : List (List ℕ × DomainRow) → ℕ
 in_domains domains = rows items_of_domain domains
 
 abbrev pub in_clients : Rows → ℕ
-in_clients clients = length clients.nodes + rows items_of_filespace clients.filespaces
+in_clients clients = length clients.nodes + rows items_of_filespace clients.filespaces + items_of_held clients.held
 
 abbrev pub in_stores : PoolRows → ℕ
 in_stores stores = length stores.classes + (length stores.pools + length stores.volumes)

@@ -2,12 +2,12 @@
 use Rattle.std.proofs.Common.{◌≡◌, ℕ, ◌+◌, ◌^◌, true, ltb, leb, []}
 use Rattle.kinds.specs.declared.refusal.Refusal.TheVariants as refusal
 use Rattle.entries.specs.declared.change.Change.TheVariants as change
+use Rattle.inventory_rows.specs.Search.{versions}
 use Rattle.inventory_rows.specs.State.{Inv}
 use Rattle.inventory_rules.specs.Transactions.{effect, causes, sizes_refused}
 use Rattle.inventory_rules.specs.Held.{IsTied}
 use Rattle.inventory_rules.specs.Journal.{Journal}
 use Rattle.inventory_rules.specs.Valid.{is_valid}
-use Rattle.inventory_rows.specs.object_rows.Filespaces.{versions_of}
 use Rattle.inventory_laws.proofs.RowParts.{Parts, parts_of, valid_from, files_later, versions_later, clock_later, le_more}
 use Rattle.inventory_laws.proofs.Refusals.{few_items, met, number_bounded}
 
@@ -18,7 +18,7 @@ parts-day day v bound later sizes p = record {
   clients = p.clients;
   stores = p.stores;
   files = files_later v.number (v.number + 1) v.today day v.next_file v.stores.volumes v.backups (le_more v.number) later p.files;
-  versions = versions_later v.number (v.number + 1) v.today day v.next_object v.stores (versions_of v.clients.filespaces) (le_more v.number) later p.versions;
+  versions = versions_later v.number (v.number + 1) v.today day v.next_object v.stores (versions v) (le_more v.number) later p.versions;
   clock = clock_later v.number (v.number + 1) v.today day v.stores.volumes (number_bounded (change.Day day) v sizes) bound later p.clock;
   few_items = few_items (change.Day day) v sizes;
 }

@@ -1,6 +1,7 @@
 -- A change of the policy keeps what is said of the domains: their rules cite pools that are there, and their default classes are there.
 use Rattle.std.proofs.Common.{◌≡◌, ℕ, Bool, true, false, not, ◌&&◌, ◌||◌, is_some, if◌then◌else◌, List, [], ◌∷◌, Option, Some, None, Result, Ok, Err, refl, sym, ap, ◌∙◌}
 use Rattle.std.proofs.lemmas.Bool.{not-true}
+use Rattle.std.proofs.lemmas.List.Folds.{list_all-append}
 use Rattle.std.specs.Cmp.Lexicographic.{slice_cmp}
 use Rattle.std.specs.List.{flat_map, list_all}
 use Rattle.std.specs.Option.{option_map_or}
@@ -13,20 +14,23 @@ use Rattle.kinds.specs.declared.change.Verb.{Verb}
 use Rattle.kinds.specs.declared.change.Verb.TheVariants as verb
 use Rattle.kinds.specs.declared.refusal.Refusal.{Refusal}
 use Rattle.kinds.specs.declared.refusal.Refusal.TheVariants as refusal
+use Rattle.kinds.specs.declared.rule.ArchiveRule.{ArchiveRule}
 use Rattle.kinds.specs.declared.rule.BackupRule.{BackupRule}
-use Rattle.inventory_rows.specs.policy_domains.Changes.{after, group_changed, in_group, names_active}
+use Rattle.inventory_rows.specs.policy_domains.declared.classes.ManagementClass.{ManagementClass}
+use Rattle.inventory_rows.specs.policy_domains.Changes.{after, names_active}
+use Rattle.inventory_rows.specs.policy_domains.Groups.{group_changed}
 use Rattle.kinds.specs.Names.{is_same_name}
 use Rattle.inventory_rows.specs.policy_domains.Rows.{DomainRow, SetRow, active_set, changed, changed_row, defined, deleted, row_of, with_row, with_value, within, without_row}
-use Rattle.inventory_rows.specs.policy_domains.Sets.{activated, assigned, class_changed, empty_domain, empty_set, in_sets, other_default, set_changed, to_activate}
+use Rattle.inventory_rows.specs.policy_domains.Sets.{activated, assigned, bare_class, class_changed, empty_domain, empty_set, in_sets, other_default, set_changed, to_activate}
 use Rattle.inventory_rows.specs.object_rows.Names.{at_name}
 use Rattle.inventory_rows.proofs.of_object_rows.Stands.{path_itself, same_path}
 use Rattle.inventory_rows.specs.pool_tables.declared.pool.Pool.{Pool}
 use Rattle.inventory_rows.specs.pool_tables.Rows.{row_at}
-use Rattle.inventory_rows.specs.Search.{rules_of_set}
+use Rattle.inventory_rows.specs.Search.{destinations_of, destinations_of_set}
 use Rattle.inventory_rules.specs.Valid.{is_default_there}
 use Rattle.inventory_laws.proofs.Facts.{both, first, rest}
 use Rattle.inventory_laws.proofs.Names.{at-same}
-use Rattle.inventory_laws.proofs.RowsKept.{found-insert_entry, found-remove_entry, found-set_value, left-remove_entry, list_all-flat_map, list_all-insert_entry, list_all-left, list_all-mono, list_all-same, list_all-set_value, list_all-two, passes-lookup}
+use Rattle.inventory_laws.proofs.RowsKept.{found-insert_entry, found-remove_entry, found-set_value, left-remove_entry, list_all-flat_map, list_all-insert_entry, list_all-joined, list_all-left, list_all-mono, list_all-same, list_all-set_value, list_all-two, passes-lookup}
 
 abbrev pub is_deletion : Verb → Bool
 is_deletion verb.Define = false
@@ -35,10 +39,13 @@ is_deletion verb.Delete = true
 
 -- ---- what is said of domains, from the inside out
 
--- the destination of a class's copy group is a pool that is there
-abbrev class_cites : List (ℕ × Pool) → Option BackupRule → Bool
-class_cites pools None = true
-class_cites pools (Some rule) = is_some (row_at rule.destination pools)
+-- each of these numbers is that of a pool that is there
+abbrev pub are_there : List (ℕ × Pool) → List ℕ → Bool
+are_there pools destinations = list_all (λ n. is_some (row_at n pools)) destinations
+
+-- the destinations of a class's copy groups are pools that are there
+abbrev class_cites : List (ℕ × Pool) → ManagementClass → Bool
+class_cites pools class = are_there pools (destinations_of class)
 
 abbrev classes_cite : List (ℕ × Pool) → SetRow → Bool
 classes_cite pools set = list_all (λ c. class_cites pools c.1) set.classes
@@ -52,38 +59,28 @@ are_sound_sets pools sets = list_all (is_sound_set pools) sets
 abbrev pub are_sound : List (ℕ × Pool) → List (List ℕ × DomainRow) → Bool
 are_sound pools domains = list_all (λ d. are_sound_sets pools d.1.sets) domains
 
-and_true : (b : Bool) → (b && true) ≡ b
-and_true true = refl
-and_true false = refl
+set-cites : (pools : List (ℕ × Pool)) (set : SetRow) → are_there pools (destinations_of_set set) ≡ classes_cite pools set
+set-cites pools set = list_all-flat_map (λ n. is_some (row_at n pools)) (λ c. destinations_of c.1) set.classes
 
-rule-cites : (pools : List (ℕ × Pool)) (o : Option BackupRule) → list_all (λ rule. is_some (row_at rule.destination pools)) (option_map_or (λ rule. rule ∷ []) o []) ≡ class_cites pools o
-rule-cites pools None = refl
-rule-cites pools (Some rule) = and_true (is_some (row_at rule.destination pools))
-
-set-cites : (pools : List (ℕ × Pool)) (set : SetRow) → list_all (λ rule. is_some (row_at rule.destination pools)) (rules_of_set set) ≡ classes_cite pools set
-set-cites pools set =
-    list_all-flat_map (λ rule. is_some (row_at rule.destination pools)) (λ c. option_map_or (λ rule. rule ∷ []) c.1 []) set.classes
-    ∙ list_all-same (λ c. list_all (λ rule. is_some (row_at rule.destination pools)) (option_map_or (λ rule. rule ∷ []) c.1 [])) (λ c. class_cites pools c.1) (λ c. rule-cites pools c.1) set.classes
-
-domain-cites : (pools : List (ℕ × Pool)) (sets : List (List ℕ × SetRow)) → list_all (λ rule. is_some (row_at rule.destination pools)) (flat_map (λ s. rules_of_set s.1) sets) ≡ list_all (λ s. classes_cite pools s.1) sets
+domain-cites : (pools : List (ℕ × Pool)) (sets : List (List ℕ × SetRow)) → are_there pools (flat_map (λ s. destinations_of_set s.1) sets) ≡ list_all (λ s. classes_cite pools s.1) sets
 domain-cites pools sets =
-    list_all-flat_map (λ rule. is_some (row_at rule.destination pools)) (λ s. rules_of_set s.1) sets
-    ∙ list_all-same (λ s. list_all (λ rule. is_some (row_at rule.destination pools)) (rules_of_set s.1)) (λ s. classes_cite pools s.1) (λ s. set-cites pools s.1) sets
+    list_all-flat_map (λ n. is_some (row_at n pools)) (λ s. destinations_of_set s.1) sets
+    ∙ list_all-same (λ s. are_there pools (destinations_of_set s.1)) (λ s. classes_cite pools s.1) (λ s. set-cites pools s.1) sets
 
-all-cite : (pools : List (ℕ × Pool)) (domains : List (List ℕ × DomainRow)) → list_all (λ rule. is_some (row_at rule.destination pools)) (flat_map (λ d. flat_map (λ s. rules_of_set s.1) d.1.sets) domains) ≡ list_all (λ d. list_all (λ s. classes_cite pools s.1) d.1.sets) domains
+all-cite : (pools : List (ℕ × Pool)) (domains : List (List ℕ × DomainRow)) → are_there pools (flat_map (λ d. flat_map (λ s. destinations_of_set s.1) d.1.sets) domains) ≡ list_all (λ d. list_all (λ s. classes_cite pools s.1) d.1.sets) domains
 all-cite pools domains =
-    list_all-flat_map (λ rule. is_some (row_at rule.destination pools)) (λ d. flat_map (λ s. rules_of_set s.1) d.1.sets) domains
-    ∙ list_all-same (λ d. list_all (λ rule. is_some (row_at rule.destination pools)) (flat_map (λ s. rules_of_set s.1) d.1.sets)) (λ d. list_all (λ s. classes_cite pools s.1) d.1.sets) (λ d. domain-cites pools d.1.sets) domains
+    list_all-flat_map (λ n. is_some (row_at n pools)) (λ d. flat_map (λ s. destinations_of_set s.1) d.1.sets) domains
+    ∙ list_all-same (λ d. are_there pools (flat_map (λ s. destinations_of_set s.1) d.1.sets)) (λ d. list_all (λ s. classes_cite pools s.1) d.1.sets) (λ d. domain-cites pools d.1.sets) domains
 
 pub sound_from : (pools : List (ℕ × Pool)) (domains : List (List ℕ × DomainRow))
-    → list_all (λ rule. is_some (row_at rule.destination pools)) (flat_map (λ d. flat_map (λ s. rules_of_set s.1) d.1.sets) domains) ≡ true
+    → are_there pools (flat_map (λ d. flat_map (λ s. destinations_of_set s.1) d.1.sets) domains) ≡ true
     → list_all (λ d. list_all (λ s. is_default_there s.0 s.1) d.1.sets) domains ≡ true → are_sound pools domains ≡ true
 sound_from pools domains cite there =
     list_all-two (λ d. list_all (λ s. is_default_there s.0 s.1) d.1.sets) (λ d. list_all (λ s. classes_cite pools s.1) d.1.sets) (λ d. are_sound_sets pools d.1.sets)
     (λ d h k. list_all-two (λ s. is_default_there s.0 s.1) (λ s. classes_cite pools s.1) (is_sound_set pools) (λ s a b. both _ _ a b) d.1.sets h k) domains there (sym (all-cite pools domains) ∙ cite)
 
 pub rules-from_sound : (pools : List (ℕ × Pool)) (domains : List (List ℕ × DomainRow)) → are_sound pools domains ≡ true
-    → list_all (λ rule. is_some (row_at rule.destination pools)) (flat_map (λ d. flat_map (λ s. rules_of_set s.1) d.1.sets) domains) ≡ true
+    → are_there pools (flat_map (λ d. flat_map (λ s. destinations_of_set s.1) d.1.sets) domains) ≡ true
 rules-from_sound pools domains h =
     all-cite pools domains
     ∙ list_all-mono (λ d. are_sound_sets pools d.1.sets) (λ d. list_all (λ s. classes_cite pools s.1) d.1.sets) (λ d k. list_all-mono (is_sound_set pools) (λ s. classes_cite pools s.1) (λ s a. rest _ _ a) d.1.sets k) domains h
@@ -137,11 +134,24 @@ passes-defined : {V : Type 0} (p : List ℕ × V → Bool) (name : List ℕ) (v 
 passes-defined p name v rows h a =
     list_all-insert_entry p (slice_cmp nat_cmp) name v rows (λ k at. ap (λ n. p (n, v)) (sym (same_path name k at)) ∙ h) (path_itself name) a
 
+-- ---- a class of a set
+
+-- a class of a set changes by a step
+abbrev pub in_class : List ℕ → (ManagementClass → Result ManagementClass Refusal) → SetRow → Result SetRow Refusal
+in_class class step set = within (λ classes. record { default_class = set.default_class; classes = classes }) (changed class step set.classes)
+
+-- its backup copy group changes, or its archive copy group
+abbrev pub backup_changed : Verb → BackupRule → ManagementClass → Result ManagementClass Refusal
+backup_changed v rule class = within (λ group. record { backup = group; archive = class.archive }) (group_changed v rule class.backup)
+
+abbrev pub archive_changed : Verb → ArchiveRule → ManagementClass → Result ManagementClass Refusal
+archive_changed v rule class = within (λ group. record { backup = class.backup; archive = group }) (group_changed v rule class.archive)
+
 -- ---- sets
 
 module _ (pools : List (ℕ × Pool)) (set : List ℕ) (other : is_same_name set active_set ≡ false) where
   -- a set that isn't the one that binds clients may be without a default class
-  free_default : (classes : List (List ℕ × Option BackupRule)) → is_default_there set (record { default_class = None; classes = classes }) ≡ true
+  free_default : (classes : List (List ℕ × ManagementClass)) → is_default_there set (record { default_class = None; classes = classes }) ≡ true
   free_default classes = ap not other
 
   defined-sound : (sets new : List (List ℕ × SetRow)) → defined set empty_set sets ≡ Ok new → are_sound_sets pools sets ≡ true → are_sound_sets pools new ≡ true
@@ -153,12 +163,12 @@ module _ (pools : List (ℕ × Pool)) (set : List ℕ) (other : is_same_name set
   set_changed-sound two.Delete sets new h a = ap (are_sound_sets pools) (row_deleted set sets new h) ∙ list_all-left (is_sound_set pools) (left-remove_entry (at_name set) sets) a
 
   -- the default class of a set is there where its classes are found as before
-  default_stays : (classes more : List (List ℕ × Option BackupRule)) → ((class : List ℕ) → is_some (row_of class classes) ≡ true → is_some (row_of class more) ≡ true) → (o : Option (List ℕ))
+  default_stays : (classes more : List (List ℕ × ManagementClass)) → ((class : List ℕ) → is_some (row_of class classes) ≡ true → is_some (row_of class more) ≡ true) → (o : Option (List ℕ))
       → is_default_there set (record { default_class = o; classes = classes }) ≡ true → is_default_there set (record { default_class = o; classes = more }) ≡ true
   default_stays classes more f None h = free_default more
   default_stays classes more f (Some class) h = f class h
 
-  default_goes : (class : List ℕ) (classes : List (List ℕ × Option BackupRule)) (o : Option (List ℕ))
+  default_goes : (class : List ℕ) (classes : List (List ℕ × ManagementClass)) (o : Option (List ℕ))
       → is_default_there set (record { default_class = o; classes = classes }) ≡ true → is_default_there set (record { default_class = other_default class o; classes = without_row class classes }) ≡ true
   default_goes class classes None h = free_default (without_row class classes)
   default_goes class classes (Some d) h =
@@ -169,32 +179,32 @@ module _ (pools : List (ℕ × Pool)) (set : List ℕ) (other : is_same_name set
 
   class_changed-sound : (v : DefineOrDelete) (class : List ℕ) (old new : SetRow) → class_changed v class old ≡ Ok new → is_sound_set pools (set, old) ≡ true → is_sound_set pools (set, new) ≡ true
   class_changed-sound two.Define class old new h a =
-      let c : (classes : List (List ℕ × Option BackupRule)) × (defined class None old.classes ≡ Ok classes) × (new ≡ record { default_class = old.default_class; classes = classes }) =
-      placed (λ classes. record { default_class = old.default_class; classes = classes }) (defined class None old.classes) new h in
-      let said : c.0 ≡ with_row class None old.classes = row_defined class old.classes c.0 None c.1 in
+      let c : (classes : List (List ℕ × ManagementClass)) × (defined class bare_class old.classes ≡ Ok classes) × (new ≡ record { default_class = old.default_class; classes = classes }) =
+      placed (λ classes. record { default_class = old.default_class; classes = classes }) (defined class bare_class old.classes) new h in
+      let said : c.0 ≡ with_row class bare_class old.classes = row_defined class old.classes c.0 bare_class c.1 in
       ap (λ s. is_sound_set pools (set, s)) c.2
       ∙ ap (λ classes. is_sound_set pools (set, record { default_class = old.default_class; classes = classes })) said
       ∙ both _ _
-      (default_stays old.classes (with_row class None old.classes) (λ d there. found-insert_entry (at_name d) (slice_cmp nat_cmp) class None old.classes there) old.default_class (first _ _ a))
-      (passes-defined (λ c. class_cites pools c.1) class None old.classes refl (rest _ _ a))
+      (default_stays old.classes (with_row class bare_class old.classes) (λ d there. found-insert_entry (at_name d) (slice_cmp nat_cmp) class bare_class old.classes there) old.default_class (first _ _ a))
+      (passes-defined (λ c. class_cites pools c.1) class bare_class old.classes refl (rest _ _ a))
   class_changed-sound two.Delete class old new h a =
-      let c : (classes : List (List ℕ × Option BackupRule)) × (deleted class old.classes ≡ Ok classes) × (new ≡ record { default_class = other_default class old.default_class; classes = classes }) =
+      let c : (classes : List (List ℕ × ManagementClass)) × (deleted class old.classes ≡ Ok classes) × (new ≡ record { default_class = other_default class old.default_class; classes = classes }) =
       placed (λ classes. record { default_class = other_default class old.default_class; classes = classes }) (deleted class old.classes) new h in
       let said : c.0 ≡ without_row class old.classes = row_deleted class old.classes c.0 c.1 in
       ap (λ s. is_sound_set pools (set, s)) c.2
       ∙ ap (λ classes. is_sound_set pools (set, record { default_class = other_default class old.default_class; classes = classes })) said
       ∙ both _ _ (default_goes class old.classes old.default_class (first _ _ a)) (list_all-left (λ c. class_cites pools c.1) (left-remove_entry (at_name class) old.classes) (rest _ _ a))
 
-  in_group-sound : (v : Verb) (class : List ℕ) (rule : BackupRule) → ((r : Option BackupRule) (s : Option BackupRule) → group_changed v rule r ≡ Ok s → class_cites pools s ≡ true)
-      → (old new : SetRow) → in_group v class rule old ≡ Ok new → is_sound_set pools (set, old) ≡ true → is_sound_set pools (set, new) ≡ true
-  in_group-sound v class rule cites old new h a =
-      let c : (classes : List (List ℕ × Option BackupRule)) × (changed class (group_changed v rule) old.classes ≡ Ok classes) × (new ≡ record { default_class = old.default_class; classes = classes }) =
-      placed (λ classes. record { default_class = old.default_class; classes = classes }) (changed class (group_changed v rule) old.classes) new h in
-      let said : (r : Option BackupRule) × (s : Option BackupRule) × (row_of class old.classes ≡ Some r) × (group_changed v rule r ≡ Ok s) × (c.0 ≡ with_value class s old.classes) = row_changed class old.classes c.0 (group_changed v rule) c.1 in
+  in_class-sound : (class : List ℕ) (step : ManagementClass → Result ManagementClass Refusal) → ((r s : ManagementClass) → class_cites pools r ≡ true → step r ≡ Ok s → class_cites pools s ≡ true)
+      → (old new : SetRow) → in_class class step old ≡ Ok new → is_sound_set pools (set, old) ≡ true → is_sound_set pools (set, new) ≡ true
+  in_class-sound class step cites old new h a =
+      let c : (classes : List (List ℕ × ManagementClass)) × (changed class step old.classes ≡ Ok classes) × (new ≡ record { default_class = old.default_class; classes = classes }) =
+      placed (λ classes. record { default_class = old.default_class; classes = classes }) (changed class step old.classes) new h in
+      let said : (r : ManagementClass) × (s : ManagementClass) × (row_of class old.classes ≡ Some r) × (step r ≡ Ok s) × (c.0 ≡ with_value class s old.classes) = row_changed class old.classes c.0 step c.1 in
       ap (λ s. is_sound_set pools (set, s)) c.2
       ∙ both _ _
       (default_stays old.classes c.0 (λ d there. ap (λ classes. is_some (row_of d classes)) said.4 ∙ found-set_value (at_name d) (at_name class) old.classes said.1 ∙ there) old.default_class (first _ _ a))
-      (passes-changed (λ c. class_cites pools c.1) class (group_changed v rule) (λ r s _ now. cites r s now) old.classes c.0 c.1 (rest _ _ a))
+      (passes-changed (λ c. class_cites pools c.1) class step cites old.classes c.0 c.1 (rest _ _ a))
 
   assigned-sound : (class : List ℕ) (old new : SetRow) → assigned class old ≡ Ok new → is_sound_set pools (set, old) ≡ true → is_sound_set pools (set, new) ≡ true
   assigned-sound class old new h a =
@@ -268,13 +278,42 @@ same_sets pools days old new a h =
 
 -- ---- each change
 
-group-cites : (pools : List (ℕ × Pool)) (v : Verb) (rule : BackupRule) → (is_deletion v || is_some (row_at rule.destination pools)) ≡ true → (r s : Option BackupRule) → group_changed v rule r ≡ Ok s → class_cites pools s ≡ true
-group-cites pools verb.Define rule there None s h = let same : s ≡ Some rule = cc in ap (class_cites pools) same ∙ there
-group-cites pools verb.Define rule there (Some old) s h = absurd (cc)
-group-cites pools verb.Update rule there None s h = absurd (cc)
-group-cites pools verb.Update rule there (Some old) s h = let same : s ≡ Some rule = cc in ap (class_cites pools) same ∙ there
-group-cites pools verb.Delete rule there None s h = absurd (cc)
-group-cites pools verb.Delete rule there (Some old) s h = let same : s ≡ None = cc in ap (class_cites pools) same
+-- what a change leaves of a copy group, of either type
+left-cites : (pools : List (ℕ × Pool)) {R : Type 0} (of : R → ℕ) (rule : R) (v : Verb) → (is_deletion v || is_some (row_at (of rule) pools)) ≡ true → (r s : Option R) → group_changed v rule r ≡ Ok s → are_there pools (option_map_or (λ x. of x ∷ []) s []) ≡ true
+left-cites pools of rule verb.Define there None s h = let same : s ≡ Some rule = cc in ap (λ o. are_there pools (option_map_or (λ x. of x ∷ []) o [])) same ∙ both _ _ there refl
+left-cites pools of rule verb.Define there (Some old) s h = absurd (cc)
+left-cites pools of rule verb.Update there None s h = absurd (cc)
+left-cites pools of rule verb.Update there (Some old) s h = let same : s ≡ Some rule = cc in ap (λ o. are_there pools (option_map_or (λ x. of x ∷ []) o [])) same ∙ both _ _ there refl
+left-cites pools of rule verb.Delete there None s h = absurd (cc)
+left-cites pools of rule verb.Delete there (Some old) s h = let same : s ≡ None = cc in ap (λ o. are_there pools (option_map_or (λ x. of x ∷ []) o [])) same
+
+-- the destinations of one copy group, where it is there
+abbrev of_backup : Option BackupRule → List ℕ
+of_backup o = option_map_or (λ rule. rule.destination ∷ []) o []
+
+abbrev of_archive : Option ArchiveRule → List ℕ
+of_archive o = option_map_or (λ rule. rule.destination ∷ []) o []
+
+backup-cites : (pools : List (ℕ × Pool)) (v : Verb) (rule : BackupRule) → (is_deletion v || is_some (row_at rule.destination pools)) ≡ true → (r s : ManagementClass) → class_cites pools r ≡ true → backup_changed v rule r ≡ Ok s → class_cites pools s ≡ true
+backup-cites pools v rule there r s cites h =
+    let c : (left : Option BackupRule) × (group_changed v rule r.backup ≡ Ok left) × (s ≡ record { backup = left; archive = r.archive }) = placed (λ left. record { backup = left; archive = r.archive }) (group_changed v rule r.backup) s h in
+    ap (class_cites pools) c.2
+    ∙ list_all-joined (λ n. is_some (row_at n pools)) (of_backup c.0) (of_archive r.archive) (left-cites pools (λ (x : BackupRule). x.destination) rule v there r.backup c.0 c.1)
+    (rest _ _ (sym (list_all-append (λ n. is_some (row_at n pools)) (of_backup r.backup) (of_archive r.archive)) ∙ cites))
+
+archive-cites : (pools : List (ℕ × Pool)) (v : Verb) (rule : ArchiveRule) → (is_deletion v || is_some (row_at rule.destination pools)) ≡ true → (r s : ManagementClass) → class_cites pools r ≡ true → archive_changed v rule r ≡ Ok s → class_cites pools s ≡ true
+archive-cites pools v rule there r s cites h =
+    let c : (left : Option ArchiveRule) × (group_changed v rule r.archive ≡ Ok left) × (s ≡ record { backup = r.backup; archive = left }) = placed (λ left. record { backup = r.backup; archive = left }) (group_changed v rule r.archive) s h in
+    ap (class_cites pools) c.2
+    ∙ list_all-joined (λ n. is_some (row_at n pools)) (of_backup r.backup) (of_archive c.0) (first _ _ (sym (list_all-append (λ n. is_some (row_at n pools)) (of_backup r.backup) (of_archive r.archive)) ∙ cites))
+    (left-cites pools (λ (x : ArchiveRule). x.destination) rule v there r.archive c.0 c.1)
+
+-- a change of a class keeps the sets sound, where its destinations are there
+class-keeps : (pools : List (ℕ × Pool)) (set : List ℕ) → is_same_name set active_set ≡ false → (class : List ℕ) (step : ManagementClass → Result ManagementClass Refusal)
+    → ((r s : ManagementClass) → class_cites pools r ≡ true → step r ≡ Ok s → class_cites pools s ≡ true) → KeepsSets pools (in_sets (changed set (in_class class step)))
+class-keeps pools set other class step cites =
+    in_sets-keeps pools (changed set (in_class class step))
+    (passes-changed (is_sound_set pools) set (in_class class step) (λ s t k said. in_class-sound pools set other class step cites s t said k))
 
 -- the destination of a copy group that is defined or replaced is a pool that is there
 abbrev pub destination_there : List (ℕ × Pool) → PolicyChange → Bool
@@ -282,6 +321,7 @@ destination_there pools (policy.Domain v domain days) = true
 destination_there pools (policy.Set v domain set) = true
 destination_there pools (policy.Class v domain set class) = true
 destination_there pools (policy.Group v domain set class rule) = is_deletion v || is_some (row_at rule.destination pools)
+destination_there pools (policy.ArchiveGroup v domain set class rule) = is_deletion v || is_some (row_at rule.destination pools)
 destination_there pools (policy.Assign domain set class) = true
 destination_there pools (policy.Activate domain set) = true
 
@@ -299,8 +339,9 @@ after-sound pools (policy.Class v domain set class) other there old new h a =
     changed-sound pools domain (in_sets (changed set (class_changed v class)))
     (in_sets-keeps pools (changed set (class_changed v class)) (passes-changed (is_sound_set pools) set (class_changed v class) (λ s t k said. class_changed-sound pools set other v class s t said k))) old new h a
 after-sound pools (policy.Group v domain set class rule) other there old new h a =
-    changed-sound pools domain (in_sets (changed set (in_group v class rule)))
-    (in_sets-keeps pools (changed set (in_group v class rule)) (passes-changed (is_sound_set pools) set (in_group v class rule) (λ s t k said. in_group-sound pools set other v class rule (group-cites pools v rule there) s t said k))) old new h a
+    changed-sound pools domain (in_sets (changed set (in_class class (backup_changed v rule)))) (class-keeps pools set other class (backup_changed v rule) (backup-cites pools v rule there)) old new h a
+after-sound pools (policy.ArchiveGroup v domain set class rule) other there old new h a =
+    changed-sound pools domain (in_sets (changed set (in_class class (archive_changed v rule)))) (class-keeps pools set other class (archive_changed v rule) (archive-cites pools v rule there)) old new h a
 after-sound pools (policy.Assign domain set class) other there old new h a =
     changed-sound pools domain (in_sets (changed set (assigned class)))
     (in_sets-keeps pools (changed set (assigned class)) (passes-changed (is_sound_set pools) set (assigned class) (λ s t k said. assigned-sound pools set other class s t said k))) old new h a
@@ -315,6 +356,7 @@ deleted_domain (policy.Domain verb.Delete domain days) = Some domain
 deleted_domain (policy.Set v domain set) = None
 deleted_domain (policy.Class v domain set class) = None
 deleted_domain (policy.Group v domain set class rule) = None
+deleted_domain (policy.ArchiveGroup v domain set class rule) = None
 deleted_domain (policy.Assign domain set class) = None
 deleted_domain (policy.Activate domain set) = None
 
@@ -331,6 +373,7 @@ after-names (policy.Domain verb.Delete domain days) old new h name other there =
     ∙ ap is_some (found-remove_entry (at_name name) (at_name domain) (λ k at. ap (at_name name) (sym (same_path domain k at)) ∙ at-same name domain ∙ not-true (is_same_name name domain) other) old) ∙ there
 after-names (policy.Set v domain set) old new h name other there = changed-names domain (in_sets (set_changed v set)) old new h name there
 after-names (policy.Class v domain set class) old new h name other there = changed-names domain (in_sets (changed set (class_changed v class))) old new h name there
-after-names (policy.Group v domain set class rule) old new h name other there = changed-names domain (in_sets (changed set (in_group v class rule))) old new h name there
+after-names (policy.Group v domain set class rule) old new h name other there = changed-names domain (in_sets (changed set (in_class class (backup_changed v rule)))) old new h name there
+after-names (policy.ArchiveGroup v domain set class rule) old new h name other there = changed-names domain (in_sets (changed set (in_class class (archive_changed v rule)))) old new h name there
 after-names (policy.Assign domain set class) old new h name other there = changed-names domain (in_sets (changed set (assigned class))) old new h name there
 after-names (policy.Activate domain set) old new h name other there = changed-names domain (activated set) old new h name there

@@ -1,5 +1,5 @@
 -- Every transaction, kind by kind.
-use Rattle.std.proofs.Common.{◌≡◌, ℕ, ◌+◌, ◌≤◌, Bool, true, false, [], ◌∷◌, refl, sym, ap, ◌∙◌, arith}
+use Rattle.std.proofs.Common.{◌≡◌, ℕ, ◌+◌, ◌≤◌, Bool, true, false, [], ◌∷◌, ◌++◌, refl, sym, ap, ◌∙◌, arith}
 use Rattle.std.specs.Prelude.{nat_le}
 use Rattle.std.proofs.lemmas.Bool.{le-leb, leb-false, leb-true, lt-leb}
 use Rattle.std.specs.Map.{keys_of}
@@ -14,6 +14,7 @@ use Rattle.inventory_rows.specs.State.{Inv}
 use Rattle.inventory_rows.specs.object_rows.Places.{AreAllOrderly}
 use Rattle.inventory_rules.specs.Transactions.{effect, causes, brings_items, items_added, items_gone, AreRowsOrdered, IsOrderedFor, CanChange, CanMake, parts_fit, sizes_refused, IsDayOf}
 use Rattle.inventory_rules.specs.Journal.{Journal}
+use Rattle.inventory_rules.specs.Backups.{after_refused}
 use Rattle.inventory_rules.specs.Valid.{is_valid, are_apart}
 use Rattle.inventory_rules.specs.Facts.{Facts}
 use Rattle.inventory_rules.specs.Common.{one_if, file_bound, files_refused}
@@ -29,12 +30,12 @@ use Rattle.inventory_laws.proofs.MoveCounts.{moves_counted}
 use Rattle.inventory_laws.proofs.PolicyCounts.{policy_effect}
 use Rattle.inventory_laws.proofs.PolicyTakes.{policy_takes}
 use Rattle.inventory_laws.proofs.StoreCounts.{reuse_takes, stores_counted, stores_take}
-use Rattle.inventory_laws.proofs.VersionCounts.{versions_counted}
+use Rattle.inventory_laws.proofs.VersionCounts.{held_counted, versions_counted}
 use Rattle.inventory_laws.proofs.Rewrites.{gone_takes, gone_valid, rebind_takes, rebind_valid}
 use Rattle.inventory_laws.proofs.Causes.{back_nil, file_below}
-use Rattle.inventory_laws.proofs.Data.{can_backup, can_copy, can_gone, can_move, next_number}
+use Rattle.inventory_laws.proofs.Data.{can_backup, can_copy, can_gone, can_hold, can_move, next_number}
 use Rattle.inventory_laws.proofs.MadeRows.{can_clients, can_policy, can_reuse, can_stores}
-use Rattle.inventory_laws.proofs.VersionArrivals.{versions_come}
+use Rattle.inventory_laws.proofs.VersionArrivals.{held_come, versions_come}
 use Rattle.inventory_laws.proofs.CopyArrivals.{copies_come}
 use Rattle.inventory_laws.proofs.Moves.{copies_move}
 use Rattle.inventory_laws.proofs.BackupRows.{begin_stays, delete_stays, end_stays}
@@ -54,6 +55,7 @@ stays j (change.Pool c) v valid tied rows apart days cause sizes fit =
     let w = stores_change j c v valid tied cause sizes fit in
     (w.0 ∙ rings_stay j c v valid tied cause sizes fit apart, w.1)
 stays j (change.Backup c) v valid tied rows apart days cause sizes fit = versions_come j c v valid tied rows cause sizes fit
+stays j (change.Hold c) v valid tied rows apart days cause sizes fit = held_come j c v valid tied cause sizes fit
 stays j (change.Rebind c) v valid tied rows apart days cause sizes fit = rebind_valid c v valid tied sizes
 stays j (change.Gone c) v valid tied rows apart days cause sizes fit = gone_valid c v valid tied sizes
 stays j (change.Move c) v valid tied rows apart days cause sizes fit = copies_move j c v valid tied cause sizes fit
@@ -62,7 +64,7 @@ stays j (change.DropCopies c) v valid tied rows apart days cause sizes fit = dro
 stays j (change.Expire c) v valid tied rows apart days cause sizes fit = expire_valid j c v valid tied rows cause sizes
 stays j (change.Discard c) v valid tied rows apart days cause sizes fit = discard_valid j c v valid tied rows cause sizes
 stays j (change.Reuse file) v valid tied rows apart days cause sizes fit = volume_reused j file v valid tied cause sizes
-stays j (change.DbBegin file) v valid tied rows apart days cause sizes fit = begin_stays j file v valid tied cause sizes
+stays j (change.DbBegin file after) v valid tied rows apart days cause sizes fit = begin_stays j file after v valid tied cause sizes
 stays j (change.DbEnd file) v valid tied rows apart days cause sizes fit = end_stays j file v valid tied cause sizes
 stays j (change.DbDelete file) v valid tied rows apart days cause sizes fit = delete_stays j file v valid tied cause sizes
 
@@ -73,7 +75,8 @@ can_change j (change.Day day) v f orderly h fit = tt
 can_change j (change.Policy c) v f orderly h fit = can_policy c v h
 can_change j (change.Object c) v f orderly h fit = can_clients c v f h
 can_change j (change.Pool c) v f orderly h fit = can_stores c v f h fit
-can_change j (change.Backup c) v f orderly h fit = can_backup c v f orderly h fit
+can_change j (change.Backup c) v f orderly h fit = can_backup j c v f orderly h fit
+can_change j (change.Hold c) v f orderly h fit = can_hold j c v f h fit
 can_change j (change.Rebind c) v f orderly h fit = tt
 can_change j (change.Gone c) v f orderly h fit = can_gone j c v h
 can_change j (change.Move c) v f orderly h fit = can_move j c v f h fit
@@ -82,7 +85,7 @@ can_change j (change.DropCopies c) v f orderly h fit = tt
 can_change j (change.Expire c) v f orderly h fit = tt
 can_change j (change.Discard c) v f orderly h fit = tt
 can_change j (change.Reuse file) v f orderly h fit = can_reuse file v f h
-can_change j (change.DbBegin file) v f orderly h fit = file_below file v (back_nil (files_refused (file ∷ []) v) (file_bound file v) h)
+can_change j (change.DbBegin file after) v f orderly h fit = file_below file v (back_nil (files_refused (file ∷ []) v) (file_bound file v) (back_nil (after_refused after v) (files_refused (file ∷ []) v ++ file_bound file v) h))
 can_change j (change.DbEnd file) v f orderly h fit = tt
 can_change j (change.DbDelete file) v f orderly h fit = tt
 
@@ -97,6 +100,7 @@ adds j (change.Policy c) v valid o h b = policy_effect c v b o h
 adds j (change.Object c) v valid o h b = clients_counted c v (facts_of v valid) h b
 adds j (change.Pool c) v valid o h b = stores_counted c v (facts_of v valid) h b
 adds j (change.Backup c) v valid o h b = versions_counted c v o h
+adds j (change.Hold c) v valid o h b = held_counted c v (facts_of v valid) h
 adds j (change.Rebind c) v valid o h b = absurd cc
 adds j (change.Gone c) v valid o h b = absurd cc
 adds j (change.Move c) v valid o h b = moves_counted j c v (facts_of v valid).objects_apart (facts_of v valid).versions_copied h
@@ -105,7 +109,7 @@ adds j (change.DropCopies c) v valid o h b = absurd cc
 adds j (change.Expire c) v valid o h b = absurd cc
 adds j (change.Discard c) v valid o h b = absurd cc
 adds j (change.Reuse file) v valid o h b = absurd cc
-adds j (change.DbBegin file) v valid o h b = begin_counted file v h
+adds j (change.DbBegin file after) v valid o h b = begin_counted file after v h
 adds j (change.DbEnd file) v valid o h b = absurd cc
 adds j (change.DbDelete file) v valid o h b = absurd cc
 
@@ -119,6 +123,7 @@ others (change.Policy c) v valid b = policy_takes c v b
 others (change.Object c) v valid b = clients_take c v b
 others (change.Pool c) v valid b = stores_take c v b
 others (change.Backup c) v valid b = absurd cc
+others (change.Hold c) v valid b = absurd cc
 others (change.Rebind c) v valid b = rebind_takes c v
 others (change.Gone c) v valid b = gone_takes c v
 others (change.Move c) v valid b = absurd cc
@@ -127,7 +132,7 @@ others (change.DropCopies c) v valid b = drops_take c v (facts_of v valid).objec
 others (change.Expire c) v valid b = expire_takes c v
 others (change.Discard c) v valid b = discard_all_takes c v
 others (change.Reuse file) v valid b = reuse_takes file v
-others (change.DbBegin file) v valid b = absurd cc
+others (change.DbBegin file after) v valid b = absurd cc
 others (change.DbEnd file) v valid b = end_takes file v
 others (change.DbDelete file) v valid b = delete_takes file v
 
@@ -143,6 +148,7 @@ ordered_for (change.Policy c) v o = policy_ordered c v o
 ordered_for (change.Object c) v o = tt
 ordered_for (change.Pool c) v o = tt
 ordered_for (change.Backup c) v o = o.1
+ordered_for (change.Hold c) v o = tt
 ordered_for (change.Rebind c) v o = tt
 ordered_for (change.Gone c) v o = tt
 ordered_for (change.Move c) v o = tt
@@ -151,7 +157,7 @@ ordered_for (change.DropCopies c) v o = tt
 ordered_for (change.Expire c) v o = tt
 ordered_for (change.Discard c) v o = tt
 ordered_for (change.Reuse file) v o = tt
-ordered_for (change.DbBegin file) v o = tt
+ordered_for (change.DbBegin file after) v o = tt
 ordered_for (change.DbEnd file) v o = tt
 ordered_for (change.DbDelete file) v o = tt
 
@@ -171,6 +177,7 @@ nothing_counted (change.Policy c) v b = no_policy c v b
 nothing_counted (change.Object c) v b = (ap one_if b, refl)
 nothing_counted (change.Pool c) v b = (ap one_if b, refl)
 nothing_counted (change.Backup c) v b = absurd cc
+nothing_counted (change.Hold c) v b = absurd cc
 nothing_counted (change.Rebind c) v b = (refl, refl)
 nothing_counted (change.Gone c) v b = (refl, refl)
 nothing_counted (change.Move c) v b = absurd cc
@@ -179,7 +186,7 @@ nothing_counted (change.DropCopies c) v b = (refl, refl)
 nothing_counted (change.Expire c) v b = (refl, refl)
 nothing_counted (change.Discard c) v b = (refl, refl)
 nothing_counted (change.Reuse file) v b = (refl, refl)
-nothing_counted (change.DbBegin file) v b = absurd cc
+nothing_counted (change.DbBegin file after) v b = absurd cc
 nothing_counted (change.DbEnd file) v b = (refl, refl)
 nothing_counted (change.DbDelete file) v b = (refl, refl)
 

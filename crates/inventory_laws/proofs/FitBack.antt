@@ -21,14 +21,14 @@ use Rattle.inventory_rows.specs.pool_tables.Rows.{row_at}
 use Rattle.inventory_rows.specs.pool_rows.PoolRows.{PoolRows, is_sequential, is_sequential_at, is_sequential_row}
 use Rattle.inventory_rows.specs.Search.{copies, copy_in, is_primary, is_primary_kind, pool, segments_on, version, versions}
 use Rattle.inventory_rows.specs.State.{Inv}
-use Rattle.inventory_rules.specs.Common.{each, with_filespaces}
+use Rattle.inventory_rules.specs.Common.{each, with_clients}
 use Rattle.inventory_rules.specs.Copies.{added, add_copy, added_fits, change_copy, move_copy, moved, moved_copy_fits, new_copy_fits, put_moved, replaced_fits}
 use Rattle.inventory_rules.specs.Halfway.{pending_on, segments_of}
 use Rattle.inventory_rules.specs.Reordered.{IsReordered}
 use Rattle.inventory_rules.specs.Segments.{are_all_clear, are_clear, copy_fits_after, items_fit, leaves, lies_rightly, segment_fits_after}
 use Rattle.inventory_rules.specs.Valid.{copies_cite, is_copied, is_of_pool, primary_copies, versions_are_copied, volumes_are}
 use Rattle.inventory_laws.specs.Coming.{in_pool, in_pools, is_clear_of, is_clear_there, MayCome}
-use Rattle.inventory_laws.specs.Kept.{is_cited, OnlyVolumes}
+use Rattle.inventory_laws.specs.Kept.{is_cited, nothing, OnlyVolumes}
 use Rattle.inventory_laws.proofs.Coming.{later-map, map-in_pools}
 use Rattle.inventory_laws.proofs.CopyLists.{copy_comes}
 use Rattle.inventory_laws.proofs.CopySteps.{comes, goes, less, more, replaces, said_replace}
@@ -38,7 +38,7 @@ use Rattle.inventory_laws.proofs.MovedRows.{filter-every, is_going, left_of, one
 use Rattle.inventory_laws.proofs.Moves.{replaced_rows}
 use Rattle.inventory_laws.proofs.Orders.{list_all-reordered, reordered_back}
 use Rattle.inventory_laws.proofs.Recopied as recopied
-use Rattle.inventory_laws.proofs.Spliced.{all_gone, splice_filter, splice_length}
+use Rattle.inventory_laws.proofs.Spliced.{all_gone, splice_filter, splice_length, turned}
 use Rattle.inventory_laws.proofs.Swapping.{on_file, pending-segments_of}
 use Rattle.inventory_laws.proofs.VolumeItems.{moved_kept, moves_kept}
 use Rattle.inventory_laws.proofs.VolumeRows.{all_both, all_so, list_all-append, list_all-parts}
@@ -81,7 +81,7 @@ let_rows moved file n p v w found of (e ∷ rows) cite h =
     ] refl h
 
 segment_back : (moved : List MovedCopy) (u : Inv) (n : ℕ) (s : Segment) → copies_cite u ≡ true → lies_rightly (is_sequential_at s.file u.stores) n s (row_at s.file u.stores.volumes) ≡ true
-    → is_clear_there (segments_of (staying moved (copies u))) (with_filespaces [] u) s ≡ true → segment_fits_after moved u n s ≡ true
+    → is_clear_there (segments_of (staying moved (copies u))) (with_clients nothing u) s ≡ true → segment_fits_after moved u n s ≡ true
 segment_back moved u n s cite lies clear = go (row_at s.file u.stores.volumes) refl lies where
   go : (o : Option Volume) → row_at s.file u.stores.volumes ≡ o → lies_rightly (is_sequential_at s.file u.stores) n s o ≡ true → segment_fits_after moved u n s ≡ true
   go None found t = absurd cc
@@ -111,11 +111,11 @@ in_pools_all number segments p (i ∷ items) h =
     and_from (list_all (λ s. p (number i, s)) (segments i)) (list_all (λ i. list_all (λ s. p (number i, s)) (segments i)) items) (in_pool_all p (number i) (segments i) parts.0) (in_pools_all number segments p items parts.1)
 
 pub items_back : {X : Type 0} (moved : List MovedCopy) (u : Inv) (number : X → ℕ) (segments : X → List Segment) (items : List X) → copies_cite u ≡ true
-    → MayCome (segments_of (staying moved (copies u))) (with_filespaces [] u) (in_pools number segments items)
+    → MayCome (segments_of (staying moved (copies u))) (with_clients nothing u) (in_pools number segments items)
     → (list_all (λ i. list_all (segment_fits_after moved u (number i)) (segments i)) items ≡ true) × (are_all_clear u (flat_map segments items) ≡ true)
 items_back moved u number segments items cite m = (
   in_pools_all number segments (λ e. segment_fits_after moved u e.0 e.1) items
-      (all_both (λ (e : ℕ × Segment). lies_rightly (is_sequential_at e.1.file u.stores) e.0 e.1 (row_at e.1.file u.stores.volumes)) (λ e. is_clear_there (segments_of (staying moved (copies u))) (with_filespaces [] u) e.1) (λ e. segment_fits_after moved u e.0 e.1)
+      (all_both (λ (e : ℕ × Segment). lies_rightly (is_sequential_at e.1.file u.stores) e.0 e.1 (row_at e.1.file u.stores.volumes)) (λ e. is_clear_there (segments_of (staying moved (copies u))) (with_clients nothing u) e.1) (λ e. segment_fits_after moved u e.0 e.1)
       (λ e a b. segment_back moved u e.0 e.1 cite a b) (in_pools number segments items) m.lie m.clear),
   ap (all_later (is_clear_of u)) (sym (map-in_pools number segments items)) ∙ later-map (λ (e : ℕ × Segment). e.1) (is_clear_of u) (in_pools number segments items) ∙ m.apart,
 )
@@ -149,7 +149,7 @@ sound u x h =
 
 pub new_sized : (u : Inv) (size : ℕ) (new : CopyRow) (cs : List CopyRow) → IsSound u size (with_copy new cs) → (sum_by (λ s. s.len) new.segments == size) ≡ true
 new_sized u size new cs h =
-    (and_parts (sum_by (λ s. s.len) new.segments == size) true (all_gone (λ (c : CopyRow). sum_by (λ s. s.len) c.segments == size) (recopied.turned (copy_comes new cs)) h.sized)).0
+    (and_parts (sum_by (λ s. s.len) new.segments == size) true (all_gone (λ (c : CopyRow). sum_by (λ s. s.len) c.segments == size) (turned (copy_comes new cs)) h.sized)).0
 
 nil_of_none : {A : Type 0} (xs : List A) → length xs ≤ 0 → is_nil xs ≡ true
 nil_of_none [] h = refl
@@ -280,8 +280,8 @@ copies_fit items u cite copied distinct once found l =
     let none : flat_map (λ (i : NewCopy). option_map_or (no_left i) (version i.object u) []) items ≡ [] = no_rows items in
     let order : IsReordered (copies w) (news ++ copies u) = reordered_back (news ++ copies u) (copies w) (subst (λ (l : List (ℕ × CopyRow)). IsReordered (news ++ copies u) (l ++ copies w)) none b.rows) in
     let stay : copies u ≡ staying [] (copies u) = filter-every (copies u) in
-    let came : MayCome (segments_of (staying [] (copies u))) (with_filespaces [] u) (in_pools (λ (i : NewCopy). i.pool) (λ i. i.segments) items) =
-    subst (λ (l : List (ℕ × Segment)). MayCome (segments_of (staying [] (copies u))) (with_filespaces [] u) l) (rows_segments (λ (i : NewCopy). i.object) (λ i. i.pool) (λ i. i.segments) (copy_row n) (λ i. refl) (λ i. refl) items)
+    let came : MayCome (segments_of (staying [] (copies u))) (with_clients nothing u) (in_pools (λ (i : NewCopy). i.pool) (λ i. i.segments) items) =
+    subst (λ (l : List (ℕ × Segment)). MayCome (segments_of (staying [] (copies u))) (with_clients nothing u) l) (rows_segments (λ (i : NewCopy). i.object) (λ i. i.pool) (λ i. i.segments) (copy_row n) (λ i. refl) (λ i. refl) items)
     (rows_came u w news (staying [] (copies u)) same l.cite l.volumes (subst (λ (c : List (ℕ × CopyRow)). IsReordered (copies w) (news ++ c)) stay order)) in
     let tests = items_back [] u (λ (i : NewCopy). i.pool) (λ i. i.segments) items cite came in
     let cited : list_all (is_cited w) (news ++ copies u) ≡ true = sym (list_all-reordered (is_cited w) (copies w) (news ++ copies u) order) ∙ l.cite in
@@ -442,8 +442,8 @@ moves_fit items u cite copied distinct once found l =
     subst (λ (c : List (ℕ × CopyRow)). IsReordered (news ++ c) (flat_map (λ (i : MovedCopy). left_of i (version i.object u)) items ++ copies w)) (ap (λ (x : Inv). copies x) kept.only)
     (subst (λ (o : List (ℕ × CopyRow)). IsReordered (news ++ copies v) (o ++ copies w)) olds b.rows) in
     let order : IsReordered (copies w) (news ++ stay) = reordered_back (news ++ stay) (copies w) (replaced_rows news (flat_map (λ (i : MovedCopy). left_of i (version i.object u)) items) stay (copies u) (copies w) part all) in
-    let came : MayCome (segments_of stay) (with_filespaces [] u) (in_pools (λ (i : MovedCopy). i.pool) (λ i. i.segments) items) =
-    subst (λ (l : List (ℕ × Segment)). MayCome (segments_of stay) (with_filespaces [] u) l) (rows_segments (λ (i : MovedCopy). i.object) (λ i. i.pool) (λ i. i.segments) (move_row n) (λ i. refl) (λ i. refl) items)
+    let came : MayCome (segments_of stay) (with_clients nothing u) (in_pools (λ (i : MovedCopy). i.pool) (λ i. i.segments) items) =
+    subst (λ (l : List (ℕ × Segment)). MayCome (segments_of stay) (with_clients nothing u) l) (rows_segments (λ (i : MovedCopy). i.object) (λ i. i.pool) (λ i. i.segments) (move_row n) (λ i. refl) (λ i. refl) items)
     (rows_came u w news stay same l.cite l.volumes order) in
     let tests = items_back items u (λ (i : MovedCopy). i.pool) (λ i. i.segments) items cite came in
     let cited : list_all (is_cited w) (news ++ stay) ≡ true = sym (list_all-reordered (is_cited w) (copies w) (news ++ stay) order) ∙ l.cite in

@@ -1,16 +1,22 @@
--- The items of the filespaces, by the versions of all of them.
+-- The items of the filespaces and of the held objects, by all objects.
 use Rattle.std.proofs.Common.{◌≡◌, ℕ, ◌+◌, true, false, cond, suc, eqb, List, [], ◌∷◌, ◌++◌, length, Some, refl, sym, ap, ◌∙◌, arith}
+use Rattle.std.specs.Map.{values_of}
 use Rattle.std.proofs.lemmas.Bool.{eqb-true}
+use Rattle.std.proofs.lemmas.List.Sums.{sum_by-cons}
 use Rattle.inventory_rows.specs.version_groups.declared.copies.CopyRow.{CopyRow}
 use Rattle.inventory_rows.specs.version_groups.declared.group.Group.{Group}
 use Rattle.inventory_rows.specs.version_groups.declared.groups.Filespace.{Filespace}
 use Rattle.inventory_rows.specs.version_groups.declared.versions.Version.{Version}
 use Rattle.inventory_rows.specs.version_groups.Versions.{are_distinct, has_object, version_of, with_copies}
 use Rattle.inventory_rows.proofs.of_version_groups.Lists.{are_of_others}
+use Rattle.inventory_rows.specs.object_rows.declared.held_object.HeldRow.{HeldRow}
 use Rattle.inventory_rows.specs.object_rows.Filespaces.{filespace_copied, filespaces_copied, groups_copied, versions_in, versions_of}
+use Rattle.inventory_rows.specs.object_rows.HeldRows.{held_versions}
+use Rattle.inventory_rows.specs.object_rows.Items.{items_of_held, items_with}
+use Rattle.inventory_rows.specs.object_rows.Rows.{Rows, kept_of, rows_copied}
 use Rattle.inventory_rows.proofs.of_object_rows.VersionLists.{none_of_others, with_copies-others}
 use Rattle.inventory_rows.specs.Items.{items_of_filespace, items_of_group, items_of_version}
-use Rattle.inventory_rules.proofs.CopiedLists.{versions_of-copied}
+use Rattle.inventory_rules.proofs.CopiedLists.{kept_of-copied}
 use Rattle.inventory_laws.proofs.Facts.{first, rest}
 use Rattle.inventory_laws.proofs.Weights.{rows, rows-cons, rows-map, weigh, weigh-cons}
 
@@ -45,6 +51,30 @@ in_spaces (f ∷ fs) =
     one_space (rows items_of_filespace (f ∷ fs)) (rows items_of_filespace fs) (weigh items_of_version (versions_in f.1.groups ++ versions_of fs)) (rows groups_of (f ∷ fs)) (items_of_filespace f.1) (groups_of f.1) (rows groups_of fs)
     (weigh items_of_version (versions_of fs)) (weigh items_of_version (versions_in f.1.groups))
     (rows-cons items_of_filespace f fs) (in_spaces fs) (in_groups f.1.groups) (rows-cons groups_of f fs) (weigh-append items_of_version (versions_in f.1.groups) (versions_of fs))
+
+-- ---- held objects
+
+one_held : (a b c d n : ℕ) → a ≡ 1 + n + b → b ≡ c → d ≡ 1 + (n + c) → a ≡ d
+one_held a b c d n h i e = omega (arith, h, i, e)
+
+pub in_held : (held : List (ℕ × HeldRow)) → items_of_held held ≡ weigh items_of_version (held_versions held)
+in_held [] = refl
+in_held (e ∷ held) =
+    one_held (items_of_held (e ∷ held)) (items_of_held held) (weigh items_of_version (held_versions held)) (weigh items_of_version (held_versions (e ∷ held))) (items_of_version e.1.held.version)
+    (sum_by-cons (λ (r : HeldRow). items_with r.held.version.copies) e.1 (values_of held)) (in_held held) (weigh-cons items_of_version e.1.held.version (held_versions held))
+
+-- the filespaces with what they have, and the held objects
+abbrev pub in_rows : Rows → ℕ
+in_rows r = rows items_of_filespace r.filespaces + items_of_held r.held
+
+both_kinds : (a b c d e w : ℕ) → a ≡ c + d → b ≡ e → w ≡ d + e → a + b ≡ c + w
+both_kinds a b c d e w h i m = omega (arith, h, i, m)
+
+-- the filespaces, their groups, and what all objects weigh
+pub in_kept : (r : Rows) → in_rows r ≡ rows groups_of r.filespaces + weigh items_of_version (kept_of r)
+in_kept r =
+    both_kinds (rows items_of_filespace r.filespaces) (items_of_held r.held) (rows groups_of r.filespaces) (weigh items_of_version (versions_of r.filespaces)) (weigh items_of_version (held_versions r.held)) (weigh items_of_version (kept_of r))
+    (in_spaces r.filespaces) (in_held r.held) (weigh-append items_of_version (versions_of r.filespaces) (held_versions r.held))
 
 -- ---- the copies of one object
 
@@ -83,12 +113,11 @@ weigh-with_copies k cs (v ∷ vs) w d h =
 copied : (a b f g v w n o : ℕ) → a ≡ g + w → b ≡ f + v → g ≡ f → w + o ≡ v + n → a + o ≡ b + n
 copied a b f g v w n o h i e m = omega (arith, h, i, e, m)
 
--- the filespaces once the object's version has these copies in place of those
-pub spaces-copied : (k : ℕ) (cs : List CopyRow) (fs : List (ℕ × Filespace)) (w : Version) → are_distinct (versions_of fs) ≡ true → version_of k (versions_of fs) ≡ Some w
-    → rows items_of_filespace (filespaces_copied k cs fs) + in_copies w.copies ≡ rows items_of_filespace fs + in_copies cs
-spaces-copied k cs fs w d h =
-    copied (rows items_of_filespace (filespaces_copied k cs fs)) (rows items_of_filespace fs) (rows groups_of fs) (rows groups_of (filespaces_copied k cs fs)) (weigh items_of_version (versions_of fs)) (weigh items_of_version (with_copies k cs (versions_of fs))) (in_copies cs) (in_copies w.copies)
-    (in_spaces (filespaces_copied k cs fs) ∙ ap (λ vs. rows groups_of (filespaces_copied k cs fs) + weigh items_of_version vs) (versions_of-copied k cs fs))
-    (in_spaces fs)
-    (rows-map groups_of (filespace_copied k cs) (λ f. length-copied k cs f.groups) fs)
-    (weigh-with_copies k cs (versions_of fs) w d h)
+-- the rows once the object has these copies in place of those
+pub in_rows-copied : (k : ℕ) (cs : List CopyRow) (r : Rows) (w : Version) → are_distinct (kept_of r) ≡ true → version_of k (kept_of r) ≡ Some w → in_rows (rows_copied k cs r) + in_copies w.copies ≡ in_rows r + in_copies cs
+in_rows-copied k cs r w d h =
+    copied (in_rows (rows_copied k cs r)) (in_rows r) (rows groups_of r.filespaces) (rows groups_of (filespaces_copied k cs r.filespaces)) (weigh items_of_version (kept_of r)) (weigh items_of_version (with_copies k cs (kept_of r))) (in_copies cs) (in_copies w.copies)
+    (in_kept (rows_copied k cs r) ∙ ap (λ vs. rows groups_of (filespaces_copied k cs r.filespaces) + weigh items_of_version vs) (kept_of-copied k cs r))
+    (in_kept r)
+    (rows-map groups_of (filespace_copied k cs) (λ f. length-copied k cs f.groups) r.filespaces)
+    (weigh-with_copies k cs (kept_of r) w d h)

@@ -35,7 +35,7 @@ module _ {K X : Type 0} (test other : K → Bool) (beside : (k : K) → test k �
         | false ↦ λ _. ap (λ o. cond (other e.0) (Some e.1) o) (lookup-beside_set x es)
       ] refl
 
-  lookup-beside_removed : (es : List (K × X)) → lookup other (remove_entry test es) ≡ lookup other es
+  pub lookup-beside_removed : (es : List (K × X)) → lookup other (remove_entry test es) ≡ lookup other es
   lookup-beside_removed [] = refl
   lookup-beside_removed (e ∷ es) =
       elim (test e.0) as (λ b. test e.0 ≡ b → lookup other (cond b es (e ∷ remove_entry test es)) ≡ lookup other (e ∷ es)) [

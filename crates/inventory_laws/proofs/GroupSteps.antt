@@ -20,7 +20,7 @@ use Rattle.inventory_rows.specs.version_groups.Groups as grouped
 use Rattle.inventory_rows.specs.version_groups.Groups.{at_path, group_after, groups_after, versions_after, without_empty}
 use Rattle.inventory_rows.specs.version_groups.Versions.{are_distinct, has_object, retired, version_of, without_object}
 use Rattle.inventory_rows.proofs.of_version_groups.Lists.{version_of-object}
-use Rattle.inventory_rows.specs.object_rows.Filespaces.{at_number, filespace_after, filespace_at, filespaces_after, groups_in, versions_at, versions_of}
+use Rattle.inventory_rows.specs.object_rows.Filespaces.{at_number, filespace_after, filespace_at, filespaces_after, groups_in, versions_at}
 use Rattle.inventory_rows.proofs.of_object_rows.Splices.{Splices, splice_in, splice_same}
 use Rattle.inventory_rows.proofs.of_object_rows.VersionLists.{apart_behind, parted, version_of-behind, version_of-front}
 use Rattle.inventory_rows.specs.Search.{copies, version, versions}
@@ -32,7 +32,7 @@ use Rattle.inventory_rules.specs.Reordered.{IsReordered}
 use Rattle.inventory_laws.proofs.Copied.{version_goes}
 use Rattle.inventory_laws.proofs.VersionDays.{by_day, days, orderly-days, orderly-retired, orderly-without}
 use Rattle.inventory_laws.proofs.Grouped.{frames_changed, orderly_changed, versions_changed}
-use Rattle.inventory_laws.proofs.Kept.{Sound, copies_in, facts_from, is_by_today, sound_all, sound_come, sound_gone}
+use Rattle.inventory_laws.proofs.Kept.{Sound, copies_in, facts_from, is_by_today, sound_all, sound_come, sound_gone, splice_kept}
 use Rattle.inventory_laws.proofs.Reordered.{reordered_self, splice_reordered}
 use Rattle.inventory_laws.proofs.Spliced.{all_later-map, later_fewer, splice_flat, splice_map}
 
@@ -95,7 +95,7 @@ pub removes : (n : ℕ) (path : List ℕ) (k : ℕ) (fs : List (ℕ × Filespace
 removes n path k fs h = removes_at n path k fs (filespace_at n fs) h
 
 -- ---- a version that goes
-nothing_sound : (n : ℕ) (v : Inv) → Sound n v []
+pub nothing_sound : (n : ℕ) (v : Inv) → Sound n v []
 nothing_sound n v = record { drawn = refl; in_pools = refl; past = refl; copied = refl; by_today = refl }
 
 abbrev pub Removed : ℕ → ℕ → Version → Inv → Inv → Type 0
@@ -103,13 +103,13 @@ Removed n object old v w = VersionFacts n w × IsReordered (copies v) (map (λ c
 
 -- the version in the midst of all
 pub goes : (n : ℕ) (path : List ℕ) (k : ℕ) (v : Inv) (new : List (ℕ × Filespace)) (old : Version) → are_distinct (versions v) ≡ true → version k v ≡ Some old → has_object k (versions_at n path v.clients.filespaces) ≡ true
-    → filespaces_after n path (Remove k) v.clients.filespaces ≡ Ok new → Splices (old ∷ []) [] (versions v) (versions_of new)
+    → filespaces_after n path (Remove k) v.clients.filespaces ≡ Ok new → Splices (old ∷ []) [] (versions v) (versions (with_filespaces new v))
 goes n path k v new old d there has said =
     let xs : List Version = versions_at n path v.clients.filespaces in
-    let s : Splices xs (without_object k xs) (versions v) (versions_of new) = versions_changed n path (Remove k) v.clients.filespaces new said in
+    let s : Splices xs (without_object k xs) (versions v) (versions (with_filespaces new v)) = splice_kept v new (versions_changed n path (Remove k) v.clients.filespaces new said) in
     splice_in (version_goes k xs old (distinct_in s d) (sym (found_in k s d has) ∙ there)) s
 
-all_go : (k : ℕ) (old : Version) (vs ws : List Version) → old.object ≡ k → Splices (old ∷ []) [] vs ws → IsReordered (copies_in vs) (map (λ c. (k, c)) old.copies ++ copies_in ws)
+pub all_go : (k : ℕ) (old : Version) (vs ws : List Version) → old.object ≡ k → Splices (old ∷ []) [] vs ws → IsReordered (copies_in vs) (map (λ c. (k, c)) old.copies ++ copies_in ws)
 all_go k old vs ws named s =
     let m : List (ℕ × CopyRow) = map (λ c. (old.object, c)) old.copies in
     let t : Splices (m ++ []) [] (copies_in vs) (copies_in ws) = splice_flat (λ (x : Version). map (λ c. (x.object, c)) x.copies) s in
@@ -123,13 +123,13 @@ removed n filespace object path v old f there has =
     let fs : List (ℕ × Filespace) = v.clients.filespaces in
     let a : Answer filespace path object fs = removes filespace path object fs has in
     let new : List (ℕ × Filespace) = a.0 in
-    let s : Splices (old ∷ []) [] (versions v) (versions_of new) = goes filespace path object v new old f.objects_apart there has a.1 in
+    let s : Splices (old ∷ []) [] (versions v) (versions (with_filespaces new v)) = goes filespace path object v new old f.objects_apart there has a.1 in
     let facts : VersionFacts n (with_filespaces new v) =
     facts_from n v new f (frames_changed filespace path (Remove object) fs new a.1) (sound_come n v s (sound_all n v f) (nothing_sound n v))
     (later_fewer (λ (x y : Version). differ x.object y.object) s f.objects_apart)
     (orderly_changed filespace path (Remove object) fs new a.1 f.orderly (λ g same h some. orderly-without g.class object g h some)) in
     let said : with_filespaces new v ≡ change_group filespace path (Remove object) v = sym (ap (λ (r : Result (List (ℕ × Filespace)) Refusal). with_filespaces (or_same fs r) v) a.1) in
-    subst (Removed n object old v) said (facts, all_go object old (versions v) (versions_of new) (version_of-object object (versions v) old there) s)
+    subst (Removed n object old v) said (facts, all_go object old (versions v) (versions (with_filespaces new v)) (version_of-object object (versions v) old there) s)
 
 -- ---- the newest becomes inactive
 pub copies-retired : (day : ℕ) (vs : List Version) → copies_in (retired day vs) ≡ copies_in vs
@@ -170,14 +170,15 @@ gone n filespace object path v f =
     let xs : List Version = versions_at filespace path fs in
     either_way (Stayed n v) filespace path change v (f, refl, refl)
     (λ new said.
-    let s : Splices xs (retired v.today xs) (versions v) (versions_of new) = versions_changed filespace path change fs new said in
+    let all_new : List Version = versions (with_filespaces new v) in
+    let s : Splices xs (retired v.today xs) (versions v) all_new = splice_kept v new (versions_changed filespace path change fs new said) in
     let all : Sound n v (versions v) = sound_all n v f in
     let some : Sound n v xs = sound_gone n v s all in
-    let same_objects : objects (versions_of new) ≡ objects (versions v) = splice_same (subst (λ t. Splices (objects xs) t (objects (versions v)) (objects (versions_of new))) (objects-retired v.today xs) (splice_map (λ (w : Version). w.object) s)) in
-    let same_copies : copies_in (versions_of new) ≡ copies_in (versions v) =
-    splice_same (subst (λ t. Splices (copies_in xs) t (copies_in (versions v)) (copies_in (versions_of new))) (copies-retired v.today xs) (splice_flat (λ (w : Version). map (λ c. (w.object, c)) w.copies) s)) in
+    let same_objects : objects all_new ≡ objects (versions v) = splice_same (subst (λ t. Splices (objects xs) t (objects (versions v)) (objects all_new)) (objects-retired v.today xs) (splice_map (λ (w : Version). w.object) s)) in
+    let same_copies : copies_in all_new ≡ copies_in (versions v) =
+    splice_same (subst (λ t. Splices (copies_in xs) t (copies_in (versions v)) (copies_in all_new)) (copies-retired v.today xs) (splice_flat (λ (w : Version). map (λ c. (w.object, c)) w.copies) s)) in
     let by : list_all (by_day v.today) (days xs) ≡ true = by_days v.today xs some.by_today in (
-      facts_from n v new f (frames_changed filespace path change fs new said) (sound_come n v s all (sound-retired n v xs some)) (same_distinct (versions v) (versions_of new) same_objects ∙ f.objects_apart)
+      facts_from n v new f (frames_changed filespace path change fs new said) (sound_come n v s all (sound-retired n v xs some)) (same_distinct (versions v) all_new same_objects ∙ f.objects_apart)
           (orderly_changed filespace path change fs new said f.orderly (λ g same h _. orderly-retired v.today g.class g (ap (λ (ws : List Version). list_all (by_day v.today) (days ws)) same ∙ by) h)),
       same_copies,
       same_objects,
@@ -190,7 +191,7 @@ rebound n filespace path class v f =
     let change : GroupChange = Rebind class in
     either_way (λ w. VersionFacts n w × (versions w ≡ versions v)) filespace path change v (f, refl)
     (λ new said.
-    let same : versions_of new ≡ versions v = splice_same (versions_changed filespace path change fs new said) in (
+    let same : versions (with_filespaces new v) ≡ versions v = splice_same (splice_kept v new (versions_changed filespace path change fs new said)) in (
       facts_from n v new f (frames_changed filespace path change fs new said) (subst (Sound n v) (sym same) (sound_all n v f)) (ap are_distinct same ∙ f.objects_apart)
           (orderly_changed filespace path change fs new said f.orderly (λ g _ h _. orderly-days (record { class = class; versions = g.versions }) ∙ sym (orderly-days g) ∙ h)),
       same,

@@ -2,6 +2,8 @@
 use Rattle.std.proofs.Common.{◌≡◌, ℕ, ◌+◌, ◌≤◌, Bool, true, false, cond, not, List, [], ◌∷◌, length, Option, Some, None, Result, Ok, Err, refl, sym, subst, ◌∙◌, arith}
 use Rattle.std.specs.Prelude.{◌==◌}
 use Rattle.std.specs.Map.{lookup, set_value, remove_entry}
+use Rattle.std.specs.Option.{option_map, unwrap_or}
+use Rattle.std.proofs.lemmas.Map.Entries.{sum_by-remove_entry}
 use Rattle.kinds.specs.declared.refusal.Refusal.{Refusal}
 use Rattle.kinds.specs.declared.refusal.Refusal.TheVariants.{NotFound}
 use Rattle.inventory_rows.specs.version_groups.declared.group.Group.{Group}
@@ -12,13 +14,20 @@ use Rattle.inventory_rows.specs.version_groups.declared.versions.Version.{Versio
 use Rattle.inventory_rows.specs.version_groups.Entries.{changed_at, if_found, on_ok}
 use Rattle.inventory_rows.specs.version_groups.Groups.{at_path, class_after, group_after, groups_after, names_kept, versions_after, versions_at, without_empty}
 use Rattle.inventory_rows.specs.version_groups.Versions.{is_empty, retired, revived, undone}
+use Rattle.inventory_rows.specs.object_rows.declared.held_object.HeldRow.{HeldRow}
 use Rattle.inventory_rows.specs.object_rows.declared.place.Place.{Place}
 use Rattle.inventory_rows.specs.object_rows.Filespaces.{at_number, filespace_after, filespaces_after}
+use Rattle.inventory_rows.specs.object_rows.HeldRows.{has_row, has_under, held_without}
+use Rattle.inventory_rows.specs.object_rows.Items.{items_of_held, items_with}
+use Rattle.inventory_rows.specs.object_rows.Places.{listed}
+use Rattle.inventory_rows.specs.object_rows.Rows.{Rows, filespaces_cleared, rows_after, rows_cleared, rows_without, with_filespaces, with_held}
 use Rattle.inventory_rows.specs.Items.{items_of_filespace, items_of_group, items_of_version}
 use Rattle.inventory_rows.specs.State.{Inv}
 use Rattle.inventory_rules.specs.Common.{or_same}
-use Rattle.inventory_rules.specs.Versions.{change_group, copies_at, discard_at, remove, take_versions}
+use Rattle.inventory_rules.specs.Versions.{change_group, copies_at, take_versions}
+use Rattle.inventory_laws.specs.Kept.{clients_after}
 use Rattle.inventory_laws.proofs.CountedParts.{same_value}
+use Rattle.inventory_laws.proofs.Flat.{in_rows}
 use Rattle.inventory_laws.proofs.Stays.{in_data, same_data, take_all_stays}
 use Rattle.inventory_laws.proofs.Weights.{less_set, rows, rows-removed, rows-set, weigh, weigh-cons, weigh-filter}
 
@@ -101,19 +110,63 @@ spaces_less n path step fs = go (filespaces_after n path step fs) refl where
   go (Ok new) e = changed_less items_of_filespace (at_number n) (filespace_after (groups_after path step)) (space_less path step) fs new e
   go (Err r) e = omega arith
 
-left_less : (f h v : ℕ) → h ≤ f → h + v ≤ f + v
-left_less f h v g = omega (arith, g)
+-- ---- the rows of all objects
+
+no_more : (f h i v : ℕ) → h ≤ f → h + i + v ≤ f + i + v
+no_more f h i v g = omega (arith, g)
 
 pub group_takes : (n : ℕ) (path : List ℕ) (step : GroupChange) (v : Inv) → in_data (change_group n path step v) ≤ in_data v
 group_takes n path step v =
-    left_less (rows items_of_filespace v.clients.filespaces) (rows items_of_filespace (or_same v.clients.filespaces (filespaces_after n path step v.clients.filespaces))) (length v.stores.volumes) (spaces_less n path step v.clients.filespaces)
+    no_more (rows items_of_filespace v.clients.filespaces) (rows items_of_filespace (or_same v.clients.filespaces (filespaces_after n path step v.clients.filespaces))) (items_of_held v.clients.held) (length v.stores.volumes)
+    (spaces_less n path step v.clients.filespaces)
 
--- ---- versions that go
+-- ---- objects that go
 
-pub remove_takes : (n : ℕ) (path : List ℕ) (object : ℕ) (v : Inv) → in_data (remove n path object v) ≤ in_data v
-remove_takes n path object v =
-    subst (λ k. in_data (remove n path object v) ≤ k) (same_data v (take_versions object v) (take_all_stays object (copies_at object v) v)) (group_takes n path (group.Remove object) (take_versions object v))
+fewer : (a b c : ℕ) → a + b ≡ c → a ≤ c
+fewer a b c h = omega (arith, h)
 
-pub discard_takes : (object : ℕ) (o : Option Place) (v : Inv) → in_data (discard_at object o v) ≤ in_data v
-discard_takes object None v = omega arith
-discard_takes object (Some p) v = remove_takes p.filespace p.path object v
+held_fewer : (test : ℕ → Bool) (held : List (ℕ × HeldRow)) → items_of_held (remove_entry test held) ≤ items_of_held held
+held_fewer test held =
+    let of : HeldRow → ℕ = λ (r : HeldRow). items_with r.held.version.copies in
+    fewer (items_of_held (remove_entry test held)) (unwrap_or (option_map of (lookup test held)) 0) (items_of_held held) (sum_by-remove_entry of test held)
+
+two_less : (f h g i : ℕ) → h ≤ f → i ≤ g → h + i ≤ f + g
+two_less f h g i a b = omega (arith, a, b)
+
+-- a held object goes
+row_takes : (object : ℕ) (c : Rows) → in_rows (or_same c (with_held c (Ok (held_without object c.held)))) ≤ in_rows c
+row_takes object c = two_less (rows items_of_filespace c.filespaces) (rows items_of_filespace c.filespaces) (items_of_held c.held) (items_of_held (held_without object c.held)) (omega arith) (held_fewer (at_number object) c.held)
+
+-- a version goes
+path_takes : (n : ℕ) (path : List ℕ) (step : GroupChange) (c : Rows) → in_rows (or_same c (rows_after n path step c)) ≤ in_rows c
+path_takes n path step c = go (filespaces_after n path step c.filespaces) (spaces_less n path step c.filespaces) where
+  go : (r : Result (List (ℕ × Filespace)) Refusal) → rows items_of_filespace (or_same c.filespaces r) ≤ rows items_of_filespace c.filespaces → in_rows (or_same c (with_filespaces c r)) ≤ in_rows c
+  go (Ok new) h = two_less (rows items_of_filespace c.filespaces) (rows items_of_filespace new) (items_of_held c.held) (items_of_held c.held) h (omega arith)
+  go (Err e) h = omega arith
+
+pub cleared_takes : (n : ℕ) (path : List ℕ) (object : ℕ) (c : Rows) → in_rows (or_same c (rows_cleared n path object c)) ≤ in_rows c
+cleared_takes n path object c = go (has_under n path object c.held) where
+  go : (b : Bool) → in_rows (or_same c (cond b (with_held c (Ok (held_without object c.held))) (rows_after n path (group.Remove object) c))) ≤ in_rows c
+  go true = row_takes object c
+  go false = path_takes n path (group.Remove object) c
+
+pub without_takes : (object : ℕ) (c : Rows) → in_rows (or_same c (rows_without object c)) ≤ in_rows c
+without_takes object c = go (has_row object c.held) where
+  at : (o : Option Place) → in_rows (or_same c (with_filespaces c (if_found o (λ place. filespaces_after place.filespace place.path (group.Remove object) c.filespaces)))) ≤ in_rows c
+  at None = omega arith
+  at (Some place) = path_takes place.filespace place.path (group.Remove object) c
+
+  go : (b : Bool) → in_rows (or_same c (cond b (with_held c (Ok (held_without object c.held))) (with_filespaces c (filespaces_cleared object (lookup (at_number object) (listed c.filespaces)) c.filespaces)))) ≤ in_rows c
+  go true = row_takes object c
+  go false = at (lookup (at_number object) (listed c.filespaces))
+
+-- what goes from its volumes and from the rows
+pub going_takes : (step : Rows → Result Rows Refusal) → ((c : Rows) → in_rows (or_same c (step c)) ≤ in_rows c) → (object : ℕ) (v : Inv) → in_data (clients_after step (take_versions object v)) ≤ in_data v
+going_takes step less object v =
+    let u : Inv = take_versions object v in
+    let still : in_data u ≡ in_data v = same_data v u (take_all_stays object (copies_at object v) v) in
+    let fewer : in_rows (or_same u.clients (step u.clients)) ≤ in_rows u.clients = less u.clients in
+    subst (λ k. in_data (clients_after step u) ≤ k) still (one_less_still (in_rows u.clients) (in_rows (or_same u.clients (step u.clients))) (length u.stores.volumes) fewer)
+  where
+    one_less_still : (f h v : ℕ) → h ≤ f → h + v ≤ f + v
+    one_less_still f h v g = omega (arith, g)

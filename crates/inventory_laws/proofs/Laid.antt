@@ -15,13 +15,13 @@ use Rattle.inventory_rows.proofs.of_pool_tables.Counting.{each_there}
 use Rattle.inventory_rows.specs.pool_rows.PoolRows.{PoolRows, is_sequential, is_sequential_at, is_sequential_row, pool_capacity}
 use Rattle.inventory_rows.specs.Search.{copies, is_primary_kind, pool, segments_on}
 use Rattle.inventory_rows.specs.State.{Inv}
-use Rattle.inventory_rules.specs.Common.{with_filespaces, with_stores}
+use Rattle.inventory_rules.specs.Common.{with_clients, with_stores}
 use Rattle.inventory_rules.specs.Halfway.{pending_on, segments_of}
 use Rattle.inventory_rules.specs.Reordered.{IsReordered}
 use Rattle.inventory_rules.specs.Segments.{are_clear, lies_rightly}
 use Rattle.inventory_rules.specs.Valid.{are_disjoint, copies_cite, is_emptied_rightly, is_of_pool, is_placed, is_sized, is_volume, may_have, volumes_are}
 use Rattle.inventory_laws.specs.Coming.{in_pool, in_pools, is_clear_of, is_clear_there, MayCome, of_object}
-use Rattle.inventory_laws.specs.Kept.{is_cited, OnlyVolumes, shape_of}
+use Rattle.inventory_laws.specs.Kept.{is_cited, nothing, OnlyVolumes, shape_of}
 use Rattle.inventory_laws.proofs.Coming.{map-in_pool}
 use Rattle.inventory_laws.proofs.Keeping.{clear_kept, lies_kept, sequential_kept}
 use Rattle.inventory_laws.proofs.Orders.{filter-append, list_all-reordered, reordered-flat_map}
@@ -85,7 +85,7 @@ clear_behind q s (b ∷ rest) h =
 
 record HasCome (w : Inv) (x : ℕ × Segment) (rest others : List (ℕ × Segment)) : Type 0 where
   lie : lies_rightly (is_sequential_at x.1.file w.stores) x.0 x.1 (row_at x.1.file w.stores.volumes) ≡ true
-  clear : is_clear_there others (with_filespaces [] w) x.1 ≡ true
+  clear : is_clear_there others (with_clients nothing w) x.1 ≡ true
   apart : list_all (λ b. is_clear_of w x.1 b.1) rest ≡ true
 
 first_there : (x : ℕ × Segment) (there : List (ℕ × Segment)) → pending_on x.1.file (x ∷ there) ≡ x ∷ pending_on x.1.file there
@@ -112,15 +112,15 @@ one_came w x rest others h of = go (row_at x.1.file w.stores.volumes) refl of wh
 
 -- ---- all
 
-all_came : (w : Inv) (coming others : List (ℕ × Segment)) → AreLaid w (coming ++ others) → list_all (λ e. is_of_pool e.0 (row_at e.1.file w.stores.volumes)) coming ≡ true → MayCome others (with_filespaces [] w) coming
+all_came : (w : Inv) (coming others : List (ℕ × Segment)) → AreLaid w (coming ++ others) → list_all (λ e. is_of_pool e.0 (row_at e.1.file w.stores.volumes)) coming ≡ true → MayCome others (with_clients nothing w) coming
 all_came w [] others h of = record { lie = refl; clear = refl; apart = refl }
 all_came w (x ∷ coming) others h of =
     let parts = and_parts (is_of_pool x.0 (row_at x.1.file w.stores.volumes)) (list_all (λ e. is_of_pool e.0 (row_at e.1.file w.stores.volumes)) coming) of in
     let one : HasCome w x coming others = one_came w x coming others h parts.0 in
-    let more : MayCome others (with_filespaces [] w) coming = all_came w coming others (laid_behind w x (coming ++ others) h) parts.1 in
+    let more : MayCome others (with_clients nothing w) coming = all_came w coming others (laid_behind w x (coming ++ others) h) parts.1 in
     record {
       lie = and_from (lies_rightly (is_sequential_at x.1.file w.stores) x.0 x.1 (row_at x.1.file w.stores.volumes)) (list_all (λ e. lies_rightly (is_sequential_at e.1.file w.stores) e.0 e.1 (row_at e.1.file w.stores.volumes)) coming) one.lie more.lie;
-      clear = and_from (is_clear_there others (with_filespaces [] w) x.1) (list_all (λ e. is_clear_there others (with_filespaces [] w) e.1) coming) one.clear more.clear;
+      clear = and_from (is_clear_there others (with_clients nothing w) x.1) (list_all (λ e. is_clear_there others (with_clients nothing w) e.1) coming) one.clear more.clear;
       apart = and_from (list_all (λ b. is_clear_of w x.1 b.1) coming) (all_later (λ a b. is_clear_of w a.1 b.1) coming) one.apart more.apart;
     }
 
@@ -220,15 +220,15 @@ pub record SameShapes (u w : Inv) : Type 0 where
   pub shapes : (file : ℕ) → shape_of (row_at file w.stores.volumes) ≡ shape_of (row_at file u.stores.volumes)
 
 -- copies that came to a database which is valid with them could come
-pub rows_came : (u w : Inv) (news stay : List (ℕ × CopyRow)) → SameShapes u w → copies_cite w ≡ true → volumes_are w ≡ true → IsReordered (copies w) (news ++ stay) → MayCome (segments_of stay) (with_filespaces [] u) (by_pool news)
+pub rows_came : (u w : Inv) (news stay : List (ℕ × CopyRow)) → SameShapes u w → copies_cite w ≡ true → volumes_are w ≡ true → IsReordered (copies w) (news ++ stay) → MayCome (segments_of stay) (with_clients nothing u) (by_pool news)
 rows_came u w news stay same cite are order =
     let whole : AreLaid w (segments_of (news ++ stay)) = laid_rows w (news ++ stay) are order in
     let tags : bare (segments_of (news ++ stay)) ≡ bare (by_pool news ++ segments_of stay) =
     ap bare (segments_both news stay) ∙ bare_both (segments_of news) (segments_of stay) ∙ ap (λ (l : List Segment). l ++ bare (segments_of stay)) (sym (bare_rows news)) ∙ sym (bare_both (by_pool news) (segments_of stay)) in
     let laid : AreLaid w (by_pool news ++ segments_of stay) = laid_bare w (segments_of (news ++ stay)) (by_pool news ++ segments_of stay) tags whole in
     let all : list_all (is_cited w) (news ++ stay) ≡ true = sym (list_all-reordered (is_cited w) (copies w) (news ++ stay) order) ∙ cite in
-    let came : MayCome (segments_of stay) (with_filespaces [] w) (by_pool news) = all_came w (by_pool news) (segments_of stay) laid (cited_rows w news (list_all-parts (is_cited w) news stay all).0) in
-    let v : Inv = with_filespaces [] u in
+    let came : MayCome (segments_of stay) (with_clients nothing w) (by_pool news) = all_came w (by_pool news) (segments_of stay) laid (cited_rows w news (list_all-parts (is_cited w) news stay all).0) in
+    let v : Inv = with_clients nothing u in
     let x : Inv = with_stores w.stores v in
     let k : OnlyVolumes v x = record { only = ap (λ (s : PoolRows). with_stores s v) same.stores; shapes = same.shapes } in
     record {

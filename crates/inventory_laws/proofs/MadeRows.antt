@@ -28,7 +28,7 @@ use Rattle.inventory_rows.specs.Search.{is_primary}
 use Rattle.inventory_rows.specs.State.{Inv}
 use Rattle.inventory_rules.specs.Clients.{CanClients, client_bounds, client_refused}
 use Rattle.inventory_rules.specs.Policy.{CanPolicy, destination_refused, domain_used, policy_refused}
-use Rattle.inventory_rules.specs.Stores.{CanReuse, CanStores, capacity_fits, store_bounds, store_refused}
+use Rattle.inventory_rules.specs.Stores.{CanReuse, CanStores, capacity_fits, collocation_refused, store_bounds, store_refused}
 use Rattle.inventory_rules.specs.Facts.{Facts}
 use Rattle.inventory_rules.specs.Transactions.{parts_fit}
 use Rattle.inventory_laws.proofs.Facts.{first, rest}
@@ -90,8 +90,8 @@ unfolding parts_fit
 can_stores (store.DevClass v1 name capacity) v f h fit = record { free = refl; made = made_of (store.DevClass v1 name capacity) v h; next = tt }
 can_stores (store.Pool verb.Define name class kind rule) v f h fit =
     let c : PoolChange = store.Pool verb.Define name class kind rule in
-    let bounds : full_at v.next_pool (2 ^ 16) ≡ [] = back_nil (refusal_of (changed c v.next_pool v.stores)) (store_bounds c v) h in
-    let less : v.next_pool + 1 < 2 ^ 16 = below v.next_pool (2 ^ 16) bounds in
+    let bounds : store_bounds c v ≡ [] = back_nil (refusal_of (changed c v.next_pool v.stores)) (store_bounds c v) h in
+    let less : v.next_pool + 1 < 2 ^ 16 = below v.next_pool (2 ^ 16) (back_nil (collocation_refused class rule) (full_at v.next_pool (2 ^ 16)) bounds) in
     record {
       free = no_row (row_at v.next_pool v.stores.pools) (beyond 1 v.next_pool v.next_pool v.stores.pools f.pools_drawn (omega arith));
       made = made_of c v h;

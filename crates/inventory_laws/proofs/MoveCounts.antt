@@ -16,9 +16,9 @@ use Rattle.inventory_rows.specs.version_groups.declared.versions.Version.{Versio
 use Rattle.inventory_rows.specs.version_groups.Copies.{are_by_pool, copies_after, has_copy, with_copy, without_copy}
 use Rattle.inventory_rows.specs.version_groups.Entries.{is_nil}
 use Rattle.inventory_rows.specs.version_groups.Versions.{are_distinct, having_copies, version_of, with_copies}
-use Rattle.inventory_rows.specs.object_rows.Filespaces.{filespaces_copied, versions_of}
-use Rattle.inventory_rows.specs.Items.{count_items, items_of_filespace}
-use Rattle.inventory_rows.specs.Search.{copy_in}
+use Rattle.inventory_rows.specs.object_rows.Rows.{kept_of, rows_copied}
+use Rattle.inventory_rows.specs.Items.{count_items}
+use Rattle.inventory_rows.specs.Search.{copy_in, versions}
 use Rattle.inventory_rows.specs.State.{Inv}
 use Rattle.inventory_rules.specs.Common.{each}
 use Rattle.inventory_rules.specs.Copies.{move_copy, placed_now, put_moved, segments_in, take_moved, version_at, copy_refused, move_refused, moved_refused, placed_by, stale_copy, segments_left}
@@ -28,15 +28,16 @@ use Rattle.inventory_rules.specs.Journal.{Journal}
 use Rattle.kinds.specs.Refusals.{bad_value, unless}
 use Rattle.inventory_rules.specs.Versions.{name_once, of_version}
 use Rattle.inventory_rules.specs.Valid.{is_copied, primary_copies, versions_are_copied}
+use Rattle.inventory_rules.proofs.CopiedLists.{kept_of-copied}
 use Rattle.inventory_rules.proofs.Touched.{effect-data}
-use Rattle.inventory_rules.proofs.CopiedLists.{versions_of-copied}
 use Rattle.inventory_laws.proofs.Facts.{first, rest}
 use Rattle.inventory_laws.proofs.Absent.{unless_holds}
-use Rattle.inventory_laws.proofs.CopyCounts.{altered_is, distinct_copied, in_copies-with, number_stays, spaces}
-use Rattle.inventory_laws.proofs.Flat.{in_copies, spaces-copied}
+use Rattle.inventory_laws.proofs.CopyCounts.{altered_is, distinct_copied, in_copies-with}
+use Rattle.inventory_laws.proofs.Flat.{in_copies, in_rows, in_rows-copied}
+use Rattle.inventory_laws.proofs.Kept.{object-having}
 use Rattle.inventory_laws.proofs.CountedParts.{nothing_first, nothing_then}
 use Rattle.inventory_laws.proofs.Stays.{Scratched, Stays, data_more, put_stays, scratched, stays, take_away_stays, then}
-use Rattle.inventory_laws.proofs.Weights.{rows, weigh-cons}
+use Rattle.inventory_laws.proofs.Weights.{weigh-cons}
 
 -- ---- the copies but one
 
@@ -83,7 +84,7 @@ found_has from (c ∷ cs) old h =
 others_stay : (k j : ℕ) (cs : List CopyRow) (vs : List Version) → (k ≡ j → ⊥) → version_of j (with_copies k cs vs) ≡ version_of j vs
 others_stay k j cs [] ne = refl
 others_stay k j cs (v ∷ vs) ne =
-    ap (λ n. cond (eqb n j) (Some (having_copies k cs v)) (version_of j (with_copies k cs vs))) (number_stays k cs v)
+    ap (λ n. cond (eqb n j) (Some (having_copies k cs v)) (version_of j (with_copies k cs vs))) (object-having k cs v)
     ∙ elim (eqb v.object j) as (λ b. eqb v.object j ≡ b → cond b (Some (having_copies k cs v)) (version_of j (with_copies k cs vs)) ≡ cond b (Some v) (version_of j vs)) [
       | true ↦ λ t.
           let away : eqb v.object k ≡ false = ne_eqb v.object k (λ same. ne (sym same ∙ eqb-true v.object j t)) in
@@ -111,32 +112,32 @@ exchanged a w f n m s o h g e = omega (arith, h, g, e)
 
 -- what stands once a copy has moved
 record CopyMoved (item : MovedCopy) (v w : Inv) : Type 0 where
-  pub adds : rows items_of_filespace (spaces w) + left_in (versions_of (spaces v)) item ≡ rows items_of_filespace (spaces v) + of_move item
+  pub adds : in_rows w.clients + left_in (versions v) item ≡ in_rows v.clients + of_move item
   pub volumes : length w.stores.volumes ≡ length v.stores.volumes
-  pub distinct : are_distinct (versions_of (spaces w)) ≡ true
-  pub others : (j : ℕ) → (item.object ≡ j → ⊥) → version_of j (versions_of (spaces w)) ≡ version_of j (versions_of (spaces v))
+  pub distinct : are_distinct (versions w) ≡ true
+  pub others : (j : ℕ) → (item.object ≡ j → ⊥) → version_of j (versions w) ≡ version_of j (versions v)
 
-copy_moved : (item : MovedCopy) (v : Inv) → are_distinct (versions_of (spaces v)) ≡ true → Movable (versions_of (spaces v)) item → CopyMoved item v (move_copy item v)
+copy_moved : (item : MovedCopy) (v : Inv) → are_distinct (versions v) ≡ true → Movable (versions v) item → CopyMoved item v (move_copy item v)
 copy_moved item v d m =
     let u : Inv = take_moved item v in
     let s : Stays v u = take_away_stays item.object (segments_in item.from (version_at item.object v)) v in
     let row : CopyRow = placed_now item.pool item.segments v in
     let left : List CopyRow = without_copy item.from m.version.copies in
     let cs : List CopyRow = with_copy row left in
-    let same : spaces u ≡ spaces v = ap (λ c. c.filespaces) s.clients in
-    let there : version_of item.object (versions_of (spaces u)) ≡ Some m.version = ap (λ fs. version_of item.object (versions_of fs)) same ∙ m.there in
+    let same : u.clients ≡ v.clients = s.clients in
+    let there : version_of item.object (versions u) ≡ Some m.version = ap (λ c. version_of item.object (kept_of c)) same ∙ m.there in
     let given : copies_after (copy.Replace item.from row) m.version.copies ≡ Ok cs = ap (λ b. cond {A = Result (List CopyRow) Refusal} b (Ok cs) (Err NotFound)) (found_has item.from m.version.copies m.old m.copied) in
-    let now : spaces (move_copy item v) ≡ filespaces_copied item.object cs (spaces v) =
-    altered_is item.object (copy.Replace item.from row) (spaces u) m.version cs there given ∙ ap (λ fs. filespaces_copied item.object cs fs) same in
-    let was : left_in (versions_of (spaces v)) item ≡ length m.old.segments =
+    let now : (move_copy item v).clients ≡ rows_copied item.object cs v.clients =
+    altered_is item.object (copy.Replace item.from row) u.clients m.version cs there given ∙ ap (rows_copied item.object cs) same in
+    let was : left_in (versions v) item ≡ length m.old.segments =
     ap (λ o. length (segments_in item.from o)) m.there ∙ ap (λ (o : Option CopyRow). length (option_map_or (λ c. c.segments) o [])) m.copied in
     record {
-      adds = ap (λ n. rows items_of_filespace (spaces (move_copy item v)) + n) was ∙ ap (λ fs. rows items_of_filespace fs + length m.old.segments) now
-          ∙ exchanged (rows items_of_filespace (filespaces_copied item.object cs (spaces v))) (in_copies m.version.copies) (rows items_of_filespace (spaces v)) (in_copies cs) (in_copies left) (length item.segments) (length m.old.segments)
-          (spaces-copied item.object cs (spaces v) m.version d m.there) (in_copies-with row left) (in_copies-without item.from m.version.copies m.old m.by_pool m.copied);
+      adds = ap (λ n. in_rows (move_copy item v).clients + n) was ∙ ap (λ c. in_rows c + length m.old.segments) now
+          ∙ exchanged (in_rows (rows_copied item.object cs v.clients)) (in_copies m.version.copies) (in_rows v.clients) (in_copies cs) (in_copies left) (length item.segments) (length m.old.segments)
+          (in_rows-copied item.object cs v.clients m.version d m.there) (in_copies-with row left) (in_copies-without item.from m.version.copies m.old m.by_pool m.copied);
       volumes = s.volumes;
-      distinct = ap (λ fs. are_distinct (versions_of fs)) now ∙ distinct_copied item.object cs (spaces v) d;
-      others = λ j ne. ap (λ fs. version_of j (versions_of fs)) now ∙ ap (version_of j) (versions_of-copied item.object cs (spaces v)) ∙ others_stay item.object j cs (versions_of (spaces v)) ne;
+      distinct = ap (λ c. are_distinct (kept_of c)) now ∙ distinct_copied item.object cs v.clients d;
+      others = λ j ne. ap (λ c. version_of j (kept_of c)) now ∙ ap (version_of j) (kept_of-copied item.object cs v.clients) ∙ others_stay item.object j cs (versions v) ne;
     }
 
 -- ---- items one after the other
@@ -166,23 +167,23 @@ moved_more : (a b f o s p q r t : ℕ) → a + p ≡ b + q → b + o ≡ f + s �
 moved_more a b f o s p q r t h g e i = omega (arith, h, g, e, i)
 
 record CopiesMoved (items : List MovedCopy) (v w : Inv) : Type 0 where
-  pub adds : rows items_of_filespace (spaces w) + sum_by (left_in (versions_of (spaces v))) items ≡ rows items_of_filespace (spaces v) + sum_by of_move items
+  pub adds : in_rows w.clients + sum_by (left_in (versions v)) items ≡ in_rows v.clients + sum_by of_move items
   pub volumes : length w.stores.volumes ≡ length v.stores.volumes
 
-copies_moved : (items : List MovedCopy) (v : Inv) → are_distinct (versions_of (spaces v)) ≡ true → name_once (map (λ i. i.object) items) ≡ true → AllByRecursion (Movable (versions_of (spaces v))) items → CopiesMoved items v (each move_copy items v)
+copies_moved : (items : List MovedCopy) (v : Inv) → are_distinct (versions v) ≡ true → name_once (map (λ i. i.object) items) ≡ true → AllByRecursion (Movable (versions v)) items → CopiesMoved items v (each move_copy items v)
 copies_moved [] v d a all = record { adds = refl; volumes = refl }
 copies_moved (i ∷ items) v d a all =
     let w : Inv = move_copy i v in
-    let vs : List Version = versions_of (spaces v) in
-    let ws : List Version = versions_of (spaces w) in
+    let vs : List Version = versions v in
+    let ws : List Version = versions w in
     let m : CopyMoved i v w = copy_moved i v d all.0 in
     let apart : list_all (λ o. not (i.object == o)) (map (λ x. x.object) items) ≡ true = first (list_all (λ o. not (i.object == o)) (map (λ x. x.object) items)) (name_once (map (λ x. x.object) items)) a in
     let r : CopiesMoved items w (each move_copy items w) =
     copies_moved items w m.distinct (rest (list_all (λ o. not (i.object == o)) (map (λ x. x.object) items)) (name_once (map (λ x. x.object) items)) a) (all_movable i.object vs ws m.others items apart all.1) in
-    let adds : rows items_of_filespace (spaces (each move_copy items w)) + sum_by (left_in vs) items ≡ rows items_of_filespace (spaces w) + sum_by of_move items =
-    ap (λ n. rows items_of_filespace (spaces (each move_copy items w)) + n) (sym (all_left i.object vs ws m.others items apart)) ∙ r.adds in
+    let adds : in_rows (each move_copy items w).clients + sum_by (left_in vs) items ≡ in_rows w.clients + sum_by of_move items =
+    ap (λ n. in_rows (each move_copy items w).clients + n) (sym (all_left i.object vs ws m.others items apart)) ∙ r.adds in
     record {
-      adds = moved_more (rows items_of_filespace (spaces (each move_copy items w))) (rows items_of_filespace (spaces w)) (rows items_of_filespace (spaces v)) (left_in vs i) (of_move i) (sum_by (left_in vs) items) (sum_by of_move items) (sum_by (left_in vs) (i ∷ items)) (sum_by of_move (i ∷ items))
+      adds = moved_more (in_rows (each move_copy items w).clients) (in_rows w.clients) (in_rows v.clients) (left_in vs i) (of_move i) (sum_by (left_in vs) items) (sum_by of_move items) (sum_by (left_in vs) (i ∷ items)) (sum_by of_move (i ∷ items))
           adds m.adds (sum_by-cons (left_in vs) i items) (sum_by-cons of_move i items);
       volumes = r.volumes ∙ m.volumes;
     }
@@ -216,16 +217,16 @@ by_pool_there v k (x ∷ vs) w h f =
       | false ↦ λ g. by_pool_there v k vs w (rest (is_copied v x) (list_all (is_copied v) vs) h) g
     ] f
 
-one_movable : (j : Journal) (v : Inv) (i : MovedCopy) → versions_are_copied v ≡ true → moved_refused j v i ≡ [] → Movable (versions_of (spaces v)) i
-one_movable j v i k h = go (version_of i.object (versions_of (spaces v))) refl h where
-  go : (o : Option Version) → version_of i.object (versions_of (spaces v)) ≡ o → of_version j i.object (copy_refused j i.object i.from i.placed) o ≡ [] → Movable (versions_of (spaces v)) i
+one_movable : (j : Journal) (v : Inv) (i : MovedCopy) → versions_are_copied v ≡ true → moved_refused j v i ≡ [] → Movable (versions v) i
+one_movable j v i k h = go (version_of i.object (versions v)) refl h where
+  go : (o : Option Version) → version_of i.object (versions v) ≡ o → of_version j i.object (copy_refused j i.object i.from i.placed) o ≡ [] → Movable (versions v) i
   go None e g = absurd cc
   go (Some w) e g =
       let p : placed_by i.placed (copy_in i.from w) ≡ true = unless_holds (placed_by i.placed (copy_in i.from w)) (stale_copy (j.copy_changed i.object i.from) (copy_in i.from w)) g in
       let c : (x : CopyRow) × (copy_in i.from w ≡ Some x) = placed_there i.placed (copy_in i.from w) p in
-      record { version = w; there = e; by_pool = by_pool_there v i.object (versions_of (spaces v)) w k e; old = c.0; copied = c.1 }
+      record { version = w; there = e; by_pool = by_pool_there v i.object (versions v) w k e; old = c.0; copied = c.1 }
 
-each_movable : (j : Journal) (v : Inv) → versions_are_copied v ≡ true → (items : List MovedCopy) → flat_map (moved_refused j v) items ≡ [] → AllByRecursion (Movable (versions_of (spaces v))) items
+each_movable : (j : Journal) (v : Inv) → versions_are_copied v ≡ true → (items : List MovedCopy) → flat_map (moved_refused j v) items ≡ [] → AllByRecursion (Movable (versions v)) items
 each_movable j v k [] h = tt
 each_movable j v k (i ∷ items) h = (
   one_movable j v i k (nothing_first (moved_refused j v i) (flat_map (moved_refused j v) items) h),
@@ -235,7 +236,7 @@ each_movable j v k (i ∷ items) h = (
 all_moves : (a f l s w u t v n : ℕ) → a + l ≡ f + s → w ≡ u → u ≡ t → t ≡ n + v → a + w + l ≡ f + v + (n + s)
 all_moves a f l s w u t v n h g e i = omega (arith, h, g, e, i)
 
-pub moves_counted : (j : Journal) (c : MovedCopies) (v : Inv) → are_distinct (versions_of v.clients.filespaces) ≡ true → versions_are_copied v ≡ true → move_refused j c.items v ++ scratch_refused c.scratch v ≡ []
+pub moves_counted : (j : Journal) (c : MovedCopies) (v : Inv) → are_distinct (versions v) ≡ true → versions_are_copied v ≡ true → move_refused j c.items v ++ scratch_refused c.scratch v ≡ []
     → count_items (effect (change.Move c) v) + sum_by (segments_left v) c.items ≡ count_items v + (length c.scratch + sum_by of_move c.items)
 unfolding effect
 moves_counted j c v d k h =
@@ -247,10 +248,10 @@ moves_counted j c v d k h =
     let moves : move_refused j c.items v ≡ [] = nothing_first (move_refused j c.items v) (scratch_refused c.scratch v) h in
     let once : name_once (map (λ i. i.object) c.items) ≡ true = unless_holds (name_once (map (λ i. i.object) c.items)) bad_value (nothing_first (unless (name_once (map (λ i. i.object) c.items)) bad_value) (flat_map (moved_refused j v) c.items) moves) in
     let named : flat_map (moved_refused j v) c.items ≡ [] = nothing_then (unless (name_once (map (λ i. i.object) c.items)) bad_value) (flat_map (moved_refused j v) c.items) moves in
-    let there : AllByRecursion (Movable (versions_of (spaces u))) c.items = subst (λ cl. AllByRecursion (Movable (versions_of cl.filespaces)) c.items) (sym same) (each_movable j v k c.items named) in
-    let m : CopiesMoved c.items u (each move_copy c.items u) = copies_moved c.items u (ap (λ cl. are_distinct (versions_of cl.filespaces)) same ∙ d) once there in
-    let adds : rows items_of_filespace (spaces (each move_copy c.items u)) + sum_by (left_in (versions_of (spaces v))) c.items ≡ rows items_of_filespace (spaces v) + sum_by of_move c.items =
-    ap (λ cl. rows items_of_filespace (spaces (each move_copy c.items u)) + sum_by (left_in (versions_of cl.filespaces)) c.items) (sym same) ∙ m.adds ∙ ap (λ cl. rows items_of_filespace cl.filespaces + sum_by of_move c.items) same in
+    let there : AllByRecursion (Movable (versions u)) c.items = subst (λ cl. AllByRecursion (Movable (kept_of cl)) c.items) (sym same) (each_movable j v k c.items named) in
+    let m : CopiesMoved c.items u (each move_copy c.items u) = copies_moved c.items u (ap (λ cl. are_distinct (kept_of cl)) same ∙ d) once there in
+    let adds : in_rows (each move_copy c.items u).clients + sum_by (left_in (versions v)) c.items ≡ in_rows v.clients + sum_by of_move c.items =
+    ap (λ cl. in_rows (each move_copy c.items u).clients + sum_by (left_in (kept_of cl)) c.items) (sym same) ∙ m.adds ∙ ap (λ cl. in_rows cl + sum_by of_move c.items) same in
     data_more v (effect (change.Move c) v) (sum_by (segments_left v) c.items) (length c.scratch + sum_by of_move c.items) (effect-data (change.Move c) v refl)
-    (all_moves (rows items_of_filespace (spaces (each move_copy c.items u))) (rows items_of_filespace (spaces v)) (sum_by (left_in (versions_of (spaces v))) c.items) (sum_by of_move c.items)
+    (all_moves (in_rows (each move_copy c.items u).clients) (in_rows v.clients) (sum_by (left_in (versions v)) c.items) (sum_by of_move c.items)
     (length (each move_copy c.items u).stores.volumes) (length u.stores.volumes) (length t.stores.volumes) (length v.stores.volumes) (length c.scratch) adds m.volumes p.volumes s.volumes)

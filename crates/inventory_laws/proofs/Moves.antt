@@ -11,21 +11,19 @@ use Rattle.entries.specs.change_items.declared.lists.MovedCopies.{MovedCopies}
 use Rattle.entries.specs.declared.change.Change.TheVariants as change
 use Rattle.inventory_rows.specs.version_groups.declared.copies.CopyRow.{CopyRow}
 use Rattle.inventory_rows.specs.version_groups.declared.versions.Version.{Version}
-use Rattle.inventory_rows.specs.version_groups.declared.groups.Filespace.{Filespace}
 use Rattle.inventory_rows.specs.version_groups.Copies.{are_by_pool, has_copy, without_copy}
 use Rattle.inventory_rows.specs.version_groups.Entries.{all_later, is_nil}
 use Rattle.inventory_rows.specs.version_groups.Versions.{version_of}
 use Rattle.inventory_rows.specs.volume_rows.declared.volume.Volume.{Volume}
-use Rattle.inventory_rows.specs.object_rows.Filespaces.{filespaces_altered, versions_of}
-use Rattle.inventory_rows.specs.object_rows.Rows.{Rows}
+use Rattle.inventory_rows.specs.object_rows.Rows.{Rows, kept_of, rows_altered}
 use Rattle.inventory_rows.specs.pool_tables.Rows.{row_at}
 use Rattle.inventory_rows.proofs.of_pool_tables.Counting.{each_there}
 use Rattle.inventory_rows.specs.pool_rows.PoolRows.{is_sequential, is_sequential_at}
 use Rattle.inventory_rows.specs.Search.{copies, copy_in, is_primary, pool, segments_on, version, versions}
 use Rattle.inventory_rows.specs.State.{Inv}
-use Rattle.inventory_rules.specs.Common.{each, or_same, this, with_filespaces}
+use Rattle.inventory_rules.specs.Common.{each, or_same, this, with_clients}
 use Rattle.inventory_rules.specs.Copies.{change_copy, move_copy, moved, placed_as, placed_now, put_moved, segments_in, take_moved, copy_refused, move_refused, moved_refused, placed_by, stale_copy, moved_copy_fits, replaced_fits}
-use Rattle.inventory_rules.specs.Segments.{make_scratch, put, scratch_refused, take_away, are_all_clear, are_clear, copy_fits_after, items_fit, leaves, lies_rightly, scratch_fits, segment_fits_after}
+use Rattle.inventory_rules.specs.Segments.{make_scratch, scratch_refused, take_away, are_all_clear, are_clear, copy_fits_after, items_fit, leaves, lies_rightly, scratch_fits, segment_fits_after}
 use Rattle.inventory_rules.specs.Transactions.{effect, causes, sizes_refused, parts_fit}
 use Rattle.inventory_rules.specs.Halfway.{lying, pending_on, segments_of, VersionFacts, VolumeFacts}
 use Rattle.inventory_rules.specs.Held.{holding, IsTied}
@@ -40,7 +38,7 @@ use Rattle.inventory_laws.proofs.CopySteps as copy_steps
 use Rattle.inventory_laws.proofs.Others.{other_copied}
 use Rattle.inventory_laws.proofs.VersionVolumes.{all_scratch_only}
 use Rattle.inventory_laws.specs.Coming.{in_pools, is_clear_of, is_clear_there, MayCome, of_object}
-use Rattle.inventory_laws.specs.Kept.{is_cited, OnlyVolumes}
+use Rattle.inventory_laws.specs.Kept.{is_cited, nothing, OnlyVolumes}
 use Rattle.inventory_laws.specs.Steady.{IsSteady}
 use Rattle.inventory_laws.proofs.Assembled.{steady_begins}
 use Rattle.inventory_laws.proofs.Changing.{facts_reordered, take_list}
@@ -51,7 +49,7 @@ use Rattle.inventory_laws.proofs.MovedRows.{is_going, left_of, matches, one_matc
 use Rattle.inventory_laws.proofs.Orders.{reordered-flat_map, reordered_back, reordered_behind, reordered_cons, reordered_first, reordered_front, reordered_itself, reordered_then}
 use Rattle.inventory_laws.proofs.Swapping.{facts_swapped, on_file, pending-segments_of}
 use Rattle.inventory_laws.proofs.Turned.{Bears, bears_taken, list_turns}
-use Rattle.inventory_laws.proofs.VolumeItems.{moved_come, moved_kept, moves_kept, take-with_filespaces, versions_kept}
+use Rattle.inventory_laws.proofs.VolumeItems.{moved_come, moved_kept, moves_kept, put-with_clients, take-with_clients, versions_kept}
 use Rattle.inventory_laws.proofs.VolumeRows.{all_both, all_later-same, all_same, all_so, list_all-append, list_all-parts}
 use Rattle.inventory_laws.proofs.Steady.{move_cited, scratch_steady}
 use Rattle.inventory_laws.proofs.DataEnds.{data_ends}
@@ -277,7 +275,7 @@ may moved v i h k = go (version i.object v) h k where
 
 -- where the versions are the same
 held_still : (v u : Inv) → u.clients ≡ v.clients → (i : MovedCopy) → is_held v i ≡ true → is_held u i ≡ true
-held_still v u same i h = ap (λ (c : Rows). option_map_or (λ w. is_some (copy_in i.from w)) (version_of i.object (versions_of c.filespaces)) false) same ∙ h
+held_still v u same i h = ap (λ (c : Rows). option_map_or (λ w. is_some (copy_in i.from w)) (version_of i.object (kept_of c)) false) same ∙ h
 
 parts_of : (c : MovedCopies) (v : Inv) → parts_fit (change.Move c) v ≡ true → (scratch_fits v c.scratch ≡ true) × (items_fit (moved_copy_fits c.items) (λ i. i.segments) c.items (each make_scratch c.scratch v) ≡ true)
 unfolding parts_fit
@@ -298,18 +296,14 @@ going base items = flat_map (λ (i : MovedCopy). of_object i.object (segments_in
 abbrev all_gone : Inv → List MovedCopy → Inv → Inv
 all_gone base items v = each (gone_from base) items v
 
-gone_with_filespaces : (base : Inv) (items : List MovedCopy) (fs : List (ℕ × Filespace)) (v : Inv) → all_gone base items (with_filespaces fs v) ≡ with_filespaces fs (all_gone base items v)
-gone_with_filespaces base [] fs v = refl
-gone_with_filespaces base (i ∷ items) fs v =
-    ap (all_gone base items) (take-with_filespaces i.object (segments_in i.from (version i.object base)) fs v) ∙ gone_with_filespaces base items fs (gone_from base i v)
+gone-with_clients : (base : Inv) (items : List MovedCopy) (rows : Rows) (v : Inv) → all_gone base items (with_clients rows v) ≡ with_clients rows (all_gone base items v)
+gone-with_clients base [] rows v = refl
+gone-with_clients base (i ∷ items) rows v =
+    ap (all_gone base items) (take-with_clients i.object (segments_in i.from (version i.object base)) rows v) ∙ gone-with_clients base items rows (gone_from base i v)
 
-put_with_filespaces : (object : ℕ) (segments : List Segment) (fs : List (ℕ × Filespace)) (v : Inv) → put object segments (with_filespaces fs v) ≡ with_filespaces fs (put object segments v)
-put_with_filespaces object [] fs v = refl
-put_with_filespaces object (s ∷ segments) fs v = put_with_filespaces object segments fs (put object (s ∷ []) v)
-
-puts_with_filespaces : (items : List MovedCopy) (fs : List (ℕ × Filespace)) (v : Inv) → each put_moved items (with_filespaces fs v) ≡ with_filespaces fs (each put_moved items v)
-puts_with_filespaces [] fs v = refl
-puts_with_filespaces (i ∷ items) fs v = ap (each put_moved items) (put_with_filespaces i.object i.segments fs v) ∙ puts_with_filespaces items fs (put_moved i v)
+puts-with_clients : (items : List MovedCopy) (rows : Rows) (v : Inv) → each put_moved items (with_clients rows v) ≡ with_clients rows (each put_moved items v)
+puts-with_clients [] rows v = refl
+puts-with_clients (i ∷ items) rows v = ap (each put_moved items) (put-with_clients i.object i.segments rows v) ∙ puts-with_clients items rows (put_moved i v)
 
 gone_kept : (base : Inv) (items : List MovedCopy) (v : Inv) → OnlyVolumes v (all_gone base items v)
 gone_kept base [] v = kept_same v
@@ -332,18 +326,18 @@ gone_turns base (i ∷ gone) items p v h =
     ap (all_gone base gone) (list_turns i.object segments items (going base gone ++ p) v first)
     ∙ gone_turns base gone items p (gone_from base i v) (bears_taken i.object segments (going base gone ++ p) v first)
 
--- but for the rows of the filespaces, that is all that becomes of the volumes
-rows_aside : (w x : Inv) (fs : List (ℕ × Filespace)) → w ≡ with_filespaces fs x → w ≡ with_filespaces w.clients.filespaces x
-rows_aside w x fs h = h ∙ ap (λ (l : List (ℕ × Filespace)). with_filespaces l x) (sym (ap (λ (y : Inv). y.clients.filespaces) h))
+-- but for the clients' rows, that is all that becomes of the database
+rows_aside : (w x : Inv) (rows : Rows) → w ≡ with_clients rows x → w ≡ with_clients w.clients x
+rows_aside w x rows h = h ∙ ap (λ (r : Rows). with_clients r x) (sym (ap (λ (y : Inv). y.clients) h))
 
-one_aside : (base : Inv) (i : MovedCopy) (v x : Inv) → version i.object v ≡ version i.object base → v ≡ with_filespaces v.clients.filespaces x → move_copy i v ≡ with_filespaces (move_copy i v).clients.filespaces (gone_from base i x)
+one_aside : (base : Inv) (i : MovedCopy) (v x : Inv) → version i.object v ≡ version i.object base → v ≡ with_clients v.clients x → move_copy i v ≡ with_clients (move_copy i v).clients (gone_from base i x)
 one_aside base i v x same aside =
-    let taken : take_moved i v ≡ with_filespaces v.clients.filespaces (gone_from base i x) =
+    let taken : take_moved i v ≡ with_clients v.clients (gone_from base i x) =
     ap (λ (o : Option Version). take_away i.object (segments_in i.from o) v) same
     ∙ ap (take_away i.object (segments_in i.from (version i.object base))) aside
-    ∙ take-with_filespaces i.object (segments_in i.from (version i.object base)) v.clients.filespaces x in
-    let fs : List (ℕ × Filespace) = or_same (take_moved i v).clients.filespaces (filespaces_altered i.object (moved i v) (take_moved i v).clients.filespaces) in
-    rows_aside (move_copy i v) (gone_from base i x) fs (ap (with_filespaces fs) taken)
+    ∙ take-with_clients i.object (segments_in i.from (version i.object base)) v.clients x in
+    let rows : Rows = or_same (take_moved i v).clients (rows_altered i.object (moved i v) (take_moved i v).clients) in
+    rows_aside (move_copy i v) (gone_from base i x) rows (ap (with_clients rows) taken)
 
 -- the copies of these objects are those of the base
 AreOfBase : Inv → Inv → List MovedCopy → Type 0
@@ -356,8 +350,8 @@ still_of_base base item (i ∷ items) v ne h =
     let parts = and_parts (not (eqb item.object i.object)) (list_all (λ (b : MovedCopy). not (eqb item.object b.object)) items) ne in
     (version_still item i v parts.0 ∙ h.0, still_of_base base item items v parts.1 h.1)
 
-all_aside : (base : Inv) (items : List MovedCopy) (v x : Inv) → all_later (λ (a b : MovedCopy). not (eqb a.object b.object)) items ≡ true → AreOfBase base v items → v ≡ with_filespaces v.clients.filespaces x
-    → each move_copy items v ≡ with_filespaces (each move_copy items v).clients.filespaces (all_gone base items x)
+all_aside : (base : Inv) (items : List MovedCopy) (v x : Inv) → all_later (λ (a b : MovedCopy). not (eqb a.object b.object)) items ≡ true → AreOfBase base v items → v ≡ with_clients v.clients x
+    → each move_copy items v ≡ with_clients (each move_copy items v).clients (all_gone base items x)
 unfolding AreOfBase
 all_aside base [] v x once h aside = aside
 all_aside base (i ∷ items) v x once h aside =
@@ -367,7 +361,7 @@ all_aside base (i ∷ items) v x once h aside =
 of_base : (base v : Inv) (items : List MovedCopy) → v.clients ≡ base.clients → AreOfBase base v items
 unfolding AreOfBase
 of_base base v [] same = tt
-of_base base v (i ∷ items) same = (ap (λ (c : Rows). version_of i.object (versions_of c.filespaces)) same, of_base base v items same)
+of_base base v (i ∷ items) same = (ap (λ (c : Rows). version_of i.object (kept_of c)) same, of_base base v items same)
 
 -- ---- the segments of the copies, and of those that stay
 
@@ -481,13 +475,13 @@ clear_rows moved file n p v w found of (e ∷ rows) cite h =
     ] refl
 
 -- a new segment is clear of what stays
-clear_after : (moved : List MovedCopy) (v : Inv) (n : ℕ) (s : Segment) → copies_cite v ≡ true → segment_fits_after moved v n s ≡ true → is_clear_there (segments_of (staying moved (copies v))) (with_filespaces [] v) s ≡ true
+clear_after : (moved : List MovedCopy) (v : Inv) (n : ℕ) (s : Segment) → copies_cite v ≡ true → segment_fits_after moved v n s ≡ true → is_clear_there (segments_of (staying moved (copies v))) (with_clients nothing v) s ≡ true
 clear_after moved v n s cite h =
     let parts = and_parts (lies_rightly (is_sequential n v.stores) n s (row_at s.file v.stores.volumes)) (list_all (λ e. leaves moved n e.0 || are_clear (is_sequential n v.stores) s e.1) (segments_on s.file v)) h in
     go (row_at s.file v.stores.volumes) refl parts.0 (lies_at_pool n s v.stores parts.0) parts.1
   where
     go : (o : Option Volume) → row_at s.file v.stores.volumes ≡ o → lies_rightly (is_sequential n v.stores) n s o ≡ true → is_sequential_at s.file v.stores ≡ is_sequential n v.stores
-        → list_all (λ e. leaves moved n e.0 || are_clear (is_sequential n v.stores) s e.1) (segments_on s.file v) ≡ true → is_clear_there (segments_of (staying moved (copies v))) (with_filespaces [] v) s ≡ true
+        → list_all (λ e. leaves moved n e.0 || are_clear (is_sequential n v.stores) s e.1) (segments_on s.file v) ≡ true → is_clear_there (segments_of (staying moved (copies v))) (with_clients nothing v) s ≡ true
     go None found t same clear = absurd cc
     go (Some w) found t same clear =
         let of : w.pool ≡ n = eqb-true w.pool n (and_parts (w.pool == n) (nat_le (s.offset + 32 + s.len) w.capacity && (is_sequential n v.stores || s.offset % 4096 == 0)) t).0 in
@@ -495,19 +489,19 @@ clear_after moved v n s cite h =
         ∙ ap (list_all (λ e. are_clear (is_sequential n v.stores) s e.1)) (pending-segments_of s.file (staying moved (copies v)))
         ∙ clear_rows moved s.file n (λ e. are_clear (is_sequential n v.stores) s e.1) v w found of (copies v) cite clear
 
-moved_may_come : (items : List MovedCopy) (v : Inv) → copies_cite v ≡ true → items_fit (moved_copy_fits items) (λ i. i.segments) items v ≡ true → MayCome (segments_of (staying items (copies v))) (with_filespaces [] v) (segments_to_come items)
+moved_may_come : (items : List MovedCopy) (v : Inv) → copies_cite v ≡ true → items_fit (moved_copy_fits items) (λ i. i.segments) items v ≡ true → MayCome (segments_of (staying items (copies v))) (with_clients nothing v) (segments_to_come items)
 moved_may_come items v cite h =
     let parts = and_parts (list_all (moved_copy_fits items v) items) (are_all_clear v (flat_map (λ (i : MovedCopy). i.segments) items)) h in
-    may_come_by (λ (i : MovedCopy). i.pool) (λ i. i.segments) items (segments_of (staying items (copies v))) (with_filespaces [] v) (segment_fits_after items v)
+    may_come_by (λ (i : MovedCopy). i.pool) (λ i. i.segments) items (segments_of (staying items (copies v))) (with_clients nothing v) (segment_fits_after items v)
     (λ n s t. fits_lies_after items v n s t) (λ n s t. clear_after items v n s cite t)
     (all_so (moved_copy_fits items v) (λ i. list_all (segment_fits_after items v i.pool) i.segments) (new_segments_fit items v) items parts.0) parts.1
 
 -- ---- the volumes afterwards
 
-bears_facts : (p : List (ℕ × Segment)) (v : Inv) → VolumeFacts p (with_filespaces [] v) → Bears p v
-bears_facts p v f file w found = each_there (λ (e : ℕ × Volume). e.1.segments ≡ holding (lying p e.0 (with_filespaces [] v))) file w v.stores.volumes found f.tied
+bears_facts : (p : List (ℕ × Segment)) (v : Inv) → VolumeFacts p (with_clients nothing v) → Bears p v
+bears_facts p v f file w found = each_there (λ (e : ℕ × Volume). e.1.segments ≡ holding (lying p e.0 (with_clients nothing v))) file w v.stores.volumes found f.tied
 
-no_copies : (v w : Inv) → OnlyVolumes (with_filespaces [] v) w → copies w ≡ []
+no_copies : (v w : Inv) → OnlyVolumes (with_clients nothing v) w → copies w ≡ []
 no_copies v w k = ap (λ (x : Inv). copies x) k.only
 
 record AreHeld (n : ℕ) (items : List MovedCopy) (u : Inv) : Type 0 where
@@ -517,7 +511,7 @@ record AreHeld (n : ℕ) (items : List MovedCopy) (u : Inv) : Type 0 where
 
 volumes_after : (n : ℕ) (items : List MovedCopy) (u : Inv) → AreHeld n items u → HaveMoved n items (each put_moved items u) (each move_copy items (each put_moved items u)) → VolumeFacts [] (each move_copy items (each put_moved items u))
 volumes_after n items u a m =
-    let bare : Inv = with_filespaces [] u in
+    let bare : Inv = with_clients nothing u in
     let x : Inv = each put_moved items u in
     let w : Inv = each move_copy items x in
     let stay : List (ℕ × CopyRow) = staying items (copies u) in
@@ -544,19 +538,19 @@ volumes_after n items u a m =
     let rows : IsReordered (new_rows x.number items ++ stay) (copies w) =
     replaced_rows (new_rows x.number items) (old_rows u items) stay (copies u) (copies w) part
     (subst (λ (l : List (ℕ × CopyRow)). IsReordered (new_rows x.number items ++ l) (old_rows u items ++ copies w)) same (subst (λ (l : List (ℕ × CopyRow)). IsReordered (new_rows x.number items ++ copies x) (l ++ copies w)) olds m.order)) in
-    let fs : List (ℕ × Filespace) = w.clients.filespaces in
+    let clients : Rows = w.clients in
     let turned : all_gone u items x ≡ each put_moved items (all_gone u items u) = gone_turns u items items (segments_of stay) u (bears_facts (going u items ++ segments_of stay) u begun) in
-    let aside : w ≡ with_filespaces fs (all_gone u items x) = all_aside u items x x a.once (of_base u x items (ap (λ (z : Inv). z.clients) kept.only)) refl in
-    let bared : y ≡ with_filespaces [] (each put_moved items (all_gone u items u)) =
-    ap (each put_moved items) (gone_with_filespaces u items [] u) ∙ puts_with_filespaces items [] (all_gone u items u) in
-    let is : w ≡ with_filespaces fs y = aside ∙ ap (with_filespaces fs) turned ∙ ap (with_filespaces fs) (sym bared) in
+    let aside : w ≡ with_clients clients (all_gone u items x) = all_aside u items x x a.once (of_base u x items (ap (λ (z : Inv). z.clients) kept.only)) refl in
+    let bared : y ≡ with_clients nothing (each put_moved items (all_gone u items u)) =
+    ap (each put_moved items) (gone-with_clients u items nothing u) ∙ puts-with_clients items nothing (all_gone u items u) in
+    let is : w ≡ with_clients clients y = aside ∙ ap (with_clients clients) turned ∙ ap (with_clients clients) (sym bared) in
     let none : copies y ≡ [] = no_copies u y (kept_then bare (all_gone u items bare) y (gone_kept u items bare) (moved_kept items (all_gone u items bare))) in
-    let left : IsReordered ((new_rows x.number items ++ stay) ++ copies y) (copies (with_filespaces fs y)) =
-    subst (λ (l : List (ℕ × CopyRow)). IsReordered ((new_rows x.number items ++ stay) ++ l) (copies (with_filespaces fs y))) (sym none)
-    (subst (λ (l : List (ℕ × CopyRow)). IsReordered l (copies (with_filespaces fs y))) (sym (append-nil (new_rows x.number items ++ stay)))
+    let left : IsReordered ((new_rows x.number items ++ stay) ++ copies y) (copies (with_clients clients y)) =
+    subst (λ (l : List (ℕ × CopyRow)). IsReordered ((new_rows x.number items ++ stay) ++ l) (copies (with_clients clients y))) (sym none)
+    (subst (λ (l : List (ℕ × CopyRow)). IsReordered l (copies (with_clients clients y))) (sym (append-nil (new_rows x.number items ++ stay)))
     (subst (λ (z : Inv). IsReordered (new_rows x.number items ++ stay) (copies z)) is rows)) in
     subst (VolumeFacts []) (sym is)
-    (facts_swapped (new_rows x.number items ++ stay) [] [] y (with_filespaces fs y) refl refl refl refl left (subst (λ (l : List (ℕ × Segment)). VolumeFacts l y) its came))
+    (facts_swapped (new_rows x.number items ++ stay) [] [] y (with_clients clients y) refl refl refl refl left (subst (λ (l : List (ℕ × Segment)). VolumeFacts l y) its came))
 
 -- ---- the transaction
 

@@ -7,6 +7,7 @@ use Rattle.std.specs.List.Sorted.{IsStrictlySortedBy}
 use Rattle.std.specs.Map.{keys_of, remove_entry, set_value}
 use Rattle.std.specs.Ordering.{nat_cmp}
 use Rattle.kinds.specs.declared.refusal.Refusal.{Refusal}
+use Rattle.entries.specs.change_items.declared.items.NewHeldObject.{NewHeldObject}
 use Rattle.entries.specs.change_items.declared.items.NewVersion.{NewVersion}
 use Rattle.inventory_rows.specs.version_groups.declared.copies.CopyChange.{CopyChange}
 use Rattle.inventory_rows.specs.version_groups.declared.copies.CopyRow.{CopyRow}
@@ -21,15 +22,15 @@ use Rattle.inventory_rows.specs.version_groups.Groups.{AreByPath, at_path, class
 use Rattle.inventory_rows.specs.version_groups.Versions.{is_empty}
 use Rattle.inventory_rows.proofs.of_version_groups.Laws.{AfterIs, after-is}
 use Rattle.inventory_rows.specs.object_rows.Filespaces.{at_number, filespaces_copied, filespaces_with, groups_copied}
+use Rattle.inventory_rows.specs.object_rows.Rows.{rows_copied}
 use Rattle.inventory_rows.proofs.of_object_rows.Steps.{Within, within}
 use Rattle.inventory_rows.proofs.of_policy_domains.Sorted.{sorted-insert, sorted-remove}
 use Rattle.inventory_rows.specs.Search.{version}
 use Rattle.inventory_rows.specs.State.{Inv}
-use Rattle.inventory_rules.specs.Common.{or_same, with_filespaces}
+use Rattle.inventory_rules.specs.Common.{or_same, with_clients, with_filespaces}
 use Rattle.inventory_rules.specs.Copies.{change_copy}
-use Rattle.inventory_rules.specs.Versions.{change_group, new_version}
+use Rattle.inventory_rules.specs.Versions.{change_group, held_too, inserted, new_version, AreGroupsOrdered}
 use Rattle.inventory_rules.specs.Ordered.{IsOrdered}
-use Rattle.inventory_laws.specs.Stored.{stored}
 use Rattle.inventory_laws.proofs.Frames.{frames, frames-copied, same_keys}
 use Rattle.inventory_laws.proofs.GroupSteps.{either_way}
 use Rattle.inventory_laws.proofs.Grouped.{frames_changed, frames_put, ordered_at}
@@ -77,12 +78,12 @@ paths-copied : (k : ℕ) (cs : List CopyRow) (fs : List (ℕ × Filespace)) → 
 paths-copied k cs [] a = tt
 paths-copied k cs (f ∷ fs) a = (subst (IsStrictlySortedBy (slice_cmp nat_cmp)) (sym (keys-copied k cs f.1.groups)) a.0, paths-copied k cs fs a.1)
 
--- what a change of copies makes of the filespaces, or that it is refused
-pub copied_or_same : (P : Inv → Type 0) (k : ℕ) (step : CopyChange) (v : Inv) → P v → ((cs : List CopyRow) → P (with_filespaces (filespaces_copied k cs v.clients.filespaces) v)) → P (change_copy k step v)
+-- what a change of copies makes of the rows, or that it is refused
+pub copied_or_same : (P : Inv → Type 0) (k : ℕ) (step : CopyChange) (v : Inv) → P v → ((cs : List CopyRow) → P (with_clients (rows_copied k cs v.clients) v)) → P (change_copy k step v)
 copied_or_same P k step v same made =
-    elim (version k v) as (λ o. P (with_filespaces (or_same v.clients.filespaces (if_found o (λ (x : Version). on_ok (λ c. filespaces_copied k c v.clients.filespaces) (copies_after step x.copies)))) v)) [
+    elim (version k v) as (λ o. P (with_clients (or_same v.clients (if_found o (λ (x : Version). on_ok (λ c. rows_copied k c v.clients) (copies_after step x.copies)))) v)) [
       | None ↦ same
-      | Some w ↦ elim (copies_after step w.copies) as (λ r. P (with_filespaces (or_same v.clients.filespaces (on_ok (λ c. filespaces_copied k c v.clients.filespaces) r)) v)) [
+      | Some w ↦ elim (copies_after step w.copies) as (λ r. P (with_clients (or_same v.clients (on_ok (λ c. rows_copied k c v.clients) r)) v)) [
         | Ok cs ↦ made cs
         | Err e ↦ same
       ]
@@ -91,23 +92,37 @@ copied_or_same P k step v same made =
 pub ordered_copy : (k : ℕ) (step : CopyChange) (v : Inv) → IsOrdered v → IsOrdered (change_copy k step v)
 ordered_copy k step v o =
     let fs : List (ℕ × Filespace) = v.clients.filespaces in
-    copied_or_same IsOrdered k step v o (λ cs. ordered_from v (filespaces_copied k cs fs) o (frames-copied k cs fs) (paths-copied k cs fs o.by_path))
+    copied_or_same IsOrdered k step v o
+    (λ cs.
+    let a : IsOrdered (with_filespaces (filespaces_copied k cs fs) v) = ordered_from v (filespaces_copied k cs fs) o (frames-copied k cs fs) (paths-copied k cs fs o.by_path) in
+    record { by_number = a.by_number; by_path = a.by_path })
 
--- ---- a new version
-pub ordered_stored : (n : ℕ) (item : NewVersion) (v : Inv) → IsOrdered v → IsOrdered (stored n item v)
-ordered_stored n item v o =
+-- ---- a new object
+pub ordered_held : (n : ℕ) (item : NewHeldObject) (v : Inv) → IsOrdered v → IsOrdered (held_too n item v)
+ordered_held n item v o = record { by_number = o.by_number; by_path = o.by_path }
+
+pub paths_inserted : (n : ℕ) (item : NewVersion) (v : Inv) → AreGroupsOrdered v.clients.filespaces → AreGroupsOrdered (inserted n item v).clients.filespaces
+paths_inserted n item v paths =
     let fs : List (ℕ × Filespace) = v.clients.filespaces in
     let x : Version = new_version v item in
     let by : List (List ℕ × Group) → Result (List (List ℕ × Group)) Refusal = λ groups. Ok (groups_with item.path item.class x groups) in
-    elim (filespaces_with n item.path item.class x fs) as (λ r. filespaces_with n item.path item.class x fs ≡ r → IsOrdered (record (with_filespaces (or_same fs r) v) { next_object = (stored n item v).next_object })) [
+    elim (filespaces_with n item.path item.class x fs) as (λ r. filespaces_with n item.path item.class x fs ≡ r → Paths (or_same fs r)) [
       | Ok new ↦ λ said.
           let w : Within n by fs new = within n by fs new said in
           let after : by w.filespace.groups ≡ Ok w.groups = w.after in
           let same : groups_with item.path item.class x w.filespace.groups ≡ w.groups = cc in
-          let paths : Paths new =
-          paths_within n by fs new w o.by_path
-          (λ s. subst AreByPath same (sorted-insert nat_list_cmp_total item.path (group_with item.class x (grouped.group_at item.path w.filespace.groups)) w.filespace.groups s)) in
-          let a : IsOrdered (with_filespaces new v) = ordered_from v new o (frames_put n item.path item.class x fs new said) paths in
-          record { by_number = a.by_number; by_path = a.by_path }
-      | Err e ↦ λ _. record { by_number = o.by_number; by_path = o.by_path }
+          paths_within n by fs new w paths
+          (λ s. subst AreByPath same (sorted-insert nat_list_cmp_total item.path (group_with item.class x (grouped.group_at item.path w.filespace.groups)) w.filespace.groups s))
+      | Err e ↦ λ _. paths
     ] refl
+
+pub ordered_inserted : (n : ℕ) (item : NewVersion) (v : Inv) → IsOrdered v → IsOrdered (inserted n item v)
+ordered_inserted n item v o =
+    let fs : List (ℕ × Filespace) = v.clients.filespaces in
+    let x : Version = new_version v item in
+    let numbers : IsStrictlySortedBy nat_cmp (keys_of (inserted n item v).clients.filespaces) =
+    elim (filespaces_with n item.path item.class x fs) as (λ r. filespaces_with n item.path item.class x fs ≡ r → IsStrictlySortedBy nat_cmp (keys_of (or_same fs r))) [
+      | Ok new ↦ λ said. subst (IsStrictlySortedBy nat_cmp) (sym (same_keys fs new (frames_put n item.path item.class x fs new said))) o.by_number
+      | Err e ↦ λ _. o.by_number
+    ] refl in
+    record { by_number = numbers; by_path = paths_inserted n item v o.by_path }

@@ -1,12 +1,10 @@
--- What a change of one version leaves of the others: the versions themselves, where they stand, and which filespaces there are.
-use Rattle.std.proofs.Common.{◌≡◌, ℕ, ◌+◌, Bool, true, false, cond, eqb, not, ◌||◌, List, [], ◌∷◌, ◌++◌, length, Option, Some, None, Ok, Err, Result, refl, sym, ap, ap₂, subst, ◌∙◌, arith}
+-- What a change of one object leaves of the others, where versions stand, and which filespaces there are.
+use Rattle.std.proofs.Common.{◌≡◌, ℕ, Bool, true, false, cond, eqb, not, ◌||◌, List, [], ◌∷◌, ◌++◌, length, Option, Some, None, Ok, Err, refl, sym, ap, ap₂, subst, ◌∙◌}
 use Rattle.std.proofs.lemmas.Bool.{false≢true, eqb-true, eqb-false, ne_eqb, and_parts, and_from}
-use Rattle.std.proofs.lemmas.List.{length-map}
 use Rattle.std.specs.List.{list_all, AllByRecursion}
 use Rattle.std.specs.Map.{lookup}
 use Rattle.std.specs.Option.{is_some}
 use Rattle.std.specs.Ordering.{nat_cmp}
-use Rattle.kinds.specs.declared.refusal.Refusal.{Refusal}
 use Rattle.entries.specs.change_items.declared.items.NewVersion.{NewVersion}
 use Rattle.inventory_rows.specs.version_groups.declared.copies.CopyChange.{CopyChange}
 use Rattle.inventory_rows.specs.version_groups.declared.copies.CopyRow.{CopyRow}
@@ -19,29 +17,30 @@ use Rattle.inventory_rows.specs.version_groups.Groups.{AreByPath}
 use Rattle.inventory_rows.specs.version_groups.Versions.{are_distinct, has_object, is_empty, superseded, version_of, with_copies, without_object}
 use Rattle.inventory_rows.specs.object_rows.declared.place.Place.{Place}
 use Rattle.inventory_rows.specs.object_rows.Filespaces.{at_number, filespace_at, filespaces_after, filespaces_copied, filespaces_with, versions_at, versions_of}
+use Rattle.inventory_rows.specs.object_rows.HeldRows.{held_versions}
 use Rattle.inventory_rows.specs.object_rows.Index.{AreDistinct}
-use Rattle.inventory_rows.specs.object_rows.Places.{AreAllOrderly, are_full, listed, listed_at}
+use Rattle.inventory_rows.specs.object_rows.Places.{AreAllOrderly, are_full, listed, listed_at, place_of}
 use Rattle.inventory_rows.proofs.of_object_rows.ByNumber.{versions-there}
 use Rattle.inventory_rows.proofs.of_object_rows.Splices.{Splices}
 use Rattle.inventory_rows.proofs.of_object_rows.Stands.{Stands, at-eqb, listed-distinct, same_number, stands}
 use Rattle.inventory_rows.proofs.of_object_rows.Steps.{change_of}
-use Rattle.inventory_rows.specs.Search.{place, version, versions}
+use Rattle.inventory_rows.proofs.of_object_rows.VersionLists.{parted}
+use Rattle.inventory_rows.specs.Search.{version, versions}
 use Rattle.inventory_rows.specs.State.{Inv}
-use Rattle.inventory_rules.specs.Common.{or_same}
+use Rattle.inventory_rules.specs.Common.{or_same, with_filespaces}
 use Rattle.inventory_rules.specs.Copies.{change_copy}
-use Rattle.inventory_rules.specs.Versions.{change_group, new_version}
+use Rattle.inventory_rules.specs.Versions.{change_group, inserted, new_version}
 use Rattle.inventory_rules.specs.Valid.{is_orderly}
 use Rattle.inventory_rules.specs.Halfway.{VersionFacts}
 use Rattle.inventory_rules.specs.Ordered.{IsOrdered}
-use Rattle.inventory_laws.specs.Stored.{stored}
-use Rattle.inventory_laws.proofs.Copied.{versions-copied}
+use Rattle.inventory_rules.proofs.CopiedLists.{kept_of-copied}
+use Rattle.inventory_laws.proofs.Arriving.{has-objects, same_has, same_length}
 use Rattle.inventory_laws.proofs.Frames.{frames-copied, same_there}
-use Rattle.inventory_laws.proofs.GroupSteps.{either_way, goes, objects, removes}
+use Rattle.inventory_laws.proofs.GroupSteps.{either_way, objects, removes}
 use Rattle.inventory_laws.proofs.Grouped.{frames_changed, frames_put, versions_changed, versions_put}
-use Rattle.inventory_laws.proofs.Kept.{are_orderly}
+use Rattle.inventory_laws.proofs.Kept.{are_orderly, splice_kept}
 use Rattle.inventory_laws.proofs.Ordered.{copied_or_same}
-use Rattle.inventory_laws.proofs.PutSteps.{objects-superseded, puts}
-use Rattle.inventory_laws.proofs.Spliced.{splice_length}
+use Rattle.inventory_laws.proofs.PutSteps.{objects-superseded}
 
 -- ---- searches of joined lists
 abbrev or_else : {A : Type 0} → Option A → Option A → Option A
@@ -52,7 +51,7 @@ version_of-append : (k : ℕ) (vs ws : List Version) → version_of k (vs ++ ws)
 version_of-append k [] ws = refl
 version_of-append k (v ∷ vs) ws = elim (eqb v.object k) as (λ b. cond b (Some v) (version_of k (vs ++ ws)) ≡ or_else (cond b (Some v) (version_of k vs)) (version_of k ws)) [ true ↦ refl | false ↦ version_of-append k vs ws ]
 
-same_version : (k : ℕ) {xs ys old new : List Version} → Splices xs ys old new → version_of k ys ≡ version_of k xs → version_of k new ≡ version_of k old
+pub same_version : (k : ℕ) {xs ys old new : List Version} → Splices xs ys old new → version_of k ys ≡ version_of k xs → version_of k new ≡ version_of k old
 same_version k {xs} {ys} s h =
     ap (version_of k) s.becomes ∙ version_of-append k s.before (ys ++ s.after)
     ∙ ap (or_else (version_of k s.before)) (version_of-append k ys s.after ∙ ap (λ o. or_else o (version_of k s.after)) h ∙ sym (version_of-append k xs s.after))
@@ -78,7 +77,7 @@ lookup_first test xs ys v h = lookup-append test xs ys ∙ ap (λ o. or_else o (
 not_other : (n k other : ℕ) → n ≡ k → eqb other k ≡ false → eqb n other ≡ false
 not_other n k other e h = ne_eqb n other (λ t. eqb-false other k h (sym t ∙ e))
 
-version-without : (k other : ℕ) (vs : List Version) → eqb other k ≡ false → version_of other (without_object k vs) ≡ version_of other vs
+pub version-without : (k other : ℕ) (vs : List Version) → eqb other k ≡ false → version_of other (without_object k vs) ≡ version_of other vs
 version-without k other [] h = refl
 version-without k other (v ∷ vs) h =
     elim (eqb v.object k) as (λ b. eqb v.object k ≡ b → version_of other (cond (not b) (v ∷ without_object k vs) (without_object k vs)) ≡ cond (eqb v.object other) (Some v) (version_of other vs)) [
@@ -100,12 +99,12 @@ version-with_copies k other cs (v ∷ vs) h =
 pub other_copied : (k other : ℕ) (step : CopyChange) (v : Inv) → eqb other k ≡ false → version other (change_copy k step v) ≡ version other v
 other_copied k other step v h =
     copied_or_same (λ w. version other w ≡ version other v) k step v refl
-    (λ cs. ap (version_of other) (versions-copied k cs v.clients.filespaces) ∙ version-with_copies k other cs (versions v) h)
+    (λ cs. ap (version_of other) (kept_of-copied k cs v.clients) ∙ version-with_copies k other cs (versions v) h)
 
 pub other_removed : (n k other : ℕ) (path : List ℕ) (v : Inv) → eqb other k ≡ false → version other (change_group n path (Remove k) v) ≡ version other v
 other_removed n k other path v h =
     either_way (λ w. version other w ≡ version other v) n path (Remove k) v refl
-    (λ new said. same_version other (versions_changed n path (Remove k) v.clients.filespaces new said) (version-without k other (versions_at n path v.clients.filespaces) h))
+    (λ new said. same_version other (splice_kept v new (versions_changed n path (Remove k) v.clients.filespaces new said)) (version-without k other (versions_at n path v.clients.filespaces) h))
 
 -- ---- the objects
 object_stays : (k : ℕ) (cs : List CopyRow) (v : Version) (b : Bool) → (cond {A = Version} b (record v { copies = cs }) v).object ≡ v.object
@@ -119,7 +118,7 @@ objects-with_copies k cs (v ∷ vs) = ap₂ (λ a as_before. a ∷ as_before) (o
 pub objects_copied : (k : ℕ) (step : CopyChange) (v : Inv) → objects (versions (change_copy k step v)) ≡ objects (versions v)
 objects_copied k step v =
     copied_or_same (λ w. objects (versions w) ≡ objects (versions v)) k step v refl
-    (λ cs. ap objects (versions-copied k cs v.clients.filespaces) ∙ objects-with_copies k cs (versions v))
+    (λ cs. ap objects (kept_of-copied k cs v.clients) ∙ objects-with_copies k cs (versions v))
 
 -- ---- where versions stand
 placed-without : (n : ℕ) (path : List ℕ) (k other : ℕ) (vs : List Version) → eqb other k ≡ false → lookup (at_number other) (listed_at n path (without_object k vs)) ≡ lookup (at_number other) (listed_at n path vs)
@@ -131,9 +130,9 @@ placed-without n path k other (v ∷ vs) h =
       | false ↦ λ _. ap (λ o. cond (at_number other v.object) (Some here) o) (placed-without n path k other vs h)
     ] refl
 
-pub place_stays : (n k other : ℕ) (path : List ℕ) (v : Inv) → eqb other k ≡ false → place other (change_group n path (Remove k) v) ≡ place other v
+pub place_stays : (n k other : ℕ) (path : List ℕ) (v : Inv) → eqb other k ≡ false → place_of other (change_group n path (Remove k) v).clients.filespaces ≡ place_of other v.clients.filespaces
 place_stays n k other path v h =
-    either_way (λ w. place other w ≡ place other v) n path (Remove k) v refl
+    either_way (λ w. place_of other w.clients.filespaces ≡ place_of other v.clients.filespaces) n path (Remove k) v refl
     (λ new said. same_lookup (at_number other) (change_of n path (Remove k) v.clients.filespaces new said) (placed-without n path k other (versions_at n path v.clients.filespaces) h))
 
 place_listed : (n : ℕ) (path : List ℕ) (k : ℕ) (vs : List Version) → has_object k vs ≡ true → lookup (at_number k) (listed_at n path vs) ≡ Some (record { filespace = n; path = path })
@@ -159,7 +158,7 @@ none_before k (x ∷ xs) ys p d h =
       | false ↦ λ _. rest
     ] refl
 
-pub place_of_path : (n k : ℕ) (path : List ℕ) (v : Inv) → are_distinct (versions v) ≡ true → has_object k (versions_at n path v.clients.filespaces) ≡ true → place k v ≡ Some (record { filespace = n; path = path })
+pub place_of_path : (n k : ℕ) (path : List ℕ) (v : Inv) → are_distinct (versions v) ≡ true → has_object k (versions_at n path v.clients.filespaces) ≡ true → place_of k v.clients.filespaces ≡ Some (record { filespace = n; path = path })
 place_of_path n k path v d has =
     let fs : List (ℕ × Filespace) = v.clients.filespaces in
     let xs : List (ℕ × Place) = listed_at n path (versions_at n path fs) in
@@ -167,7 +166,7 @@ place_of_path n k path v d has =
     let a : (new : List (ℕ × Filespace)) × (filespaces_after n path (Remove k) fs ≡ Ok new) = removes n path k fs has in
     let s : Splices xs (listed_at n path (without_object k (versions_at n path fs))) (listed fs) (listed a.0) = change_of n path (Remove k) fs a.0 a.1 in
     let found : lookup (at_number k) (xs ++ s.after) ≡ Some here = lookup_first (at_number k) xs s.after here (place_listed n path k (versions_at n path fs) has) in
-    let apart : AreDistinct nat_cmp (s.before ++ (xs ++ s.after)) = subst (AreDistinct nat_cmp) s.was (listed-distinct fs d) in
+    let apart : AreDistinct nat_cmp (s.before ++ (xs ++ s.after)) = subst (AreDistinct nat_cmp) s.was (listed-distinct fs (parted (versions_of fs) (held_versions v.clients.held) d).front) in
     ap (lookup (at_number k)) s.was ∙ lookup_behind (at_number k) s.before (xs ++ s.after) (none_before k s.before (xs ++ s.after) here apart found) ∙ found
 
 -- the place that is found for an object is that of its version
@@ -187,7 +186,7 @@ orderly_all (f ∷ fs) a h =
     let hs : (list_all (λ g. is_orderly g.1) f.1.groups ≡ true) × (are_orderly fs ≡ true) = and_parts (list_all (λ g. is_orderly g.1) f.1.groups) (are_orderly fs) h in
     ((a.0, full_groups f.1.groups hs.0), orderly_all fs a.1 hs.1)
 
-pub path_of_place : (n k : ℕ) (v : Inv) (at : Place) → VersionFacts n v → IsOrdered v → place k v ≡ Some at → has_object k (versions_at at.filespace at.path v.clients.filespaces) ≡ true
+pub path_of_place : (n k : ℕ) (v : Inv) (at : Place) → VersionFacts n v → IsOrdered v → place_of k v.clients.filespaces ≡ Some at → has_object k (versions_at at.filespace at.path v.clients.filespaces) ≡ true
 path_of_place n k v at f o h =
     let fs : List (ℕ × Filespace) = v.clients.filespaces in
     let s : Stands k at fs = stands k fs at o.by_number (orderly_all fs o.by_path f.orderly) h in
@@ -205,77 +204,29 @@ there_changed n m path step v =
     (λ new said. same_there n v.clients.filespaces new (frames_changed m path step v.clients.filespaces new said))
 
 -- ---- after a new version
-stored_or_same : (P : List (ℕ × Filespace) → Type 0) (n : ℕ) (item : NewVersion) (v : Inv) → P v.clients.filespaces → ((new : List (ℕ × Filespace)) → filespaces_with n item.path item.class (new_version v item) v.clients.filespaces ≡ Ok new → P new)
-    → P (stored n item v).clients.filespaces
-stored_or_same P n item v same made =
+inserted_or_same : (P : List (ℕ × Filespace) → Type 0) (n : ℕ) (item : NewVersion) (v : Inv) → P v.clients.filespaces → ((new : List (ℕ × Filespace)) → filespaces_with n item.path item.class (new_version v item) v.clients.filespaces ≡ Ok new → P new)
+    → P (inserted n item v).clients.filespaces
+inserted_or_same P n item v same made =
     elim (filespaces_with n item.path item.class (new_version v item) v.clients.filespaces) as (λ r. filespaces_with n item.path item.class (new_version v item) v.clients.filespaces ≡ r → P (or_same v.clients.filespaces r)) [
       | Ok new ↦ λ e. made new e
       | Err e ↦ λ _. same
     ] refl
 
-pub there_stored : (n m : ℕ) (item : NewVersion) (v : Inv) → is_some (filespace_at n (stored m item v).clients.filespaces) ≡ is_some (filespace_at n v.clients.filespaces)
-there_stored n m item v =
-    stored_or_same (λ fs. is_some (filespace_at n fs) ≡ is_some (filespace_at n v.clients.filespaces)) m item v refl
+pub there_inserted : (n m : ℕ) (item : NewVersion) (v : Inv) → is_some (filespace_at n (inserted m item v).clients.filespaces) ≡ is_some (filespace_at n v.clients.filespaces)
+there_inserted n m item v =
+    inserted_or_same (λ fs. is_some (filespace_at n fs) ≡ is_some (filespace_at n v.clients.filespaces)) m item v refl
     (λ new said. same_there n v.clients.filespaces new (frames_put m item.path item.class (new_version v item) v.clients.filespaces new said))
 
--- whether an object has a version is said by the numbers alone
-has-objects : (k : ℕ) (vs ws : List Version) → objects ws ≡ objects vs → has_object k ws ≡ has_object k vs
-has-objects k [] [] h = refl
-has-objects k [] (w ∷ ws) h = absurd (cc)
-has-objects k (v ∷ vs) [] h = absurd (cc)
-has-objects k (v ∷ vs) (w ∷ ws) h =
-    let head : w.object ≡ v.object = cc in
-    let rest : objects ws ≡ objects vs = cc in
-    ap₂ (λ a b. eqb a k || b) head (has-objects k vs ws rest)
-
-has-version : (k : ℕ) (vs : List Version) → has_object k vs ≡ is_some (version_of k vs)
-has-version k [] = refl
-has-version k (v ∷ vs) = elim (eqb v.object k) as (λ b. (b || has_object k vs) ≡ is_some (cond b (Some v) (version_of k vs))) [ true ↦ refl | false ↦ has-version k vs ]
-
-has-append : (k : ℕ) (vs ws : List Version) → has_object k (vs ++ ws) ≡ (has_object k vs || has_object k ws)
-has-append k [] ws = refl
-has-append k (v ∷ vs) ws = elim (eqb v.object k) as (λ b. (b || has_object k (vs ++ ws)) ≡ ((b || has_object k vs) || has_object k ws)) [ true ↦ refl | false ↦ has-append k vs ws ]
-
-same_has : (k : ℕ) {xs ys old new : List Version} → Splices xs ys old new → has_object k ys ≡ has_object k xs → has_object k new ≡ has_object k old
-same_has k {xs} {ys} s h =
-    ap (has_object k) s.becomes ∙ has-append k s.before (ys ++ s.after)
-    ∙ ap (λ b. has_object k s.before || b) (has-append k ys s.after ∙ ap (λ b. b || has_object k s.after) h ∙ sym (has-append k xs s.after))
-    ∙ sym (has-append k s.before (xs ++ s.after)) ∙ ap (has_object k) (sym s.was)
-
-pub other_stored : (n other : ℕ) (item : NewVersion) (v : Inv) → IsOrdered v → eqb item.object other ≡ false → has_object other (versions (stored n item v)) ≡ has_object other (versions v)
-other_stored n other item v o h =
+pub other_inserted : (n other : ℕ) (item : NewVersion) (v : Inv) → IsOrdered v → eqb item.object other ≡ false → has_object other (versions (inserted n item v)) ≡ has_object other (versions v)
+other_inserted n other item v o h =
     let xs : List Version = versions_at n item.path v.clients.filespaces in
-    stored_or_same (λ fs. has_object other (versions_of fs) ≡ has_object other (versions v)) n item v refl
-    (λ new said. same_has other (versions_put n item.path item.class (new_version v item) v.clients.filespaces new o.by_path said)
+    inserted_or_same (λ fs. has_object other (versions (with_filespaces fs v)) ≡ has_object other (versions v)) n item v refl
+    (λ new said. same_has other (splice_kept v new (versions_put n item.path item.class (new_version v item) v.clients.filespaces new o.by_path said))
     (ap (λ b. b || has_object other (superseded v.today xs)) h ∙ has-objects other xs (superseded v.today xs) (objects-superseded v.today xs)))
 
 -- ---- how many versions there are
-same_length : (vs ws : List Version) → objects ws ≡ objects vs → length ws ≡ length vs
-same_length vs ws h = sym (length-map ws (λ (w : Version). w.object)) ∙ ap length h ∙ length-map vs (λ (w : Version). w.object)
-
 pub length_copied : (k : ℕ) (step : CopyChange) (v : Inv) → length (versions (change_copy k step v)) ≡ length (versions v)
 length_copied k step v = same_length (versions v) (versions (change_copy k step v)) (objects_copied k step v)
 
 pub length_gone : (v w : Inv) → objects (versions w) ≡ objects (versions v) → length (versions w) ≡ length (versions v)
 length_gone v w h = same_length (versions v) (versions w) h
-
-pub length_removed : (n k : ℕ) (path : List ℕ) (v : Inv) (old : Version) → are_distinct (versions v) ≡ true → version k v ≡ Some old → has_object k (versions_at n path v.clients.filespaces) ≡ true → length (versions (change_group n path (Remove k) v)) + 1 ≡ length (versions v)
-length_removed n k path v old d there has =
-    let fs : List (ℕ × Filespace) = v.clients.filespaces in
-    let a : (new : List (ℕ × Filespace)) × (filespaces_after n path (Remove k) fs ≡ Ok new) = removes n path k fs has in
-    let s : Splices (old ∷ []) [] (versions v) (versions_of a.0) = goes n path k v a.0 old d there has a.1 in
-    let less : length (versions_of a.0) + length (old ∷ []) ≡ length (versions v) + length {A = Version} [] = splice_length s in
-    let one : length (versions_of a.0) + 1 ≡ length (versions v) = omega (arith, less) in
-    ap (λ (r : Result (List (ℕ × Filespace)) Refusal). length (versions_of (or_same fs r)) + 1) a.1 ∙ one
-
-pub length_stored : (n : ℕ) (item : NewVersion) (v : Inv) → IsOrdered v → is_some (filespace_at n v.clients.filespaces) ≡ true → length (versions (stored n item v)) ≡ length (versions v) + 1
-length_stored n item v o there =
-    let fs : List (ℕ × Filespace) = v.clients.filespaces in
-    let x : Version = new_version v item in
-    let xs : List Version = versions_at n item.path fs in
-    let a : (new : List (ℕ × Filespace)) × (filespaces_with n item.path item.class x fs ≡ Ok new) = puts n item.path item.class x fs there in
-    let s : Splices xs (x ∷ superseded v.today xs) (versions v) (versions_of a.0) = versions_put n item.path item.class x fs a.0 o.by_path a.1 in
-    let more : length (versions_of a.0) + length xs ≡ length (versions v) + length (x ∷ superseded v.today xs) = splice_length s in
-    let behind : length (superseded v.today xs) ≡ length xs = same_length xs (superseded v.today xs) (objects-superseded v.today xs) in
-    let one : length (versions_of a.0) ≡ length (versions v) + 1 = omega (arith, more, behind) in
-    ap (λ (r : Result (List (ℕ × Filespace)) Refusal). length (versions_of (or_same fs r))) a.1 ∙ one

@@ -12,10 +12,9 @@ use Rattle.entries.specs.declared.change.Change.TheVariants as change
 use Rattle.inventory_rows.specs.policy_domains.Changes.{after, names_active}
 use Rattle.inventory_rows.specs.policy_domains.Rows.{DomainRow, row_of}
 use Rattle.inventory_rows.specs.object_rows.declared.place.Node.{Node}
-use Rattle.inventory_rows.specs.object_rows.Filespaces.{versions_of}
 use Rattle.inventory_rows.specs.pool_tables.declared.pool.Pool.{Pool}
 use Rattle.kinds.specs.Names.{is_same_name}
-use Rattle.inventory_rows.specs.Search.{is_primary, is_primary_kind, node_in}
+use Rattle.inventory_rows.specs.Search.{is_primary, is_primary_kind, node_in, versions}
 use Rattle.inventory_rows.specs.State.{Inv}
 use Rattle.inventory_rules.specs.Transactions.{effect, causes, sizes_refused}
 use Rattle.inventory_rules.specs.Held.{IsTied}
@@ -36,6 +35,8 @@ primary-there (Some p) h = refl
 destination-met : (c : PolicyChange) (v : Inv) → destination_refused c v ≡ [] → destination_there v.stores.pools c ≡ true
 destination-met (policy.Group verb.Define domain set class rule) v h = primary-there _ (met (is_primary rule.destination v) refusal.NotFound h)
 destination-met (policy.Group verb.Update domain set class rule) v h = primary-there _ (met (is_primary rule.destination v) refusal.NotFound h)
+destination-met (policy.ArchiveGroup verb.Define domain set class rule) v h = primary-there _ (met (is_primary rule.destination v) refusal.NotFound h)
+destination-met (policy.ArchiveGroup verb.Update domain set class rule) v h = primary-there _ (met (is_primary rule.destination v) refusal.NotFound h)
 destination-met _ v h = refl
 
 all_true : {A : Type 0} (xs : List A) → list_all (λ _. true) xs ≡ true
@@ -66,7 +67,7 @@ parts-policy c v other taken destined used sizes p = record {
   clients = p.clients;
   stores = p.stores;
   files = files_later v.number (v.number + 1) v.today v.today v.next_file v.stores.volumes v.backups (le_more v.number) (le_itself v.today) p.files;
-  versions = versions_later v.number (v.number + 1) v.today v.today v.next_object v.stores (versions_of v.clients.filespaces) (le_more v.number) (le_itself v.today) p.versions;
+  versions = versions_later v.number (v.number + 1) v.today v.today v.next_object v.stores (versions v) (le_more v.number) (le_itself v.today) p.versions;
   clock = clock_later v.number (v.number + 1) v.today v.today v.stores.volumes (number_bounded (change.Policy c) v sizes) p.clock.day_bounded (le_itself v.today) p.clock;
   few_items = few_items (change.Policy c) v sizes;
 }

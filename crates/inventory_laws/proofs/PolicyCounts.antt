@@ -12,11 +12,11 @@ use Rattle.kinds.specs.declared.change.PolicyChange.TheVariants as policy
 use Rattle.kinds.specs.declared.change.Verb.TheVariants as verb
 use Rattle.kinds.specs.declared.refusal.Refusal.{Refusal}
 use Rattle.kinds.specs.declared.refusal.Refusal.TheVariants.{NotFound, Exists, NoDefaultClass}
-use Rattle.kinds.specs.declared.rule.BackupRule.{BackupRule}
 use Rattle.entries.specs.declared.change.Change.TheVariants as change
+use Rattle.inventory_rows.specs.policy_domains.declared.classes.ManagementClass.{ManagementClass}
 use Rattle.inventory_rows.specs.policy_domains.Changes.{after, names_active}
 use Rattle.inventory_rows.specs.policy_domains.Rows.{SetRow, DomainRow, active_set, row_of, with_row, with_value, without_row, within, defined, deleted, changed, changed_row}
-use Rattle.inventory_rows.specs.policy_domains.Sets.{empty_set, empty_domain, in_sets, set_changed, class_changed, activated, to_activate}
+use Rattle.inventory_rows.specs.policy_domains.Sets.{bare_class, empty_set, empty_domain, in_sets, set_changed, class_changed, activated, to_activate}
 use Rattle.inventory_rows.proofs.of_version_groups.Maps.{insert_present}
 use Rattle.inventory_rows.specs.Items.{count_items, items_of_domain}
 use Rattle.inventory_rows.specs.State.{Inv}
@@ -109,9 +109,9 @@ set_defined domain set ds new h =
 
 class_defined_in : (class : List ℕ) (set new : SetRow) → class_changed two.Define class set ≡ Ok new → classes_in new ≡ 1 + classes_in set
 class_defined_in class set new h =
-    let p : Placed (λ (classes : List (List ℕ × Option BackupRule)). record { default_class = set.default_class; classes = classes }) (defined class None set.classes) new = placed (λ (classes : List (List ℕ × Option BackupRule)). record { default_class = set.default_class; classes = classes }) (defined class None set.classes) new h in
-    let w : rows (λ (x : Option BackupRule). 0) p.part ≡ 1 + (0 + rows (λ (x : Option BackupRule). 0) set.classes) = rows-defined (λ (x : Option BackupRule). 0) class None set.classes p.part p.gives in
-    ap classes_in p.whole ∙ sym (rows-length p.part) ∙ one_more (rows (λ (x : Option BackupRule). 0) p.part) (rows (λ (x : Option BackupRule). 0) set.classes) w ∙ ap (λ n. 1 + n) (rows-length set.classes)
+    let p : Placed (λ (classes : List (List ℕ × ManagementClass)). record { default_class = set.default_class; classes = classes }) (defined class bare_class set.classes) new = placed (λ (classes : List (List ℕ × ManagementClass)). record { default_class = set.default_class; classes = classes }) (defined class bare_class set.classes) new h in
+    let w : rows (λ (x : ManagementClass). 0) p.part ≡ 1 + (0 + rows (λ (x : ManagementClass). 0) set.classes) = rows-defined (λ (x : ManagementClass). 0) class bare_class set.classes p.part p.gives in
+    ap classes_in p.whole ∙ sym (rows-length p.part) ∙ one_more (rows (λ (x : ManagementClass). 0) p.part) (rows (λ (x : ManagementClass). 0) set.classes) w ∙ ap (λ n. 1 + n) (rows-length set.classes)
 
 class_defined : (domain set class : List ℕ) (ds new : List (List ℕ × DomainRow)) → changed domain (in_sets (changed set (class_changed two.Define class))) ds ≡ Ok new → in_domains new + 0 ≡ in_domains ds + 1
 class_defined domain set class ds new h =

@@ -1,15 +1,14 @@
 -- A change of the policy that brings nothing leaves it no more items.
-use Rattle.std.proofs.Common.{◌≡◌, ℕ, ◌+◌, ◌≤◌, Bool, true, false, cond, is_some, List, Option, Some, Result, Ok, Err, refl, sym, ap, subst, ◌∙◌, arith}
+use Rattle.std.proofs.Common.{◌≡◌, ℕ, ◌+◌, ◌≤◌, Bool, true, false, cond, is_some, List, Some, Result, Ok, Err, refl, sym, ap, subst, ◌∙◌, arith}
 use Rattle.kinds.specs.declared.change.DefineOrDelete.TheVariants as two
 use Rattle.kinds.specs.declared.change.PolicyChange.{PolicyChange}
 use Rattle.kinds.specs.declared.change.PolicyChange.TheVariants as policy
-use Rattle.kinds.specs.declared.change.Verb.{Verb}
 use Rattle.kinds.specs.declared.change.Verb.TheVariants as verb
 use Rattle.kinds.specs.declared.refusal.Refusal.{Refusal}
 use Rattle.kinds.specs.declared.refusal.Refusal.TheVariants.{NotFound}
-use Rattle.kinds.specs.declared.rule.BackupRule.{BackupRule}
 use Rattle.entries.specs.declared.change.Change.TheVariants as change
-use Rattle.inventory_rows.specs.policy_domains.Changes.{after, group_changed, in_group}
+use Rattle.inventory_rows.specs.policy_domains.declared.classes.ManagementClass.{ManagementClass}
+use Rattle.inventory_rows.specs.policy_domains.Changes.{after}
 use Rattle.inventory_rows.specs.policy_domains.Rows.{SetRow, DomainRow, row_of, deleted, changed}
 use Rattle.inventory_rows.specs.policy_domains.Sets.{in_sets, set_changed, class_changed, assigned, other_default}
 use Rattle.inventory_rows.specs.Items.{count_items, items_of_domain}
@@ -18,6 +17,7 @@ use Rattle.inventory_rules.specs.Common.{or_same}
 use Rattle.inventory_rules.specs.Transactions.{effect}
 use Rattle.inventory_rules.specs.Policy.{is_new_policy}
 use Rattle.inventory_laws.proofs.CountedParts.{first_less, in_backups, in_clients, in_domains, in_stores, same_value}
+use Rattle.inventory_laws.proofs.Domains.{archive_changed, backup_changed, in_class}
 use Rattle.inventory_laws.proofs.PolicyCounts.{Placed, Stepped, classes_in, placed, rows-deleted, step_in_sets, stepped}
 use Rattle.inventory_laws.proofs.Weights.{less_set, rows, rows-length}
 
@@ -40,21 +40,21 @@ lengths_less m n w k a b h = omega (arith, a, b, h)
 
 class_deleted : (class : List ℕ) (old new : SetRow) → class_changed two.Delete class old ≡ Ok new → classes_in new ≤ classes_in old
 class_deleted class old new h =
-    let place : List (List ℕ × Option BackupRule) → SetRow = λ classes. record { default_class = other_default class old.default_class; classes = classes } in
+    let place : List (List ℕ × ManagementClass) → SetRow = λ classes. record { default_class = other_default class old.default_class; classes = classes } in
     let p : Placed place (deleted class old.classes) new = placed place (deleted class old.classes) new h in
-    lengths_less (classes_in new) (classes_in old) (rows (λ (x : Option BackupRule). 0) p.part) (rows (λ (x : Option BackupRule). 0) old.classes)
-    (ap classes_in p.whole ∙ sym (rows-length p.part)) (sym (rows-length old.classes)) (rows-deleted (λ (x : Option BackupRule). 0) class old.classes p.part p.gives)
+    lengths_less (classes_in new) (classes_in old) (rows (λ (x : ManagementClass). 0) p.part) (rows (λ (x : ManagementClass). 0) old.classes)
+    (ap classes_in p.whole ∙ sym (rows-length p.part)) (sym (rows-length old.classes)) (rows-deleted (λ (x : ManagementClass). 0) class old.classes p.part p.gives)
 
 zero_less : (w k : ℕ) → w + 0 ≡ k + 0 → w ≤ k
 zero_less w k h = omega (arith, h)
 
-group_set : (verb : Verb) (class : List ℕ) (rule : BackupRule) (old new : SetRow) → in_group verb class rule old ≡ Ok new → classes_in new ≤ classes_in old
-group_set verb class rule old new h =
-    let place : List (List ℕ × Option BackupRule) → SetRow = λ classes. record { default_class = old.default_class; classes = classes } in
-    let p : Placed place (changed class (group_changed verb rule) old.classes) new = placed place (changed class (group_changed verb rule) old.classes) new h in
-    let s : Stepped (λ (x : Option BackupRule). 0) class (group_changed verb rule) old.classes p.part = stepped (λ (x : Option BackupRule). 0) class (group_changed verb rule) old.classes p.part p.gives in
-    lengths_less (classes_in new) (classes_in old) (rows (λ (x : Option BackupRule). 0) p.part) (rows (λ (x : Option BackupRule). 0) old.classes)
-    (ap classes_in p.whole ∙ sym (rows-length p.part)) (sym (rows-length old.classes)) (zero_less (rows (λ (x : Option BackupRule). 0) p.part) (rows (λ (x : Option BackupRule). 0) old.classes) s.weighs)
+class_set : (class : List ℕ) (step : ManagementClass → Result ManagementClass Refusal) (old new : SetRow) → in_class class step old ≡ Ok new → classes_in new ≤ classes_in old
+class_set class step old new h =
+    let place : List (List ℕ × ManagementClass) → SetRow = λ classes. record { default_class = old.default_class; classes = classes } in
+    let p : Placed place (changed class step old.classes) new = placed place (changed class step old.classes) new h in
+    let s : Stepped (λ (x : ManagementClass). 0) class step old.classes p.part = stepped (λ (x : ManagementClass). 0) class step old.classes p.part p.gives in
+    lengths_less (classes_in new) (classes_in old) (rows (λ (x : ManagementClass). 0) p.part) (rows (λ (x : ManagementClass). 0) old.classes)
+    (ap classes_in p.whole ∙ sym (rows-length p.part)) (sym (rows-length old.classes)) (zero_less (rows (λ (x : ManagementClass). 0) p.part) (rows (λ (x : ManagementClass). 0) old.classes) s.weighs)
 
 default_set : (class : List ℕ) (old new : SetRow) → assigned class old ≡ Ok new → classes_in new ≤ classes_in old
 default_set class old new h = go (is_some (row_of class old.classes)) h where
@@ -69,6 +69,9 @@ days_set domain days ds new h =
     let same : items_of_domain s.there ≡ items_of_domain s.became = ap items_of_domain (same_value (record { back_retention = days; sets = s.there.sets }) s.became s.made) in
     less_set (in_domains new) (items_of_domain s.there) (in_domains ds) (items_of_domain s.became) s.weighs (subst (λ n. n ≤ items_of_domain s.there) same (omega arith))
 
+class_less : (domain set class : List ℕ) (step : ManagementClass → Result ManagementClass Refusal) (ds new : List (List ℕ × DomainRow)) → changed domain (in_sets (changed set (in_class class step))) ds ≡ Ok new → in_domains new ≤ in_domains ds
+class_less domain set class step ds new h = sets_less domain (changed set (in_class class step)) (classes_less set (in_class class step) (class_set class step)) ds new h
+
 policy_less : (c : PolicyChange) (ds new : List (List ℕ × DomainRow)) → is_new_policy c ≡ false → after c ds ≡ Ok new → in_domains new ≤ in_domains ds
 policy_less (policy.Domain verb.Define domain days) ds new n h = absurd cc
 policy_less (policy.Domain verb.Update domain days) ds new n h = days_set domain days ds new h
@@ -77,7 +80,8 @@ policy_less (policy.Set two.Define domain set) ds new n h = absurd cc
 policy_less (policy.Set two.Delete domain set) ds new n h = sets_less domain (set_changed two.Delete set) (λ old sets k. rows-deleted classes_in set old sets k) ds new h
 policy_less (policy.Class two.Define domain set class) ds new n h = absurd cc
 policy_less (policy.Class two.Delete domain set class) ds new n h = sets_less domain (changed set (class_changed two.Delete class)) (classes_less set (class_changed two.Delete class) (class_deleted class)) ds new h
-policy_less (policy.Group v1 domain set class rule) ds new n h = sets_less domain (changed set (in_group v1 class rule)) (classes_less set (in_group v1 class rule) (group_set v1 class rule)) ds new h
+policy_less (policy.Group v1 domain set class rule) ds new n h = class_less domain set class (backup_changed v1 rule) ds new h
+policy_less (policy.ArchiveGroup v1 domain set class rule) ds new n h = class_less domain set class (archive_changed v1 rule) ds new h
 policy_less (policy.Assign domain set class) ds new n h = sets_less domain (changed set (assigned class)) (classes_less set (assigned class) (default_set class)) ds new h
 policy_less (policy.Activate domain set) ds new n h = absurd cc
 

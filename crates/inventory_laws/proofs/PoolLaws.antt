@@ -1,5 +1,5 @@
 -- A legal change of storage pools leaves a valid database.
-use Rattle.std.proofs.Common.{◌≡◌, ℕ, ◌+◌, ◌^◌, true, not, ◌&&◌, List, [], Option, Some, None, is_some, nat_lt, Result, Ok, Err, if◌then◌else◌, refl, ◌∙◌}
+use Rattle.std.proofs.Common.{◌≡◌, ℕ, ◌+◌, ◌^◌, true, not, ◌&&◌, List, [], ◌++◌, Option, Some, None, is_some, nat_lt, Result, Ok, Err, if◌then◌else◌, refl, ◌∙◌}
 use Rattle.std.specs.Prelude.{◌==◌}
 use Rattle.std.specs.Option.{option_map_or}
 use Rattle.std.proofs.lemmas.Bool.{and_parts, not-true}
@@ -10,7 +10,6 @@ use Rattle.kinds.specs.declared.pool.PoolRule.{PoolRule}
 use Rattle.kinds.specs.declared.refusal.By.TheVariants as by
 use Rattle.kinds.specs.declared.refusal.Refusal.{Refusal}
 use Rattle.kinds.specs.declared.refusal.Refusal.TheVariants.{BadHierarchy, Exists, InUse, InventoryFull, NotFound}
-use Rattle.kinds.specs.declared.rule.BackupRule.{BackupRule}
 use Rattle.entries.specs.declared.change.Change.TheVariants as change
 use Rattle.inventory_rows.specs.version_groups.declared.copies.CopyRow.{CopyRow}
 use Rattle.inventory_rows.specs.volume_rows.declared.volume.Volume.{Volume}
@@ -22,14 +21,14 @@ use Rattle.inventory_rows.proofs.of_pool_tables.Ascending.{none_from}
 use Rattle.inventory_rows.specs.pool_rows.Changes.{define_pool, delete_numbered, delete_pool, is_next_there, is_pool, new_pool, pool_before, unless_before, unless_filled, volume_of_pool}
 use Rattle.inventory_rows.specs.pool_rows.Hierarchy.{is_bad_hierarchy}
 use Rattle.inventory_rows.specs.pool_rows.PoolRows.{PoolRows, pool_named}
-use Rattle.inventory_rows.specs.Search.{copies, holds_copy, is_destination, rules}
+use Rattle.inventory_rows.specs.Search.{copies, destinations, holds_copy, is_destination}
 use Rattle.inventory_rows.specs.State.{Inv}
 use Rattle.inventory_rules.specs.Common.{or_same, full_at}
 use Rattle.inventory_rules.specs.Transactions.{effect, causes, sizes_refused, parts_fit}
 use Rattle.inventory_rules.specs.Held.{IsTied}
 use Rattle.inventory_rules.specs.Journal.{Journal}
 use Rattle.kinds.specs.Refusals.{refusal_of, unless}
-use Rattle.inventory_rules.specs.Stores.{destination_used}
+use Rattle.inventory_rules.specs.Stores.{collocation_refused, destination_used}
 use Rattle.inventory_rules.specs.Valid.{is_valid}
 use Rattle.inventory_laws.proofs.Facts.{facts_of}
 use Rattle.inventory_laws.proofs.StoreLegal.{held, none_of_both, unless_so, where_so}
@@ -47,7 +46,8 @@ pool_defined j name class kind rule v valid tied legal sizes =
     let k = v.next_pool in
     let x = new_pool name class kind rule in
     let new : Result PoolRows Refusal = Ok (record s { pools = with_row k x s.pools }) in
-    let h = none_of_both (refusal_of (define_pool k name class kind rule s)) (full_at k (2 ^ 16)) legal in
+    let h = none_of_both (refusal_of (define_pool k name class kind rule s)) (collocation_refused class rule ++ full_at k (2 ^ 16)) legal in
+    let full = none_of_both (collocation_refused class rule) (full_at k (2 ^ 16)) h.1 in
     let hierarchy : Result PoolRows Refusal = (if is_bad_hierarchy k class kind rule.next s then Err BadHierarchy else new) in
     let named_so : Result PoolRows Refusal = (if is_some (pool_named name s) then Err Exists else hierarchy) in
     let a = where_so (is_some (named class s.classes) && is_next_there rule.next s) NotFound named_so h.0 in
@@ -55,7 +55,7 @@ pool_defined j name class kind rule v valid tied legal sizes =
     let c = unless_so (is_bad_hierarchy k class kind rule.next s) BadHierarchy new b.1 in
     let t = and_parts (is_some (named class s.classes)) (is_next_there rule.next s) a.0 in
     becomes v (define_pool k name class kind rule s) new (k + 1) v.next_file v.backups (a.2 ∙ b.2 ∙ c.2)
-    (pool_comes v x f tied t.0 t.1 (none_from (pool_named name s) b.0) (held (nat_lt (k + 1) (2 ^ 16)) InventoryFull h.1))
+    (pool_comes v x f tied t.0 t.1 (none_from (pool_named name s) b.0) (held (nat_lt (k + 1) (2 ^ 16)) InventoryFull full.1))
     (room (change.Pool (store.Pool verb.Define name class kind rule)) v sizes)
 
 -- the pool with this number may go
@@ -79,7 +79,7 @@ goes_at v name valid tied (Some k) found legal used empty =
     let x = some_from (row_at k v.stores.pools) (number_there (λ (p : Pool). is_same_name (pool_name p) name) k v.stores.pools found) in
     becomes v (delete_numbered v.stores (Some k)) (Ok (record v.stores { pools = without_row k v.stores.pools })) v.next_pool v.next_file v.backups t.2
     (pool_goes v k x.0 f tied x.1
-    (none_of (λ (rule : BackupRule). rule.destination == k) (rules v) (not-true (is_destination k v) (held (not (is_destination k v)) (InUse by.Destination) used)))
+    (none_of (λ (n : ℕ). n == k) (destinations v) (not-true (is_destination k v) (held (not (is_destination k v)) (InUse by.Destination) used)))
     (none_where (λ (e : Volume). e.pool == k) v.stores.volumes t.0)
     (none_of (λ (e : ℕ × CopyRow). e.1.pool == k) (copies v) (not-true (holds_copy k v) empty))
     (none_where (λ (p : Pool). is_pool p.settings.next k) v.stores.pools t.1))

@@ -5,7 +5,6 @@ use Rattle.std.specs.List.{list_all, list_any, AllByRecursion}
 use Rattle.std.specs.Map.{keys_of}
 use Rattle.std.specs.Option.{option_map_or}
 use Rattle.std.proofs.lemmas.Bool.{and_parts, and_from, eqb-false, le-leb, lt-ltb, ltb-true, ne_eqb, not-true, not_from_false}
-use Rattle.kinds.specs.declared.rule.BackupRule.{BackupRule}
 use Rattle.inventory_rows.specs.version_groups.declared.copies.CopyRow.{CopyRow}
 use Rattle.inventory_rows.specs.volume_rows.declared.volume.Volume.{Volume}
 use Rattle.inventory_rows.specs.pool_tables.declared.pool.Pool.{Pool}
@@ -16,7 +15,7 @@ use Rattle.inventory_rows.proofs.of_pool_tables.Names.{same_flips}
 use Rattle.inventory_rows.specs.pool_rows.Changes.{is_next_there, is_pool}
 use Rattle.inventory_rows.specs.pool_rows.Hierarchy.{chain, comes_to, next_in}
 use Rattle.inventory_rows.specs.pool_rows.PoolRows.{PoolRows, pool_class_capacity, pool_named}
-use Rattle.inventory_rows.specs.Search.{copies, is_primary_kind, pool, rules}
+use Rattle.inventory_rows.specs.Search.{copies, destinations, is_primary_kind, pool}
 use Rattle.inventory_rows.specs.State.{Inv}
 use Rattle.inventory_rules.specs.Held.{IsTied}
 use Rattle.inventory_rules.specs.Valid.{lie_in, next_is_there}
@@ -224,18 +223,18 @@ pool_comes v x f tied class next name bound room =
 -- ---- a pool goes
 
 pub pool_goes : (v : Inv) (k : ℕ) (x : Pool) → Facts v → IsTied v → row_at k v.stores.pools ≡ Some x
-    → AllByRecursion (λ (rule : BackupRule). (rule.destination == k) ≡ false) (rules v) → AllByRecursion (λ (e : ℕ × Volume). (e.1.pool == k) ≡ false) v.stores.volumes → AllByRecursion (λ (e : ℕ × CopyRow). (e.1.pool == k) ≡ false) (copies v)
+    → AllByRecursion (λ n. (n == k) ≡ false) (destinations v) → AllByRecursion (λ (e : ℕ × Volume). (e.1.pool == k) ≡ false) v.stores.volumes → AllByRecursion (λ (e : ℕ × CopyRow). (e.1.pool == k) ≡ false) (copies v)
     → AllByRecursion (λ (p : ℕ × Pool). is_pool p.1.settings.next k ≡ false) v.stores.pools
     → IsRoom (stored v (with_pools v v.stores.classes (without_row k v.stores.pools)) v.next_pool v.next_file v.backups)
     → Stands (stored v (with_pools v v.stores.classes (without_row k v.stores.pools)) v.next_pool v.next_file v.backups)
-pool_goes v k x f tied there of_rules of_volumes of_copies before room =
+pool_goes v k x f tied there of_groups of_volumes of_copies before room =
     let old = v.stores.pools in
     let new = without_row k old in
     let w = stored v (with_pools v v.stores.classes new) v.next_pool v.next_file v.backups in
     let picks : Picks (k, x) old new = row_went k x old there in
     let alike : (n : ℕ) → (n == k) ≡ false → Alike v.stores (with_pools v v.stores.classes new) n = λ n ne. alike_row v new n (sym (other_row k n x old new picks (eqb-false n k ne))) in
     let uses : Uses v (with_pools v v.stores.classes new) = record {
-      rules = each_also (λ (rule : BackupRule). (rule.destination == k) ≡ false) (λ rule. Alike v.stores (with_pools v v.stores.classes new) rule.destination) (rules v) (λ rule h. alike rule.destination h) of_rules;
+      destinations = each_also (λ n. (n == k) ≡ false) (Alike v.stores (with_pools v v.stores.classes new)) (destinations v) alike of_groups;
       volumes = each_also (λ (e : ℕ × Volume). (e.1.pool == k) ≡ false) (λ e. Alike v.stores (with_pools v v.stores.classes new) e.1.pool) v.stores.volumes (λ e h. alike e.1.pool h) of_volumes;
       copies = each_also (λ (e : ℕ × CopyRow). (e.1.pool == k) ≡ false) (λ e. Alike v.stores (with_pools v v.stores.classes new) e.1.pool) (copies v) (λ e h. alike e.1.pool h) of_copies;
     } in

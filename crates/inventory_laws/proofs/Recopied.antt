@@ -5,7 +5,6 @@ use Rattle.std.specs.Option.{option_map_or}
 use Rattle.std.proofs.lemmas.Bool.{and_parts, and_from}
 use Rattle.inventory_rows.specs.version_groups.declared.copies.CopyChange.{CopyChange}
 use Rattle.inventory_rows.specs.version_groups.declared.copies.CopyRow.{CopyRow}
-use Rattle.inventory_rows.specs.version_groups.declared.groups.Filespace.{Filespace}
 use Rattle.inventory_rows.specs.version_groups.declared.versions.Version.{Version}
 use Rattle.inventory_rows.specs.version_groups.Copies.{copies_after}
 use Rattle.inventory_rows.specs.version_groups.Entries.{all_later}
@@ -18,12 +17,13 @@ use Rattle.inventory_rows.specs.State.{Inv}
 use Rattle.inventory_rules.specs.Common.{each}
 use Rattle.inventory_rules.specs.Copies.{change_copy}
 use Rattle.inventory_rules.specs.Reordered.{IsReordered}
+use Rattle.inventory_rules.proofs.CopiedLists.{kept_of-copied}
 use Rattle.inventory_laws.specs.Kept.{OnlyVolumes}
-use Rattle.inventory_laws.proofs.Copied.{altered, copies_spliced, version_altered, versions-copied}
+use Rattle.inventory_laws.proofs.Copied.{altered, copies_spliced, version_altered}
 use Rattle.inventory_laws.proofs.Orders.{reordered_back, reordered_behind, reordered_first, reordered_front, reordered_itself, reordered_then}
 use Rattle.inventory_laws.proofs.Others.{other_copied}
 use Rattle.inventory_laws.proofs.Reordered.{splice_reordered}
-use Rattle.inventory_laws.proofs.Spliced.{all_come, all_gone}
+use Rattle.inventory_laws.proofs.Spliced.{all_come, all_gone, turned}
 use Rattle.inventory_laws.proofs.Tests.{other_number}
 
 -- ---- one version changes
@@ -36,17 +36,13 @@ record Recopied (k : ℕ) (x : Version) (cs : List CopyRow) (v w : Inv) : Type 0
 
 recopied : (k : ℕ) (step : CopyChange) (v : Inv) (x : Version) (cs : List CopyRow) → are_distinct (versions v) ≡ true → version k v ≡ Some x → copies_after step x.copies ≡ Ok cs → Recopied k x cs v (change_copy k step v)
 recopied k step v x cs d there said =
-    let fs : List (ℕ × Filespace) = v.clients.filespaces in
     subst (Recopied k x cs v) (altered k step v x cs there said)
     (record {
-      all = subst (Splices (x ∷ []) (record x { copies = cs } ∷ []) (versions v)) (sym (versions-copied k cs fs)) (version_altered k cs (versions v) x d there);
+      all = subst (Splices (x ∷ []) (record x { copies = cs } ∷ []) (versions v)) (sym (kept_of-copied k cs v.clients)) (version_altered k cs (versions v) x d there);
       rows = copies_spliced k v x cs d there;
-      distinct = ap are_distinct (versions-copied k cs fs) ∙ distinct-with_copies k cs (versions v) ∙ d;
+      distinct = ap are_distinct (kept_of-copied k cs v.clients) ∙ distinct-with_copies k cs (versions v) ∙ d;
       number = refl;
     })
-
-pub turned : {A : Type 0} {xs ys old new : List A} → Splices xs ys old new → Splices ys xs new old
-turned s = record { before = s.before; after = s.after; was = s.becomes; becomes = s.was }
 
 -- ---- items, each of which changes the copies of its object
 

@@ -35,7 +35,7 @@ module _ {X : Type 0} (Between : Inv → Type 0) (Finds : X → Inv → Type 0) 
       let parts = and_parts (not (eqb (object i) (object k))) (list_all (λ b. not (eqb (object i) b)) (map object items)) apart in
       (stay k (turned (object i) (object k) parts.0) h.0, others i v stay items parts.1 h.1)
 
-  pub all_hold : ((i : X) (v : Inv) → Between v → Finds i v → Between (step i v)) → ((i k : X) (v : Inv) → eqb (object k) (object i) ≡ false → Finds k v → Finds k (step i v))
+  pub all_hold : ((i : X) (v : Inv) → Between v → Finds i v → Between (step i v)) → ((i k : X) (v : Inv) → eqb (object k) (object i) ≡ false → Between v → Finds i v → Finds k v → Finds k (step i v))
       → (items : List X) (v : Inv) → Underway Between Finds object items v → Between (each step items v)
   all_hold goes stay [] v u = u.holds
   all_hold goes stay (i ∷ items) v u =
@@ -43,7 +43,7 @@ module _ {X : Type 0} (Between : Inv → Type 0) (Finds : X → Inv → Type 0) 
       all_hold goes stay items (step i v)
       (record {
         holds = goes i v u.holds u.finds.0;
-        finds = others i v (λ k. stay i k v) items parts.0 u.finds.1;
+        finds = others i v (λ k ne. stay i k v ne u.holds u.finds.0) items parts.0 u.finds.1;
         once = parts.1;
       })
 

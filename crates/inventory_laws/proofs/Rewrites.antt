@@ -8,7 +8,7 @@ use Rattle.entries.specs.declared.change.Change.TheVariants.{Gone, Rebind}
 use Rattle.inventory_rows.specs.version_groups.declared.copies.CopyRow.{CopyRow}
 use Rattle.inventory_rows.specs.version_groups.declared.group.GroupChange.{GroupChange}
 use Rattle.inventory_rows.specs.version_groups.declared.group.GroupChange.TheVariants as group
-use Rattle.inventory_rows.specs.Search.{copies, versions}
+use Rattle.inventory_rows.specs.Search.{copies}
 use Rattle.inventory_rows.specs.State.{Inv}
 use Rattle.inventory_rows.specs.Items.{count_items}
 use Rattle.inventory_rules.specs.Transactions.{effect, sizes_refused}

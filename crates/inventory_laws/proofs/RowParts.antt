@@ -13,7 +13,9 @@ use Rattle.inventory_rows.specs.version_groups.Entries.{all_later, is_nil}
 use Rattle.inventory_rows.specs.version_groups.Versions.{are_distinct}
 use Rattle.inventory_rows.specs.volume_rows.declared.volume.Volume.{Volume}
 use Rattle.inventory_rows.specs.object_rows.declared.place.Node.{Node}
-use Rattle.inventory_rows.specs.object_rows.Filespaces.{at_number, versions_of}
+use Rattle.inventory_rows.specs.object_rows.Filespaces.{at_number, filespace_at}
+use Rattle.inventory_rows.specs.object_rows.declared.held_object.HeldRow.{HeldRow}
+use Rattle.inventory_rows.specs.object_rows.HeldRows.{is_held_row}
 use Rattle.inventory_rows.specs.pool_rows.Hierarchy.{comes_to}
 use Rattle.inventory_rows.specs.pool_rows.PoolRows.{PoolRows, is_sequential, pool_capacity}
 use Rattle.inventory_rows.specs.pool_tables.declared.pool.Pool.{Pool}
@@ -21,7 +23,7 @@ use Rattle.kinds.specs.Names.{is_same_name}
 use Rattle.inventory_rows.specs.pool_tables.Rows.{named, row_at}
 use Rattle.inventory_rows.specs.declared.backup.Backup.{Backup}
 use Rattle.inventory_rows.specs.Items.{count_items, most_items}
-use Rattle.inventory_rows.specs.Search.{is_primary_kind, rules_of_set, segments_on, versions}
+use Rattle.inventory_rows.specs.Search.{destinations_of_set, is_primary_kind, segments_on, versions}
 use Rattle.inventory_rows.specs.State.{Inv}
 use Rattle.inventory_rules.specs.Held.{IsTied, holding}
 use Rattle.inventory_rules.specs.Valid.{are_apart, are_disjoint, disk, is_class, is_default_there, is_emptied_rightly, is_format_size, is_named_soundly, is_of_pool, is_orderly, is_placed, is_sized, is_valid, is_volume, lie_in, may_have, names_apart, next_is_there}
@@ -58,11 +60,12 @@ segments_there file vs = flat_map (λ e. map (λ s. (e.0, s)) (filter (λ s. eqb
 
 pub record PolicyParts (domains : List (List ℕ × DomainRow)) (nodes : List (ℕ × Node)) (pools : List (ℕ × Pool)) : Type 0 where
   pub nodes_cite : list_all (λ n. is_some (row_of n.1.domain domains)) nodes ≡ true
-  pub rules_cite : list_all (λ rule. is_some (row_at rule.destination pools)) (flat_map (λ d. flat_map (λ s. rules_of_set s.1) d.1.sets) domains) ≡ true
+  pub rules_cite : list_all (λ n. is_some (row_at n pools)) (flat_map (λ d. flat_map (λ s. destinations_of_set s.1) d.1.sets) domains) ≡ true
   pub defaults_there : list_all (λ d. list_all (λ s. is_default_there s.0 s.1) d.1.sets) domains ≡ true
 
-pub record ClientParts (next_node next_filespace : ℕ) (nodes : List (ℕ × Node)) (filespaces : List (ℕ × Filespace)) : Type 0 where
+pub record ClientParts (next_node next_filespace : ℕ) (nodes : List (ℕ × Node)) (filespaces : List (ℕ × Filespace)) (held : List (ℕ × HeldRow)) : Type 0 where
   pub filespaces_cite : list_all (λ f. is_some (lookup (at_number f.1.node) nodes)) filespaces ≡ true
+  pub held_cite : list_all (λ h. is_held_row h && is_some (filespace_at h.1.filespace filespaces)) held ≡ true
   pub nodes_drawn : lie_in 1 next_node (keys_of nodes) ≡ true
   pub filespaces_drawn : lie_in 1 next_filespace (keys_of filespaces) ≡ true
   pub bounded : lie_in 1 (2 ^ 32 - 1) (next_node ∷ next_filespace ∷ []) ≡ true
@@ -107,10 +110,10 @@ pub record ClockParts (number today : ℕ) (volumes : List (ℕ × Volume)) : Ty
 
 pub record Parts (v : Inv) : Type 0 where
   pub policy : PolicyParts v.domains v.clients.nodes v.stores.pools
-  pub clients : ClientParts v.next_node v.next_filespace v.clients.nodes v.clients.filespaces
+  pub clients : ClientParts v.next_node v.next_filespace v.clients.nodes v.clients.filespaces v.clients.held
   pub stores : StoreParts v.next_pool v.stores
   pub files : FileParts v.number v.today v.next_file v.stores.volumes v.backups
-  pub versions : VersionParts v.number v.today v.next_object v.stores (versions_of v.clients.filespaces)
+  pub versions : VersionParts v.number v.today v.next_object v.stores (versions v)
   pub clock : ClockParts v.number v.today v.stores.volumes
   pub few_items : leb (count_items v) most_items ≡ true
 
@@ -146,6 +149,7 @@ parts-from v f t = record {
   policy = record { nodes_cite = f.nodes_cite; rules_cite = f.rules_cite; defaults_there = f.defaults_there };
   clients = record {
     filespaces_cite = f.filespaces_cite;
+    held_cite = f.held_cite;
     nodes_drawn = f.nodes_drawn;
     filespaces_drawn = f.filespaces_drawn;
     bounded = f.clients_bounded;
@@ -191,6 +195,7 @@ facts-from : (v : Inv) → Parts v → Facts v
 facts-from v p = record {
   nodes_cite = p.policy.nodes_cite;
   filespaces_cite = p.clients.filespaces_cite;
+  held_cite = p.clients.held_cite;
   rules_cite = p.policy.rules_cite;
   pools_cite = pools-parts v ∙ p.stores.pools_cite;
   volumes_cite = p.stores.volumes_cite;

@@ -9,6 +9,10 @@ use Rattle.std.specs.List.{list_all, flat_map, filter}
 use Rattle.inventory_rows.specs.version_groups.Entries.{all_later}
 use Rattle.inventory_rows.proofs.of_object_rows.Splices.{Splices}
 
+-- the other way round
+pub turned : {A : Type 0} {xs ys old new : List A} → Splices xs ys old new → Splices ys xs new old
+turned s = record { before = s.before; after = s.after; was = s.becomes; becomes = s.was }
+
 all_of_parts : {A : Type 0} (p : A → Bool) (before mid after : List A) → list_all p (before ++ (mid ++ after)) ≡ (list_all p before && (list_all p mid && list_all p after))
 all_of_parts p before mid after = list_all-append p before (mid ++ after) ∙ ap (λ b. list_all p before && b) (list_all-append p mid after)
 

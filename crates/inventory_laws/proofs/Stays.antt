@@ -1,4 +1,4 @@
--- Segments that come and go leave the nodes, the filespaces and the number of volumes as they are; scratch volumes come.
+-- Segments that come and go leave the nodes, the filespaces, the held objects and the number of volumes as they are; scratch volumes come.
 use Rattle.std.proofs.Common.{◌≡◌, ℕ, ◌+◌, ◌≤◌, true, false, cond, suc, not, ◌&&◌, is_none, List, [], ◌∷◌, length, map, Option, Some, None, Result, Ok, Err, refl, sym, ap, ◌∙◌, arith}
 use Rattle.std.specs.Prelude.{nat_le, ◌==◌}
 use Rattle.std.specs.BTreeMap.{is_at}
@@ -20,6 +20,7 @@ use Rattle.inventory_rows.specs.pool_tables.Rows.{change_row, changed, row_at, r
 use Rattle.inventory_rows.proofs.of_pool_tables.Counting.{apart_at}
 use Rattle.inventory_rows.specs.pool_rows.PoolRows.{PoolRows, is_sequential_at, pool_capacity}
 use Rattle.inventory_rows.specs.pool_rows.Segments.{with_volumes}
+use Rattle.inventory_rows.specs.object_rows.Items.{items_of_held}
 use Rattle.inventory_rows.specs.Items.{count_items, items_of_filespace}
 use Rattle.inventory_rows.specs.State.{Inv}
 use Rattle.inventory_rules.specs.Common.{each, or_same, file_bound, files_refused, is_free_file}
@@ -28,9 +29,10 @@ use Rattle.inventory_rules.specs.Transactions.{OnlyData}
 use Rattle.inventory_laws.proofs.Facts.{both, first, rest}
 use Rattle.inventory_laws.proofs.Absent.{files_apart, files_free, none_is}
 use Rattle.inventory_laws.proofs.CountedParts.{in_backups, in_domains, nothing_first}
+use Rattle.inventory_laws.proofs.Flat.{in_rows}
 use Rattle.inventory_laws.proofs.Weights.{length-inserted, length-set, rows}
 
--- the nodes and filespaces are the same, and so is the number of volumes
+-- the nodes, filespaces and objects are the same, and so is the number of volumes
 pub record Stays (v w : Inv) : Type 0 where
   pub clients : w.clients ≡ v.clients
   pub volumes : length w.stores.volumes ≡ length v.stores.volumes
@@ -65,30 +67,32 @@ pub take_all_stays : (object : ℕ) (copies : List CopyRow) (v : Inv) → Stays 
 take_all_stays object [] v = stays v
 take_all_stays object (c ∷ copies) v = then (take_away_stays object c.segments v) (take_all_stays object copies (take_away object c.segments v))
 
--- ---- the items of filespaces and volumes
+-- ---- the items of filespaces, held objects and volumes
 
 abbrev pub in_data : Inv → ℕ
-in_data v = rows items_of_filespace v.clients.filespaces + length v.stores.volumes
+in_data v = in_rows v.clients + length v.stores.volumes
 
 pub same_data : (v w : Inv) → Stays v w → in_data w ≡ in_data v
-same_data v w s = ap (λ c. rows items_of_filespace c.filespaces + length w.stores.volumes) s.clients ∙ ap (λ n. rows items_of_filespace v.clients.filespaces + n) s.volumes
+same_data v w s = ap (λ c. in_rows c + length w.stores.volumes) s.clients ∙ ap (λ n. in_rows v.clients + n) s.volumes
 
-whole_more : (d e n m f h c k p q u w b l g a : ℕ) → e ≡ d → m ≡ n → k ≡ c → q ≡ p → l ≡ b → h + w + g ≡ f + u + a → e + (m + h) + (k + (q + w)) + l + g ≡ d + (n + f) + (c + (p + u)) + b + a
-whole_more d e n m f h c k p q u w b l g a de mn kc qp lb fu = omega (arith, de, mn, kc, qp, lb, fu)
+whole_more : (d e n m f h x y c k p q u w b l g a : ℕ) → e ≡ d → m ≡ n → k ≡ c → q ≡ p → l ≡ b → h + y + w + g ≡ f + x + u + a → e + (m + h + y) + (k + (q + w)) + l + g ≡ d + (n + f + x) + (c + (p + u)) + b + a
+whole_more d e n m f h x y c k p q u w b l g a de mn kc qp lb fu = omega (arith, de, mn, kc, qp, lb, fu)
 
-whole_less : (d e n m f h c k p q u w b l : ℕ) → e ≡ d → m ≡ n → k ≡ c → q ≡ p → l ≡ b → h + w ≤ f + u → e + (m + h) + (k + (q + w)) + l ≤ d + (n + f) + (c + (p + u)) + b
-whole_less d e n m f h c k p q u w b l de mn kc qp lb fu = omega (arith, de, mn, kc, qp, lb, fu)
+whole_less : (d e n m f h x y c k p q u w b l : ℕ) → e ≡ d → m ≡ n → k ≡ c → q ≡ p → l ≡ b → h + y + w ≤ f + x + u → e + (m + h + y) + (k + (q + w)) + l ≤ d + (n + f + x) + (c + (p + u)) + b
+whole_less d e n m f h x y c k p q u w b l de mn kc qp lb fu = omega (arith, de, mn, kc, qp, lb, fu)
 
 -- what these are more, all are more
 pub data_more : (v w : Inv) (g a : ℕ) → OnlyData v w → in_data w + g ≡ in_data v + a → count_items w + g ≡ count_items v + a
 data_more v w g a s h =
     whole_more (in_domains v.domains) (in_domains w.domains) (length v.clients.nodes) (length w.clients.nodes) (rows items_of_filespace v.clients.filespaces) (rows items_of_filespace w.clients.filespaces)
+    (items_of_held v.clients.held) (items_of_held w.clients.held)
     (length v.stores.classes) (length w.stores.classes) (length v.stores.pools) (length w.stores.pools) (length v.stores.volumes) (length w.stores.volumes) (in_backups v.backups) (in_backups w.backups) g a
     (ap in_domains s.domains) (ap (λ ns. length ns) s.nodes) (ap (λ cs. length cs) s.classes) (ap (λ ps. length ps) s.pools) (ap in_backups s.backups) h
 
 pub data_less : (v w : Inv) → OnlyData v w → in_data w ≤ in_data v → count_items w ≤ count_items v
 data_less v w s h =
     whole_less (in_domains v.domains) (in_domains w.domains) (length v.clients.nodes) (length w.clients.nodes) (rows items_of_filespace v.clients.filespaces) (rows items_of_filespace w.clients.filespaces)
+    (items_of_held v.clients.held) (items_of_held w.clients.held)
     (length v.stores.classes) (length w.stores.classes) (length v.stores.pools) (length w.stores.pools) (length v.stores.volumes) (length w.stores.volumes) (in_backups v.backups) (in_backups w.backups)
     (ap in_domains s.domains) (ap (λ ns. length ns) s.nodes) (ap (λ cs. length cs) s.classes) (ap (λ ps. length ps) s.pools) (ap in_backups s.backups) h
 
@@ -130,7 +134,7 @@ no_volumes (f ∷ files) v h =
     (first (is_none (row_at f v.stores.volumes)) (is_none (row_at f v.backups)) (rest (nat_le 4 f) (is_none (row_at f v.stores.volumes) && is_none (row_at f v.backups)) free))
     (no_volumes files v (rest (is_free_file v f) (list_all (is_free_file v) files) h))
 
--- so many volumes more, and the same nodes and filespaces
+-- so many volumes more, and the same nodes, filespaces and objects
 pub record Scratched (n : ℕ) (v w : Inv) : Type 0 where
   pub clients : w.clients ≡ v.clients
   pub volumes : length w.stores.volumes ≡ n + length v.stores.volumes

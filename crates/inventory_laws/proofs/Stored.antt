@@ -9,7 +9,6 @@ use Rattle.kinds.specs.declared.refusal.Refusal.{Refusal}
 use Rattle.kinds.specs.declared.refusal.Refusal.TheVariants.{InventoryFull}
 use Rattle.kinds.specs.declared.segment.Segment.{Segment}
 use Rattle.entries.specs.declared.change.Change.{Change}
-use Rattle.kinds.specs.declared.rule.BackupRule.{BackupRule}
 use Rattle.inventory_rows.specs.version_groups.declared.copies.CopyRow.{CopyRow}
 use Rattle.inventory_rows.specs.version_groups.declared.versions.Version.{Version}
 use Rattle.inventory_rows.specs.version_groups.Copies.{are_by_pool}
@@ -20,7 +19,7 @@ use Rattle.inventory_rows.specs.pool_tables.Rows.{row_at}
 use Rattle.inventory_rows.specs.pool_rows.PoolRows.{PoolRows, is_sequential, pool_capacity, pool_class_capacity}
 use Rattle.inventory_rows.specs.declared.backup.Backup.{Backup}
 use Rattle.inventory_rows.specs.Items.{count_items, most_items}
-use Rattle.inventory_rows.specs.Search.{copies, is_primary_kind, pool, rules, segments_on, versions}
+use Rattle.inventory_rows.specs.Search.{copies, destinations, is_primary_kind, pool, segments_on, versions}
 use Rattle.inventory_rows.specs.State.{Inv}
 use Rattle.inventory_rules.specs.Common.{or_same, full_at}
 use Rattle.inventory_rules.specs.Transactions.{effect, sizes_refused}
@@ -88,6 +87,7 @@ pub stored_valid : (v : Inv) (s : PoolRows) (next_pool next_file : ℕ) (backups
 stored_valid v s next_pool next_file backups f b t room = valid_of (stored v s next_pool next_file backups) (record {
   nodes_cite = f.nodes_cite;
   filespaces_cite = f.filespaces_cite;
+  held_cite = f.held_cite;
   rules_cite = t.rules_cite;
   pools_cite = t.pools_cite;
   volumes_cite = t.volumes_cite;
@@ -135,7 +135,7 @@ pub record Alike (s t : PoolRows) (number : ℕ) : Type 0 where
 
 -- so is each pool that is the destination of a copy group, or has a volume or a copy
 pub record Uses (v : Inv) (t : PoolRows) : Type 0 where
-  pub rules : AllByRecursion (λ (rule : BackupRule). Alike v.stores t rule.destination) (rules v)
+  pub destinations : AllByRecursion (Alike v.stores t) (destinations v)
   pub volumes : AllByRecursion (λ (f : ℕ × Volume). Alike v.stores t f.1.pool) v.stores.volumes
   pub copies : AllByRecursion (λ (e : ℕ × CopyRow). Alike v.stores t e.1.pool) (copies v)
 
@@ -146,8 +146,7 @@ lies v c = list_all (λ s. is_of_pool c.pool (row_at s.file v.stores.volumes)) c
 -- they are, where all are that are there
 pub uses_found : (v : Inv) (t : PoolRows) → Facts v → ((n : ℕ) → is_some (row_at n v.stores.pools) ≡ true → Alike v.stores t n) → Uses v t
 uses_found v t f found = record {
-  rules = each_also (λ (rule : BackupRule). is_some (pool rule.destination v) ≡ true) (λ rule. Alike v.stores t rule.destination) (rules v) (λ rule h. found rule.destination h)
-      (all_of (λ rule. is_some (pool rule.destination v)) (rules v) f.rules_cite);
+  destinations = each_also (λ n. is_some (pool n v) ≡ true) (Alike v.stores t) (destinations v) found (all_of (λ n. is_some (pool n v)) (destinations v) f.rules_cite);
   volumes = each_also (λ (e : ℕ × Volume). is_some (pool e.1.pool v) ≡ true) (λ e. Alike v.stores t e.1.pool) v.stores.volumes (λ e h. found e.1.pool h)
       (all_of (λ e. is_some (pool e.1.pool v)) v.stores.volumes f.volumes_cite);
   copies = each_also (λ (e : ℕ × CopyRow). (is_some (pool e.1.pool v) && lies v e.1) ≡ true) (λ e. Alike v.stores t e.1.pool) (copies v) (λ e h. found e.1.pool (and_parts (is_some (pool e.1.pool v)) (lies v e.1) h).0)
@@ -206,8 +205,8 @@ pub record SeenFacts (w : Inv) : Type 0 where
 
 pub seen : (v : Inv) (classes : List (List ℕ × Option ℕ)) (pools : List (ℕ × Pool)) (next_pool : ℕ) (backups : List (ℕ × Backup)) → Facts v → Uses v (with_pools v classes pools) → SeenFacts (stored v (with_pools v classes pools) next_pool v.next_file backups)
 seen v classes pools next_pool backups f uses = (let w = stored v (with_pools v classes pools) next_pool v.next_file backups in record {
-  rules_cite = all_alike (λ (rule : BackupRule). is_some (pool rule.destination w)) (λ rule. is_some (pool rule.destination v)) (rules v)
-      (each_also (λ (rule : BackupRule). Alike v.stores w.stores rule.destination) (λ rule. is_some (pool rule.destination w) ≡ is_some (pool rule.destination v)) (rules v) (λ rule a. a.there) uses.rules)
+  rules_cite = all_alike (λ n. is_some (pool n w)) (λ n. is_some (pool n v)) (destinations v)
+      (each_also (Alike v.stores w.stores) (λ n. is_some (pool n w) ≡ is_some (pool n v)) (destinations v) (λ n a. a.there) uses.destinations)
       ∙ f.rules_cite;
   volumes_cite = all_alike (λ (e : ℕ × Volume). is_some (pool e.1.pool w)) (λ e. is_some (pool e.1.pool v)) v.stores.volumes
       (each_also (λ (e : ℕ × Volume). Alike v.stores w.stores e.1.pool) (λ e. is_some (pool e.1.pool w) ≡ is_some (pool e.1.pool v)) v.stores.volumes (λ e a. a.there) uses.volumes)

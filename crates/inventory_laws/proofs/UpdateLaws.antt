@@ -1,5 +1,5 @@
 -- A legal change of a storage pool's settings.
-use Rattle.std.proofs.Common.{◌≡◌, ℕ, true, false, ◌||◌, List, [], Option, Some, None, is_some, Result, Ok, refl, sym, ap, subst, ◌∙◌}
+use Rattle.std.proofs.Common.{◌≡◌, ℕ, true, false, ◌||◌, List, [], ◌++◌, Option, Some, None, is_some, Result, Ok, refl, sym, ap, subst, ◌∙◌}
 use Rattle.std.specs.Map.{keys_of}
 use Rattle.std.proofs.lemmas.Bool.{or_parts}
 use Rattle.kinds.specs.declared.change.PoolChange.TheVariants as store
@@ -19,7 +19,7 @@ use Rattle.inventory_rows.specs.pool_rows.Hierarchy.{comes_to, is_bad_copy_pool,
 use Rattle.inventory_rows.specs.pool_rows.PoolRows.{PoolRows, class_capacity, pool_named}
 use Rattle.inventory_rows.specs.State.{Inv}
 use Rattle.inventory_rules.specs.Common.{or_same}
-use Rattle.inventory_rules.specs.Stores.{backups_lowered, pool_by_name, stays}
+use Rattle.inventory_rules.specs.Stores.{backups_lowered, collocation_refused, pool_by_name, stays}
 use Rattle.inventory_rules.specs.Transactions.{effect, causes, sizes_refused}
 use Rattle.inventory_rules.specs.Held.{IsTied}
 use Rattle.inventory_rules.specs.Journal.{Journal}
@@ -74,7 +74,7 @@ pub pool_updated : (j : Journal) (name class : List ℕ) (kind : PoolKind) (rule
 unfolding effect
 pool_updated j name class kind rule v valid tied legal sizes =
     let s = v.stores in
-    let h = none_of_both (refusal_of (update_pool name rule s)) (unless (stays class kind (pool_by_name name v)) bad_value) legal in
+    let h = none_of_both (refusal_of (update_pool name rule s)) (unless (stays class kind (pool_by_name name v)) bad_value ++ collocation_refused class rule) legal in
     let u = updated_so v name rule h.0 in
     let o = pool_named name (or_same s (update_pool name rule s)) in
     let backups = backups_lowered o rule.reuse_delay v.backups in
@@ -89,7 +89,7 @@ unfolding effect
 pool_updated_rings j name class kind rule v valid legal apart =
     let s = v.stores in
     let f = facts_of v valid in
-    let h = none_of_both (refusal_of (update_pool name rule s)) (unless (stays class kind (pool_by_name name v)) bad_value) legal in
+    let h = none_of_both (refusal_of (update_pool name rule s)) (unless (stays class kind (pool_by_name name v)) bad_value ++ collocation_refused class rule) legal in
     let u = updated_so v name rule h.0 in
     let backups = backups_lowered (pool_named name (or_same s (update_pool name rule s))) rule.reuse_delay v.backups in
     subst (λ (r : Result PoolRows Refusal). no_ring (stored v (or_same s r) v.next_pool v.next_file backups) ≡ true) (sym u.gives)

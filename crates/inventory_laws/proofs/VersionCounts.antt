@@ -1,16 +1,20 @@
--- New versions: each brings itself, its copy and the copy's segments, and a group where its path had none.
-use Rattle.std.proofs.Common.{◌≡◌, ℕ, ◌+◌, Bool, true, false, cond, ◌||◌, is_some, List, [], ◌∷◌, ◌++◌, length, map, Option, Some, None, Ok, refl, sym, ap, ◌∙◌, arith}
+-- New objects: each brings itself, its copy and the copy's segments; a version brings a group where its path had none.
+use Rattle.std.proofs.Common.{◌≡◌, ℕ, ◌+◌, Bool, true, false, cond, eqb, not, ◌||◌, is_some, List, [], ◌∷◌, ◌++◌, length, map, Option, Some, None, Ok, refl, sym, ap, ◌∙◌, arith}
 use Rattle.std.specs.Prelude.{nat_le}
 use Rattle.std.specs.BTreeMap.{insert_entry}
 use Rattle.std.specs.Cmp.Lexicographic.{slice_cmp, nat_list_cmp_total}
-use Rattle.std.specs.List.{list_any, sum_by}
+use Rattle.std.specs.List.{list_all, list_any, sum_by}
 use Rattle.std.specs.Map.{lookup, set_value}
 use Rattle.std.specs.Ordering.{match_ordering, nat_cmp}
 use Rattle.std.specs.declared.cmp.Ordering.TheVariants.{Less, Equal, Greater}
+use Rattle.std.proofs.lemmas.Bool.{and_parts, not-true}
+use Rattle.std.proofs.lemmas.List.Folds.{list_all-map}
 use Rattle.std.proofs.lemmas.List.Sums.{sum_by-cons}
 use Rattle.std.proofs.lemmas.Map.Lookups.{exact_bytes}
 use Rattle.kinds.specs.declared.refusal.Refusal.TheVariants as refusal
+use Rattle.entries.specs.change_items.declared.items.NewHeldObject.{NewHeldObject}
 use Rattle.entries.specs.change_items.declared.items.NewVersion.{NewVersion}
+use Rattle.entries.specs.change_items.declared.lists.NewHeldObjects.{NewHeldObjects}
 use Rattle.entries.specs.change_items.declared.lists.NewVersions.{NewVersions}
 use Rattle.entries.specs.declared.change.Change.TheVariants as change
 use Rattle.kinds.specs.Names.{is_same_name}
@@ -18,28 +22,40 @@ use Rattle.inventory_rows.specs.version_groups.declared.copies.CopyRow.{CopyRow}
 use Rattle.inventory_rows.specs.version_groups.declared.group.Group.{Group}
 use Rattle.inventory_rows.specs.version_groups.declared.groups.Filespace.{Filespace}
 use Rattle.inventory_rows.specs.version_groups.declared.versions.Version.{Version}
-use Rattle.inventory_rows.specs.version_groups.Entries.{if_found, on_ok}
+use Rattle.inventory_rows.specs.version_groups.Entries.{all_later, if_found, on_ok}
 use Rattle.inventory_rows.specs.version_groups.Groups.{AreByPath, at_path, group_at, group_with, groups_with}
-use Rattle.inventory_rows.specs.version_groups.Versions.{has_active, retired, superseded}
+use Rattle.inventory_rows.specs.version_groups.Versions.{has_active, has_object, retired, superseded}
 use Rattle.inventory_rows.proofs.of_version_groups.Maps.{insert_present, lookup-set}
-use Rattle.inventory_rows.specs.object_rows.Filespaces.{at_number, filespace_after, filespace_at, filespaces_with, groups_in}
+use Rattle.inventory_rows.specs.object_rows.Filespaces.{at_number, filespace_after, filespace_at, groups_in}
 use Rattle.inventory_rows.proofs.of_pool_tables.Names.{at_name}
 use Rattle.inventory_rows.proofs.of_policy_domains.Sorted.{sorted-insert}
-use Rattle.inventory_rows.specs.object_rows.Rows.{most_versions}
+use Rattle.inventory_rows.specs.object_rows.declared.held_object.HeldObject.{HeldObject}
+use Rattle.inventory_rows.specs.object_rows.declared.held_object.HeldRow.{HeldRow}
+use Rattle.inventory_rows.specs.object_rows.HeldRows.{held_versions, held_with}
+use Rattle.inventory_rows.specs.object_rows.Items.{items_of_held}
+use Rattle.inventory_rows.specs.object_rows.Rows.{Rows, kept_of}
+use Rattle.inventory_rows.proofs.of_object_rows.Splices.{Splices}
 use Rattle.inventory_rows.specs.Items.{count_items, items_of_filespace, items_of_group, items_of_version}
 use Rattle.inventory_rows.specs.Search as search
 use Rattle.inventory_rows.specs.State.{Inv}
-use Rattle.inventory_rules.specs.Common.{each, or_same, this, with_filespaces}
+use Rattle.inventory_rules.specs.Common.{each, or_same, this}
 use Rattle.inventory_rules.specs.Segments.{make_scratch, scratch_refused}
 use Rattle.inventory_rules.specs.Transactions.{effect}
-use Rattle.inventory_rules.specs.Versions.{after_object, back_up, new_version, objects_refused, backup_refused, filespace_there, name_once, items_of_new, paths_added, AreGroupsOrdered}
-use Rattle.kinds.specs.Refusals.{bad_value, unless}
+use Rattle.inventory_rules.specs.Versions.{arrivals_refused, back_up, filespace_there, held_too, hold, inserted, is_new_object, items_of_new, items_of_new_held, new_held, new_refused, new_version, objects_refused, paths_added, AreGroupsOrdered}
+use Rattle.inventory_rules.specs.Facts.{Facts}
 use Rattle.inventory_rules.proofs.Touched.{effect-data}
 use Rattle.inventory_laws.proofs.Absent.{unless_holds}
-use Rattle.inventory_laws.proofs.CopyCounts.{is_found, spaces}
+use Rattle.inventory_laws.proofs.Arriving.{Comes, held_arrived, other_arrived}
+use Rattle.inventory_laws.proofs.CopyCounts.{is_found}
 use Rattle.inventory_laws.proofs.CountedParts.{nothing_first, nothing_then}
+use Rattle.inventory_laws.proofs.Flat.{in_held, weigh-append}
+use Rattle.inventory_laws.proofs.Kept.{held_comes, is_held_there}
 use Rattle.inventory_laws.proofs.PolicyCounts.{found_in}
+use Rattle.inventory_laws.proofs.PutSteps.{held_none, held_object_comes, of_held}
 use Rattle.inventory_laws.proofs.Stays.{Scratched, Stays, data_more, put_stays, scratched}
+use Rattle.inventory_laws.proofs.Tests.{both_none, named_once}
+use Rattle.inventory_laws.proofs.VersionArrivals.{IsTaken, taken}
+use Rattle.inventory_laws.proofs.VolumeRows.{all_both, all_so}
 use Rattle.inventory_laws.proofs.Weights.{rows, rows-inserted, rows-set, weigh, weigh-cons}
 
 -- ---- an entry that comes into its place
@@ -115,6 +131,9 @@ with_more a x f y z h e = omega (arith, h, e)
 added_up : (y i z s u : ℕ) → y ≡ i + (1 + z) + u → z ≡ 1 + (s + 0) → y ≡ i + (1 + (1 + s) + u)
 added_up y i z s u h e = omega (arith, h, e)
 
+abbrev spaces : Inv → List (ℕ × Filespace)
+spaces v = v.clients.filespaces
+
 -- what stands once a version came into the filespace
 record CameIn (n : ℕ) (f : Filespace) (item : NewVersion) (v w : Inv) : Type 0 where
   pub filespace : Filespace
@@ -122,6 +141,7 @@ record CameIn (n : ℕ) (f : Filespace) (item : NewVersion) (v w : Inv) : Type 0
   pub by_path : AreByPath filespace.groups
   pub paths : (q : List ℕ) → is_some (group_at q filespace.groups) ≡ (at_path q item.path || is_some (group_at q f.groups))
   pub adds : rows items_of_filespace (spaces w) ≡ rows items_of_filespace (spaces v) + (items_of_new item + one_unless (is_some (group_at item.path f.groups)))
+  pub held : items_of_held w.clients.held ≡ items_of_held v.clients.held
   pub volumes : length w.stores.volumes ≡ length v.stores.volumes
 
 came_in : (n : ℕ) (f : Filespace) (item : NewVersion) (v : Inv) → filespace_at n (spaces v) ≡ Some f → AreByPath f.groups → CameIn n f item v (back_up n item v)
@@ -129,7 +149,7 @@ came_in n f item v found sorted =
     let w : Version = new_version v item in
     let gs : List (List ℕ × Group) = groups_with item.path item.class w f.groups in
     let g : Filespace = record f { groups = gs } in
-    let mid : Inv = record (with_filespaces (or_same v.clients.filespaces (filespaces_with n item.path item.class w v.clients.filespaces)) v) { next_object = after_object item v } in
+    let mid : Inv = inserted n item v in
     let s : Stays mid (back_up n item v) = put_stays item.object item.segments mid in
     let is : spaces mid ≡ set_value (at_number n) (spaces v) g =
     ap (λ o. or_same (spaces v) (if_found o (λ x. on_ok (set_value (at_number n) (spaces v)) (filespace_after (λ groups. Ok (groups_with item.path item.class w groups)) x)))) found in
@@ -145,6 +165,7 @@ came_in n f item v found sorted =
       adds = ap (λ fs. rows items_of_filespace fs) now
           ∙ with_more (rows items_of_filespace (set_value (at_number n) (spaces v) g)) (items_of_filespace f) (rows items_of_filespace (spaces v)) (items_of_filespace g) (items_of_new item + one_unless (is_some (group_at item.path f.groups)))
           (rows-set items_of_filespace (at_number n) (spaces v) f g found) more;
+      held = ap (λ c. items_of_held c.held) s.clients;
       volumes = s.volumes;
     }
 
@@ -155,11 +176,12 @@ summed a b f n u s p r h e i = omega (arith, h, e, i)
 
 record AllCameIn (n : ℕ) (was : Inv) (seen : List (List ℕ)) (items : List NewVersion) (v w : Inv) : Type 0 where
   pub adds : rows items_of_filespace (spaces w) ≡ rows items_of_filespace (spaces v) + (sum_by items_of_new items + paths_added n seen items was)
+  pub held : items_of_held w.clients.held ≡ items_of_held v.clients.held
   pub volumes : length w.stores.volumes ≡ length v.stores.volumes
 
 all_came_in : (n : ℕ) (was : Inv) (items : List NewVersion) (seen : List (List ℕ)) (f : Filespace) (v : Inv) → filespace_at n (spaces v) ≡ Some f → AreByPath f.groups
     → ((q : List ℕ) → is_some (group_at q f.groups) ≡ (is_some (search.group n q was) || list_any (is_same_name q) seen)) → AllCameIn n was seen items v (each (back_up n) items v)
-all_came_in n was [] seen f v found sorted paths = record { adds = omega arith; volumes = refl }
+all_came_in n was [] seen f v found sorted paths = record { adds = omega arith; held = refl; volumes = refl }
 all_came_in n was (i ∷ items) seen f v found sorted paths =
     let c : CameIn n f i v (back_up n i v) = came_in n f i v found sorted in
     let after : (q : List ℕ) → is_some (group_at q c.filespace.groups) ≡ (is_some (search.group n q was) || list_any (is_same_name q) (i.path ∷ seen)) =
@@ -172,6 +194,7 @@ all_came_in n was (i ∷ items) seen f v found sorted paths =
       adds = summed (rows items_of_filespace (spaces (each (back_up n) items (back_up n i v)))) (rows items_of_filespace (spaces (back_up n i v))) (rows items_of_filespace (spaces v)) (items_of_new i)
           (one_unless (is_some (search.group n i.path was) || list_any (is_same_name i.path) seen)) (sum_by items_of_new items) (paths_added n (i.path ∷ seen) items was) (sum_by items_of_new (i ∷ items))
           r.adds adds (sum_by-cons items_of_new i items);
+      held = r.held ∙ c.held;
       volumes = r.volumes ∙ c.volumes;
     }
 
@@ -179,26 +202,122 @@ or_none : (b : Bool) → b ≡ (b || false)
 or_none true = refl
 or_none false = refl
 
-all_versions : (a f s w u v n : ℕ) → a ≡ f + s → w ≡ u → u ≡ n + v → a + w + 0 ≡ f + v + (n + s)
-all_versions a f s w u v n h g e = omega (arith, h, g, e)
+all_versions : (a f h g s w u v n : ℕ) → a ≡ f + s → h ≡ g → w ≡ u → u ≡ n + v → a + h + w + 0 ≡ f + g + v + (n + s)
+all_versions a f h g s w u v n i j k e = omega (arith, i, j, k, e)
 
-pub versions_counted : (c : NewVersions) (v : Inv) → AreGroupsOrdered v.clients.filespaces → backup_refused c.filespace c.items v ++ (scratch_refused c.scratch v ++ objects_refused c.items v) ≡ []
+pub versions_counted : (c : NewVersions) (v : Inv) → AreGroupsOrdered v.clients.filespaces → new_refused c.filespace (map (λ i. i.object) c.items) v ++ (scratch_refused c.scratch v ++ objects_refused (map (λ i. i.object) c.items) v) ≡ []
     → count_items (effect (change.Backup c) v) + 0 ≡ count_items v + (length c.scratch + (sum_by items_of_new c.items + paths_added c.filespace [] c.items v))
 unfolding effect
 versions_counted c v o h =
     let n : ℕ = c.filespace in
+    let objects : List ℕ = map (λ i. i.object) c.items in
     let u : Inv = each make_scratch c.scratch v in
-    let backup : backup_refused n c.items v ≡ [] = nothing_first (backup_refused n c.items v) (scratch_refused c.scratch v ++ objects_refused c.items v) h in
-    let made : scratch_refused c.scratch v ≡ [] = nothing_first (scratch_refused c.scratch v) (objects_refused c.items v) (nothing_then (backup_refused n c.items v) (scratch_refused c.scratch v ++ objects_refused c.items v) h) in
+    let w : Inv = each (back_up n) c.items u in
+    let asked : new_refused n objects v ≡ [] = nothing_first (new_refused n objects v) (scratch_refused c.scratch v ++ objects_refused objects v) h in
+    let made : scratch_refused c.scratch v ≡ [] = nothing_first (scratch_refused c.scratch v) (objects_refused objects v) (nothing_then (new_refused n objects v) (scratch_refused c.scratch v ++ objects_refused objects v) h) in
     let s : Scratched (length c.scratch) v u = scratched c.scratch v made in
-    let space : filespace_there n v ≡ [] =
-    nothing_first (filespace_there n v) (unless (name_once (map (λ i. i.object) c.items)) bad_value ++ unless (nat_le (length (search.versions v) + length c.items) most_versions) refusal.InventoryFull) backup in
+    let space : filespace_there n v ≡ [] = nothing_first (filespace_there n v) (arrivals_refused objects v) asked in
     let f : (x : Filespace) × (filespace_at n (spaces v) ≡ Some x) = is_found (filespace_at n (spaces v)) (unless_holds (is_some (filespace_at n (spaces v))) refusal.NotFound space) in
     let there : filespace_at n (spaces u) ≡ Some f.0 = ap (λ cl. filespace_at n cl.filespaces) s.clients ∙ f.1 in
     let sorted : AreByPath f.0.groups = found_in (λ (x : Filespace). AreByPath x.groups) (at_number n) (spaces v) f.0 f.1 o in
     let paths : (q : List ℕ) → is_some (group_at q f.0.groups) ≡ (is_some (search.group n q v) || false) =
     λ q. ap (λ x. is_some (group_at q (groups_in x))) (sym f.1) ∙ or_none (is_some (search.group n q v)) in
-    let m : AllCameIn n v [] c.items u (each (back_up n) c.items u) = all_came_in n v c.items [] f.0 u there sorted paths in
+    let m : AllCameIn n v [] c.items u w = all_came_in n v c.items [] f.0 u there sorted paths in
     data_more v (effect (change.Backup c) v) 0 (length c.scratch + (sum_by items_of_new c.items + paths_added n [] c.items v)) (effect-data (change.Backup c) v refl)
-    (all_versions (rows items_of_filespace (spaces (each (back_up n) c.items u))) (rows items_of_filespace (spaces v)) (sum_by items_of_new c.items + paths_added n [] c.items v) (length (each (back_up n) c.items u).stores.volumes) (length u.stores.volumes) (length v.stores.volumes) (length c.scratch)
-    (m.adds ∙ ap (λ cl. rows items_of_filespace cl.filespaces + (sum_by items_of_new c.items + paths_added n [] c.items v)) s.clients) m.volumes s.volumes)
+    (all_versions (rows items_of_filespace (spaces w)) (rows items_of_filespace (spaces v)) (items_of_held w.clients.held) (items_of_held v.clients.held) (sum_by items_of_new c.items + paths_added n [] c.items v)
+    (length w.stores.volumes) (length u.stores.volumes) (length v.stores.volumes) (length c.scratch)
+    (m.adds ∙ ap (λ cl. rows items_of_filespace cl.filespaces + (sum_by items_of_new c.items + paths_added n [] c.items v)) s.clients) (m.held ∙ ap (λ cl. items_of_held cl.held) s.clients) m.volumes s.volumes)
+
+-- ---- archived objects: each brings itself, its copy and the copy's segments
+
+one_more : (n o b a x f : ℕ) → n ≡ b + x → x ≡ 1 + (f + a) → o ≡ b + a → n ≡ 1 + (f + o)
+one_more n o b a x f h e g = omega (arith, h, e, g)
+
+weigh_one : (x : Version) {old new : List Version} → Splices [] (x ∷ []) old new → weigh items_of_version new ≡ 1 + (items_of_version x + weigh items_of_version old)
+weigh_one x {old} {new} s =
+    one_more (weigh items_of_version new) (weigh items_of_version old) (weigh items_of_version s.before) (weigh items_of_version s.after) (weigh items_of_version (x ∷ s.after)) (items_of_version x)
+    (ap (weigh items_of_version) s.becomes ∙ weigh-append items_of_version s.before (x ∷ s.after)) (weigh-cons items_of_version x s.after) (ap (weigh items_of_version) s.was ∙ weigh-append items_of_version s.before s.after)
+
+held_up : (h g x z s : ℕ) → h ≡ 1 + (x + g) → x ≡ z → z ≡ 1 + (s + 0) → h ≡ g + (1 + (1 + s))
+held_up h g x z s i j k = omega (arith, i, j, k)
+
+-- what stands once an object is held
+record HeldToo (filespace : ℕ) (item : NewHeldObject) (v w : Inv) : Type 0 where
+  pub adds : items_of_held w.clients.held ≡ items_of_held v.clients.held + items_of_new_held item
+  pub spaces : w.clients.filespaces ≡ v.clients.filespaces
+  pub held : list_all (is_held_there w.clients.filespaces) w.clients.held ≡ true
+  pub others : (k : ℕ) → eqb item.object k ≡ false → has_object k (search.versions w) ≡ has_object k (search.versions v)
+  pub volumes : length w.stores.volumes ≡ length v.stores.volumes
+
+held_in : (filespace : ℕ) (item : NewHeldObject) (v : Inv) → list_all (is_held_there v.clients.filespaces) v.clients.held ≡ true → is_some (filespace_at filespace v.clients.filespaces) ≡ true → has_object item.object (search.versions v) ≡ false
+    → HeldToo filespace item v (hold filespace item v)
+held_in filespace item v held there fresh =
+    let mid : Inv = held_too filespace item v in
+    let it : HeldObject = new_held v item in
+    let new : List (ℕ × HeldRow) = held_with filespace it v.clients.held in
+    let c : Comes (of_held item) v mid = held_object_comes filespace item v held there fresh in
+    let s : Stays mid (hold filespace item v) = put_stays item.object item.segments mid in
+    let heavier : weigh items_of_version (held_versions new) ≡ 1 + (items_of_version it.version + weigh items_of_version (held_versions v.clients.held)) = weigh_one it.version (held_comes filespace it v.clients.held (held_none item.object v held fresh)) in
+    record {
+      adds = ap (λ c. items_of_held c.held) s.clients ∙ in_held new
+          ∙ held_up (weigh items_of_version (held_versions new)) (items_of_held v.clients.held) (items_of_version it.version) (weigh (λ (c : CopyRow). length c.segments) it.version.copies) (length item.segments)
+          (heavier ∙ ap (λ n. 1 + (items_of_version it.version + n)) (sym (in_held v.clients.held))) refl
+          (weigh-cons (λ (c : CopyRow). length c.segments) (record { pool = item.pool; placed = this v; segments = item.segments }) []);
+      spaces = ap (λ c. c.filespaces) s.clients;
+      held = ap (λ (x : Rows). list_all (is_held_there x.filespaces) x.held) s.clients ∙ held_arrived (of_held item) v mid c held;
+      others = λ k ne. ap (λ (x : Rows). has_object k (kept_of x)) s.clients ∙ other_arrived k (of_held item) v mid c ne;
+      volumes = s.volumes;
+    }
+
+record AllHeldToo (items : List NewHeldObject) (v w : Inv) : Type 0 where
+  pub adds : items_of_held w.clients.held ≡ items_of_held v.clients.held + sum_by items_of_new_held items
+  pub spaces : w.clients.filespaces ≡ v.clients.filespaces
+  pub volumes : length w.stores.volumes ≡ length v.stores.volumes
+
+then_more : (a b c n s t : ℕ) → a ≡ b + s → b ≡ c + n → t ≡ n + s → a ≡ c + t
+then_more a b c n s t h i j = omega (arith, h, i, j)
+
+all_held_in : (filespace : ℕ) (items : List NewHeldObject) (v : Inv) → list_all (is_held_there v.clients.filespaces) v.clients.held ≡ true → is_some (filespace_at filespace v.clients.filespaces) ≡ true
+    → list_all (λ (i : NewHeldObject). not (has_object i.object (search.versions v))) items ≡ true → all_later (λ (a b : NewHeldObject). not (eqb a.object b.object)) items ≡ true → AllHeldToo items v (each (hold filespace) items v)
+all_held_in filespace [] v held there fresh apart = record { adds = omega arith; spaces = refl; volumes = refl }
+all_held_in filespace (i ∷ items) v held there fresh apart =
+    let fs = and_parts (not (has_object i.object (search.versions v))) (list_all (λ (b : NewHeldObject). not (has_object b.object (search.versions v))) items) fresh in
+    let ds = and_parts (list_all (λ (b : NewHeldObject). not (eqb i.object b.object)) items) (all_later (λ (a b : NewHeldObject). not (eqb a.object b.object)) items) apart in
+    let u : Inv = hold filespace i v in
+    let one : HeldToo filespace i v u = held_in filespace i v held there (not-true (has_object i.object (search.versions v)) fs.0) in
+    let more : AllHeldToo items u (each (hold filespace) items u) =
+    all_held_in filespace items u one.held (ap (λ (x : List (ℕ × Filespace)). is_some (filespace_at filespace x)) one.spaces ∙ there)
+    (all_both (λ (b : NewHeldObject). not (eqb i.object b.object)) (λ b. not (has_object b.object (search.versions v))) (λ b. not (has_object b.object (search.versions u)))
+    (λ b ne h. ap not (one.others b.object (not-true (eqb i.object b.object) ne)) ∙ h) items ds.0 fs.1) ds.1 in
+    record {
+      adds = then_more (items_of_held (each (hold filespace) items u).clients.held) (items_of_held u.clients.held) (items_of_held v.clients.held) (items_of_new_held i) (sum_by items_of_new_held items) (sum_by items_of_new_held (i ∷ items))
+          more.adds one.adds (sum_by-cons items_of_new_held i items);
+      spaces = more.spaces ∙ one.spaces;
+      volumes = more.volumes ∙ one.volumes;
+    }
+
+all_held : (f g h i s w u v n : ℕ) → f ≡ g → h ≡ i + s → w ≡ u → u ≡ n + v → f + h + w + 0 ≡ g + i + v + (n + s)
+all_held f g h i s w u v n a b c d = omega (arith, a, b, c, d)
+
+pub held_counted : (c : NewHeldObjects) (v : Inv) → Facts v → new_refused c.filespace (map (λ i. i.object) c.items) v ++ (scratch_refused c.scratch v ++ objects_refused (map (λ i. i.object) c.items) v) ≡ []
+    → count_items (effect (change.Hold c) v) + 0 ≡ count_items v + (length c.scratch + sum_by items_of_new_held c.items)
+unfolding effect
+held_counted c v f h =
+    let n : ℕ = c.filespace in
+    let object : NewHeldObject → ℕ = λ i. i.object in
+    let objects : List ℕ = map object c.items in
+    let u : Inv = each make_scratch c.scratch v in
+    let w : Inv = each (hold n) c.items u in
+    let one = both_none (new_refused n objects v) (scratch_refused c.scratch v ++ objects_refused objects v) h in
+    let two = both_none (scratch_refused c.scratch v) (objects_refused objects v) one.1 in
+    let t : IsTaken n objects v = taken n objects v one.0 two.1 in
+    let s : Scratched (length c.scratch) v u = scratched c.scratch v two.0 in
+    let fresh : list_all (λ (i : NewHeldObject). not (has_object i.object (search.versions v))) c.items ≡ true =
+    all_so (λ (i : NewHeldObject). is_new_object v i.object) (λ i. not (has_object i.object (search.versions v))) (λ i g. (and_parts (nat_le 1 i.object) (not (has_object i.object (search.versions v))) g).1) c.items
+    (sym (list_all-map (is_new_object v) object c.items) ∙ t.new) in
+    let m : AllHeldToo c.items u w =
+    all_held_in n c.items u (ap (λ (x : Rows). list_all (is_held_there x.filespaces) x.held) s.clients ∙ f.held_cite) (ap (λ (x : Rows). is_some (filespace_at n x.filespaces)) s.clients ∙ t.there)
+    (ap (λ (x : Rows). list_all (λ (i : NewHeldObject). not (has_object i.object (kept_of x))) c.items) s.clients ∙ fresh) (named_once object c.items t.once) in
+    data_more v (effect (change.Hold c) v) 0 (length c.scratch + sum_by items_of_new_held c.items) (effect-data (change.Hold c) v refl)
+    (all_held (rows items_of_filespace (spaces w)) (rows items_of_filespace (spaces v)) (items_of_held w.clients.held) (items_of_held v.clients.held) (sum_by items_of_new_held c.items) (length w.stores.volumes) (length u.stores.volumes) (length v.stores.volumes) (length c.scratch)
+    (ap (λ x. rows items_of_filespace x) (m.spaces ∙ ap (λ cl. cl.filespaces) s.clients)) (m.adds ∙ ap (λ cl. items_of_held cl.held + sum_by items_of_new_held c.items) s.clients) m.volumes s.volumes)

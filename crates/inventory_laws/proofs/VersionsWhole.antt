@@ -25,6 +25,7 @@ all_first p q (x ∷ xs) h =
 pub begins : (v : Inv) → Facts v → VersionFacts v.number v
 begins v f = record {
   cite = f.filespaces_cite;
+  held = f.held_cite;
   drawn = f.filespaces_drawn;
   names = f.filespace_names;
   objects_drawn = f.objects_drawn;
@@ -48,6 +49,7 @@ placed_later n m (c ∷ cs) l h =
 pub later : (n m : ℕ) (v : Inv) → nat_le n m ≡ true → VersionFacts n v → VersionFacts m v
 later n m v l f = record {
   cite = f.cite;
+  held = f.held;
   drawn = f.drawn;
   names = f.names;
   objects_drawn = f.objects_drawn;
@@ -74,6 +76,7 @@ elsewhere n v w clients filespace object pools today f =
     let e : VersionFacts n (with_parts w.clients w.next_filespace w.next_object w.stores.pools w.today v) = subst (λ x. VersionFacts n (with_parts w.clients w.next_filespace w.next_object w.stores.pools x v)) (sym today) d in
     record {
       cite = e.cite;
+      held = e.held;
       drawn = e.drawn;
       names = e.names;
       objects_drawn = e.objects_drawn;

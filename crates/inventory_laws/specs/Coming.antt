@@ -2,14 +2,10 @@
 use Rattle.std.specs.Prelude.{◌≡◌, ℕ, Bool, true, not, ◌==◌, ◌||◌, List, map}
 use Rattle.std.specs.List.{list_all, flat_map}
 use Rattle.kinds.specs.declared.segment.Segment.{Segment}
-use Rattle.entries.specs.change_items.declared.items.NewVersion.{NewVersion}
 use Rattle.inventory_rows.specs.version_groups.Entries.{all_later}
-use Rattle.inventory_rows.specs.object_rows.Filespaces.{filespaces_with}
 use Rattle.inventory_rows.specs.pool_tables.Rows.{row_at}
 use Rattle.inventory_rows.specs.pool_rows.PoolRows.{is_sequential_at}
 use Rattle.inventory_rows.specs.State.{Inv}
-use Rattle.inventory_rules.specs.Common.{or_same, with_filespaces}
-use Rattle.inventory_rules.specs.Versions.{after_object, new_version}
 use Rattle.inventory_rules.specs.Halfway.{lying, VolumeFacts}
 use Rattle.inventory_rules.specs.Segments.{are_clear, lies_rightly}
 
@@ -44,8 +40,3 @@ pub record MayCome (pending : List (ℕ × Segment)) (v : Inv) (coming : List (�
 pub record Came (pending : List (ℕ × Segment)) (v : Inv) (coming : List (ℕ × Segment)) : Type 0 where
   pub facts : VolumeFacts pending v
   pub rest : MayCome pending v coming
-
--- a client's file as the newest version of its path, whose segments are yet to come
-abbrev pub in_rows : ℕ → NewVersion → Inv → Inv
-in_rows filespace item v =
-    record (with_filespaces (or_same v.clients.filespaces (filespaces_with filespace item.path item.class (new_version v item) v.clients.filespaces)) v) { next_object = after_object item v }

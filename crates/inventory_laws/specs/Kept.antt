@@ -1,13 +1,15 @@
 -- What stays where segments come on volumes and go from them.
-use Rattle.std.specs.Prelude.{◌≡◌, ℕ, Bool, is_some, ◌&&◌, Option}
+use Rattle.std.specs.Prelude.{◌≡◌, ℕ, Bool, is_some, ◌&&◌, [], Option, Result}
 use Rattle.std.specs.List.{list_all}
 use Rattle.std.specs.Option.{option_map}
+use Rattle.kinds.specs.declared.refusal.Refusal.{Refusal}
 use Rattle.inventory_rows.specs.version_groups.declared.copies.CopyRow.{CopyRow}
 use Rattle.inventory_rows.specs.volume_rows.declared.volume.Volume.{Volume}
+use Rattle.inventory_rows.specs.object_rows.Rows.{Rows}
 use Rattle.inventory_rows.specs.pool_tables.Rows.{row_at}
 use Rattle.inventory_rows.specs.Search.{pool}
 use Rattle.inventory_rows.specs.State.{Inv}
-use Rattle.inventory_rules.specs.Common.{with_stores}
+use Rattle.inventory_rules.specs.Common.{or_same, with_clients, with_stores}
 use Rattle.inventory_rules.specs.Valid.{is_of_pool}
 
 -- the pool and the capacity of a volume that is there
@@ -22,3 +24,11 @@ pub record OnlyVolumes (v w : Inv) : Type 0 where
 -- a copy lies in a pool that is there, and each of its segments on a volume of that pool
 abbrev pub is_cited : Inv → ℕ × CopyRow → Bool
 is_cited v e = is_some (pool e.1.pool v) && list_all (λ s. is_of_pool e.1.pool (row_at s.file v.stores.volumes)) e.1.segments
+
+-- what a change makes of the nodes, filespaces and objects; where it is refused, they stay
+abbrev pub clients_after : (Rows → Result Rows Refusal) → Inv → Inv
+clients_after step v = with_clients (or_same v.clients (step v.clients)) v
+
+-- no node, no filespace, and no object
+abbrev pub nothing : Rows
+nothing = record { nodes = []; filespaces = []; held = [] }

@@ -2,5 +2,4 @@ pub mod Chains
 pub mod Coming
 pub mod Kept
 pub mod Steady
-pub mod Stored
 pub mod Volumes

@@ -5,7 +5,7 @@ use Rattle.inventory_rows.specs.State.{Inv}
 use Rattle.inventory_rules.specs.Valid.{copies_cite}
 use Rattle.inventory_rules.specs.Halfway.{VersionFacts, VolumeFacts}
 
--- The facts of the versions, where nothing was placed by a transaction behind the n-th; those of the volumes, with these segments pending; and
+-- The facts of the objects, where nothing was placed by a transaction behind the n-th; those of the volumes, with these segments pending; and
 -- each copy lies on volumes of its pool.
 pub record IsSteady (n : ℕ) (pending : List (ℕ × Segment)) (v : Inv) : Type 0 where
   pub versions : VersionFacts n v

@@ -1,6 +1,6 @@
 // What the rules say of single kinds of change, as laws, a function for each group of them. Each stands on a function that does nothing. The laws
 // of `leaving`, `counting` and `making` speak of every kind at once, and ask of each what any of them needs; here each kind asks what it needs itself.
-ghost use Rattle.std.specs.Prelude.{◌≡◌, ℕ, ◌+◌, ◌≤◌, ◌^◌, true, false, nat_lt, List, []};
+ghost use Rattle.std.specs.Prelude.{◌≡◌, ℕ, ◌+◌, ◌≤◌, ◌^◌, true, false, nat_lt, List, [], Option};
 ghost use Rattle.kinds.specs.declared.change.DefineOrDelete.TheVariants as two;
 ghost use Rattle.kinds.specs.declared.change.ObjectChange.{ObjectChange};
 ghost use Rattle.kinds.specs.declared.change.PolicyChange.{PolicyChange};
@@ -15,9 +15,10 @@ ghost use Rattle.entries.specs.change_items.declared.lists.DroppedCopies.{Droppe
 ghost use Rattle.entries.specs.change_items.declared.lists.MovedCopies.{MovedCopies};
 ghost use Rattle.entries.specs.change_items.declared.lists.NamedVersions.{NamedVersions};
 ghost use Rattle.entries.specs.change_items.declared.lists.NewCopies.{NewCopies};
+ghost use Rattle.entries.specs.change_items.declared.lists.NewHeldObjects.{NewHeldObjects};
 ghost use Rattle.entries.specs.change_items.declared.lists.NewVersions.{NewVersions};
 ghost use Rattle.entries.specs.change_items.declared.lists.Rebindings.{Rebindings};
-ghost use Rattle.entries.specs.declared.change.Change.TheVariants.{Day, Policy, Object, Pool, Backup, Rebind, Gone, Move, Copy, DropCopies, Expire, Discard, Reuse, DbBegin, DbEnd, DbDelete};
+ghost use Rattle.entries.specs.declared.change.Change.TheVariants.{Day, Policy, Object, Pool, Backup, Hold, Rebind, Gone, Move, Copy, DropCopies, Expire, Discard, Reuse, DbBegin, DbEnd, DbDelete};
 ghost use Rattle.inventory_rows.specs.object_rows.Places.{AreAllOrderly};
 ghost use Rattle.inventory_rows.specs.Items.{count_items};
 ghost use Rattle.inventory_rows.specs.State.{Inv};
@@ -28,13 +29,13 @@ ghost use Rattle.inventory_rules.specs.Policy.{is_new_policy, IsPolicyOrdered};
 ghost use Rattle.inventory_rules.specs.Segments.{items_fit, make_scratch, scratch_fits, scratch_refused};
 ghost use Rattle.inventory_rules.specs.Stores.{is_new_store};
 ghost use Rattle.inventory_rules.specs.Transactions.{effect, causes, sizes_refused, parts_fit, items_added, items_gone, CanChange};
-ghost use Rattle.inventory_rules.specs.Versions.{back_up, discard, expire, mark_gone, rebind, AreGroupsOrdered};
+ghost use Rattle.inventory_rules.specs.Versions.{back_up, discard, expire, hold, mark_gone, rebind, AreGroupsOrdered};
 ghost use Rattle.inventory_rules.specs.Facts.{Facts};
 ghost use Rattle.inventory_rules.specs.Held.{IsTied};
 ghost use Rattle.inventory_rules.specs.Journal.{Journal};
 ghost use Rattle.inventory_rules.specs.Ordered.{IsOrdered};
 ghost use Rattle.inventory_rules.specs.Valid.{is_valid};
-ghost use Rattle.inventory_laws.specs.Chains.{Adds, Discards, Drops, EachCan, Expires, Moves, Rewrites, Stores};
+ghost use Rattle.inventory_laws.specs.Chains.{Adds, Discards, Drops, EachCan, Expires, Holds, Moves, Rewrites, Stores};
 
 /// A change of the day, the policy, the clients or the database backups: what a legal one leaves, how it counts, and that it can be made.
 pub fn rows_by_kind()
@@ -42,8 +43,8 @@ pub fn rows_by_kind()
         → (is_valid (effect (Day day) v) ≡ true) × IsTied (effect (Day day) v) }
     ensures policy_stays { (j : Journal) (c : PolicyChange) (v : Inv) → is_valid v ≡ true → IsTied v → causes j (Policy c) v ≡ [] → sizes_refused (Policy c) v ≡ [] → (is_valid (effect (Policy c) v) ≡ true) × IsTied (effect (Policy c) v) }
     ensures clients_stay { (j : Journal) (c : ObjectChange) (v : Inv) → is_valid v ≡ true → IsTied v → causes j (Object c) v ≡ [] → sizes_refused (Object c) v ≡ [] → (is_valid (effect (Object c) v) ≡ true) × IsTied (effect (Object c) v) }
-    ensures begun_stays { (j : Journal) (file : ℕ) (v : Inv) → is_valid v ≡ true → IsTied v → causes j (DbBegin file) v ≡ [] → sizes_refused (DbBegin file) v ≡ []
-        → (is_valid (effect (DbBegin file) v) ≡ true) × IsTied (effect (DbBegin file) v) }
+    ensures begun_stays { (j : Journal) (file : ℕ) (after : Option ℕ) (v : Inv) → is_valid v ≡ true → IsTied v → causes j (DbBegin file after) v ≡ [] → sizes_refused (DbBegin file after) v ≡ []
+        → (is_valid (effect (DbBegin file after) v) ≡ true) × IsTied (effect (DbBegin file after) v) }
     ensures ended_stays { (j : Journal) (file : ℕ) (v : Inv) → is_valid v ≡ true → IsTied v → causes j (DbEnd file) v ≡ [] → sizes_refused (DbEnd file) v ≡ [] → (is_valid (effect (DbEnd file) v) ≡ true) × IsTied (effect (DbEnd file) v) }
     ensures deleted_stays { (j : Journal) (file : ℕ) (v : Inv) → is_valid v ≡ true → IsTied v → causes j (DbDelete file) v ≡ [] → sizes_refused (DbDelete file) v ≡ []
         → (is_valid (effect (DbDelete file) v) ≡ true) × IsTied (effect (DbDelete file) v) }
@@ -53,13 +54,13 @@ pub fn rows_by_kind()
     ensures clients_counted { (j : Journal) (c : ObjectChange) (v : Inv) → is_valid v ≡ true → causes j (Object c) v ≡ [] → is_new_client c ≡ true
         → count_items (effect (Object c) v) + items_gone (Object c) v ≡ count_items v + items_added (Object c) v }
     ensures clients_less { (c : ObjectChange) (v : Inv) → is_new_client c ≡ false → count_items (effect (Object c) v) ≤ count_items v }
-    ensures begun_counted { (j : Journal) (file : ℕ) (v : Inv) → causes j (DbBegin file) v ≡ [] → count_items (effect (DbBegin file) v) + items_gone (DbBegin file) v ≡ count_items v + items_added (DbBegin file) v }
+    ensures begun_counted { (j : Journal) (file : ℕ) (after : Option ℕ) (v : Inv) → causes j (DbBegin file after) v ≡ [] → count_items (effect (DbBegin file after) v) + items_gone (DbBegin file after) v ≡ count_items v + items_added (DbBegin file after) v }
     ensures ended_less { (file : ℕ) (v : Inv) → count_items (effect (DbEnd file) v) ≤ count_items v }
     ensures deleted_less { (file : ℕ) (v : Inv) → count_items (effect (DbDelete file) v) ≤ count_items v }
     ensures day_made { (day : ℕ) (v : Inv) → CanChange (Day day) v }
     ensures policy_made { (j : Journal) (c : PolicyChange) (v : Inv) → causes j (Policy c) v ≡ [] → CanChange (Policy c) v }
     ensures clients_made { (j : Journal) (c : ObjectChange) (v : Inv) → Facts v → causes j (Object c) v ≡ [] → CanChange (Object c) v }
-    ensures begun_made { (j : Journal) (file : ℕ) (v : Inv) → causes j (DbBegin file) v ≡ [] → CanChange (DbBegin file) v }
+    ensures begun_made { (j : Journal) (file : ℕ) (after : Option ℕ) (v : Inv) → causes j (DbBegin file after) v ≡ [] → CanChange (DbBegin file after) v }
     ensures ended_made { (file : ℕ) (v : Inv) → CanChange (DbEnd file) v }
     ensures deleted_made { (file : ℕ) (v : Inv) → CanChange (DbDelete file) v }
 {}
@@ -93,11 +94,13 @@ pub fn stores_by_kind()
     ensures reused_made { (j : Journal) (file : ℕ) (v : Inv) → Facts v → causes j (Reuse file) v ≡ [] → CanChange (Reuse file) v }
 {}
 
-/// The same of versions, and that rows in order stay so. Where each item finds what it names on what the items before it left, what comes fits, and there is
+/// The same of versions and held objects, and that rows in order stay so. Where each item finds what it names on what the items before it left, what comes fits, and there is
 /// room, the whole leaves a valid and tied database.
 pub fn versions_by_kind()
     ensures backup_stays { (j : Journal) (c : NewVersions) (v : Inv) → is_valid v ≡ true → IsTied v → IsOrdered v → causes j (Backup c) v ≡ [] → sizes_refused (Backup c) v ≡ [] → parts_fit (Backup c) v ≡ true
         → (is_valid (effect (Backup c) v) ≡ true) × IsTied (effect (Backup c) v) }
+    ensures hold_stays { (j : Journal) (c : NewHeldObjects) (v : Inv) → is_valid v ≡ true → IsTied v → causes j (Hold c) v ≡ [] → sizes_refused (Hold c) v ≡ [] → parts_fit (Hold c) v ≡ true
+        → (is_valid (effect (Hold c) v) ≡ true) × IsTied (effect (Hold c) v) }
     ensures rebind_stays { (j : Journal) (c : Rebindings) (v : Inv) → is_valid v ≡ true → IsTied v → causes j (Rebind c) v ≡ [] → sizes_refused (Rebind c) v ≡ [] → (is_valid (effect (Rebind c) v) ≡ true) × IsTied (effect (Rebind c) v) }
     ensures gone_stays { (j : Journal) (c : NamedVersions) (v : Inv) → is_valid v ≡ true → IsTied v → causes j (Gone c) v ≡ [] → sizes_refused (Gone c) v ≡ [] → (is_valid (effect (Gone c) v) ≡ true) × IsTied (effect (Gone c) v) }
     ensures expire_stays { (j : Journal) (c : NamedVersions) (v : Inv) → is_valid v ≡ true → IsTied v → IsOrdered v → causes j (Expire c) v ≡ [] → sizes_refused (Expire c) v ≡ []
@@ -107,6 +110,9 @@ pub fn versions_by_kind()
     ensures backup_found { (c : NewVersions) (v : Inv) → Facts v → IsTied v → scratch_refused c.scratch v ≡ [] → parts_fit (Backup c) v ≡ true
         → EachCan (Stores (v.number + 1) c.filespace) (back_up c.filespace) c.items (each make_scratch c.scratch v) → sizes_refused (Backup c) v ≡ []
         → (is_valid (effect (Backup c) v) ≡ true) × IsTied (effect (Backup c) v) }
+    ensures hold_found { (c : NewHeldObjects) (v : Inv) → Facts v → IsTied v → scratch_refused c.scratch v ≡ [] → parts_fit (Hold c) v ≡ true
+        → EachCan (Holds (v.number + 1) c.filespace) (hold c.filespace) c.items (each make_scratch c.scratch v) → sizes_refused (Hold c) v ≡ []
+        → (is_valid (effect (Hold c) v) ≡ true) × IsTied (effect (Hold c) v) }
     ensures rebind_found { (c : Rebindings) (v : Inv) → Facts v → IsTied v → EachCan (λ i w. Rewrites (v.number + 1) w (rebind c.filespace i w)) (rebind c.filespace) c.items v → sizes_refused (Rebind c) v ≡ []
         → (is_valid (effect (Rebind c) v) ≡ true) × IsTied (effect (Rebind c) v) }
     ensures gone_found { (c : NamedVersions) (v : Inv) → Facts v → IsTied v → EachCan (λ i w. Rewrites (v.number + 1) w (mark_gone c.filespace i w)) (mark_gone c.filespace) c.items v → sizes_refused (Gone c) v ≡ []
@@ -121,11 +127,13 @@ pub fn versions_by_kind()
     ensures discard_order { (c : DiscardedVersions) (v : Inv) → IsOrdered v → IsOrdered (effect (Discard c) v) }
     ensures backup_counted { (j : Journal) (c : NewVersions) (v : Inv) → AreGroupsOrdered v.clients.filespaces → causes j (Backup c) v ≡ []
         → count_items (effect (Backup c) v) + items_gone (Backup c) v ≡ count_items v + items_added (Backup c) v }
+    ensures hold_counted { (j : Journal) (c : NewHeldObjects) (v : Inv) → is_valid v ≡ true → causes j (Hold c) v ≡ [] → count_items (effect (Hold c) v) + items_gone (Hold c) v ≡ count_items v + items_added (Hold c) v }
     ensures rebind_less { (c : Rebindings) (v : Inv) → count_items (effect (Rebind c) v) ≤ count_items v }
     ensures gone_less { (c : NamedVersions) (v : Inv) → count_items (effect (Gone c) v) ≤ count_items v }
     ensures expire_less { (c : NamedVersions) (v : Inv) → count_items (effect (Expire c) v) ≤ count_items v }
     ensures discard_less { (c : DiscardedVersions) (v : Inv) → count_items (effect (Discard c) v) ≤ count_items v }
     ensures backup_made { (j : Journal) (c : NewVersions) (v : Inv) → Facts v → AreAllOrderly v.clients.filespaces → causes j (Backup c) v ≡ [] → parts_fit (Backup c) v ≡ true → CanChange (Backup c) v }
+    ensures hold_made { (j : Journal) (c : NewHeldObjects) (v : Inv) → Facts v → causes j (Hold c) v ≡ [] → parts_fit (Hold c) v ≡ true → CanChange (Hold c) v }
     ensures rebind_made { (c : Rebindings) (v : Inv) → CanChange (Rebind c) v }
     ensures gone_made { (j : Journal) (c : NamedVersions) (v : Inv) → causes j (Gone c) v ≡ [] → CanChange (Gone c) v }
     ensures expire_made { (c : NamedVersions) (v : Inv) → CanChange (Expire c) v }

@@ -1,19 +1,21 @@
 // What the definitions mean, as laws. Each stands on a function that does nothing.
-ghost use Rattle.std.specs.Prelude.{◌≡◌, ℕ, ◌+◌, ◌-◌, ◌^◌, max, Bool, true, nat_lt, nat_le, is_some, List, [], ◌∷◌, ◌++◌, map, Some};
+ghost use Rattle.std.specs.Prelude.{◌≡◌, ℕ, ◌+◌, ◌-◌, ◌^◌, max, Bool, true, nat_lt, nat_le, is_some, List, [], ◌∷◌, ◌++◌, map, Some, Result};
 ghost use Rattle.std.specs.List.{list_all, flat_map};
+ghost use Rattle.kinds.specs.declared.refusal.Refusal.{Refusal};
 ghost use Rattle.kinds.specs.declared.segment.Segment.{Segment};
 ghost use Rattle.entries.specs.change_items.declared.items.DroppedCopy.{DroppedCopy};
 ghost use Rattle.entries.specs.change_items.declared.items.MovedCopy.{MovedCopy};
 ghost use Rattle.entries.specs.change_items.declared.items.NewCopy.{NewCopy};
+ghost use Rattle.entries.specs.change_items.declared.items.NewHeldObject.{NewHeldObject};
 ghost use Rattle.entries.specs.change_items.declared.items.NewVersion.{NewVersion};
 ghost use Rattle.entries.specs.change_items.declared.items.ScratchVolume.{ScratchVolume};
 ghost use Rattle.entries.specs.declared.change.Change.{Change};
 ghost use Rattle.inventory_rows.specs.version_groups.declared.copies.CopyRow.{CopyRow};
-ghost use Rattle.inventory_rows.specs.version_groups.declared.group.GroupChange.TheVariants.{Remove};
 ghost use Rattle.inventory_rows.specs.version_groups.declared.versions.Version.{Version};
 ghost use Rattle.inventory_rows.specs.volume_rows.declared.volume.Volume.{Volume};
 ghost use Rattle.inventory_rows.specs.volume_rows.Held.{held_of};
 ghost use Rattle.inventory_rows.specs.volume_rows.Volumes.{put_on, take_from};
+ghost use Rattle.inventory_rows.specs.object_rows.Rows.{Rows};
 ghost use Rattle.inventory_rows.specs.pool_tables.Rows.{row_at};
 ghost use Rattle.inventory_rows.specs.pool_rows.PoolRows.{is_sequential, is_sequential_at};
 ghost use Rattle.inventory_rows.specs.Search.{copies, copy_in, pool, version, versions};
@@ -22,14 +24,14 @@ ghost use Rattle.inventory_rules.specs.Common.{each, is_free_file};
 ghost use Rattle.inventory_rules.specs.Copies.{added, add_copy, change_copy, drop_copy, dropped, move_copy, moved, placed_now, put_moved, moved_copy_fits, new_copy_fits};
 ghost use Rattle.inventory_rules.specs.Segments.{make_scratch, put, take_all, take_away, scratch_refused, are_all_clear, are_clear, items_fit, lies_rightly, scratch_fits};
 ghost use Rattle.inventory_rules.specs.Transactions.{changed, effect, sizes_refused, is_of_data};
-ghost use Rattle.inventory_rules.specs.Versions.{back_up, change_group, remove, new_version_fits};
+ghost use Rattle.inventory_rules.specs.Versions.{back_up, held_too, hold, inserted, new_held_fits, new_version_fits, take_versions};
 ghost use Rattle.inventory_rules.specs.Held.{holding, IsTied};
 ghost use Rattle.inventory_rules.specs.Valid.{are_disjoint, copies_cite, is_valid, volumes_are};
 ghost use Rattle.inventory_rules.specs.Facts.{Facts};
 ghost use Rattle.inventory_rules.specs.Halfway.{is_volume_with, lying, segments_of, VersionFacts, VolumeFacts};
 ghost use Rattle.inventory_rules.specs.Reordered.{IsReordered};
-ghost use Rattle.inventory_laws.specs.Coming.{Came, in_pool, in_pools, in_rows, MayCome, of_object};
-ghost use Rattle.inventory_laws.specs.Kept.{is_cited, OnlyVolumes};
+ghost use Rattle.inventory_laws.specs.Coming.{Came, in_pool, in_pools, MayCome, of_object};
+ghost use Rattle.inventory_laws.specs.Kept.{clients_after, is_cited, OnlyVolumes};
 ghost use Rattle.inventory_laws.specs.Steady.{IsSteady};
 
 /// Segments in another order are the same segments: they pass the same tests, are as disjoint, and a volume's row holds the same of them.
@@ -100,6 +102,7 @@ pub fn volumes_alone_change()
 /// copies came into the rows or went from them.
 pub fn segments_may_come()
     ensures new_versions { (items : List NewVersion) (v : Inv) → items_fit new_version_fits (λ i. i.segments) items v ≡ true → MayCome [] v (in_pools (λ i. i.pool) (λ i. i.segments) items) }
+    ensures new_held { (items : List NewHeldObject) (v : Inv) → items_fit new_held_fits (λ i. i.segments) items v ≡ true → MayCome [] v (in_pools (λ i. i.pool) (λ i. i.segments) items) }
     ensures new_copies { (items : List NewCopy) (v : Inv) → items_fit new_copy_fits (λ i. i.segments) items v ≡ true → MayCome [] v (in_pools (λ i. i.pool) (λ i. i.segments) items) }
     ensures moved { (items : List MovedCopy) (v : Inv) → items_fit (moved_copy_fits []) (λ i. i.segments) items v ≡ true → MayCome [] v (in_pools (λ i. i.pool) (λ i. i.segments) items) }
     ensures put { (p : List (ℕ × Segment)) (object n : ℕ) (segments : List Segment) (v : Inv) (rest : List (ℕ × Segment)) → VolumeFacts p v → MayCome p v (in_pool n segments ++ rest) → Came (of_object object segments ++ p) (put object segments v) rest }
@@ -117,24 +120,26 @@ pub fn copies_stay_cited()
 {}
 
 /// What holds within a transaction on data is kept by the step of each item, where the change of the clients' rows keeps the facts of the
-/// versions and changes the copies as it is said of it.
+/// objects and changes the copies as it is said of it. An object that expires or is discarded goes from the rows by some such change.
 pub fn items_keep_steady()
-    ensures backed_up { (n : ℕ) (p : List (ℕ × Segment)) (filespace : ℕ) (item : NewVersion) (v : Inv) (rest : List (ℕ × Segment)) → MayCome p v (in_pool item.pool item.segments ++ rest) → is_some (pool item.pool v) ≡ true → VersionFacts n (in_rows filespace item v) → IsReordered ((item.object, placed_now item.pool item.segments v) ∷ copies v) (copies (in_rows filespace item v)) → VolumeFacts p v → copies_cite v ≡ true → IsSteady n p (back_up filespace item v) × MayCome p (back_up filespace item v) rest }
+    ensures backed_up { (n : ℕ) (p : List (ℕ × Segment)) (filespace : ℕ) (item : NewVersion) (v : Inv) (rest : List (ℕ × Segment)) → MayCome p v (in_pool item.pool item.segments ++ rest) → is_some (pool item.pool v) ≡ true → VersionFacts n (inserted filespace item v) → IsReordered ((item.object, placed_now item.pool item.segments v) ∷ copies v) (copies (inserted filespace item v)) → VolumeFacts p v → copies_cite v ≡ true → IsSteady n p (back_up filespace item v) × MayCome p (back_up filespace item v) rest }
+    ensures held { (n : ℕ) (p : List (ℕ × Segment)) (filespace : ℕ) (item : NewHeldObject) (v : Inv) (rest : List (ℕ × Segment)) → MayCome p v (in_pool item.pool item.segments ++ rest) → is_some (pool item.pool v) ≡ true → VersionFacts n (held_too filespace item v) → IsReordered ((item.object, placed_now item.pool item.segments v) ∷ copies v) (copies (held_too filespace item v)) → VolumeFacts p v → copies_cite v ≡ true → IsSteady n p (hold filespace item v) × MayCome p (hold filespace item v) rest }
     ensures added { (n : ℕ) (p : List (ℕ × Segment)) (item : NewCopy) (v : Inv) (rest : List (ℕ × Segment)) → MayCome p v (in_pool item.pool item.segments ++ rest) → is_some (pool item.pool v) ≡ true → VersionFacts n (change_copy item.object (added item v) v) → IsReordered ((item.object, placed_now item.pool item.segments v) ∷ copies v) (copies (change_copy item.object (added item v) v)) → VolumeFacts p v → copies_cite v ≡ true → IsSteady n p (add_copy item v) × MayCome p (add_copy item v) rest }
     ensures moved { (n : ℕ) (p : List (ℕ × Segment)) (item : MovedCopy) (v : Inv) (w : Version) (old : CopyRow) → version item.object v ≡ Some w → copy_in item.from w ≡ Some old → is_cited v (item.object, placed_now item.pool item.segments v) ≡ true → VersionFacts n (change_copy item.object (moved item v) v) → IsReordered ((item.object, placed_now item.pool item.segments v) ∷ copies v) ((item.object, old) ∷ copies (change_copy item.object (moved item v) v)) → VolumeFacts (of_object item.object item.segments ++ p) v → copies_cite v ≡ true → IsSteady n p (move_copy item v) }
     ensures others_cited { (item : MovedCopy) (v : Inv) (e : ℕ × CopyRow) → is_cited (move_copy item v) e ≡ is_cited v e }
     ensures dropped { (n : ℕ) (p : List (ℕ × Segment)) (item : DroppedCopy) (v : Inv) (w : Version) (old : CopyRow) → version item.object v ≡ Some w → copy_in item.pool w ≡ Some old → VersionFacts n (change_copy item.object (dropped item) v) → IsReordered (copies v) ((item.object, old) ∷ copies (change_copy item.object (dropped item) v)) → VolumeFacts p v → copies_cite v ≡ true → IsSteady n p (drop_copy item v) }
-    ensures removed { (n : ℕ) (p : List (ℕ × Segment)) (filespace : ℕ) (path : List ℕ) (object : ℕ) (v : Inv) (w : Version) → version object v ≡ Some w → VersionFacts n (change_group filespace path (Remove object) v) → IsReordered (copies v) (map (λ c. (object, c)) w.copies ++ copies (change_group filespace path (Remove object) v)) → VolumeFacts p v → copies_cite v ≡ true → IsSteady n p (remove filespace path object v) }
+    ensures removed { (n : ℕ) (p : List (ℕ × Segment)) (step : Rows → Result Rows Refusal) (object : ℕ) (v : Inv) (w : Version) → version object v ≡ Some w → VersionFacts n (clients_after step v) → IsReordered (copies v) (map (λ c. (object, c)) w.copies ++ copies (clients_after step v)) → VolumeFacts p v → copies_cite v ≡ true → IsSteady n p (clients_after step (take_versions object v)) }
 {}
 
 /// But for the rows of volumes, the step of an item is the change of the clients' rows.
 pub fn items_change_clients()
-    ensures backed_up { (filespace : ℕ) (item : NewVersion) (v : Inv) → OnlyVolumes (in_rows filespace item v) (back_up filespace item v) }
+    ensures backed_up { (filespace : ℕ) (item : NewVersion) (v : Inv) → OnlyVolumes (inserted filespace item v) (back_up filespace item v) }
+    ensures held { (filespace : ℕ) (item : NewHeldObject) (v : Inv) → OnlyVolumes (held_too filespace item v) (hold filespace item v) }
     ensures added { (item : NewCopy) (v : Inv) → OnlyVolumes (change_copy item.object (added item v) v) (add_copy item v) }
     ensures put_moved { (items : List MovedCopy) (v : Inv) → OnlyVolumes v (each put_moved items v) }
     ensures moved { (item : MovedCopy) (v : Inv) → OnlyVolumes (change_copy item.object (moved item v) v) (move_copy item v) }
     ensures dropped { (item : DroppedCopy) (v : Inv) → OnlyVolumes (change_copy item.object (dropped item) v) (drop_copy item v) }
-    ensures removed { (filespace : ℕ) (path : List ℕ) (object : ℕ) (v : Inv) → OnlyVolumes (change_group filespace path (Remove object) v) (remove filespace path object v) }
+    ensures removed { (step : Rows → Result Rows Refusal) (object : ℕ) (v : Inv) → OnlyVolumes (clients_after step v) (clients_after step (take_versions object v)) }
     ensures versions { (n : ℕ) (v w : Inv) → OnlyVolumes v w → VersionFacts n v → VersionFacts n w }
 {}
 

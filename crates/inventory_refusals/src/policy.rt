@@ -23,6 +23,14 @@ fn destination_refusal(tables: &Tables, change: &PolicyChange) -> Option<Refusal
             is_primary(tables, group.rule().destination),
             Refusal::NotFound,
         ),
+        PolicyChange::ArchiveGroup {
+            verb: Verb::Define | Verb::Update,
+            group,
+            ..
+        } => unless(
+            is_primary(tables, group.rule().destination),
+            Refusal::NotFound,
+        ),
         _ => None,
     }
 }

@@ -1,10 +1,10 @@
 //! Why the database refuses a transaction.
 
-ghost use Rattle.std.specs.Prelude.{◌≡◌, ◌++◌, nat_le};
+ghost use Rattle.std.specs.Prelude.{◌≡◌, ◌++◌, map, nat_le};
 ghost use Rattle.kinds.specs.Refusals.{foremost, unless};
 ghost use Rattle.inventory_rows.specs.State.{inv_of};
 ghost use Rattle.inventory_rules.specs.Copies.{move_refused, copy_list_refused};
-ghost use Rattle.inventory_rules.specs.Versions.{backup_refused, objects_refused};
+ghost use Rattle.inventory_rules.specs.Versions.{new_refused, objects_refused};
 ghost use Rattle.inventory_rules.specs.Segments.{scratch_refused};
 ghost use Rattle.inventory_rules.specs.Transactions.{causes};
 
@@ -14,11 +14,11 @@ use crate::policy::policy_refused;
 use crate::reuse::reuse_refused;
 use crate::store::store_refused;
 use entries::Change;
-use entries::change_items::{MovedCopies, NewCopies, NewVersions};
+use entries::change_items::{MovedCopies, NewCopies, ScratchVolume};
 use inventory_rows::Tables;
 use item_refusals::{
-    Past, backup_refused, copy_list_refused, discard_refused, drop_refused, expire_refused,
-    gone_refused, move_refused, objects_refused, rebind_refused, scratch_refused,
+    Arrival, Past, copy_list_refused, discard_refused, drop_refused, expire_refused, gone_refused,
+    move_refused, new_refused, objects_refused, rebind_refused, scratch_refused,
 };
 use kinds::{Day, Refusal, sooner_of, unless};
 
@@ -30,15 +30,21 @@ fn day_refused(tables: &Tables, day: Day) -> Option<Refusal>
     unless(today <= given, Refusal::DayBack { today, given })
 }
 
+/// Why new objects, and the scratch volumes that are made for them, are refused.
 #[tactic(auto, using(item_refusals::proofs::Foremost::foremost_append))]
-fn versions_refused(tables: &Tables, versions: &NewVersions) -> Option<Refusal>
-    ensures { result ≡ foremost (backup_refused versions.now.filespace versions.now.items (inv_of tables.now)
-        ++ (scratch_refused versions.now.scratch (inv_of tables.now) ++ objects_refused versions.now.items (inv_of tables.now))) }
+fn arrivals_refused<T: Arrival>(
+    tables: &Tables,
+    filespace: u32,
+    scratch: &[ScratchVolume],
+    items: &[T],
+) -> Option<Refusal>
+    ensures { result ≡ foremost (new_refused filespace (map T.number items.now) (inv_of tables.now)
+        ++ (scratch_refused scratch.now (inv_of tables.now) ++ objects_refused (map T.number items.now) (inv_of tables.now))) }
 {
-    let items = backup_refused(tables, versions.filespace, versions.items.as_slice());
-    let scratch = scratch_refused(tables, versions.scratch.as_slice());
-    let objects = objects_refused(tables, versions.items.as_slice());
-    sooner_of(items, sooner_of(scratch, objects))
+    let new = new_refused(tables, filespace, items);
+    let scratch = scratch_refused(tables, scratch);
+    let objects = objects_refused(tables, items);
+    sooner_of(new, sooner_of(scratch, objects))
 }
 
 #[tactic(auto, using(item_refusals::proofs::Foremost::foremost_append))]
@@ -70,7 +76,22 @@ pub fn refusal_of<J: Past>(past: &J, tables: &Tables, change: &Change) -> Option
         Change::Policy(change) => policy_refused(tables, change),
         Change::Object(change) => client_refused(tables, change),
         Change::Pool(change) => store_refused(tables, change),
-        Change::Backup(versions) => versions_refused(tables, versions),
+        Change::Backup(change) => {
+            arrivals_refused(
+                tables,
+                change.filespace,
+                change.scratch.as_slice(),
+                change.items.as_slice(),
+            )
+        }
+        Change::Hold(change) => {
+            arrivals_refused(
+                tables,
+                change.filespace,
+                change.scratch.as_slice(),
+                change.items.as_slice(),
+            )
+        }
         Change::Rebind(paths) => {
             rebind_refused(past, tables, paths.filespace, paths.items.as_slice())
         }
@@ -89,7 +110,7 @@ pub fn refusal_of<J: Past>(past: &J, tables: &Tables, change: &Change) -> Option
             discard_refused(past, tables, versions.reason, versions.items.as_slice())
         }
         Change::Reuse { file } => reuse_refused(tables, *file),
-        Change::DbBegin { file } => begin_refused(tables, *file),
+        Change::DbBegin { file, after } => begin_refused(tables, *file, *after),
         Change::DbEnd { file } => end_refused(tables, *file),
         Change::DbDelete { file } => delete_refused(tables, *file),
     }

@@ -2,13 +2,14 @@
 
 ghost use Rattle.std.specs.Prelude.{◌≡◌, ◌==◌, true, false};
 ghost use Rattle.std.specs.List.{list_any};
+ghost use Rattle.std.specs.Option.{option_map_or};
 ghost use Rattle.inventory_rows.specs.State.{inv_of};
-ghost use Rattle.inventory_rows.specs.Search.{is_destination, node_in, rules_of_set};
+ghost use Rattle.inventory_rows.specs.Search.{is_destination, node_in};
 ghost use Rattle.inventory_refusals.specs.Users.{goes_to, classes_go_to, sets_go_to, domains_go_to};
 
 use inventory_rows::Tables;
-use inventory_rows::policy_domains::{PolicyDomain, PolicySet};
-use kinds::{CopyGroup, Name};
+use inventory_rows::policy_domains::{ManagementClass, PolicyDomain, PolicySet};
+use kinds::{ArchiveGroup, CopyGroup, Name};
 use std::collections::BTreeMap;
 
 /// The least node of a domain.
@@ -23,8 +24,8 @@ pub(crate) fn node_in(tables: &Tables, domain: &Name) -> Option<u32>
     None
 }
 
-fn goes_to(group: Option<CopyGroup>, pool: u32) -> bool
-    ensures { result ≡ goes_to pool group }
+fn backup_goes_to(group: Option<CopyGroup>, pool: u32) -> bool
+    ensures { result ≡ option_map_or (λ rule. rule.destination == pool) group false }
 {
     match group {
         Some(group) => group.rule().destination == pool,
@@ -32,11 +33,26 @@ fn goes_to(group: Option<CopyGroup>, pool: u32) -> bool
     }
 }
 
-fn classes_go_to(classes: &BTreeMap<Name, Option<CopyGroup>>, pool: u32) -> bool
+fn archive_goes_to(group: Option<ArchiveGroup>, pool: u32) -> bool
+    ensures { result ≡ option_map_or (λ rule. rule.destination == pool) group false }
+{
+    match group {
+        Some(group) => group.rule().destination == pool,
+        None => false,
+    }
+}
+
+fn goes_to(class: &ManagementClass, pool: u32) -> bool
+    ensures { result ≡ goes_to pool class.now }
+{
+    backup_goes_to(class.backup, pool) || archive_goes_to(class.archive, pool)
+}
+
+fn classes_go_to(classes: &BTreeMap<Name, ManagementClass>, pool: u32) -> bool
     ensures { result ≡ classes_go_to pool classes.now.entries }
 {
-    'classes: for (_, group) in classes {
-        if goes_to(*group, pool) {
+    'classes: for (_, class) in classes {
+        if goes_to(class, pool) {
             return true;
         }
     }

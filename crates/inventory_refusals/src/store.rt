@@ -3,16 +3,17 @@
 ghost use Rattle.std.specs.Prelude.{◌≡◌, ℕ};
 ghost use Rattle.std.specs.Option.{option_copied};
 ghost use Rattle.kinds.specs.Refusals.{foremost};
-ghost use Rattle.kinds.specs.declared.pool.PoolRule.{PoolRule};
 ghost use Rattle.inventory_rows.specs.State.{inv_of};
-ghost use Rattle.inventory_rules.specs.Stores.{is_same_kind, stays, pool_by_name, destination_used, access_refused, pool_of_volume, store_bounds, store_refused};
+ghost use Rattle.inventory_rules.specs.Stores.{collocation_refused, is_same_kind, stays, pool_by_name, destination_used, access_refused, pool_of_volume, store_bounds, store_refused};
 
 use crate::rules::is_destination;
 use inventory_rows::pool_tables::Pool;
 use inventory_rows::{Tables, is_primary_kind};
 use inventory_rules::may_have;
 use item_refusals::{file_bound, file_refusal, full_at};
-use kinds::{Access, By, Name, PoolChange, PoolKind, Refusal, Verb, bad_value, sooner_of, unless};
+use kinds::{
+    Access, By, Name, PoolChange, PoolKind, PoolRule, Refusal, Verb, bad_value, sooner_of, unless,
+};
 
 fn is_same_kind(a: PoolKind, b: PoolKind) -> bool
     ensures { result ≡ is_same_kind a b }
@@ -77,18 +78,38 @@ fn access_refusal(access: Access, pool: Option<&Pool>) -> Option<Refusal>
     }
 }
 
+/// A client's objects would be kept together in a pool of the class DISK.
+fn collocation_refusal(class: &Name, rule: PoolRule) -> Option<Refusal>
+    ensures { result ≡ foremost (collocation_refused class.now rule) }
+{
+    unless(
+        !(rule.collocate && class.as_bytes() == b"DISK".as_slice()),
+        bad_value(),
+    )
+}
+
+#[tactic(auto, using(item_refusals::proofs::Foremost::foremost_append))]
 fn pool_bounds(
     tables: &Tables,
     verb: Verb,
     name: &Name,
     class: &Name,
     kind: PoolKind,
+    rule: PoolRule,
 ) -> Option<Refusal>
-    ensures { (settings : PoolRule) → result ≡ foremost (store_bounds (PoolChange.Pool verb name.now class.now kind settings) (inv_of tables.now)) }
+    ensures { result ≡ foremost (store_bounds (PoolChange.Pool verb name.now class.now kind rule) (inv_of tables.now)) }
 {
     match verb {
-        Verb::Define => full_at(tables.next_pool, 1 << 16),
-        Verb::Update => unless(stays(class, kind, pool_by_name(tables, name)), bad_value()),
+        Verb::Define => {
+            sooner_of(
+                collocation_refusal(class, rule),
+                full_at(tables.next_pool, 1 << 16),
+            )
+        }
+        Verb::Update => {
+            let same = stays(class, kind, pool_by_name(tables, name));
+            sooner_of(unless(same, bad_value()), collocation_refusal(class, rule))
+        }
         Verb::Delete => destination_use(tables, name),
     }
 }
@@ -121,8 +142,8 @@ fn bounds_refusal(tables: &Tables, change: &PoolChange) -> Option<Refusal>
             pool,
             class,
             kind,
-            ..
-        } => pool_bounds(tables, *verb, pool, class, *kind),
+            settings,
+        } => pool_bounds(tables, *verb, pool, class, *kind, settings.rule()),
         PoolChange::Volume {
             verb,
             volume,

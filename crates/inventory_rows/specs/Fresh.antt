@@ -4,7 +4,7 @@ use Rattle.policy_domains.specs.Fresh as policy
 use Rattle.pool_rows.specs.PoolRows as stores
 use Rattle.inventory_rows.specs.State.{Inv}
 
--- no transaction was made; the domain STANDARD; the device class DISK and the pool BACKUPPOOL; no node, filespace, volume or backup
+-- no transaction was made; the domain STANDARD; the device class DISK and the pool BACKUPPOOL; no node, filespace, held object, volume or backup
 abbrev pub fresh : Inv
 fresh = record {
   number = 0;
@@ -15,7 +15,7 @@ fresh = record {
   next_file = 4;
   next_object = 1;
   domains = policy.fresh;
-  clients = record { nodes = []; filespaces = [] };
+  clients = record { nodes = []; filespaces = []; held = [] };
   stores = stores.fresh;
   backups = [];
 }

@@ -25,7 +25,7 @@ items_of_group group = object.items_of_group group
 abbrev pub items_of_filespace : Filespace → ℕ
 items_of_filespace f = object.items_of_filespace f
 
--- how many items the lists of a database have together: domains, sets and classes; nodes; filespaces, groups, versions, copies and segments;
+-- how many items the lists of a database have together: domains, sets and classes; nodes; filespaces, groups, versions, held objects, copies and segments;
 -- device classes, pools and volumes; database backups and their delays
 abbrev pub count_items : Inv → ℕ
 count_items v =

@@ -1,14 +1,14 @@
 -- Where things stand in the database, and what uses them.
-use Rattle.std.specs.Prelude.{◌≡◌, ℕ, Bool, true, false, not, ◌==◌, ◌&&◌, ◌||◌, is_some, List, [], ◌∷◌, map, filter, Option, Some, None, option_and_then}
+use Rattle.std.specs.Prelude.{◌≡◌, ℕ, Bool, true, false, not, ◌==◌, ◌&&◌, ◌||◌, is_some, List, [], ◌∷◌, ◌++◌, map, filter, Option, Some, None, option_and_then}
 use Rattle.std.specs.List.{list_all, list_any, flat_map, find}
 use Rattle.std.specs.Map.{lookup}
 use Rattle.std.specs.Option.{option_map, option_map_or}
 use Rattle.kinds.specs.declared.pool.PoolKind.{PoolKind}
 use Rattle.kinds.specs.declared.pool.PoolKind.TheVariants.{Primary, Copy}
-use Rattle.kinds.specs.declared.rule.BackupRule.{BackupRule}
 use Rattle.kinds.specs.declared.rule.RuleFound.{RuleFound}
 use Rattle.kinds.specs.declared.segment.Segment.{Segment}
 use Rattle.kinds.specs.Names.{is_same_name}
+use Rattle.policy_domains.specs.declared.classes.ManagementClass.{ManagementClass}
 use Rattle.policy_domains.specs.Rows.{SetRow, DomainRow}
 use Rattle.policy_domains.specs.Rules.{rule_of}
 use Rattle.version_groups.specs.declared.copies.CopyRow.{CopyRow}
@@ -17,28 +17,32 @@ use Rattle.version_groups.specs.declared.groups.Filespace.{Filespace}
 use Rattle.version_groups.specs.declared.versions.Version.{Version}
 use Rattle.version_groups.specs.Versions.{version_of}
 use Rattle.object_rows.specs.declared.place.Node.{Node}
-use Rattle.object_rows.specs.declared.place.Place.{Place}
-use Rattle.object_rows.specs.Filespaces.{at_number, filespace_at, group_at, versions_of}
+use Rattle.object_rows.specs.declared.held_object.HeldRow.{HeldRow}
+use Rattle.object_rows.specs.Filespaces.{at_number, filespace_at, group_at}
 use Rattle.object_rows.specs.Held.{copies_in}
-use Rattle.object_rows.specs.Held as held
-use Rattle.object_rows.specs.Places.{place_of}
-use Rattle.object_rows.specs.Rows.{Rows}
+use Rattle.object_rows.specs.Held as held_copies
+use Rattle.object_rows.specs.HeldRows.{held_at}
+use Rattle.object_rows.specs.Rows.{Rows, kept_of, filespace_of_kept}
 use Rattle.pool_tables.specs.declared.pool.Pool.{Pool}
 use Rattle.pool_rows.specs.PoolRows.{PoolRows}
 use Rattle.pool_tables.specs.Rows.{row_at, number_where}
 use Rattle.inventory_rows.specs.State.{Inv}
 
--- all versions that are kept
+-- what is kept of each object: the versions of all paths, and, as a version that is never inactive, each held object
 abbrev pub versions : Inv → List Version
-versions v = versions_of v.clients.filespaces
+versions v = kept_of v.clients
 
--- the version of an object
+-- what is kept of an object
 abbrev pub version : ℕ → Inv → Option Version
 version object v = version_of object (versions v)
 
--- the filespace and the path under which the version of an object stands
-abbrev pub place : ℕ → Inv → Option Place
-place object v = place_of object v.clients.filespaces
+-- an object that is held
+abbrev pub held : ℕ → Inv → Option HeldRow
+held object v = held_at object v.clients.held
+
+-- the filespace in which an object is kept
+abbrev pub filespace_of : ℕ → Inv → Option ℕ
+filespace_of object v = filespace_of_kept object v.clients
 
 -- the group of a path
 abbrev pub group : ℕ → List ℕ → Inv → Option Group
@@ -85,29 +89,33 @@ rule_for filespace class domains clients = option_and_then (λ domain. rule_of d
 abbrev pub rule_in : ℕ → List ℕ → Inv → Option RuleFound
 rule_in filespace class v = rule_for filespace class v.domains v.clients
 
--- the copy groups of a set
-abbrev pub rules_of_set : SetRow → List BackupRule
-rules_of_set set = flat_map (λ c. option_map_or (λ rule. rule ∷ []) c.1 []) set.classes
+-- the destinations of the copy groups of a class
+abbrev pub destinations_of : ManagementClass → List ℕ
+destinations_of class = option_map_or (λ rule. rule.destination ∷ []) class.backup [] ++ option_map_or (λ rule. rule.destination ∷ []) class.archive []
 
--- the copy groups of all sets of all domains
-abbrev pub rules : Inv → List BackupRule
-rules v = flat_map (λ d. flat_map (λ s. rules_of_set s.1) d.1.sets) v.domains
+-- the destinations of the copy groups of a set
+abbrev pub destinations_of_set : SetRow → List ℕ
+destinations_of_set set = flat_map (λ c. destinations_of c.1) set.classes
+
+-- the destinations of the copy groups of all sets of all domains
+abbrev pub destinations : Inv → List ℕ
+destinations v = flat_map (λ d. flat_map (λ s. destinations_of_set s.1) d.1.sets) v.domains
 
 -- a copy group has the pool as its destination
 abbrev pub is_destination : ℕ → Inv → Bool
-is_destination pool v = list_any (λ rule. rule.destination == pool) (rules v)
+is_destination pool v = list_any (λ destination. destination == pool) (destinations v)
 
 -- the least node of a domain
 abbrev pub node_in : List ℕ → Inv → Option ℕ
 node_in domain v = number_where (λ n. is_same_name n.domain domain) v.clients.nodes
 
--- the copies of all versions, each with its object
+-- the copies of all objects, each with its object
 abbrev pub copies : Inv → List (ℕ × CopyRow)
-copies v = copies_in v.clients.filespaces
+copies v = copies_in v.clients
 
 -- a copy lies in the pool
 abbrev pub holds_copy : ℕ → Inv → Bool
-holds_copy pool v = held.holds_copy pool v.clients.filespaces
+holds_copy pool v = held_copies.holds_copy pool v.clients
 
 -- the segments on a volume, each with its object
 abbrev pub segments_on : ℕ → Inv → List (ℕ × Segment)

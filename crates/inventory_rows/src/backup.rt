@@ -106,6 +106,8 @@ pub struct Backup {
     pub number: u64,
     /// Whether its file is whole.
     pub is_done: bool,
+    /// The backup that it follows, by the number of its file: then it holds only what came behind that one.
+    pub after: Option<u32>,
     /// For each sequential pool that held a copy when it was taken, the least REUSEDELAY that the pool has had since.
     pub delays: Delays,
 }
@@ -118,6 +120,7 @@ impl Clone for Backup {
             taken: self.taken,
             number: self.number,
             is_done: self.is_done,
+            after: self.after,
             delays: self.delays.clone()?,
         })
     }

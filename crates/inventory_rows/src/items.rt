@@ -103,9 +103,9 @@ fn left_by_listed(backups: &BTreeMap<u32, Backup>, room: u128) -> Option<u128>
 }
 
 impl Tables {
-    /// What is left of the room once all items of the tables are in it: domains, sets and classes; nodes; filespaces, groups, versions, copies
-    /// and segments; device classes, pools and volumes; database backups and their delays. None where they have no room. It walks the
-    /// domains, their sets and the database backups, up to where the room ends, and takes no memory.
+    /// What is left of the room once all items of the tables are in it: domains, sets and classes; nodes; filespaces, groups, versions, held
+    /// objects, copies and segments; device classes, pools and volumes; database backups and their delays. None where they have no room. It
+    /// walks the domains, their sets and the database backups, up to where the room ends, and takes no memory.
     pub fn items_left(&self, room: u128) -> Option<u128>
         ensures { result ≡ left (count_items (inv_of self.now)) room }
     {

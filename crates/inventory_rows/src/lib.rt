@@ -1,5 +1,5 @@
-//! The rows of the server's whole database: policy domains, client nodes with their files' versions, storage pools with
-//! their volumes, database backups, the day, and the numbers that are given next.
+//! The rows of the server's whole database: policy domains, client nodes with their files' versions and the objects that they
+//! archived, storage pools with their volumes, database backups, the day, and the numbers that are given next.
 #![tactic(auto)]
 
 mod ascending;

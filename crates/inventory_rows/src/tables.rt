@@ -30,7 +30,7 @@ pub struct Tables {
     pub next_object: u64,
     /// The policy domains.
     pub domains: Domains,
-    /// The client nodes, their filespaces and the versions of their files.
+    /// The client nodes, their filespaces, the versions of their files and the objects that they archived.
     pub objects: Objects,
     /// The device classes, the storage pools and the volumes.
     pub pools: Pools,

@@ -14,7 +14,7 @@ use Rattle.entries.specs.change_items.declared.items.Rebinding.{Rebinding}
 use Rattle.entries.specs.change_items.declared.reasons.DiscardReason.{DiscardReason}
 use Rattle.entries.specs.change_items.declared.reasons.DropReason.{DropReason}
 use Rattle.inventory_rows.specs.version_groups.declared.versions.Version.{Version}
-use Rattle.inventory_rows.specs.version_groups.Versions.{has_object, is_active}
+use Rattle.inventory_rows.specs.version_groups.Versions.{is_active}
 use Rattle.inventory_rows.specs.object_rows.Filespaces.{versions_at}
 use Rattle.inventory_rows.specs.Search.{copy_in, group, version}
 use Rattle.inventory_rows.specs.State.{Inv}
@@ -23,7 +23,7 @@ use Rattle.inventory_rules.specs.Journal.{Journal}
 use Rattle.inventory_rules.specs.Segments.{scratch_refused}
 use Rattle.inventory_rules.specs.Transactions.{causes, effect, refused, sizes_refused, then_valid}
 use Rattle.inventory_rules.specs.Valid.{is_valid}
-use Rattle.inventory_rules.specs.Versions.{discarded_refused, discard_reason_refused, expired_refused, gone_or_unknown, name_once, named_gone_refused, of_version, rebinding_refused, stale_version}
+use Rattle.inventory_rules.specs.Versions.{discarded_refused, discard_reason_refused, expired_refused, gone_or_unknown, is_under, name_once, named_gone_refused, of_version, rebinding_refused, stale_version}
 
 -- ---- lists without causes
 
@@ -90,7 +90,7 @@ dropped_any j k reason v i h = version_any j k i.object (version_drop_refused j 
 
 expired_any : (j k : Journal) (filespace : ℕ) (v : Inv) (i : NamedVersion) → expired_refused j filespace v i ≡ [] → expired_refused k filespace v i ≡ []
 expired_any j k filespace v i h =
-    either_any (has_object i.object (versions_at filespace i.path v.clients.filespaces)) _ (gone_or_unknown (j.removed i.object)) (gone_or_unknown (k.removed i.object)) h
+    either_any (is_under filespace i.path i.object v) _ (gone_or_unknown (j.removed i.object)) (gone_or_unknown (k.removed i.object)) h
 
 discarded_any : (j k : Journal) (reason : DiscardReason) (v : Inv) (i : DiscardedVersion) → discarded_refused j reason v i ≡ [] → discarded_refused k reason v i ≡ []
 discarded_any j k reason v i h =
@@ -104,6 +104,7 @@ no_cause j k (change.Policy c) v h = h
 no_cause j k (change.Object c) v h = h
 no_cause j k (change.Pool c) v h = h
 no_cause j k (change.Backup c) v h = h
+no_cause j k (change.Hold c) v h = h
 no_cause j k (change.Rebind c) v h = listed _ (rebinding_refused j c.filespace v) (rebinding_refused k c.filespace v) (rebinding_any j k c.filespace v) c.items h
 no_cause j k (change.Gone c) v h = listed _ (named_gone_refused j c.filespace v) (named_gone_refused k c.filespace v) (gone_any j k c.filespace v) c.items h
 no_cause j k (change.Move c) v h =
@@ -118,7 +119,7 @@ no_cause j k (change.DropCopies c) v h = listed _ (dropped_refused j c.reason v)
 no_cause j k (change.Expire c) v h = listed _ (expired_refused j c.filespace v) (expired_refused k c.filespace v) (expired_any j k c.filespace v) c.items h
 no_cause j k (change.Discard c) v h = listed _ (discarded_refused j c.reason v) (discarded_refused k c.reason v) (discarded_any j k c.reason v) c.items h
 no_cause j k (change.Reuse file) v h = h
-no_cause j k (change.DbBegin file) v h = h
+no_cause j k (change.DbBegin file after) v h = h
 no_cause j k (change.DbEnd file) v h = h
 no_cause j k (change.DbDelete file) v h = h
 

@@ -17,7 +17,9 @@ use Rattle.kinds.specs.declared.segment.Segment.{Segment}
 use Rattle.entries.specs.change_items.declared.items.DiscardedVersion.{DiscardedVersion}
 use Rattle.entries.specs.change_items.declared.items.DroppedCopy.{DroppedCopy}
 use Rattle.entries.specs.change_items.declared.items.MovedCopy.{MovedCopy}
+use Rattle.entries.specs.change_items.declared.items.NamedVersion.{NamedVersion}
 use Rattle.entries.specs.change_items.declared.items.NewCopy.{NewCopy}
+use Rattle.entries.specs.change_items.declared.items.NewHeldObject.{NewHeldObject}
 use Rattle.entries.specs.change_items.declared.items.NewVersion.{NewVersion}
 use Rattle.entries.specs.change_items.declared.items.ScratchVolume.{ScratchVolume}
 use Rattle.entries.specs.declared.change.Change.{Change}
@@ -33,17 +35,19 @@ use Rattle.inventory_rows.specs.version_groups.Copies.{copies_after}
 use Rattle.inventory_rows.specs.version_groups.Entries.{on_ok, if_found, changed_at}
 use Rattle.inventory_rows.specs.version_groups.Groups.{at_path, class_after, group_after, group_at, group_with, groups_after, groups_with, names_kept, versions_after, versions_at, versions_in, without_empty}
 use Rattle.inventory_rows.specs.version_groups.Versions.{has_active, has_object, having_copies, is_empty, retired, superseded, undone, version_of, with_copies, without_object}
+use Rattle.inventory_rows.specs.object_rows.declared.held_object.HeldRow.{HeldRow}
 use Rattle.inventory_rows.specs.object_rows.declared.place.Node.{Node}
-use Rattle.inventory_rows.specs.object_rows.declared.place.Place.{Place}
 use Rattle.kinds.specs.declared.change.PoolChange.{PoolChange}
 use Rattle.kinds.specs.declared.change.PoolChange.TheVariants as store
 use Rattle.kinds.specs.declared.change.Verb.TheVariants as verb
 use Rattle.kinds.specs.declared.refusal.By.{By}
-use Rattle.inventory_rows.specs.object_rows.Changes.{by_filespace, by_object, filespaces_defined, filespaces_without, least, least_object, nodes_with, nodes_without, rows_changed, unless_used, with_nodes}
+use Rattle.kinds.specs.Least.{lesser}
+use Rattle.inventory_rows.specs.object_rows.Changes.{by_filespace, by_object, filespaces_defined, filespaces_without, least, least_in, least_object, nodes_with, nodes_without, rows_changed, unless_used, with_nodes}
 use Rattle.inventory_rows.specs.object_rows.Filespaces as filespace
+use Rattle.inventory_rows.specs.object_rows.HeldRows.{has_row, has_under, held_copied, held_without}
 use Rattle.inventory_rows.specs.object_rows.Names.{at_name, filespace_named, filespace_of, first_number, named_of, node_named}
-use Rattle.inventory_rows.specs.object_rows.Places.{listed, listed_at, listed_in}
-use Rattle.inventory_rows.specs.object_rows.Rows.{Rows, with_filespaces}
+use Rattle.inventory_rows.specs.object_rows.Places.{listed, listed_at, listed_in, place_of}
+use Rattle.inventory_rows.specs.object_rows.Rows.{Rows, filespaces_cleared, kept_of, rows_after, rows_altered, rows_cleared, rows_copied, rows_without, with_filespaces, with_held}
 use Rattle.inventory_rows.specs.State.{Inv}
 use Rattle.inventory_rules.specs.Clients as of_clients
 use Rattle.inventory_rules.specs.Common as of_common
@@ -53,6 +57,7 @@ use Rattle.inventory_rules.specs.Stores as of_stores
 use Rattle.inventory_rules.specs.Transactions as of_transactions
 use Rattle.inventory_rules.specs.Versions as of_versions
 use Rattle.inventory_rules.specs.Kept as kept
+use Rattle.inventory_rules.proofs.BareHeld.{has_row-bare, has_under-bare, numbers_in-bare}
 use Rattle.inventory_rules.proofs.MapValues.{values, remove_entry-values, insert_entry-values, changed_at-values}
 
 -- ---- the versions of a path
@@ -188,13 +193,20 @@ filespaces_copied-bare : (object : ℕ) (copies : List CopyRow) (fs : List (ℕ 
 filespaces_copied-bare object copies [] = refl
 filespaces_copied-bare object copies (f ∷ fs) = rw (groups_copied-bare object copies f.1.groups, filespaces_copied-bare object copies fs) refl
 
-altered-bare : (object : ℕ) (c : CopyChange) (fs : List (ℕ × Filespace)) → kept.bare (of_common.or_same fs (filespace.filespaces_altered object c fs)) ≡ kept.bare fs
-altered-bare object c fs = found (version_of object (filespace.versions_of fs)) where
-  copied : (r : Result (List CopyRow) Refusal) → kept.bare (of_common.or_same fs (on_ok (λ copies. filespace.filespaces_copied object copies fs) r)) ≡ kept.bare fs
-  copied (Ok copies) = filespaces_copied-bare object copies fs
+held_copied-bare : (object : ℕ) (copies : List CopyRow) (held : List (ℕ × HeldRow)) → kept.bare_held (held_copied object copies held) ≡ kept.bare_held held
+held_copied-bare object copies [] = refl
+held_copied-bare object copies (h ∷ held) = rw (having-bare object copies h.1.held.version, held_copied-bare object copies held) refl
+
+rows_copied-bare : (object : ℕ) (copies : List CopyRow) (rows : Rows) → kept.bare_rows (rows_copied object copies rows) ≡ kept.bare_rows rows
+rows_copied-bare object copies rows = rw (filespaces_copied-bare object copies rows.filespaces, held_copied-bare object copies rows.held) refl
+
+altered-bare : (object : ℕ) (c : CopyChange) (rows : Rows) → kept.bare_rows (of_common.or_same rows (rows_altered object c rows)) ≡ kept.bare_rows rows
+altered-bare object c rows = found (version_of object (kept_of rows)) where
+  copied : (r : Result (List CopyRow) Refusal) → kept.bare_rows (of_common.or_same rows (on_ok (λ copies. rows_copied object copies rows) r)) ≡ kept.bare_rows rows
+  copied (Ok copies) = rows_copied-bare object copies rows
   copied (Err e) = refl
 
-  found : (o : Option Version) → kept.bare (of_common.or_same fs (if_found o (λ v. on_ok (λ copies. filespace.filespaces_copied object copies fs) (copies_after c v.copies)))) ≡ kept.bare fs
+  found : (o : Option Version) → kept.bare_rows (of_common.or_same rows (if_found o (λ v. on_ok (λ copies. rows_copied object copies rows) (copies_after c v.copies)))) ≡ kept.bare_rows rows
   found None = refl
   found (Some v) = copied (copies_after c v.copies)
 
@@ -229,14 +241,11 @@ objects_in-bare (g ∷ gs) =
     ∙ rw (objects-bare g.1.versions, objects_in-bare gs) refl
     ∙ sym (map-append (λ (w : Version). w.object) g.1.versions (filespace.versions_in gs))
 
-abbrev bare_rows : Rows → Rows
-bare_rows rows = record { nodes = rows.nodes; filespaces = kept.bare rows.filespaces }
-
-nodes_changed-bare : (rows : Rows) (r : Result (List (ℕ × Node)) Refusal) → with_nodes (bare_rows rows) r ≡ on_ok bare_rows (with_nodes rows r)
+nodes_changed-bare : (rows : Rows) (r : Result (List (ℕ × Node)) Refusal) → with_nodes (kept.bare_rows rows) r ≡ on_ok kept.bare_rows (with_nodes rows r)
 nodes_changed-bare rows (Ok nodes) = refl
 nodes_changed-bare rows (Err e) = refl
 
-filespaces_changed-bare : (rows : Rows) (r : Result (List (ℕ × Filespace)) Refusal) → with_filespaces (bare_rows rows) (on_ok kept.bare r) ≡ on_ok bare_rows (with_filespaces rows r)
+filespaces_changed-bare : (rows : Rows) (r : Result (List (ℕ × Filespace)) Refusal) → with_filespaces (kept.bare_rows rows) (on_ok kept.bare r) ≡ on_ok kept.bare_rows (with_filespaces rows r)
 filespaces_changed-bare rows (Ok fs) = refl
 filespaces_changed-bare rows (Err e) = refl
 
@@ -263,35 +272,75 @@ filespaces_defined-bare node name number nodes fs = found (lookup (filespace.at_
       ap (λ z. cond (is_some (lookup (at_name name) z)) (Err Exists) (Ok (insert_entry nat_cmp (kept.bare fs) number (new_filespace node name)))) (named_of-bare node fs)
       ∙ defined (is_some (filespace_named node name fs))
 
-filespaces_without-bare : (number : ℕ) (fs : List (ℕ × Filespace)) → filespaces_without number (kept.bare fs) ≡ on_ok kept.bare (filespaces_without number fs)
-filespaces_without-bare number fs =
-    ap (λ o. if_found o (λ f. unless_used (by_object (least_object f.groups)) (remove_entry (filespace.at_number number) (kept.bare fs)))) (lookup-map_values kept.bare_filespace (filespace.at_number number) fs)
+filespaces_without-bare : (number : ℕ) (held : List (ℕ × HeldRow)) (fs : List (ℕ × Filespace)) → filespaces_without number (kept.bare_held held) (kept.bare fs) ≡ on_ok kept.bare (filespaces_without number held fs)
+filespaces_without-bare number held fs =
+    ap (λ ns. if_found (filespace.filespace_at number (kept.bare fs)) (λ f. unless_used (by_object (lesser (least_object f.groups) (least ns))) (remove_entry (filespace.at_number number) (kept.bare fs)))) (numbers_in-bare number held)
+    ∙ ap (λ o. if_found o (λ f. unless_used (by_object (lesser (least_object f.groups) (least_in number held))) (remove_entry (filespace.at_number number) (kept.bare fs)))) (lookup-map_values kept.bare_filespace (filespace.at_number number) fs)
     ∙ found (filespace.filespace_at number fs)
   where
     used : (b : Option By) → unless_used b (kept.bare (remove_entry (filespace.at_number number) fs)) ≡ on_ok kept.bare (unless_used b (remove_entry (filespace.at_number number) fs))
     used None = refl
     used (Some user) = refl
 
-    found : (o : Option Filespace) → if_found (option_map kept.bare_filespace o) (λ f. unless_used (by_object (least_object f.groups)) (remove_entry (filespace.at_number number) (kept.bare fs)))
-        ≡ on_ok kept.bare (if_found o (λ f. unless_used (by_object (least_object f.groups)) (remove_entry (filespace.at_number number) fs)))
+    found : (o : Option Filespace) → if_found (option_map kept.bare_filespace o) (λ f. unless_used (by_object (lesser (least_object f.groups) (least_in number held))) (remove_entry (filespace.at_number number) (kept.bare fs)))
+        ≡ on_ok kept.bare (if_found o (λ f. unless_used (by_object (lesser (least_object f.groups) (least_in number held))) (remove_entry (filespace.at_number number) fs)))
     found None = refl
     found (Some f) =
-        ap (λ z. unless_used (by_object (least z)) (remove_entry (filespace.at_number number) (kept.bare fs))) (objects_in-bare f.groups)
-        ∙ ap (unless_used (by_object (least_object f.groups))) (remove_entry-values kept.bare_filespace (filespace.at_number number) fs)
-        ∙ used (by_object (least_object f.groups))
+        ap (λ z. unless_used (by_object (lesser (least z) (least_in number held))) (remove_entry (filespace.at_number number) (kept.bare fs))) (objects_in-bare f.groups)
+        ∙ ap (unless_used (by_object (lesser (least_object f.groups) (least_in number held)))) (remove_entry-values kept.bare_filespace (filespace.at_number number) fs)
+        ∙ used (by_object (lesser (least_object f.groups) (least_in number held)))
 
-rows_changed-bare : (c : ObjectChange) (number : ℕ) (rows : Rows) → rows_changed c number (bare_rows rows) ≡ on_ok bare_rows (rows_changed c number rows)
+rows_changed-bare : (c : ObjectChange) (number : ℕ) (rows : Rows) → rows_changed c number (kept.bare_rows rows) ≡ on_ok kept.bare_rows (rows_changed c number rows)
 rows_changed-bare (client.Node two.Define name domain) number rows = nodes_changed-bare rows (nodes_with name domain number rows.nodes)
 rows_changed-bare (client.Node two.Delete name domain) number rows =
-    ap (with_nodes (bare_rows rows)) (nodes_without-bare name rows.filespaces rows.nodes) ∙ nodes_changed-bare rows (nodes_without name rows.filespaces rows.nodes)
+    ap (with_nodes (kept.bare_rows rows)) (nodes_without-bare name rows.filespaces rows.nodes) ∙ nodes_changed-bare rows (nodes_without name rows.filespaces rows.nodes)
 rows_changed-bare (client.Filespace two.Define node name n) number rows =
-    ap (with_filespaces (bare_rows rows)) (filespaces_defined-bare node name n rows.nodes rows.filespaces) ∙ filespaces_changed-bare rows (filespaces_defined node name n rows.nodes rows.filespaces)
+    ap (with_filespaces (kept.bare_rows rows)) (filespaces_defined-bare node name n rows.nodes rows.filespaces) ∙ filespaces_changed-bare rows (filespaces_defined node name n rows.nodes rows.filespaces)
 rows_changed-bare (client.Filespace two.Delete node name n) number rows =
-    ap (with_filespaces (bare_rows rows)) (filespaces_without-bare n rows.filespaces) ∙ filespaces_changed-bare rows (filespaces_without n rows.filespaces)
+    ap (with_filespaces (kept.bare_rows rows)) (filespaces_without-bare n rows.held rows.filespaces) ∙ filespaces_changed-bare rows (filespaces_without n rows.held rows.filespaces)
 
-or_same_rows-bare : (rows : Rows) (r : Result Rows Refusal) → of_common.or_same (bare_rows rows) (on_ok bare_rows r) ≡ bare_rows (of_common.or_same rows r)
+or_same_rows-bare : (rows : Rows) (r : Result Rows Refusal) → of_common.or_same (kept.bare_rows rows) (on_ok kept.bare_rows r) ≡ kept.bare_rows (of_common.or_same rows r)
 or_same_rows-bare rows (Ok new) = refl
 or_same_rows-bare rows (Err e) = refl
+
+-- ---- objects that go
+
+-- of two results one is taken, here as there
+chosen : {A B : Type 0} (f : A → B) (b c : Bool) (x y : Result A Refusal) (p q : Result B Refusal) → b ≡ c → p ≡ on_ok f x → q ≡ on_ok f y → cond b p q ≡ on_ok f (cond c x y)
+chosen f b true x y p q h s t = ap (λ b. cond b p q) h ∙ s
+chosen f b false x y p q h s t = ap (λ b. cond b p q) h ∙ t
+
+held_gone-bare : (object : ℕ) (rows : Rows) → with_held (kept.bare_rows rows) (Ok (held_without object (kept.bare_held rows.held))) ≡ on_ok kept.bare_rows (with_held rows (Ok (held_without object rows.held)))
+held_gone-bare object rows = ap (λ held. with_held (kept.bare_rows rows) (Ok held)) (remove_entry-values kept.bare_row (filespace.at_number object) rows.held)
+
+rows_after-bare : (n : ℕ) (path : List ℕ) (c : GroupChange) (rows : Rows) → rows_after n path c (kept.bare_rows rows) ≡ on_ok kept.bare_rows (rows_after n path c rows)
+rows_after-bare n path c rows =
+    ap (with_filespaces (kept.bare_rows rows)) (filespaces_after-bare n path c rows.filespaces) ∙ filespaces_changed-bare rows (filespace.filespaces_after n path c rows.filespaces)
+
+rows_cleared-bare : (n : ℕ) (path : List ℕ) (object : ℕ) (rows : Rows) → rows_cleared n path object (kept.bare_rows rows) ≡ on_ok kept.bare_rows (rows_cleared n path object rows)
+rows_cleared-bare n path object rows =
+    chosen kept.bare_rows (has_under n path object (kept.bare_held rows.held)) (has_under n path object rows.held)
+    (with_held rows (Ok (held_without object rows.held))) (rows_after n path (group.Remove object) rows)
+    (with_held (kept.bare_rows rows) (Ok (held_without object (kept.bare_held rows.held)))) (rows_after n path (group.Remove object) (kept.bare_rows rows))
+    (has_under-bare n path object rows.held) (held_gone-bare object rows) (rows_after-bare n path (group.Remove object) rows)
+
+place_cleared-bare : (object : ℕ) (fs : List (ℕ × Filespace)) → filespaces_cleared object (place_of object fs) (kept.bare fs) ≡ on_ok kept.bare (filespaces_cleared object (place_of object fs) fs)
+place_cleared-bare object fs =
+    elim (place_of object fs) as (λ o. filespaces_cleared object o (kept.bare fs) ≡ on_ok kept.bare (filespaces_cleared object o fs)) [
+      | None ↦ refl
+      | Some place ↦ filespaces_after-bare place.filespace place.path (group.Remove object) fs
+    ]
+
+rows_without-bare : (object : ℕ) (rows : Rows) → rows_without object (kept.bare_rows rows) ≡ on_ok kept.bare_rows (rows_without object rows)
+rows_without-bare object rows =
+    chosen kept.bare_rows (has_row object (kept.bare_held rows.held)) (has_row object rows.held)
+    (with_held rows (Ok (held_without object rows.held))) (with_filespaces rows (filespaces_cleared object (place_of object rows.filespaces) rows.filespaces))
+    (with_held (kept.bare_rows rows) (Ok (held_without object (kept.bare_held rows.held))))
+    (with_filespaces (kept.bare_rows rows) (filespaces_cleared object (place_of object (kept.bare rows.filespaces)) (kept.bare rows.filespaces)))
+    (has_row-bare object rows.held) (held_gone-bare object rows)
+    (ap (λ z. with_filespaces (kept.bare_rows rows) (filespaces_cleared object (lookup (filespace.at_number object) z) (kept.bare rows.filespaces))) (listed-bare rows.filespaces)
+    ∙ ap (with_filespaces (kept.bare_rows rows)) (place_cleared-bare object rows.filespaces)
+    ∙ filespaces_changed-bare rows (filespaces_cleared object (place_of object rows.filespaces) rows.filespaces))
 
 -- ---- steps
 
@@ -300,7 +349,15 @@ with_rows v rows = record { today = v.today; next_node = v.next_node; domains = 
 
 -- the kept part, with these filespaces
 abbrev with_spaces : Inv → List (ℕ × Filespace) → kept.Kept
-with_spaces v fs = with_rows v (record { nodes = v.clients.nodes; filespaces = fs })
+with_spaces v fs = with_rows v (record { nodes = v.clients.nodes; filespaces = fs; held = kept.bare_held v.clients.held })
+
+-- with these held objects
+abbrev with_held_objects : Inv → List (ℕ × HeldRow) → kept.Kept
+with_held_objects v held = with_rows v (record { nodes = v.clients.nodes; filespaces = kept.bare v.clients.filespaces; held = held })
+
+-- a change of the rows
+rows-kept : (v : Inv) (r s : Result Rows Refusal) → s ≡ on_ok kept.bare_rows r → kept.kept (of_common.with_clients (of_common.or_same v.clients r) v) ≡ with_rows v (of_common.or_same (kept.bare_rows v.clients) s)
+rows-kept v r s h = ap (with_rows v) (sym (ap (of_common.or_same (kept.bare_rows v.clients)) h ∙ or_same_rows-bare v.clients r))
 
 put-kept : (object : ℕ) (segments : List Segment) (v : Inv) → kept.kept (of_segments.put object segments v) ≡ kept.kept v
 put-kept object [] v = refl
@@ -332,25 +389,28 @@ change_group-kept n path c v =
 back_up-kept : (n : ℕ) (item : NewVersion) (v : Inv) → kept.kept (of_versions.back_up n item v) ≡ kept.back_up n item (kept.kept v)
 back_up-kept n item v =
     let w = of_versions.new_version v item in
-    put-kept item.object item.segments (record (of_common.with_filespaces (of_common.or_same v.clients.filespaces (filespace.filespaces_with n item.path item.class w v.clients.filespaces)) v) { next_object = of_versions.after_object item v })
+    put-kept item.object item.segments (of_versions.inserted n item v)
     ∙ ap (with_spaces v) (sym (ap (of_common.or_same (kept.bare v.clients.filespaces)) (filespaces_with-bare n item.path item.class w v.clients.filespaces) ∙ or_same-bare v.clients.filespaces (filespace.filespaces_with n item.path item.class w v.clients.filespaces)))
 
-remove-kept : (n : ℕ) (path : List ℕ) (object : ℕ) (v : Inv) → kept.kept (of_versions.remove n path object v) ≡ kept.change_group n path (group.Remove object) (kept.kept v)
-remove-kept n path object v =
-    change_group-kept n path (group.Remove object) (of_versions.take_versions object v)
-    ∙ ap (kept.change_group n path (group.Remove object)) (take_all-kept object (of_versions.copies_at object v) v)
+hold-kept : (n : ℕ) (item : NewHeldObject) (v : Inv) → kept.kept (of_versions.hold n item v) ≡ kept.hold n item (kept.kept v)
+hold-kept n item v =
+    put-kept item.object item.segments (of_versions.held_too n item v)
+    ∙ ap (with_held_objects v) (sym (insert_entry-values kept.bare_row nat_cmp v.clients.held item.object (record { filespace = n; held = of_versions.new_held v item })))
 
-discard_at-kept : (object : ℕ) (o : Option Place) (v : Inv) → kept.kept (of_versions.discard_at object o v) ≡ kept.discard_at object o (kept.kept v)
-discard_at-kept object None v = refl
-discard_at-kept object (Some place) v = remove-kept place.filespace place.path object v
+expire-kept : (n : ℕ) (item : NamedVersion) (v : Inv) → kept.kept (of_versions.expire n item v) ≡ kept.expire n item (kept.kept v)
+expire-kept n item v =
+    let w = of_versions.take_versions item.object v in
+    rows-kept w (rows_cleared n item.path item.object w.clients) (rows_cleared n item.path item.object (kept.bare_rows w.clients)) (rows_cleared-bare n item.path item.object w.clients)
+    ∙ ap (kept.expire n item) (take_all-kept item.object (of_versions.copies_at item.object v) v)
 
 discard-kept : (item : DiscardedVersion) (v : Inv) → kept.kept (of_versions.discard item v) ≡ kept.discard item (kept.kept v)
 discard-kept item v =
-    discard_at-kept item.object (lookup (filespace.at_number item.object) (listed v.clients.filespaces)) v
-    ∙ ap (λ z. kept.discard_at item.object (lookup (filespace.at_number item.object) z) (kept.kept v)) (sym (listed-bare v.clients.filespaces))
+    let w = of_versions.take_versions item.object v in
+    rows-kept w (rows_without item.object w.clients) (rows_without item.object (kept.bare_rows w.clients)) (rows_without-bare item.object w.clients)
+    ∙ ap (kept.discard item) (take_all-kept item.object (of_versions.copies_at item.object v) v)
 
 change_copy-kept : (object : ℕ) (c : CopyChange) (v : Inv) → kept.kept (of_copies.change_copy object c v) ≡ kept.kept v
-change_copy-kept object c v = ap (with_spaces v) (altered-bare object c v.clients.filespaces)
+change_copy-kept object c v = ap (with_rows v) (altered-bare object c v.clients)
 
 move_copy-kept : (item : MovedCopy) (v : Inv) → kept.kept (of_copies.move_copy item v) ≡ kept.kept v
 move_copy-kept item v =
@@ -369,9 +429,9 @@ client-kept : (c : ObjectChange) (v : Inv) → kept.kept (of_clients.client_chan
 client-kept c v =
     drawn c (of_common.or_same v.clients (rows_changed c v.next_node v.clients)) v
     ∙ ap (λ z. record { today = v.today; next_node = kept.drawn c v.next_node; domains = v.domains; clients = z })
-    (sym (ap (of_common.or_same (bare_rows v.clients)) (rows_changed-bare c v.next_node v.clients) ∙ or_same_rows-bare v.clients (rows_changed c v.next_node v.clients)))
+    (sym (ap (of_common.or_same (kept.bare_rows v.clients)) (rows_changed-bare c v.next_node v.clients) ∙ or_same_rows-bare v.clients (rows_changed c v.next_node v.clients)))
   where
-    drawn : (c : ObjectChange) (rows : Rows) (v : Inv) → kept.kept (of_clients.drawn_for_client c (record v { clients = rows })) ≡ record { today = v.today; next_node = kept.drawn c v.next_node; domains = v.domains; clients = bare_rows rows }
+    drawn : (c : ObjectChange) (rows : Rows) (v : Inv) → kept.kept (of_clients.drawn_for_client c (record v { clients = rows })) ≡ record { today = v.today; next_node = kept.drawn c v.next_node; domains = v.domains; clients = kept.bare_rows rows }
     drawn (client.Node two.Define name domain) rows v = refl
     drawn (client.Node two.Delete name domain) rows v = refl
     drawn (client.Filespace two.Define node name n) rows v = refl
@@ -394,6 +454,7 @@ effect-kept (change.Policy c) v = refl
 effect-kept (change.Object c) v = client-kept c v
 effect-kept (change.Pool c) v = store-kept c v
 effect-kept (change.Backup c) v = each-kept (of_versions.back_up c.filespace) (kept.back_up c.filespace) (back_up-kept c.filespace) c.items (of_common.each of_segments.make_scratch c.scratch v) ∙ ap (kept.each (kept.back_up c.filespace) c.items) (scratch-kept c.scratch v)
+effect-kept (change.Hold c) v = each-kept (of_versions.hold c.filespace) (kept.hold c.filespace) (hold-kept c.filespace) c.items (of_common.each of_segments.make_scratch c.scratch v) ∙ ap (kept.each (kept.hold c.filespace) c.items) (scratch-kept c.scratch v)
 effect-kept (change.Rebind c) v = each-kept (of_versions.rebind c.filespace) (kept.rebind c.filespace) (λ item w. change_group-kept c.filespace item.path (group.Rebind item.class) w) c.items v
 effect-kept (change.Gone c) v = each-kept (of_versions.mark_gone c.filespace) (kept.mark_gone c.filespace) (λ item w. change_group-kept c.filespace item.path (group.Gone item.object w.today) w) c.items v
 effect-kept (change.Move c) v =
@@ -401,9 +462,9 @@ effect-kept (change.Move c) v =
     ∙ each-same of_copies.put_moved (λ i w. put-kept i.object i.segments w) c.items (of_common.each of_segments.make_scratch c.scratch v) ∙ scratch-kept c.scratch v
 effect-kept (change.Copy c) v = each-same of_copies.add_copy add_copy-kept c.items (of_common.each of_segments.make_scratch c.scratch v) ∙ scratch-kept c.scratch v
 effect-kept (change.DropCopies c) v = each-same of_copies.drop_copy drop_copy-kept c.items v
-effect-kept (change.Expire c) v = each-kept (of_versions.expire c.filespace) (kept.expire c.filespace) (λ item w. remove-kept c.filespace item.path item.object w) c.items v
+effect-kept (change.Expire c) v = each-kept (of_versions.expire c.filespace) (kept.expire c.filespace) (expire-kept c.filespace) c.items v
 effect-kept (change.Discard c) v = each-kept of_versions.discard kept.discard discard-kept c.items v
 effect-kept (change.Reuse file) v = refl
-effect-kept (change.DbBegin file) v = refl
+effect-kept (change.DbBegin file after) v = refl
 effect-kept (change.DbEnd file) v = refl
 effect-kept (change.DbDelete file) v = refl

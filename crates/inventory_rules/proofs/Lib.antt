@@ -1,3 +1,4 @@
+pub mod BareHeld
 pub mod CopiedLists
 pub mod HeldTurns
 pub mod Journals

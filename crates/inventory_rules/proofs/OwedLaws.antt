@@ -1,7 +1,7 @@
--- Which versions are owed is the same without their copies.
-use Rattle.std.proofs.Common.{◌≡◌, ℕ, suc, Bool, cond, eqb, List, [], ◌∷◌, map, Option, Some, None, refl, ap, ◌∙◌}
+-- Which objects are owed is the same without their copies.
+use Rattle.std.proofs.Common.{◌≡◌, ℕ, suc, Bool, false, cond, eqb, List, [], ◌∷◌, map, Option, Some, None, refl, ap, ◌∙◌}
 use Rattle.std.specs.Prelude.{option_and_then}
-use Rattle.std.specs.Option.{option_map}
+use Rattle.std.specs.Option.{option_map, option_map_or}
 use Rattle.std.proofs.lemmas.Map.Made.{lookup-map_values}
 use Rattle.kinds.specs.declared.rule.RuleFound.{RuleFound}
 use Rattle.copy_groups.specs.Retention as rule
@@ -12,15 +12,15 @@ use Rattle.inventory_rows.specs.version_groups.declared.groups.Filespace.{Filesp
 use Rattle.inventory_rows.specs.version_groups.declared.versions.Version.{Version}
 use Rattle.inventory_rows.specs.version_groups.Groups as group
 use Rattle.inventory_rows.specs.version_groups.Versions.{has_active}
+use Rattle.inventory_rows.specs.object_rows.declared.held_object.HeldRow.{HeldRow}
 use Rattle.inventory_rows.specs.object_rows.Filespaces.{at_number, filespace_at, group_at, groups_in}
+use Rattle.inventory_rows.specs.object_rows.HeldRows.{has_under, held_at}
 use Rattle.inventory_rows.specs.object_rows.Rows.{Rows}
 use Rattle.inventory_rows.specs.Search.{filespace_domain, node_domain, rule_for}
 use Rattle.inventory_rows.specs.State.{Inv}
-use Rattle.inventory_rules.specs.Kept.{bare, bare_filespace, bare_group, kept, without_copies}
+use Rattle.inventory_rules.specs.Kept.{bare, bare_filespace, bare_group, bare_held, bare_row, bare_rows, kept, without_copies}
 use Rattle.inventory_rules.specs.Owed.{is_owed, is_owed_from, is_owed_in, is_owed_of, is_retained}
-
-abbrev bare_rows : Rows → Rows
-bare_rows rows = record { nodes = rows.nodes; filespaces = bare rows.filespaces }
+use Rattle.inventory_rules.proofs.BareHeld.{has_under-bare, held_at-bare}
 
 active-bare : (ws : List Version) → has_active (map without_copies ws) ≡ has_active ws
 active-bare [] = refl
@@ -58,6 +58,24 @@ of-bare n domains rows today object None = refl
 of-bare n domains rows today object (Some g) =
     ap (λ found. is_owed_in found today object (map without_copies g.versions)) (rule-bare n g.class domains rows) ∙ in-bare (rule_for n g.class domains rows) today object g.versions
 
+until-bare : (today object : ℕ) (held : List (ℕ × HeldRow)) → option_map_or (λ (row : HeldRow). rule.is_held_on today row.held.until) (held_at object (bare_held held)) false ≡ option_map_or (λ (row : HeldRow). rule.is_held_on today row.held.until) (held_at object held) false
+until-bare today object held = ap (λ o. option_map_or (λ (row : HeldRow). rule.is_held_on today row.held.until) o false) (held_at-bare object held) ∙ go (held_at object held) where
+  go : (o : Option HeldRow) → option_map_or (λ (row : HeldRow). rule.is_held_on today row.held.until) (option_map bare_row o) false ≡ option_map_or (λ (row : HeldRow). rule.is_held_on today row.held.until) o false
+  go None = refl
+  go (Some row) = refl
+
+group_owed-bare : (n : ℕ) (path : List ℕ) (object : ℕ) (v : Inv) → is_owed_of n v.domains (bare_rows v.clients) v.today object (group_at n path (bare v.clients.filespaces)) ≡ is_owed_of n v.domains v.clients v.today object (group_at n path v.clients.filespaces)
+group_owed-bare n path object v =
+    ap (is_owed_of n v.domains (bare_rows v.clients) v.today object) (group-bare n path v.clients.filespaces) ∙ of-bare n v.domains v.clients v.today object (group_at n path v.clients.filespaces)
+
+alike : (b c x y p q : Bool) → b ≡ c → x ≡ p → y ≡ q → cond b x y ≡ cond c p q
+alike b c x y p q h s t = ap (λ d. cond d x y) h ∙ ap (λ d. cond c d y) s ∙ ap (λ d. cond c p d) t
+
 pub owed-kept : (n : ℕ) (path : List ℕ) (object : ℕ) (v : Inv) → is_owed n path object (kept v) ≡ is_retained n path object v
 owed-kept n path object v =
-    ap (is_owed_of n v.domains (bare_rows v.clients) v.today object) (group-bare n path v.clients.filespaces) ∙ of-bare n v.domains v.clients v.today object (group_at n path v.clients.filespaces)
+    alike (has_under n path object (bare_held v.clients.held)) (has_under n path object v.clients.held)
+    (option_map_or (λ (row : HeldRow). rule.is_held_on v.today row.held.until) (held_at object (bare_held v.clients.held)) false)
+    (is_owed_of n v.domains (bare_rows v.clients) v.today object (group_at n path (bare v.clients.filespaces)))
+    (option_map_or (λ (row : HeldRow). rule.is_held_on v.today row.held.until) (held_at object v.clients.held) false)
+    (is_owed_of n v.domains v.clients v.today object (group_at n path v.clients.filespaces))
+    (has_under-bare n path object v.clients.held) (until-bare v.today object v.clients.held) (group_owed-bare n path object v)

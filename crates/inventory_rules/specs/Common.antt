@@ -8,6 +8,7 @@ use Rattle.inventory_rows.specs.version_groups.Entries.{all_later}
 use Rattle.inventory_rows.specs.version_groups.declared.groups.Filespace.{Filespace}
 use Rattle.inventory_rows.specs.pool_tables.Rows.{row_at}
 use Rattle.inventory_rows.specs.pool_rows.PoolRows.{PoolRows}
+use Rattle.inventory_rows.specs.object_rows.Rows.{Rows}
 use Rattle.inventory_rows.specs.State.{Inv}
 
 -- ---- refusals
@@ -45,7 +46,10 @@ abbrev pub this : Inv → ℕ
 this v = v.number + 1
 
 abbrev pub with_filespaces : List (ℕ × Filespace) → Inv → Inv
-with_filespaces filespaces v = record v { clients = record { nodes = v.clients.nodes; filespaces = filespaces } }
+with_filespaces filespaces v = record v { clients = record v.clients { filespaces = filespaces } }
+
+abbrev pub with_clients : Rows → Inv → Inv
+with_clients clients v = record v { clients = clients }
 
 abbrev pub with_stores : PoolRows → Inv → Inv
 with_stores stores v = record v { stores = stores }

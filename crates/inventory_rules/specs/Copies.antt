@@ -20,11 +20,10 @@ use Rattle.inventory_rows.specs.version_groups.declared.copies.CopyChange.{CopyC
 use Rattle.inventory_rows.specs.version_groups.declared.copies.CopyChange.TheVariants as copy
 use Rattle.inventory_rows.specs.version_groups.declared.copies.CopyRow.{CopyRow}
 use Rattle.inventory_rows.specs.version_groups.declared.versions.Version.{Version}
-use Rattle.inventory_rows.specs.object_rows.Filespaces.{filespaces_altered}
-use Rattle.inventory_rows.specs.object_rows.Rows.{FreePool}
+use Rattle.inventory_rows.specs.object_rows.Rows.{FreePool, rows_altered}
 use Rattle.inventory_rows.specs.Search.{version, copy_in, pool, is_primary, lies_on}
 use Rattle.inventory_rows.specs.State.{Inv}
-use Rattle.inventory_rules.specs.Common.{or_same, with_filespaces, this, CanEach, each}
+use Rattle.inventory_rules.specs.Common.{or_same, with_clients, this, CanEach, each}
 use Rattle.inventory_rules.specs.Journal.{Journal}
 use Rattle.inventory_rules.specs.Segments.{put, take_away, copy_fits, copy_fits_after, CanPut, put_step}
 use Rattle.inventory_rules.specs.Valid.{primary_copies}
@@ -102,7 +101,7 @@ drop_refused j reason items v = unless (name_once (map (λ i. i.object) items)) 
 
 -- the copies of an object change
 abbrev pub change_copy : ℕ → CopyChange → Inv → Inv
-change_copy object step v = with_filespaces (or_same v.clients.filespaces (filespaces_altered object step v.clients.filespaces)) v
+change_copy object step v = with_clients (or_same v.clients (rows_altered object step v.clients)) v
 
 abbrev pub segments_in : ℕ → Option Version → List Segment
 segments_in pool None = []

@@ -7,12 +7,13 @@ use Rattle.inventory_rows.specs.version_groups.Versions.{are_distinct}
 use Rattle.inventory_rows.specs.Items.{count_items, most_items}
 use Rattle.inventory_rows.specs.Search.{versions, copies}
 use Rattle.inventory_rows.specs.State.{Inv}
-use Rattle.inventory_rules.specs.Valid.{are_apart, classes_are, copies_cite, defaults_are_there, filespaces_apart, filespaces_cite, groups_are_orderly, is_named_soundly, lie_in, names_apart, no_ring, nodes_cite, pools_cite, rules_cite, versions_are_copied, volumes_are, volumes_cite}
+use Rattle.inventory_rules.specs.Valid.{are_apart, classes_are, copies_cite, defaults_are_there, filespaces_apart, filespaces_cite, groups_are_orderly, held_cite, is_named_soundly, lie_in, names_apart, no_ring, nodes_cite, pools_cite, rules_cite, versions_are_copied, volumes_are, volumes_cite}
 
 -- the conditions under which a database is valid, each by itself
 pub record Facts (v : Inv) : Type 0 where
   pub nodes_cite : nodes_cite v ≡ true
   pub filespaces_cite : filespaces_cite v ≡ true
+  pub held_cite : held_cite v ≡ true
   pub rules_cite : rules_cite v ≡ true
   pub pools_cite : pools_cite v ≡ true
   pub volumes_cite : volumes_cite v ≡ true

@@ -12,7 +12,7 @@ use Rattle.inventory_rows.specs.pool_rows.PoolRows.{is_sequential}
 use Rattle.inventory_rows.specs.Search.{copies, is_primary_kind, pool, segments_on, versions}
 use Rattle.inventory_rows.specs.State.{Inv}
 use Rattle.inventory_rules.specs.Held.{holding}
-use Rattle.inventory_rules.specs.Valid.{are_apart, are_disjoint, filespaces_apart, filespaces_cite, groups_are_orderly, is_emptied_rightly, is_named_soundly, is_placed, is_sized, lie_in, may_have, names_apart, versions_are_copied, volumes_cite}
+use Rattle.inventory_rules.specs.Valid.{are_apart, are_disjoint, filespaces_apart, filespaces_cite, groups_are_orderly, held_cite, is_emptied_rightly, is_named_soundly, is_placed, is_sized, lie_in, may_have, names_apart, versions_are_copied, volumes_cite}
 
 -- the pending segments of a volume
 abbrev pub pending_on : ℕ → List (ℕ × Segment) → List (ℕ × Segment)
@@ -51,9 +51,10 @@ pub record VolumeFacts (pending : List (ℕ × Segment)) (v : Inv) : Type 0 wher
 abbrev pub copies_in_pools : Inv → Bool
 copies_in_pools v = list_all (λ e. is_some (pool e.1.pool v)) (copies v)
 
--- the facts of the filespaces and their versions, where nothing was placed by a transaction behind the n-th
+-- the facts of the filespaces and of the objects in them, where nothing was placed by a transaction behind the n-th
 pub record VersionFacts (n : ℕ) (v : Inv) : Type 0 where
   pub cite : filespaces_cite v ≡ true
+  pub held : held_cite v ≡ true
   pub drawn : lie_in 1 v.next_filespace (keys_of v.clients.filespaces) ≡ true
   pub names : filespaces_apart v ≡ true
   pub objects_drawn : lie_in 1 v.next_object (map (λ version. version.object) (versions v)) ≡ true

@@ -1,4 +1,5 @@
--- Which of the versions that are kept are owed: those that their rules retain today.
+-- Which of the objects that are kept are owed: the versions that their rules retain today, and the objects that are held for longer.
+use Rattle.std.specs.Option.{option_map_or}
 use Rattle.std.specs.Prelude.{ℕ, suc, ◌==◌, Bool, false, List, [], ◌∷◌, Option, Some, None, if◌then◌else◌}
 use Rattle.kinds.specs.declared.rule.RuleFound.{RuleFound}
 use Rattle.copy_groups.specs.Retention as rule
@@ -7,6 +8,7 @@ use Rattle.inventory_rows.specs.version_groups.declared.group.Group.{Group}
 use Rattle.inventory_rows.specs.version_groups.declared.versions.Version.{Version}
 use Rattle.inventory_rows.specs.version_groups.Versions.{has_active}
 use Rattle.inventory_rows.specs.object_rows.Filespaces.{group_at}
+use Rattle.inventory_rows.specs.object_rows.HeldRows.{has_under, held_at}
 use Rattle.inventory_rows.specs.object_rows.Rows.{Rows}
 use Rattle.inventory_rows.specs.Search.{rule_for}
 use Rattle.inventory_rows.specs.State.{Inv}
@@ -26,9 +28,13 @@ abbrev pub is_owed_of : ℕ → List (List ℕ × DomainRow) → Rows → ℕ �
 is_owed_of filespace domains clients today object None = false
 is_owed_of filespace domains clients today object (Some group) = is_owed_in (rule_for filespace group.class domains clients) today object group.versions
 
--- the object's version stands under the path of the filespace, and is retained today by the rule of the path's class
+-- The object is held under the path of the filespace, and its day lies ahead; or its version stands there, and is retained today by the rule of the
+-- path's class.
 abbrev pub is_owed_by : List (List ℕ × DomainRow) → Rows → ℕ → ℕ → List ℕ → ℕ → Bool
-is_owed_by domains clients today filespace path object = is_owed_of filespace domains clients today object (group_at filespace path clients.filespaces)
+is_owed_by domains clients today filespace path object =
+    if has_under filespace path object clients.held
+    then option_map_or (λ row. rule.is_held_on today row.held.until) (held_at object clients.held) false
+    else is_owed_of filespace domains clients today object (group_at filespace path clients.filespaces)
 
 -- of what is kept
 abbrev pub is_owed : ℕ → List ℕ → ℕ → Kept → Bool

@@ -25,6 +25,9 @@ abbrev pub destination_refused : PolicyChange → Inv → List Refusal
 destination_refused (policy.Group verb.Define domain set class rule) v = unless (is_primary rule.destination v) refusal.NotFound
 destination_refused (policy.Group verb.Update domain set class rule) v = unless (is_primary rule.destination v) refusal.NotFound
 destination_refused (policy.Group verb.Delete domain set class rule) v = []
+destination_refused (policy.ArchiveGroup verb.Define domain set class rule) v = unless (is_primary rule.destination v) refusal.NotFound
+destination_refused (policy.ArchiveGroup verb.Update domain set class rule) v = unless (is_primary rule.destination v) refusal.NotFound
+destination_refused (policy.ArchiveGroup verb.Delete domain set class rule) v = []
 destination_refused (policy.Domain v1 domain days) v = []
 destination_refused (policy.Set v1 domain set) v = []
 destination_refused (policy.Class v1 domain set class) v = []
@@ -39,6 +42,7 @@ domain_used (policy.Domain verb.Update domain days) v = []
 domain_used (policy.Set v1 domain set) v = []
 domain_used (policy.Class v1 domain set class) v = []
 domain_used (policy.Group v1 domain set class rule) v = []
+domain_used (policy.ArchiveGroup v1 domain set class rule) v = []
 domain_used (policy.Assign domain set class) v = []
 domain_used (policy.Activate domain set) v = []
 
@@ -72,6 +76,7 @@ policy_added (policy.Set two.Delete domain set) domains = 0
 policy_added (policy.Class two.Define domain set class) domains = 1
 policy_added (policy.Class two.Delete domain set class) domains = 0
 policy_added (policy.Group v1 domain set class rule) domains = 0
+policy_added (policy.ArchiveGroup v1 domain set class rule) domains = 0
 policy_added (policy.Assign domain set class) domains = 0
 policy_added (policy.Activate domain set) domains = items_of_set (set_in domain set domains)
 
@@ -81,6 +86,7 @@ policy_gone (policy.Domain v1 domain days) domains = 0
 policy_gone (policy.Set v1 domain set) domains = 0
 policy_gone (policy.Class v1 domain set class) domains = 0
 policy_gone (policy.Group v1 domain set class rule) domains = 0
+policy_gone (policy.ArchiveGroup v1 domain set class rule) domains = 0
 policy_gone (policy.Assign domain set class) domains = 0
 policy_gone (policy.Activate domain set) domains = items_of_set (set_in domain active_set domains)
 
@@ -93,6 +99,7 @@ is_new_policy (policy.Set two.Delete domain set) = false
 is_new_policy (policy.Class two.Define domain set class) = true
 is_new_policy (policy.Class two.Delete domain set class) = false
 is_new_policy (policy.Group v1 domain set class rule) = false
+is_new_policy (policy.ArchiveGroup v1 domain set class rule) = false
 is_new_policy (policy.Assign domain set class) = false
 is_new_policy (policy.Activate domain set) = true
 
@@ -108,6 +115,7 @@ IsPolicyOrdered (policy.Domain v1 domain days) domains = ⊤
 IsPolicyOrdered (policy.Set v1 domain set) domains = ⊤
 IsPolicyOrdered (policy.Class v1 domain set class) domains = ⊤
 IsPolicyOrdered (policy.Group v1 domain set class rule) domains = ⊤
+IsPolicyOrdered (policy.ArchiveGroup v1 domain set class rule) domains = ⊤
 IsPolicyOrdered (policy.Assign domain set class) domains = ⊤
 IsPolicyOrdered (policy.Activate domain set) domains = AreSetsOrdered domains
 

@@ -9,6 +9,7 @@ use Rattle.kinds.specs.declared.change.PoolChange.TheVariants as store
 use Rattle.kinds.specs.declared.change.Verb.TheVariants as verb
 use Rattle.kinds.specs.declared.pool.Access.{Access}
 use Rattle.kinds.specs.declared.pool.PoolKind.{PoolKind}
+use Rattle.kinds.specs.declared.pool.PoolRule.{PoolRule}
 use Rattle.kinds.specs.declared.refusal.By.TheVariants as by
 use Rattle.kinds.specs.declared.refusal.Refusal.{Refusal}
 use Rattle.kinds.specs.declared.refusal.Refusal.TheVariants as refusal
@@ -25,7 +26,7 @@ use Rattle.inventory_rows.specs.Search.{is_primary_kind, pool, is_destination, i
 use Rattle.inventory_rows.specs.State.{Inv}
 use Rattle.inventory_rows.specs.declared.backup.Backup.{Backup}
 use Rattle.inventory_rules.specs.Common.{full_at, file_bound, files_refused, draw_file, or_same, with_stores}
-use Rattle.inventory_rules.specs.Valid.{may_have, is_format_size}
+use Rattle.inventory_rules.specs.Valid.{disk, may_have, is_format_size}
 
 -- ---- refused
 
@@ -40,7 +41,7 @@ stays class kind (Some p) = is_same_name p.class class && is_same_kind p.kind ki
 abbrev pub pool_by_name : List ℕ → Inv → Option Pool
 pool_by_name name v = option_map_or (λ n. pool n v) (pool_named name v.stores) None
 
--- a pool that is a destination of a set stays
+-- a pool that is a destination of a copy group stays
 abbrev pub destination_used : List ℕ → Inv → List Refusal
 destination_used name v = option_map_or (λ n. unless (not (is_destination n v)) (refusal.InUse by.Destination)) (pool_named name v.stores) []
 
@@ -52,10 +53,14 @@ access_refused access (Some p) = unless (may_have access (is_primary_kind p.kind
 abbrev pub pool_of_volume : List ℕ → Inv → Option Pool
 pool_of_volume name v = option_map_or (λ file. option_map_or (λ volume. pool volume.pool v) (row_at file v.stores.volumes) None) (volume_named name v.stores) None
 
+-- a client's objects are kept together only on sequential volumes
+abbrev pub collocation_refused : List ℕ → PoolRule → List Refusal
+collocation_refused class rule = unless (not (rule.collocate && is_same_name disk class)) bad_value
+
 abbrev pub store_bounds : PoolChange → Inv → List Refusal
 store_bounds (store.DevClass v1 class capacity) v = []
-store_bounds (store.Pool verb.Define name class kind rule) v = full_at v.next_pool (2 ^ 16)
-store_bounds (store.Pool verb.Update name class kind rule) v = unless (stays class kind (pool_by_name name v)) bad_value
+store_bounds (store.Pool verb.Define name class kind rule) v = collocation_refused class rule ++ full_at v.next_pool (2 ^ 16)
+store_bounds (store.Pool verb.Update name class kind rule) v = unless (stays class kind (pool_by_name name v)) bad_value ++ collocation_refused class rule
 store_bounds (store.Pool verb.Delete name class kind rule) v = destination_used name v
 store_bounds (store.Volume verb.Define name number file capacity access) v = files_refused (file ∷ []) v ++ file_bound file v
 store_bounds (store.Volume verb.Update name number file capacity access) v = access_refused access (pool_of_volume name v)

@@ -15,14 +15,15 @@ use Rattle.inventory_rows.specs.version_groups.Entries.{all_later, is_nil}
 use Rattle.inventory_rows.specs.version_groups.Copies.{are_by_pool}
 use Rattle.inventory_rows.specs.version_groups.Versions.{are_distinct, is_empty}
 use Rattle.inventory_rows.specs.volume_rows.declared.volume.Volume.{Volume}
-use Rattle.inventory_rows.specs.object_rows.Filespaces.{at_number}
+use Rattle.inventory_rows.specs.object_rows.Filespaces.{at_number, filespace_at}
+use Rattle.inventory_rows.specs.object_rows.HeldRows.{is_held_row}
 use Rattle.inventory_rows.specs.pool_rows.PoolRows.{is_sequential, pool_capacity}
 use Rattle.inventory_rows.specs.pool_rows.Hierarchy.{comes_to}
 use Rattle.kinds.specs.Names.{is_same_name}
 use Rattle.inventory_rows.specs.pool_tables.Rows.{named, row_at}
 use Rattle.inventory_rows.specs.pool_tables.Scratch.{scratch_name, is_scratch_name}
 use Rattle.inventory_rows.specs.Items.{count_items, most_items}
-use Rattle.inventory_rows.specs.Search.{versions, copies, pool, rules, is_primary_kind, segments_on}
+use Rattle.inventory_rows.specs.Search.{versions, copies, pool, destinations, is_primary_kind, segments_on}
 use Rattle.inventory_rows.specs.State.{Inv}
 
 -- no number stands twice
@@ -41,8 +42,12 @@ nodes_cite v = list_all (λ n. is_some (row_of n.1.domain v.domains)) v.clients.
 abbrev pub filespaces_cite : Inv → Bool
 filespaces_cite v = list_all (λ f. is_some (lookup (at_number f.1.node) v.clients.nodes)) v.clients.filespaces
 
+-- a held object stands under its number, has no day from which it is inactive, and lies in a filespace that is there
+abbrev pub held_cite : Inv → Bool
+held_cite v = list_all (λ h. is_held_row h && is_some (filespace_at h.1.filespace v.clients.filespaces)) v.clients.held
+
 abbrev pub rules_cite : Inv → Bool
-rules_cite v = list_all (λ rule. is_some (pool rule.destination v)) (rules v)
+rules_cite v = list_all (λ destination. is_some (pool destination v)) (destinations v)
 
 abbrev pub next_is_there : Option ℕ → Inv → Bool
 next_is_there None v = true
@@ -143,7 +148,7 @@ groups_are_orderly v = list_all (λ f. list_all (λ g. is_orderly g.1) f.1.group
 abbrev pub primary_copies : Inv → Version → List CopyRow
 primary_copies v version = filter (λ c. option_map_or (λ p. is_primary_kind p.kind) (pool c.pool v) false) version.copies
 
--- a version has a copy, at most one of them in a primary pool, and at most one in each pool; each has the version's bytes
+-- an object has a copy, at most one of them in a primary pool, and at most one in each pool; each has the object's bytes
 abbrev pub is_copied : Inv → Version → Bool
 is_copied v version =
     not (is_nil version.copies)
@@ -236,7 +241,7 @@ are_by_today v =
 -- the database is one
 abbrev pub is_valid : Inv → Bool
 is_valid v =
-    nodes_cite v && (filespaces_cite v && (rules_cite v && (pools_cite v && (volumes_cite v && (copies_cite v
+    nodes_cite v && (filespaces_cite v && (held_cite v && (rules_cite v && (pools_cite v && (volumes_cite v && (copies_cite v
     && (are_drawn v && (are_bounded v && (are_numbered v && (are_past v && (are_named v && (defaults_are_there v
     && (groups_are_orderly v && (versions_are_copied v && (volumes_are v && (no_ring v && (are_by_today v
-    && (classes_are v && nat_le (count_items v) most_items)))))))))))))))))
+    && (classes_are v && nat_le (count_items v) most_items))))))))))))))))))

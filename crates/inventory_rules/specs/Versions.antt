@@ -1,4 +1,4 @@
--- Transactions that bring versions, bind paths to classes, or take versions away. Each item is judged on the database before the transaction.
+-- Transactions that bring versions or held objects, bind paths to classes, or take objects away. Each item is judged on the database before the transaction.
 use Rattle.std.specs.Bool.{OnTrue}
 use Rattle.std.specs.List.{flat_map, list_all, list_any, AllByRecursion}
 use Rattle.std.specs.Prelude.{ℕ, Option, Some, None, Bool, not, ◌==◌, List, is_some, ◌+◌, nat_le, ◌++◌, length, map, ◌^◌, max, nat_lt, if◌then◌else◌, [], ◌∷◌, true, ◌&&◌, false, ◌||◌, ◌≡◌, ◌<◌, IsTrue}
@@ -7,8 +7,10 @@ use Rattle.kinds.specs.declared.refusal.By.TheVariants as by
 use Rattle.kinds.specs.declared.refusal.Refusal.{Refusal}
 use Rattle.kinds.specs.declared.refusal.Refusal.TheVariants as refusal
 use Rattle.kinds.specs.declared.segment.Digest.{Digest}
+use Rattle.kinds.specs.declared.segment.Segment.{Segment}
 use Rattle.entries.specs.change_items.declared.items.DiscardedVersion.{DiscardedVersion}
 use Rattle.entries.specs.change_items.declared.items.NamedVersion.{NamedVersion}
+use Rattle.entries.specs.change_items.declared.items.NewHeldObject.{NewHeldObject}
 use Rattle.entries.specs.change_items.declared.items.NewVersion.{NewVersion}
 use Rattle.entries.specs.change_items.declared.items.Rebinding.{Rebinding}
 use Rattle.entries.specs.change_items.declared.reasons.DiscardReason.{DiscardReason}
@@ -22,12 +24,13 @@ use Rattle.inventory_rows.specs.version_groups.declared.group.GroupChange.{Group
 use Rattle.inventory_rows.specs.version_groups.declared.group.GroupChange.TheVariants as group
 use Rattle.inventory_rows.specs.version_groups.declared.groups.Filespace.{Filespace}
 use Rattle.inventory_rows.specs.version_groups.declared.versions.Version.{Version}
-use Rattle.inventory_rows.specs.object_rows.Filespaces.{filespace_at, versions_at, filespaces_with, filespaces_after, versions_of}
-use Rattle.inventory_rows.specs.object_rows.Rows.{IsNew, most_versions}
-use Rattle.inventory_rows.specs.object_rows.declared.place.Place.{Place}
-use Rattle.inventory_rows.specs.Search.{versions, group, version, lies_on, is_primary, place}
+use Rattle.inventory_rows.specs.object_rows.declared.held_object.HeldObject.{HeldObject}
+use Rattle.inventory_rows.specs.object_rows.Filespaces.{filespace_at, versions_at, filespaces_with, filespaces_after}
+use Rattle.inventory_rows.specs.object_rows.HeldRows.{has_under, held_with}
+use Rattle.inventory_rows.specs.object_rows.Rows.{IsNew, most_kept, rows_cleared, rows_without}
+use Rattle.inventory_rows.specs.Search.{versions, group, version, lies_on, is_primary, filespace_of}
 use Rattle.inventory_rows.specs.State.{Inv}
-use Rattle.inventory_rules.specs.Common.{this, or_same, with_filespaces, CanEach}
+use Rattle.inventory_rules.specs.Common.{this, or_same, with_filespaces, with_clients, CanEach}
 use Rattle.inventory_rules.specs.Journal.{Journal}
 use Rattle.inventory_rules.specs.Owed.{is_retained}
 use Rattle.inventory_rules.specs.Segments.{put, take_all, copy_fits, CanPut, put_step}
@@ -60,23 +63,25 @@ paths_once paths = all_later (λ a b. not (is_same_name a b)) paths
 abbrev pub filespace_there : ℕ → Inv → List Refusal
 filespace_there filespace v = unless (is_some (filespace_at filespace v.clients.filespaces)) refusal.NotFound
 
--- new versions: their filespace has to be there, and room for them
-abbrev pub backup_refused : ℕ → List NewVersion → Inv → List Refusal
-backup_refused filespace items v =
-    filespace_there filespace v
-    ++ (unless (name_once (map (λ i. i.object) items)) bad_value
-    ++ unless (nat_le (length (versions v) + length items) most_versions) refusal.InventoryFull)
-
--- a new version has an object number from 1 on that no version has
+-- a new object has a number from 1 on that no object has
 abbrev pub is_new_object : Inv → ℕ → Bool
 is_new_object v object = nat_le 1 object && not (has_object object (versions v))
 
--- the number of a new version's object is new, and the next number behind it is below its bound
+-- the number of a new object is new, and the next number behind it is below its bound
 abbrev pub object_refused : Inv → ℕ → List Refusal
 object_refused v object = unless (is_new_object v object) bad_value ++ unless (nat_lt (max v.next_object (object + 1)) (2 ^ 62)) refusal.InventoryFull
 
-abbrev pub objects_refused : List NewVersion → Inv → List Refusal
-objects_refused items v = flat_map (λ i. object_refused v i.object) items
+-- new objects, by their numbers: none is named twice, and there is room for them
+abbrev pub arrivals_refused : List ℕ → Inv → List Refusal
+arrivals_refused objects v =
+    unless (name_once objects) bad_value ++ unless (nat_le (length (versions v) + length objects) most_kept) refusal.InventoryFull
+
+abbrev pub objects_refused : List ℕ → Inv → List Refusal
+objects_refused objects v = flat_map (object_refused v) objects
+
+-- new objects of a filespace, which has to be there
+abbrev pub new_refused : ℕ → List ℕ → Inv → List Refusal
+new_refused filespace objects v = filespace_there filespace v ++ arrivals_refused objects v
 
 -- a path that is bound to a class has a group
 abbrev pub rebinding_refused : Journal → ℕ → Inv → Rebinding → List Refusal
@@ -95,10 +100,15 @@ abbrev pub gone_refused : Journal → ℕ → List NamedVersion → Inv → List
 gone_refused j filespace items v =
     unless (name_once (map (λ i. i.object) items)) bad_value ++ flat_map (named_gone_refused j filespace v) items
 
+-- an object is kept under a path of a filespace: it is one of the path's versions, or held there
+abbrev pub is_under : ℕ → List ℕ → ℕ → Inv → Bool
+is_under filespace path object v =
+    has_under filespace path object v.clients.held || has_object object (versions_at filespace path v.clients.filespaces)
+
 -- an object that expires is one of the path's, and isn't retained today
 abbrev pub expired_refused : Journal → ℕ → Inv → NamedVersion → List Refusal
 expired_refused j filespace v item =
-    if has_object item.object (versions_at filespace item.path v.clients.filespaces)
+    if is_under filespace item.path item.object v
     then unless (not (is_retained filespace item.path item.object v)) (refusal.InUse (by.Object item.object))
     else gone_or_unknown (j.removed item.object) ∷ []
 
@@ -122,16 +132,16 @@ primary_lies_on file version v = list_any (λ c. is_primary c.pool v && lies_on 
 abbrev pub in_use : ℕ → Refusal
 in_use object = refusal.InUse (by.Object object)
 
-abbrev pub is_in : ℕ → Option Place → Bool
+abbrev pub is_in : ℕ → Option ℕ → Bool
 is_in filespace None = false
-is_in filespace (Some place) = place.filespace == filespace
+is_in filespace (Some number) = number == filespace
 
--- a version goes: each copy lies on a volume whose audit found other bytes; or its primary copy, or each of its copies, lies on a volume that is
+-- an object goes: each copy lies on a volume whose audit found other bytes; or its primary copy, or each of its copies, lies on a volume that is
 -- deleted; or its filespace is deleted
 abbrev pub discard_reason_refused : DiscardReason → ℕ → Digest → Version → Inv → List Refusal
 discard_reason_refused (because.Audit file) object found version v = unless (all_lie_on file version) (in_use object) ++ unless (not (is_same_name version.digest.0 found.0)) bad_value
 discard_reason_refused (because.Volume file) object found version v = unless (primary_lies_on file version v || all_lie_on file version) (in_use object)
-discard_reason_refused (because.Filespace filespace) object found version v = unless (is_in filespace (place object v)) refusal.NotFound
+discard_reason_refused (because.Filespace filespace) object found version v = unless (is_in filespace (filespace_of object v)) refusal.NotFound
 
 abbrev pub discarded_refused : Journal → DiscardReason → Inv → DiscardedVersion → List Refusal
 discarded_refused j reason v item = of_version j item.object (λ w. discard_reason_refused reason item.object item.found w v) (version item.object v)
@@ -141,26 +151,50 @@ discard_refused j reason items v = unless (name_once (map (λ i. i.object) items
 
 -- ---- effect
 
--- a client's file becomes the newest version of its path, stored today, with one copy
-abbrev pub new_version : Inv → NewVersion → Version
-new_version v item = record {
-  object = item.object;
-  size = item.size;
-  mtime = item.mtime;
-  digest = item.digest;
+-- what is kept of a new object, stored today, with one copy
+abbrev pub new_object : Inv → ℕ → ℕ → ℕ → Digest → ℕ → List Segment → Version
+new_object v object size mtime digest pool segments = record {
+  object = object;
+  size = size;
+  mtime = mtime;
+  digest = digest;
   stored = v.today;
   since = None;
-  copies = record { pool = item.pool; placed = this v; segments = item.segments } ∷ [];
+  copies = record { pool = pool; placed = this v; segments = segments } ∷ [];
 }
 
 -- the next object number lies behind a number that was drawn
-abbrev pub after_object : NewVersion → Inv → ℕ
-after_object item v = max v.next_object (item.object + 1)
+abbrev pub after_object : ℕ → Inv → ℕ
+after_object object v = max v.next_object (object + 1)
+
+-- a client's file
+abbrev pub new_version : Inv → NewVersion → Version
+new_version v item = new_object v item.object item.size item.mtime item.digest item.pool item.segments
+
+-- it becomes the newest version of its path
+abbrev pub inserted : ℕ → NewVersion → Inv → Inv
+inserted filespace item v =
+    record (with_filespaces (or_same v.clients.filespaces (filespaces_with filespace item.path item.class (new_version v item) v.clients.filespaces)) v) { next_object = after_object item.object v }
 
 abbrev pub back_up : ℕ → NewVersion → Inv → Inv
-back_up filespace item v =
-    put item.object item.segments
-    (record (with_filespaces (or_same v.clients.filespaces (filespaces_with filespace item.path item.class (new_version v item) v.clients.filespaces)) v) { next_object = after_object item v })
+back_up filespace item v = put item.object item.segments (inserted filespace item v)
+
+-- an object that a client archived
+abbrev pub new_held : Inv → NewHeldObject → HeldObject
+new_held v item = record {
+  path = item.path;
+  description = item.description;
+  version = new_object v item.object item.size item.mtime item.digest item.pool item.segments;
+  until = item.until;
+}
+
+-- it is held from now on
+abbrev pub held_too : ℕ → NewHeldObject → Inv → Inv
+held_too filespace item v =
+    record (with_clients (record v.clients { held = held_with filespace (new_held v item) v.clients.held }) v) { next_object = after_object item.object v }
+
+abbrev pub hold : ℕ → NewHeldObject → Inv → Inv
+hold filespace item v = put item.object item.segments (held_too filespace item v)
 
 -- the versions of a path change
 abbrev pub change_group : ℕ → List ℕ → GroupChange → Inv → Inv
@@ -186,25 +220,22 @@ copies_at object v = copies_of (version object v)
 abbrev pub take_versions : ℕ → Inv → Inv
 take_versions object v = take_all object (copies_at object v) v
 
--- a version goes, and its copies with it
-abbrev pub remove : ℕ → List ℕ → ℕ → Inv → Inv
-remove filespace path object v = change_group filespace path (group.Remove object) (take_versions object v)
-
+-- an object that is kept under a path goes, and its copies with it
 abbrev pub expire : ℕ → NamedVersion → Inv → Inv
-expire filespace item v = remove filespace item.path item.object v
+expire filespace item v = (let w = take_versions item.object v in with_clients (or_same w.clients (rows_cleared filespace item.path item.object w.clients)) w)
 
-abbrev pub discard_at : ℕ → Option Place → Inv → Inv
-discard_at object None v = v
-discard_at object (Some place) v = remove place.filespace place.path object v
-
+-- an object goes, wherever it is kept, and its copies with it
 abbrev pub discard : DiscardedVersion → Inv → Inv
-discard item v = discard_at item.object (place item.object v) v
+discard item v = (let w = take_versions item.object v in with_clients (or_same w.clients (rows_without item.object w.clients)) w)
 
 -- ---- fits
 
--- the copy of a new version
+-- the copy of a new object
 abbrev pub new_version_fits : Inv → NewVersion → Bool
 new_version_fits v item = copy_fits v item.pool item.size item.segments
+
+abbrev pub new_held_fits : Inv → NewHeldObject → Bool
+new_held_fits v item = copy_fits v item.pool item.size item.segments
 
 -- ---- items
 
@@ -214,9 +245,12 @@ paths_added filespace seen [] v = 0
 paths_added filespace seen (i ∷ items) v =
     (if is_some (group filespace i.path v) || list_any (is_same_name i.path) seen then 0 else 1) + paths_added filespace (i.path ∷ seen) items v
 
--- a version, its copy and the copy's segments
+-- an object, its copy and the copy's segments
 abbrev pub items_of_new : NewVersion → ℕ
 items_of_new i = 1 + (1 + length i.segments)
+
+abbrev pub items_of_new_held : NewHeldObject → ℕ
+items_of_new_held i = 1 + (1 + length i.segments)
 
 -- ---- order
 
@@ -226,23 +260,22 @@ AreGroupsOrdered filespaces = AllByRecursion (λ f. AreByPath f.1.groups) filesp
 
 -- ---- made
 
--- a client's file becomes the newest version of its path
-abbrev pub inserted : ℕ → NewVersion → Inv → Inv
-inserted filespace item v =
-    record (with_filespaces (or_same v.clients.filespaces (filespaces_with filespace item.path item.class (new_version v item) v.clients.filespaces)) v) { next_object = after_object item v }
-
--- the object is new, its filespace is there, and there is room for one version more and for the numbers behind its own and the transaction's
-pub record CanInsert (filespace : ℕ) (item : NewVersion) (v : Inv) : Type 0 where
-  pub new : IsNew item.object v.clients
+-- the object is new, its filespace is there, and there is room for one object more and for the numbers behind its own and the transaction's
+pub record CanInsert (filespace object : ℕ) (v : Inv) : Type 0 where
+  pub new : IsNew object v.clients
   pub there : is_some (filespace_at filespace v.clients.filespaces) ≡ true
-  pub room : nat_le most_versions (length (versions_of v.clients.filespaces)) ≡ false
-  pub next : item.object + 1 < 2 ^ 64
+  pub room : nat_le most_kept (length (versions v)) ≡ false
+  pub next : object + 1 < 2 ^ 64
   pub number : v.number + 1 < 2 ^ 64
 
 -- so it is, and its segments can come
 pub record CanBackUp (filespace : ℕ) (item : NewVersion) (v : Inv) : Type 0 where
-  pub insert : CanInsert filespace item v
+  pub insert : CanInsert filespace item.object v
   pub segments : CanEach (CanPut item.object) (put_step item.object) item.segments (inserted filespace item v)
+
+pub record CanHold (filespace : ℕ) (item : NewHeldObject) (v : Inv) : Type 0 where
+  pub insert : CanInsert filespace item.object v
+  pub segments : CanEach (CanPut item.object) (put_step item.object) item.segments (held_too filespace item v)
 
 -- an object that is at its path is the active version there
 abbrev pub CanBeGone : ℕ → NamedVersion → Inv → Type 0

@@ -1,5 +1,5 @@
 // What the definitions mean, as laws. Each stands on a function that does nothing.
-ghost use Rattle.std.specs.Prelude.{◌≡◌, ℕ, ◌+◌, true, None, List, []};
+ghost use Rattle.std.specs.Prelude.{◌≡◌, ℕ, ◌+◌, true, Option, None, List, []};
 ghost use Rattle.kinds.specs.declared.change.ObjectChange.{ObjectChange};
 ghost use Rattle.kinds.specs.declared.change.PolicyChange.{PolicyChange};
 ghost use Rattle.kinds.specs.declared.change.PoolChange.{PoolChange};
@@ -30,7 +30,7 @@ pub fn legal_leaves_valid()
 
 /// A transaction touches only what its change names: a new day only the day; a change of the policy only the domains; one of
 /// nodes or filespaces only these and their numbers; one of device classes, pools or volumes only these, their numbers and the
-/// delays of the listed backups; one of versions and copies only those and the volumes; and one of a database backup only the
+/// delays of the listed backups; one of objects and copies only those and the volumes; and one of a database backup only the
 /// list of them and the next file number.
 #[tactic(auto, unfolding(crate::specs::Transactions::effect))]
 pub fn others_stay()
@@ -39,19 +39,19 @@ pub fn others_stay()
     ensures clients { (c : ObjectChange) (v : Inv) → effect (Object c) v ≡ record v { number = v.number + 1; next_node = (effect (Object c) v).next_node; next_filespace = (effect (Object c) v).next_filespace; clients = (effect (Object c) v).clients } }
     ensures stores { (c : PoolChange) (v : Inv) → effect (Pool c) v ≡ record v { number = v.number + 1; next_pool = (effect (Pool c) v).next_pool; next_file = (effect (Pool c) v).next_file; stores = (effect (Pool c) v).stores; backups = (effect (Pool c) v).backups } }
     ensures data { (c : Change) (v : Inv) → is_of_data c ≡ true → OnlyData v (effect c v) }
-    ensures begun { (file : ℕ) (v : Inv) → effect (DbBegin file) v ≡ record v { number = v.number + 1; next_file = (effect (DbBegin file) v).next_file; backups = (effect (DbBegin file) v).backups } }
+    ensures begun { (file : ℕ) (after : Option ℕ) (v : Inv) → effect (DbBegin file after) v ≡ record v { number = v.number + 1; next_file = (effect (DbBegin file after) v).next_file; backups = (effect (DbBegin file after) v).backups } }
     ensures ended { (file : ℕ) (v : Inv) → effect (DbEnd file) v ≡ record v { number = v.number + 1; backups = (effect (DbEnd file) v).backups } }
     ensures deleted { (file : ℕ) (v : Inv) → effect (DbDelete file) v ≡ record v { number = v.number + 1; backups = (effect (DbDelete file) v).backups } }
 {}
 
-/// What the database keeps for its clients, the versions with their days, sizes, digests and times, the policy, the nodes, the
+/// What the database keeps for its clients, the versions and held objects with their days, sizes, digests and times, the policy, the nodes, the
 /// filespaces and the day, changes by a fold that knows no copy, pool, volume or segment. So a move, a copy or a reuse of a
 /// volume doesn't change what is owed.
 pub fn kept_is_a_fold()
     ensures { (c : Change) (v : Inv) → kept (effect c v) ≡ kept_after c (kept v) }
 {}
 
-/// Which versions of a database are retained today is said of what it keeps for its clients: no copy, pool, volume or segment is looked at.
+/// Which objects of a database are retained today is said of what it keeps for its clients: no copy, pool, volume or segment is looked at.
 pub fn retained_are_owed()
     ensures { (filespace : ℕ) (path : List ℕ) (object : ℕ) (v : Inv) → is_owed filespace path object (kept v) ≡ is_retained filespace path object v }
 {}

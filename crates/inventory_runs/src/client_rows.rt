@@ -1,6 +1,6 @@
 //! The rows of client nodes, filespaces and versions.
-use crate::words::{Row, put_bytes, put_digest, put_number};
-use inventory_answers::{FilespaceLine, NodeLine, VersionLine};
+use crate::words::{Row, put_bytes, put_digest, put_number, wider};
+use inventory_answers::{FilespaceLine, HeldLine, NodeLine, VersionLine};
 use kinds::{Day, NodeName};
 use std::alloc::AllocError;
 
@@ -45,7 +45,7 @@ fn number_of(day: Option<Day>) -> Option<u64> {
 impl Row for VersionLine {
     fn put(&self, out: &mut String) -> Result<(), AllocError> {
         let object = self.object;
-        let size = self.size;
+        let size = self.size.bytes();
         let mtime = self.mtime;
         let stored = self.stored.number();
         let owed = self.owed;
@@ -60,5 +60,26 @@ impl Row for VersionLine {
         put_bytes(out, self.class.as_bytes())?;
         write!(out, " owed={owed}")?;
         put_digest(out, &self.digest)
+    }
+}
+
+impl Row for HeldLine {
+    fn put(&self, out: &mut String) -> Result<(), AllocError> {
+        let object = self.object;
+        let size = self.size.bytes();
+        let mtime = self.mtime;
+        let stored = self.stored.number();
+        let owed = self.owed;
+        out.push_str("held ")?;
+        put_bytes(out, self.path.as_bytes())?;
+        write!(
+            out,
+            " object={object} size={size} mtime={mtime} stored={stored}"
+        )?;
+        put_number(out, " until=", wider(self.until))?;
+        write!(out, " owed={owed}")?;
+        put_digest(out, &self.digest)?;
+        out.push_str(" description=")?;
+        put_bytes(out, self.description.as_bytes())
     }
 }

@@ -2,13 +2,14 @@
 //!
 //! - `fresh`: the inventory of a server that was just formatted; `payload`: its bytes in hexadecimal digits.
 //! - `again`: the inventory that its bytes are decoded as takes its place; `same` where that has the same bytes. `copy`: so does a copy.
-//! - `read` and hexadecimal digits: the inventory that the bytes are decoded as; its number, or `no inventory`.
+//! - `read` and hexadecimal digits: the inventory that the bytes are decoded as; its number, or `no inventory`. `first` and hexadecimal digits: the same
+//!   of bytes in the first form; `either` and hexadecimal digits: of bytes in either, as the first of them says.
 //! - Hexadecimal digits, the first of them 0, with blanks between them: a transaction. It is made where it is legal, and its number is printed, else why not.
 //! - `past OBJECT CHANGED REMOVED`: what the journal tells from here on of an object: the numbers of the transactions that changed it and
 //!   that removed it, each a number or `-`; and that the latter emptied each path that has no version. Of all else it tells nothing.
 //! - A query, which is answered with the number and the day, and then its rows, or why it is refused: `today`, `domains`, `sets DOMAIN`,
 //!   `classes DOMAIN SET`, `groups DOMAIN SET`, `nodes`, `filespaces NODE`, `devices`, `pools POOL`, `volumes VOLUME POOL`,
-//!   `content VOLUME`, `history`, `versions NODE FILESPACE`, `lookup KIND NAME` with `node`, `class`, `pool` or `volume`; and by
+//!   `content VOLUME`, `history`, `versions NODE FILESPACE`, `held NUMBER` (that of a filespace), `lookup KIND NAME` with `node`, `class`, `pool` or `volume`; and by
 //!   numbers `rules NODE`, `onpool POOL`, `onvolume FILE`, `missing PRIMARY COPY`, `eligible POOL THRESHOLD`, `unretained`, `emptied`
 //!   and `log`. A dash stands for a name that isn't given.
 //! - What a client's session looks up, by numbers: `place POOL SIZE`, where a file goes; `segments POOL SIZE`, how many segments it has; `readable
@@ -107,13 +108,13 @@ fn payload_text<D: Database>(alloc: Global, inventory: &D) -> Result<String, All
     }
 }
 
-/// The inventory becomes that of the bytes.
-fn read_in<D: Database>(
+/// The inventory becomes what was found.
+fn become_found<D: Database>(
     alloc: Global,
     inventory: &mut D,
-    bytes: &[u8],
+    found: Result<Option<D>, Refusal>,
 ) -> Result<String, AllocError> {
-    match D::decode(alloc, bytes) {
+    match found {
         Ok(Some(found)) => {
             let number = found.number();
             *inventory = found;
@@ -122,6 +123,33 @@ fn read_in<D: Database>(
         Ok(None) => String::from_str(alloc, "no inventory"),
         Err(refusal) => number_text(alloc, Err(refusal)),
     }
+}
+
+/// The inventory becomes that of the bytes.
+fn read_in<D: Database>(
+    alloc: Global,
+    inventory: &mut D,
+    bytes: &[u8],
+) -> Result<String, AllocError> {
+    become_found(alloc, inventory, D::decode_two(alloc, bytes))
+}
+
+/// The inventory becomes that of the bytes in the first form.
+fn read_first<D: Database>(
+    alloc: Global,
+    inventory: &mut D,
+    bytes: &[u8],
+) -> Result<String, AllocError> {
+    become_found(alloc, inventory, D::decode_one(alloc, bytes))
+}
+
+/// The inventory becomes that of the bytes in either form.
+fn read_either(
+    alloc: Global,
+    inventory: &mut Inventory,
+    bytes: &[u8],
+) -> Result<String, AllocError> {
+    become_found(alloc, inventory, Inventory::decode(alloc, bytes))
 }
 
 /// Whether the inventory has these bytes, in a word.
@@ -172,6 +200,30 @@ fn begin(alloc: Global, inventory: &mut Inventory) -> Result<String, AllocError>
     match Inventory::fresh(alloc) {
         Ok(fresh) => take_up(alloc, inventory, fresh),
         Err(refusal) => number_text(alloc, Err(refusal)),
+    }
+}
+
+/// What bytes in the first form are answered.
+fn first_answer(
+    alloc: Global,
+    inventory: &mut Inventory,
+    digits: &str,
+) -> Result<String, AllocError> {
+    match bytes_of(alloc, digits) {
+        Some(bytes) => read_first(alloc, inventory, bytes.as_slice()),
+        None => String::from_str(alloc, "no command"),
+    }
+}
+
+/// What bytes in either form are answered.
+fn either_answer(
+    alloc: Global,
+    inventory: &mut Inventory,
+    digits: &str,
+) -> Result<String, AllocError> {
+    match bytes_of(alloc, digits) {
+        Some(bytes) => read_either(alloc, inventory, bytes.as_slice()),
+        None => String::from_str(alloc, "no command"),
     }
 }
 
@@ -270,6 +322,8 @@ fn words_answer(
         ["payload"] => payload_text(alloc, inventory),
         ["again"] => read_again(alloc, inventory),
         ["copy"] => copied(alloc, inventory),
+        ["first", digits] => first_answer(alloc, inventory, digits),
+        ["either", digits] => either_answer(alloc, inventory, digits),
         ["past", object, changed, removed] => tell(alloc, past, object, changed, removed),
         [
             "place" | "segments" | "readable" | "reads" | "default" | "active",

@@ -41,7 +41,12 @@ fn segments_text(alloc: Global, found: &Option<Segments>) -> Result<String, Allo
     }
 }
 
-fn segments(alloc: Global, tables: &Tables, pool: u32, size: u32) -> Result<String, Fault> {
+/// A number of bytes.
+fn size_of(word: &str) -> Result<u64, Fault> {
+    word.parse::<u64>().ok().ok_or(Fault::NoCommand)
+}
+
+fn segments(alloc: Global, tables: &Tables, pool: u32, size: u64) -> Result<String, Fault> {
     let found = segments_for(alloc, tables, pool, size)?;
     Ok(segments_text(alloc, &found)?)
 }
@@ -105,10 +110,10 @@ fn active(alloc: Global, tables: &Tables, filespace: u32, of: &str) -> Result<St
 pub fn ask(alloc: Global, tables: &Tables, words: &[&str]) -> Result<String, Fault> {
     match words {
         ["place", pool, size] => {
-            let found = place(tables, number(pool)?, number(size)?);
+            let found = place(tables, number(pool)?, size_of(size)?);
             Ok(place_text(alloc, found)?)
         }
-        ["segments", pool, size] => segments(alloc, tables, number(pool)?, number(size)?),
+        ["segments", pool, size] => segments(alloc, tables, number(pool)?, size_of(size)?),
         ["readable", file] => Ok(truth(alloc, is_readable(tables, number(file)?))?),
         ["reads", files @ ..] => reads(alloc, tables, files),
         ["default", node] => Ok(rule_text(alloc, default_rule(tables, number(node)?))?),

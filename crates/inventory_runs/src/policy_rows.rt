@@ -26,13 +26,14 @@ impl Row for SetLine {
 impl Row for ClassLine {
     fn put(&self, out: &mut String) -> Result<(), AllocError> {
         let group = self.group;
+        let archive = &self.archive;
         out.push_str("class ")?;
         put_bytes(out, self.domain.as_bytes())?;
         out.push(' ')?;
         put_bytes(out, self.set.as_bytes())?;
         out.push(' ')?;
         put_bytes(out, self.class.as_bytes())?;
-        write!(out, " group={group}")
+        write!(out, " group={group} archive={archive:?}")
     }
 }
 

@@ -110,6 +110,9 @@ fn of_name(alloc: Global, what: &str, word: &str) -> Result<Query, Fault> {
         "rules" => Ok(Query::Rules {
             node: number(word)?,
         }),
+        "held" => Ok(Query::Held {
+            filespace: number(word)?,
+        }),
         "onpool" => Ok(Query::OnPool {
             pool: number(word)?,
         }),

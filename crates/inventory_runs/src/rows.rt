@@ -64,6 +64,7 @@ fn put_rows(out: &mut String, rows: &Rows) -> Result<(), AllocError> {
         Rows::Nodes(lines) => put_all(out, lines),
         Rows::Filespaces(lines) => put_all(out, lines),
         Rows::Versions(lines) => put_all(out, lines),
+        Rows::Held(lines) => put_all(out, lines),
         rows => put_stores(out, rows),
     }
 }

@@ -1,7 +1,7 @@
 //! The rows of device classes, storage pools, volumes, what lies on these, and database backups.
-use crate::words::{Row, put_bytes, put_name, put_number};
+use crate::words::{Row, put_bytes, put_name, put_number, wider};
 use inventory_answers::{BackupLine, ContentLine, DeviceLine, PoolLine, VolumeLine};
-use kinds::Capacity;
+use kinds::{Capacity, ObjectSize};
 use std::alloc::AllocError;
 
 /// How many bytes these are, where there are any.
@@ -54,9 +54,9 @@ impl Row for VolumeLine {
 }
 
 /// The size, where there is one.
-fn size_of(size: Option<u32>) -> Option<u64> {
+fn size_of(size: Option<ObjectSize>) -> Option<u64> {
     match size {
-        Some(size) => Some(u64::from(size)),
+        Some(size) => Some(size.bytes()),
         None => None,
     }
 }
@@ -82,6 +82,7 @@ impl Row for BackupLine {
         write!(
             out,
             "backup {file} taken={taken} number={number} done={done}"
-        )
+        )?;
+        put_number(out, " after=", wider(self.after))
     }
 }

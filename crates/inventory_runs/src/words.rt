@@ -27,6 +27,14 @@ pub fn put_number(out: &mut String, word: &str, number: Option<u64>) -> Result<(
     }
 }
 
+/// A number as one of more bits, where there is one.
+pub fn wider(number: Option<u32>) -> Option<u64> {
+    match number {
+        Some(number) => Some(u64::from(number)),
+        None => None,
+    }
+}
+
 /// A digest in hexadecimal digits.
 pub fn put_digest(out: &mut String, digest: &Digest) -> Result<(), AllocError> {
     out.push_str(" digest=")?;

@@ -6,7 +6,7 @@ use std::alloc::AllocError;
 impl Row for CopyLine {
     fn put(&self, out: &mut String) -> Result<(), AllocError> {
         let object = self.object;
-        let size = self.size;
+        let size = self.size.bytes();
         let stored = self.stored.number();
         let node = self.node;
         let pool = self.pool;
@@ -22,7 +22,7 @@ impl Row for CopyLine {
 impl Row for MissingLine {
     fn put(&self, out: &mut String) -> Result<(), AllocError> {
         let object = self.object;
-        let size = self.size;
+        let size = self.size.bytes();
         write!(out, "missing object={object} size={size}")
     }
 }
@@ -42,7 +42,8 @@ impl Row for ClassRule {
         let rule = &self.rule;
         out.push_str("rule ")?;
         put_bytes(out, self.class.as_bytes())?;
-        write!(out, " {rule:?}")
+        let archive = &self.archive;
+        write!(out, " {rule:?} archive={archive:?}")
     }
 }
 

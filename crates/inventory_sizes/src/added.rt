@@ -11,13 +11,16 @@ ghost use Rattle.inventory_rules.specs.Clients.{is_new_client};
 ghost use Rattle.inventory_rules.specs.Policy.{policy_added};
 ghost use Rattle.inventory_rules.specs.Stores.{is_new_store};
 ghost use Rattle.inventory_rules.specs.Transactions.{items_added};
-ghost use Rattle.inventory_rules.specs.Versions.{items_of_new, paths_added};
+ghost use Rattle.inventory_rules.specs.Versions.{items_of_new, items_of_new_held, paths_added};
 
 use crate::delays::left_by_delays;
 use crate::gone::items_of_set;
 use crate::room::left_by_one;
 use entries::Change;
-use entries::change_items::{MovedCopies, MovedCopy, NewCopies, NewCopy, NewVersion, NewVersions};
+use entries::change_items::{
+    MovedCopies, MovedCopy, NewCopies, NewCopy, NewHeldObject, NewHeldObjects, NewVersion,
+    NewVersions,
+};
 use inventory_rows::Tables;
 use inventory_rows::object_rows::{left_by, left_by_many};
 use inventory_rows::policy_domains::PolicyDomain;
@@ -126,6 +129,33 @@ fn left_by_versions(items: &[NewVersion], room: u128) -> Option<u128>
         }
     }
     Some(rest)
+}
+
+/// A held object, its copy and the copy's segments.
+fn left_by_object(item: &NewHeldObject, room: u128) -> Option<u128>
+    ensures { result ≡ left (items_of_new_held item.now) room }
+{
+    left_by_many(1 + (1 + item.segments.as_slice().len() as u128), room)
+}
+
+fn left_by_objects(items: &[NewHeldObject], room: u128) -> Option<u128>
+    ensures { result ≡ left (sum_by items_of_new_held items.now) room }
+{
+    let mut rest = room;
+    'items: for item in items {
+        match left_by_object(item, rest) {
+            Some(less) => rest = less,
+            None => return None,
+        }
+    }
+    Some(rest)
+}
+
+fn left_by_hold(change: &NewHeldObjects, room: u128) -> Option<u128>
+    ensures { result ≡ left (length change.now.scratch + sum_by items_of_new_held change.now.items) room }
+{
+    let rest = left_by(change.scratch.len(), room)?;
+    left_by_objects(change.items.as_slice(), rest)
 }
 
 /// Whether one of the items before has the path.
@@ -237,6 +267,7 @@ pub(crate) fn left_by_change(change: &Change, tables: &Tables, room: u128) -> Op
         Change::Object(client) => left_by_one(is_new_client(client), room),
         Change::Pool(store) => left_by_one(is_new_store(store), room),
         Change::Backup(versions) => left_by_backup(versions, tables, room),
+        Change::Hold(objects) => left_by_hold(objects, room),
         Change::Move(copies) => left_by_move(copies, room),
         Change::Copy(copies) => left_by_copy(copies, room),
         Change::DbBegin { .. } => left_by_begin(tables, room),

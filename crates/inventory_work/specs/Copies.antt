@@ -1,6 +1,7 @@
 -- The copies in a pool or on a volume, and those that a copy pool lacks.
-use Rattle.std.specs.Prelude.{ℕ, ◌==◌, ◌&&◌, not, Bool, List, is_some, Result, Ok, Err, if◌then◌else◌}
+use Rattle.std.specs.Prelude.{ℕ, ◌==◌, ◌&&◌, not, Bool, List, ◌++◌, is_some, Result, Ok, Err, if◌then◌else◌}
 use Rattle.std.specs.List.{flat_map}
+use Rattle.std.specs.Option.{option_map_or}
 use Rattle.kinds.specs.declared.refusal.Refusal.{Refusal}
 use Rattle.kinds.specs.declared.refusal.Refusal.TheVariants.{NotFound}
 use Rattle.inventory_rows.specs.version_groups.declared.copies.CopyRow.{CopyRow}
@@ -8,6 +9,8 @@ use Rattle.inventory_rows.specs.version_groups.declared.group.Group.{Group}
 use Rattle.inventory_rows.specs.version_groups.declared.groups.Filespace.{Filespace}
 use Rattle.inventory_rows.specs.version_groups.declared.versions.Version.{Version}
 use Rattle.inventory_rows.specs.version_groups.Copies.{has_copy}
+use Rattle.inventory_rows.specs.object_rows.declared.held_object.HeldRow.{HeldRow}
+use Rattle.inventory_rows.specs.object_rows.Filespaces.{filespace_at}
 use Rattle.inventory_rows.specs.pool_tables.Rows.{row_at}
 use Rattle.inventory_rows.specs.Search.{lies_on, pool}
 use Rattle.inventory_rows.specs.State.{Inv}
@@ -49,9 +52,20 @@ copies_of_group here node group = flat_map (copies_of_version here node) group.v
 abbrev pub copies_of_filespace : Where → Filespace → List CopyLine
 copies_of_filespace here f = flat_map (λ g. copies_of_group here f.node g.1) f.groups
 
--- of all filespaces
+-- those of all filespaces
+abbrev pub copies_of_filespaces : Where → List (ℕ × Filespace) → List CopyLine
+copies_of_filespaces here filespaces = flat_map (λ f. copies_of_filespace here f.1) filespaces
+
+-- the number of a filespace's node; 0 where the filespace isn't there
+abbrev pub node_of : ℕ → List (ℕ × Filespace) → ℕ
+node_of filespace filespaces = option_map_or (λ f. f.node) (filespace_at filespace filespaces) 0
+
+-- those of all held objects
+abbrev pub copies_of_held : Where → List (ℕ × Filespace) → List (ℕ × HeldRow) → List CopyLine
+copies_of_held here filespaces held = flat_map (λ h. copies_of_version here (node_of h.1.filespace filespaces) h.1.held.version) held
+
 abbrev pub copies_found : Where → Inv → List CopyLine
-copies_found here v = flat_map (λ f. copies_of_filespace here f.1) v.clients.filespaces
+copies_found here v = copies_of_filespaces here v.clients.filespaces ++ copies_of_held here v.clients.filespaces v.clients.held
 
 -- the copies that lie there, in ascending order of their objects
 abbrev pub copies_where : Where → Inv → List CopyLine
@@ -88,13 +102,20 @@ missing_of_group primary copy group = flat_map (missing_lines primary copy) grou
 abbrev pub missing_of_filespace : ℕ → ℕ → Filespace → List MissingLine
 missing_of_filespace primary copy f = flat_map (λ g. missing_of_group primary copy g.1) f.groups
 
-abbrev pub missing_found : ℕ → ℕ → Inv → List MissingLine
-missing_found primary copy v = flat_map (λ f. missing_of_filespace primary copy f.1) v.clients.filespaces
+abbrev pub missing_of_filespaces : ℕ → ℕ → List (ℕ × Filespace) → List MissingLine
+missing_of_filespaces primary copy filespaces = flat_map (λ f. missing_of_filespace primary copy f.1) filespaces
 
--- the versions whose copies are missing, in ascending order of their objects
+-- the held objects whose copies are missing
+abbrev pub missing_of_held : ℕ → ℕ → List (ℕ × HeldRow) → List MissingLine
+missing_of_held primary copy held = flat_map (λ h. missing_lines primary copy h.1.held.version) held
+
+abbrev pub missing_found : ℕ → ℕ → Inv → List MissingLine
+missing_found primary copy v = missing_of_filespaces primary copy v.clients.filespaces ++ missing_of_held primary copy v.clients.held
+
+-- the objects whose copies are missing, in ascending order of their numbers
 abbrev pub missing_in : ℕ → ℕ → Inv → List MissingLine
 missing_in primary copy v = by_object (λ line. line.object) (missing_found primary copy v)
 
--- the versions with a copy in the first pool and none in the second, which both have to be there, in ascending order of their objects
+-- the objects with a copy in the first pool and none in the second, which both have to be there, in ascending order of their numbers
 abbrev pub missing : ℕ → ℕ → Inv → Result (List MissingLine) Refusal
 missing primary copy v = if has_pool primary v && has_pool copy v then Ok (missing_in primary copy v) else Err NotFound

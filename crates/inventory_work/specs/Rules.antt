@@ -4,7 +4,7 @@ use Rattle.std.specs.List.{flat_map}
 use Rattle.std.specs.Option.{option_map_or}
 use Rattle.kinds.specs.declared.refusal.Refusal.{Refusal}
 use Rattle.inventory_rows.specs.policy_domains.Rows.{SetRow, DomainRow, active_set, row_of}
-use Rattle.inventory_rows.specs.policy_domains.Rules.{rule_of}
+use Rattle.inventory_rows.specs.policy_domains.Rules.{archive_of, rule_of}
 use Rattle.inventory_rows.specs.version_groups.Entries.{if_found}
 use Rattle.inventory_rows.specs.Search.{domain_of_node}
 use Rattle.inventory_rows.specs.State.{Inv}
@@ -13,7 +13,7 @@ use Rattle.inventory_work.specs.declared.lines.Rules.{Rules}
 
 -- a class of a domain, with the rule by which its files are kept
 abbrev pub class_rules : List (List ℕ × DomainRow) → List ℕ → List ℕ → List ClassRule
-class_rules domains domain class = option_map_or (λ rule. record { class = class; rule = rule } ∷ []) (rule_of domains domain class) []
+class_rules domains domain class = option_map_or (λ rule. record { class = class; rule = rule; archive = archive_of domains domain class } ∷ []) (rule_of domains domain class) []
 
 -- the classes of a domain's set ACTIVE with their rules, and the default class
 abbrev pub rules_of_set : List (List ℕ × DomainRow) → List ℕ → SetRow → Rules

@@ -1,18 +1,20 @@
 // Stored copies.
-ghost use Rattle.std.specs.Prelude.{◌≡◌, ◌==◌, Ok};
+ghost use Rattle.std.specs.Prelude.{◌≡◌, ◌==◌};
 ghost use Rattle.std.specs.List.{flat_map, list_any};
-ghost use Rattle.kinds.specs.Answers.{Answers, AnswersBy, Becomes};
+ghost use Rattle.kinds.specs.Answers.{Answers, AnswersBy};
 ghost use Rattle.inventory_rows.specs.State.{inv_of};
-ghost use Rattle.inventory_work.specs.ByObject.{by_object};
 ghost use Rattle.inventory_work.specs.Lists.{Writes};
-ghost use Rattle.inventory_work.specs.Copies.{lies_there, copy_lines, copies_of_version, copies_of_filespace, copies_where, has_pool, has_volume, on_pool, on_volume, missing_lines, missing_of_filespace, missing_in, missing};
+ghost use Rattle.inventory_work.specs.Copies.{lies_there, copy_lines, copies_of_version, copies_of_filespace, copies_of_filespaces, copies_of_held, copies_where, node_of, has_pool, has_volume, on_pool, on_volume, missing_lines, missing_of_filespace, missing_of_filespaces, missing_of_held, missing_in, missing};
 
 use crate::lines::{CopyLine, MissingLine};
 use crate::listed::Listed;
+use crate::order::sort_by_object;
 use inventory_rows::Tables;
+use inventory_rows::object_rows::HeldRow;
 use inventory_rows::version_groups::{CopyRow, Filespace, Version};
 use kinds::{Refusal, Segment};
 use std::alloc::Global;
+use std::collections::BTreeMap;
 
 /// Where a copy lies.
 #[derive(Clone, Copy)]
@@ -104,11 +106,53 @@ fn write_copies_of_filespace(
     Ok(())
 }
 
-/// Puts the lines in ascending order of their objects.
-fn sort_copies(lines: &mut Vec<CopyLine>) -> Result<(), Refusal>
-    ensures { Becomes result lines.old.items lines.new.items (Ok (by_object (λ line. line.object) lines.old.items)) }
+fn write_copies_of_filespaces(
+    lines: &mut Vec<CopyLine>,
+    here: Where,
+    filespaces: &BTreeMap<u32, Filespace>,
+) -> Result<(), Refusal>
+    ensures { Writes result lines.old.items lines.new.items (copies_of_filespaces here filespaces.now.entries) }
 {
-    lines.sort_by_key(|line| line.object)?;
+    'filespaces: for (_, filespace) in filespaces {
+        write_copies_of_filespace(lines, here, filespace)?;
+    }
+    Ok(())
+}
+
+/// The number of a filespace's node; 0 where the filespace isn't there.
+fn node_of(filespaces: &BTreeMap<u32, Filespace>, filespace: u32) -> u32
+    ensures { result ≡ node_of filespace filespaces.now.entries }
+{
+    match filespaces.get(&filespace) {
+        Some(filespace) => filespace.node,
+        None => 0,
+    }
+}
+
+fn write_copies_of_row(
+    lines: &mut Vec<CopyLine>,
+    here: Where,
+    filespaces: &BTreeMap<u32, Filespace>,
+    row: &HeldRow,
+) -> Result<(), Refusal>
+    ensures { Writes result lines.old.items lines.new.items (copies_of_version here (node_of row.now.filespace filespaces.now.entries) row.now.held.version) }
+{
+    let node = node_of(filespaces, row.filespace);
+    let version = &row.held.version;
+    write_copies(lines, here, node, version, version.copies.as_slice())
+}
+
+fn write_copies_of_held(
+    lines: &mut Vec<CopyLine>,
+    here: Where,
+    filespaces: &BTreeMap<u32, Filespace>,
+    held: &BTreeMap<u64, HeldRow>,
+) -> Result<(), Refusal>
+    ensures { Writes result lines.old.items lines.new.items (copies_of_held here filespaces.now.entries held.now.entries) }
+{
+    'held: for (_, row) in held {
+        write_copies_of_row(lines, here, filespaces, row)?;
+    }
     Ok(())
 }
 
@@ -116,10 +160,10 @@ fn copies_where(alloc: Global, tables: &Tables, here: Where) -> Result<Listed<Co
     ensures { AnswersBy (λ lines. lines) result (copies_where here (inv_of tables.now)) }
 {
     let mut lines = Vec::new(alloc);
-    'filespaces: for (_, filespace) in tables.objects.filespaces() {
-        write_copies_of_filespace(&mut lines, here, filespace)?;
-    }
-    sort_copies(&mut lines)?;
+    let filespaces = tables.objects.filespaces();
+    write_copies_of_filespaces(&mut lines, here, filespaces)?;
+    write_copies_of_held(&mut lines, here, filespaces, tables.objects.held())?;
+    sort_by_object(&mut lines)?;
     Ok(Listed::from_vec(lines))
 }
 
@@ -136,7 +180,7 @@ fn has_volume(tables: &Tables, file: u32) -> bool
 }
 
 /// The copies in a pool, in ascending order of their objects' numbers. `NotFound` where the pool is not there; else its one refusal is want of
-/// memory. It walks all versions, and sorts what it found.
+/// memory. It walks all objects, and sorts what it found.
 pub fn on_pool(alloc: Global, tables: &Tables, pool: u32) -> Result<Listed<CopyLine>, Refusal>
     ensures { Answers result (on_pool pool (inv_of tables.now)) }
 {
@@ -148,7 +192,7 @@ pub fn on_pool(alloc: Global, tables: &Tables, pool: u32) -> Result<Listed<CopyL
 }
 
 /// The copies with a segment on a volume, in ascending order of their objects' numbers. `NotFound` where the volume is not there; else its one
-/// refusal is want of memory. It walks all versions, and sorts what it found.
+/// refusal is want of memory. It walks all objects, and sorts what it found.
 pub fn on_volume(alloc: Global, tables: &Tables, file: u32) -> Result<Listed<CopyLine>, Refusal>
     ensures { Answers result (on_volume file (inv_of tables.now)) }
 {
@@ -205,11 +249,31 @@ fn write_missing_of_filespace(
     Ok(())
 }
 
-/// Puts the lines in ascending order of their objects.
-fn sort_missing(lines: &mut Vec<MissingLine>) -> Result<(), Refusal>
-    ensures { Becomes result lines.old.items lines.new.items (Ok (by_object (λ line. line.object) lines.old.items)) }
+fn write_missing_of_filespaces(
+    lines: &mut Vec<MissingLine>,
+    primary: u32,
+    copy: u32,
+    filespaces: &BTreeMap<u32, Filespace>,
+) -> Result<(), Refusal>
+    ensures { Writes result lines.old.items lines.new.items (missing_of_filespaces primary copy filespaces.now.entries) }
 {
-    lines.sort_by_key(|line| line.object)?;
+    'filespaces: for (_, filespace) in filespaces {
+        write_missing_of_filespace(lines, primary, copy, filespace)?;
+    }
+    Ok(())
+}
+
+fn write_missing_of_held(
+    lines: &mut Vec<MissingLine>,
+    primary: u32,
+    copy: u32,
+    held: &BTreeMap<u64, HeldRow>,
+) -> Result<(), Refusal>
+    ensures { Writes result lines.old.items lines.new.items (missing_of_held primary copy held.now.entries) }
+{
+    'held: for (_, row) in held {
+        write_missing(lines, primary, copy, &row.held.version)?;
+    }
     Ok(())
 }
 
@@ -222,15 +286,14 @@ fn missing_in(
     ensures { AnswersBy (λ lines. lines) result (missing_in primary copy (inv_of tables.now)) }
 {
     let mut lines = Vec::new(alloc);
-    'filespaces: for (_, filespace) in tables.objects.filespaces() {
-        write_missing_of_filespace(&mut lines, primary, copy, filespace)?;
-    }
-    sort_missing(&mut lines)?;
+    write_missing_of_filespaces(&mut lines, primary, copy, tables.objects.filespaces())?;
+    write_missing_of_held(&mut lines, primary, copy, tables.objects.held())?;
+    sort_by_object(&mut lines)?;
     Ok(Listed::from_vec(lines))
 }
 
 /// The objects with a copy in the one pool and none in the other, in ascending order of their numbers. `NotFound` where one of the pools is not
-/// there; else its one refusal is want of memory. It walks all versions, and sorts what it found.
+/// there; else its one refusal is want of memory. It walks all objects, and sorts what it found.
 pub fn missing(
     alloc: Global,
     tables: &Tables,

@@ -1,17 +1,20 @@
-// The versions that their rules do not retain.
+// The objects that are not retained.
 ghost use Rattle.std.specs.Prelude.{◌≡◌};
 ghost use Rattle.kinds.specs.Answers.{AnswersBy};
 ghost use Rattle.inventory_rows.specs.State.{inv_of};
 ghost use Rattle.inventory_work.specs.Lists.{Writes, flat_from};
-ghost use Rattle.inventory_work.specs.Expiring.{unretained_lines, unretained_of_group, unretained_of_filespace, unretained};
+ghost use Rattle.inventory_work.specs.Expiring.{unretained_lines, unretained_of_group, unretained_of_filespace, unretained_of_filespaces, unretained_of_row, unretained_of_held, unretained};
 
 use crate::lines::UnretainedLine;
 use crate::listed::Listed;
-use copy_groups::is_owed;
+use crate::order::sort_by_object;
+use copy_groups::{is_held_on, is_owed};
+use inventory_rows::object_rows::HeldRow;
 use inventory_rows::version_groups::{Filespace, Group, Version};
 use inventory_rows::{Tables, rule_in};
 use kinds::{Day, Path, Refusal, RuleFound};
 use std::alloc::Global;
+use std::collections::BTreeMap;
 
 fn write_unretained(
     lines: &mut Vec<UnretainedLine>,
@@ -37,29 +40,24 @@ fn write_unretained(
     Ok(())
 }
 
-/// The versions of a path that are not retained, the newest first.
-fn found_in(
-    alloc: Global,
+fn write_versions(
+    lines: &mut Vec<UnretainedLine>,
     filespace: u32,
     path: &Path,
     rule: &Option<RuleFound>,
     active: bool,
     today: Day,
     versions: &[Version],
-) -> Result<Vec<UnretainedLine>, Refusal>
-    ensures { AnswersBy (λ lines. lines.items) result (flat_from (unretained_lines filespace path.now rule.now active today) 0 versions.now) }
+) -> Result<(), Refusal>
+    ensures { Writes result lines.old.items lines.new.items (flat_from (unretained_lines filespace path.now rule.now active today) 0 versions.now) }
 {
-    let mut lines = Vec::new(alloc);
     'versions: for (place, version) in versions.iter().enumerate() {
-        write_unretained(
-            &mut lines, filespace, path, rule, active, today, place, version,
-        )?;
+        write_unretained(lines, filespace, path, rule, active, today, place, version)?;
     }
-    Ok(lines)
+    Ok(())
 }
 
 fn write_group(
-    alloc: Global,
     lines: &mut Vec<UnretainedLine>,
     filespace: u32,
     path: &Path,
@@ -71,14 +69,10 @@ fn write_group(
 {
     let active = group.versions.has_active();
     let versions = group.versions.as_slice();
-    let mut found = found_in(alloc, filespace, path, rule, active, today, versions)?;
-    found.reverse();
-    lines.append(&mut found)?;
-    Ok(())
+    write_versions(lines, filespace, path, rule, active, today, versions)
 }
 
 fn write_filespace(
-    alloc: Global,
     lines: &mut Vec<UnretainedLine>,
     tables: &Tables,
     number: u32,
@@ -88,19 +82,60 @@ fn write_filespace(
 {
     'groups: for (path, group) in filespace.groups.as_map() {
         let rule = rule_in(tables, number, &group.class);
-        write_group(alloc, lines, number, path, &rule, tables.today, group)?;
+        write_group(lines, number, path, &rule, tables.today, group)?;
     }
     Ok(())
 }
 
-/// The versions that their rules do not retain today, in the order of filespaces and paths, of each path the oldest first.
-/// Its one refusal is want of memory.
+fn write_filespaces(
+    lines: &mut Vec<UnretainedLine>,
+    tables: &Tables,
+    filespaces: &BTreeMap<u32, Filespace>,
+) -> Result<(), Refusal>
+    ensures { Writes result lines.old.items lines.new.items (unretained_of_filespaces (inv_of tables.now) filespaces.now.entries) }
+{
+    'filespaces: for (number, filespace) in filespaces {
+        write_filespace(lines, tables, *number, filespace)?;
+    }
+    Ok(())
+}
+
+fn write_row(lines: &mut Vec<UnretainedLine>, today: Day, row: &HeldRow) -> Result<(), Refusal>
+    ensures { Writes result lines.old.items lines.new.items (unretained_of_row today row.now) }
+{
+    if is_held_on(today, row.held.until) {
+        return Ok(());
+    }
+    let path = row.held.path.clone()?;
+    lines.push(UnretainedLine {
+        filespace: row.filespace,
+        path,
+        object: row.held.version.object,
+    })?;
+    Ok(())
+}
+
+fn write_held(
+    lines: &mut Vec<UnretainedLine>,
+    today: Day,
+    held: &BTreeMap<u64, HeldRow>,
+) -> Result<(), Refusal>
+    ensures { Writes result lines.old.items lines.new.items (unretained_of_held today held.now.entries) }
+{
+    'held: for (_, row) in held {
+        write_row(lines, today, row)?;
+    }
+    Ok(())
+}
+
+/// The objects that are not retained today, versions by their rules and held objects by their days, in ascending order of their numbers. Its one
+/// refusal is want of memory. It walks all objects, and sorts what it found.
 pub fn unretained(alloc: Global, tables: &Tables) -> Result<Listed<UnretainedLine>, Refusal>
     ensures { AnswersBy (λ lines. lines) result (unretained (inv_of tables.now)) }
 {
     let mut lines = Vec::new(alloc);
-    'filespaces: for (number, filespace) in tables.objects.filespaces() {
-        write_filespace(alloc, &mut lines, tables, *number, filespace)?;
-    }
+    write_filespaces(&mut lines, tables, tables.objects.filespaces())?;
+    write_held(&mut lines, tables.today, tables.objects.held())?;
+    sort_by_object(&mut lines)?;
     Ok(Listed::from_vec(lines))
 }

@@ -5,6 +5,7 @@ mod copies;
 mod expiring;
 mod lines;
 mod listed;
+mod order;
 mod rules;
 mod search;
 mod volumes;

@@ -1,5 +1,5 @@
 use crate::listed::Listed;
-use kinds::{Day, Digest, Name, Path, RuleFound};
+use kinds::{ArchiveRule, Day, Digest, Name, ObjectSize, Path, RuleFound};
 
 /// A management class of a domain's policy set ACTIVE.
 #[derive(Drop)]
@@ -7,6 +7,8 @@ pub struct ClassRule {
     pub class: Name,
     /// The rule by which files of the class are kept.
     pub rule: RuleFound,
+    /// The rule by which objects are kept that are archived under the class, where it has one.
+    pub archive: Option<ArchiveRule>,
 }
 
 /// How the files of a node are kept.
@@ -24,10 +26,10 @@ pub struct CopyLine {
     /// The object's number.
     pub object: u64,
     /// How many bytes the object has.
-    pub size: u32,
+    pub size: ObjectSize,
     /// The SHA-256 of the object's bytes.
     pub digest: Digest,
-    /// The day on which the version was stored.
+    /// The day on which the object was stored.
     pub stored: Day,
     /// The number of the client node.
     pub node: u32,
@@ -43,10 +45,10 @@ pub struct MissingLine {
     /// The object's number.
     pub object: u64,
     /// How many bytes the object has.
-    pub size: u32,
+    pub size: ObjectSize,
 }
 
-/// A version that its rule does not retain.
+/// An object that is not retained: a version by its rule, or a held object whose day has come.
 #[derive(Drop)]
 pub struct UnretainedLine {
     /// The filespace's number.

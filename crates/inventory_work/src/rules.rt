@@ -4,6 +4,7 @@ ghost use Rattle.std.specs.List.{flat_map};
 ghost use Rattle.std.specs.Option.{option_copied};
 ghost use Rattle.kinds.specs.Answers.{Answers, AnswersBy};
 ghost use Rattle.inventory_rows.specs.policy_domains.Rows.{active_set};
+ghost use Rattle.inventory_rows.specs.policy_domains.Rules.{archive_of};
 ghost use Rattle.inventory_rows.specs.State.{inv_of};
 ghost use Rattle.inventory_work.specs.Lists.{Writes};
 ghost use Rattle.inventory_work.specs.Rules.{class_rules, rules_of_set, active_in, rules_in, rules_of};
@@ -12,7 +13,7 @@ use crate::lines::{ClassRule, Rules};
 use crate::listed::Listed;
 use inventory_rows::policy_domains::{Domains, PolicySet};
 use inventory_rows::{Tables, domain_of_node, rule_of};
-use kinds::{Name, Refusal};
+use kinds::{ArchiveRule, Name, Refusal};
 use std::alloc::Global;
 
 fn active_name(alloc: Global) -> Result<Name, Refusal>
@@ -31,6 +32,17 @@ fn active_in<'a>(domains: &'a Domains, domain: &Name, active: &Name) -> Option<&
     }
 }
 
+/// The archive rule of a class of a domain; none where the domain is not there.
+fn archive_of(domains: &Domains, domain: &Name, class: &Name) -> Option<ArchiveRule>
+    ensures { result ≡ archive_of domains.now domain.now class.now }
+{
+    if domains.rows().contains_key(domain) {
+        domains.archive_of(domain, class)
+    } else {
+        None
+    }
+}
+
 fn write_rule(
     lines: &mut Vec<ClassRule>,
     domains: &Domains,
@@ -42,8 +54,13 @@ fn write_rule(
     match rule_of(domains, domain, class) {
         None => Ok(()),
         Some(rule) => {
+            let archive = archive_of(domains, domain, class);
             let class = class.clone()?;
-            lines.push(ClassRule { class, rule })?;
+            lines.push(ClassRule {
+                class,
+                rule,
+                archive,
+            })?;
             Ok(())
         }
     }

@@ -1,4 +1,3 @@
 pub mod Files
 pub mod Foremost
 pub mod Lists
-pub mod Standings

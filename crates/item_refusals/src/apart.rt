@@ -6,12 +6,12 @@ ghost use Rattle.inventory_rows.specs.version_groups.Entries.{all_later};
 ghost use Rattle.kinds.specs.Names.{is_same_name};
 
 use change_items::{
-    DiscardedVersion, DroppedCopy, MovedCopy, NamedVersion, NewCopy, NewVersion, Rebinding,
-    ScratchVolume,
+    DiscardedVersion, DroppedCopy, MovedCopy, NamedVersion, NewCopy, NewHeldObject, NewVersion,
+    Rebinding, ScratchVolume,
 };
 
 /// An item of a list whose items name different things.
-pub(crate) trait Apart {
+pub trait Apart {
     /// Two items name different things.
     ghost differs: { Self → Self → Bool };
 
@@ -44,6 +44,14 @@ pub(crate) fn are_apart<T: Apart>(items: &[T]) -> bool
 }
 
 impl Apart for NewVersion {
+    ghost differs = { λ a b. not (a.object == b.object) };
+
+    fn differs(&self, other: &Self) -> bool {
+        self.object != other.object
+    }
+}
+
+impl Apart for NewHeldObject {
     ghost differs = { λ a b. not (a.object == b.object) };
 
     fn differs(&self, other: &Self) -> bool {

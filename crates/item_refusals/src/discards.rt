@@ -2,10 +2,9 @@
 
 ghost use Rattle.std.specs.Prelude.{◌≡◌};
 ghost use Rattle.kinds.specs.Refusals.{foremost};
-ghost use Rattle.inventory_rows.specs.Search.{lies_on, place};
+ghost use Rattle.inventory_rows.specs.Search.{lies_on, filespace_of};
 ghost use Rattle.inventory_rows.specs.State.{inv_of};
 ghost use Rattle.inventory_rules.specs.Versions.{all_lie_on, primary_lies_on, in_use, is_in, discard_reason_refused, discarded_refused, discard_refused};
-ghost use Rattle.item_refusals.specs.Standing.{is_number};
 
 use crate::causes::{gone_or_unknown, once};
 use crate::past::Past;
@@ -44,7 +43,7 @@ fn primary_lies_on(tables: &Tables, file: u32, version: &Version) -> bool
 }
 
 fn is_number(filespace: u32, found: Option<u32>) -> bool
-    ensures { result ≡ is_number filespace found }
+    ensures { result ≡ is_in filespace found }
 {
     match found {
         None => false,
@@ -52,9 +51,9 @@ fn is_number(filespace: u32, found: Option<u32>) -> bool
     }
 }
 
-/// Whether the object's version stands in the filespace.
+/// Whether the object is kept in the filespace.
 fn is_in(tables: &Tables, filespace: u32, object: u64) -> bool
-    ensures { result ≡ is_in filespace (place object (inv_of tables.now)) }
+    ensures { result ≡ is_in filespace (filespace_of object (inv_of tables.now)) }
 {
     is_number(filespace, tables.objects.filespace_of(object))
 }

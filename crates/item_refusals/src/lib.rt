@@ -3,6 +3,7 @@
 #![tactic(auto)]
 
 mod apart;
+mod arrivals;
 mod causes;
 mod copies;
 mod discards;
@@ -14,10 +15,11 @@ mod room;
 mod scratch;
 mod versions;
 
+pub use arrivals::{Arrival, new_refused, objects_refused};
 pub use copies::{copy_list_refused, move_refused};
 pub use discards::discard_refused;
 pub use drops::drop_refused;
 pub use numbers::{file_bound, file_refusal, full_at};
 pub use past::{NoPast, Past};
-pub use scratch::{objects_refused, scratch_refused};
-pub use versions::{backup_refused, expire_refused, gone_refused, rebind_refused};
+pub use scratch::scratch_refused;
+pub use versions::{expire_refused, gone_refused, rebind_refused};

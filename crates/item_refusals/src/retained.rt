@@ -1,11 +1,13 @@
-//! Whether a version is retained.
+//! Whether an object is retained.
 
-ghost use Rattle.std.specs.Prelude.{◌≡◌};
-ghost use Rattle.std.specs.Option.{option_copied};
+ghost use Rattle.std.specs.Prelude.{◌≡◌, false};
+ghost use Rattle.std.specs.Option.{option_copied, option_map_or};
 ghost use Rattle.inventory_rows.specs.State.{inv_of};
+ghost use Rattle.inventory_rows.specs.object_rows.HeldRows.{held_at};
+ghost use Rattle.copy_groups.specs.Retention.{is_held_on};
 ghost use Rattle.inventory_rules.specs.Owed.{is_owed_in, is_owed_of, is_retained};
 
-use copy_groups::is_owed;
+use copy_groups::{is_held_on, is_owed};
 use inventory_rows::version_groups::{Group, Versions};
 use inventory_rows::{Tables, rule_in};
 use kinds::{Day, Path, RuleFound};
@@ -35,14 +37,23 @@ fn is_owed_of(tables: &Tables, filespace: u32, object: u64, group: Option<&Group
     }
 }
 
-/// Whether the object's version stands under the path and is retained today by the rule of the path's class.
+fn is_held_today(tables: &Tables, object: u64) -> bool
+    ensures { result ≡ option_map_or (λ row. is_held_on (inv_of tables.now).today row.held.until) (held_at object (inv_of tables.now).clients.held) false }
+{
+    match tables.objects.held().get(&object) {
+        Some(row) => is_held_on(tables.today, row.held.until),
+        None => false,
+    }
+}
+
+/// Whether the object is held under the path and its day lies ahead, or its version stands there and is retained today by the rule of the path's
+/// class.
 pub(crate) fn is_retained(tables: &Tables, filespace: u32, path: &Path, object: u64) -> bool
     ensures { result ≡ is_retained filespace path.now object (inv_of tables.now) }
 {
-    is_owed_of(
-        tables,
-        filespace,
-        object,
-        tables.objects.group(filespace, path),
-    )
+    if tables.objects.has_held(filespace, path, object) {
+        return is_held_today(tables, object);
+    }
+    let group = tables.objects.group(filespace, path);
+    is_owed_of(tables, filespace, object, group)
 }

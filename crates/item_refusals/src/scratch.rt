@@ -1,4 +1,4 @@
-//! Scratch volumes and objects that a transaction makes.
+//! Scratch volumes that a transaction makes.
 
 ghost use Rattle.std.specs.Prelude.{◌≡◌, ◌==◌, ◌&&◌, not, map};
 ghost use Rattle.inventory_rows.specs.version_groups.Entries.{all_later};
@@ -7,11 +7,10 @@ ghost use Rattle.kinds.specs.Refusals.{foremost, unless};
 ghost use Rattle.inventory_rows.specs.State.{inv_of};
 ghost use Rattle.inventory_rules.specs.Common.{is_free_file, files_refused, file_bound};
 ghost use Rattle.inventory_rules.specs.Segments.{scratch_refused};
-ghost use Rattle.inventory_rules.specs.Versions.{is_new_object, object_refused, objects_refused};
 
 use crate::apart::are_apart;
 use crate::numbers::{file_bound, is_free_file};
-use change_items::{NewVersion, ScratchVolume};
+use change_items::ScratchVolume;
 use inventory_rows::Tables;
 use kinds::{Refusal, bad_value, sooner_of, unless};
 
@@ -53,27 +52,4 @@ pub fn scratch_refused(tables: &Tables, scratch: &[ScratchVolume]) -> Option<Ref
     let new = unless(are_new(tables, scratch), bad_value());
     let bounds = file_bounds(tables, scratch);
     sooner_of(new, bounds)
-}
-
-/// The number of a new object isn't new, or the next object number would reach its bound.
-#[tactic(auto, using(crate::proofs::Foremost::foremost_append))]
-fn object_refusal(tables: &Tables, object: u64) -> Option<Refusal>
-    ensures { result ≡ foremost (object_refused (inv_of tables.now) object) }
-{
-    let new = 1 <= object && !tables.objects.has_object(object);
-    let next = (tables.next_object as u128).max(object as u128 + 1);
-    let bound = unless(next < 1 << 62, Refusal::InventoryFull);
-    sooner_of(unless(new, bad_value()), bound)
-}
-
-/// Why the object numbers of new versions are refused: one that is 0 or that a version has is `BadValue`, and a next object number that would
-/// reach its bound is `InventoryFull`. It takes no memory.
-pub fn objects_refused(tables: &Tables, items: &[NewVersion]) -> Option<Refusal>
-    ensures { result ≡ foremost (objects_refused items.now (inv_of tables.now)) }
-{
-    let mut found = None;
-    'items: for item in items {
-        found = sooner_of(found, object_refusal(tables, item.object));
-    }
-    found
 }

@@ -3,33 +3,14 @@
 ghost use Rattle.std.specs.Prelude.{◌≡◌};
 ghost use Rattle.kinds.specs.Refusals.{foremost};
 ghost use Rattle.inventory_rows.specs.State.{inv_of};
-ghost use Rattle.inventory_rules.specs.Versions.{filespace_there, backup_refused, rebinding_refused, rebind_refused, stale_version, named_gone_refused, gone_refused, expired_refused, expire_refused};
+ghost use Rattle.inventory_rules.specs.Versions.{is_under, rebinding_refused, rebind_refused, stale_version, named_gone_refused, gone_refused, expired_refused, expire_refused};
 
 use crate::causes::{gone_or_unknown, once};
 use crate::past::Past;
 use crate::retained::is_retained;
-use crate::room::has_room;
-use change_items::{NamedVersion, NewVersion, Rebinding};
+use change_items::{NamedVersion, Rebinding};
 use inventory_rows::Tables;
-use kinds::{By, Refusal, sooner_of, unless};
-
-fn filespace_there(tables: &Tables, filespace: u32) -> Option<Refusal>
-    ensures { result ≡ foremost (filespace_there filespace (inv_of tables.now)) }
-{
-    let there = tables.objects.filespaces().contains_key(&filespace);
-    unless(there, Refusal::NotFound)
-}
-
-/// Why new versions are refused: an object that is named twice is `BadValue`, a filespace that isn't there is `NotFound`, and more than 2^20
-/// versions in all are `InventoryFull`. It takes no memory.
-pub fn backup_refused(tables: &Tables, filespace: u32, items: &[NewVersion]) -> Option<Refusal>
-    ensures { result ≡ foremost (backup_refused filespace items.now (inv_of tables.now)) }
-{
-    let there = filespace_there(tables, filespace);
-    let once = once(items);
-    let room = unless(has_room(tables, items.len()), Refusal::InventoryFull);
-    sooner_of(there, sooner_of(once, room))
-}
+use kinds::{By, Path, Refusal, sooner_of, unless};
 
 fn rebinding_refusal<J: Past>(
     past: &J,
@@ -104,6 +85,14 @@ pub fn gone_refused<J: Past>(
     found
 }
 
+/// Whether the object is one of the path's versions, or held under the path.
+fn is_under(tables: &Tables, filespace: u32, path: &Path, object: u64) -> bool
+    ensures { result ≡ is_under filespace path.now object (inv_of tables.now) }
+{
+    tables.objects.has_held(filespace, path, object)
+        || tables.objects.has_at(filespace, path, object)
+}
+
 fn expired_refusal<J: Past>(
     past: &J,
     tables: &Tables,
@@ -112,7 +101,7 @@ fn expired_refusal<J: Past>(
 ) -> Option<Refusal>
     ensures { result ≡ foremost (expired_refused (J.journal past.now) filespace (inv_of tables.now) item.now) }
 {
-    if tables.objects.has_at(filespace, &item.path, item.object) {
+    if is_under(tables, filespace, &item.path, item.object) {
         let retained = is_retained(tables, filespace, &item.path, item.object);
         unless(!retained, Refusal::InUse(By::Object(item.object)))
     } else {
@@ -120,7 +109,7 @@ fn expired_refusal<J: Past>(
     }
 }
 
-/// Why versions don't expire: an object that is named twice is `BadValue`; one that is retained today is `InUse`; one that isn't there is
+/// Why objects don't expire: an object that is named twice is `BadValue`; one that is retained today is `InUse`; one that isn't there is
 /// `Gone` where the journal tells which transaction removed it, and else `NotFound`. It takes no memory.
 pub fn expire_refused<J: Past>(
     past: &J,

@@ -1,4 +1,4 @@
 pub mod Joins
 pub mod LeastLaws
 pub mod Order
-pub mod Text
+pub mod Utf8

@@ -8,5 +8,7 @@ pub mod Pools
 pub mod Refusals
 pub mod RuleForms
 pub mod Rules
+pub mod Sizes
+pub mod Texts
 pub mod ValueForms
 pub mod VerbForms

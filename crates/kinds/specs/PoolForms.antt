@@ -1,9 +1,10 @@
 -- The bytes of what a storage pool's definition says and of a volume's access, and that they are forms.
-use Rattle.std.specs.Prelude.{◌≡◌, ℕ, List, [], ◌∷◌, Option, Some, None, refl}
+use Rattle.std.specs.Prelude.{◌≡◌, ℕ, Bool, false, List, [], ◌∷◌, Option, Some, None, refl}
 use Rattle.std.specs.Int.{w16, w32, w64}
-use Rattle.fields.specs.Forms.{Form, IsForm, byte, number, pair, viewed, only, coded, limit, value_of}
+use Rattle.fields.specs.Forms.{Form, IsForm, byte, number, pair, viewed, only, coded, flag, limit, value_of}
+use Rattle.fields.specs.Editions.{Edition, added, added_form}
 use Rattle.fields.specs.FieldLaws.{byte_form, number_form, wide16, wide32, wide64}
-use Rattle.fields.specs.FormLaws.{pair_form, viewed_form, only_form, coded_form, limit_form}
+use Rattle.fields.specs.FormLaws.{pair_form, viewed_form, only_form, coded_form, flag_form, limit_form}
 use Rattle.kinds.specs.Pools.{is_pool}
 use Rattle.kinds.specs.ValueForms.{days, days_form, or_zero, or_zero_form}
 use Rattle.kinds.specs.declared.pool.Access.{Access}
@@ -50,7 +51,7 @@ size_limit = viewed size_with size_number (limit w64)
 
 -- the parameters of a storage pool, in the order of their bytes
 abbrev pub PoolFields : Type 0
-PoolFields = SizeLimit × (Option ℕ × (ℕ × (ℕ × (ℕ × (ℕ × ℕ)))))
+PoolFields = SizeLimit × (Option ℕ × (ℕ × (ℕ × (ℕ × (ℕ × (ℕ × Bool))))))
 
 abbrev pub pool_with : PoolFields → PoolRule
 pool_with f = record {
@@ -60,19 +61,20 @@ pool_with f = record {
   low = f.1.1.1.0;
   reclaim = f.1.1.1.1.0;
   reuse_delay = f.1.1.1.1.1.0;
-  max_scratch = f.1.1.1.1.1.1;
+  max_scratch = f.1.1.1.1.1.1.0;
+  collocate = f.1.1.1.1.1.1.1;
 }
 
 abbrev pub pool_fields : PoolRule → PoolFields
-pool_fields r = (r.max_size, (r.next, (r.high, (r.low, (r.reclaim, (r.reuse_delay, r.max_scratch))))))
+pool_fields r = (r.max_size, (r.next, (r.high, (r.low, (r.reclaim, (r.reuse_delay, (r.max_scratch, r.collocate)))))))
 
--- MAXSIZE, the next pool's number or 0, HIGHMIG, LOWMIG, RECLAIM, REUSEDELAY, MAXSCRATCH
-abbrev pub pool_rule : Form PoolRule
-pool_rule = viewed pool_with pool_fields (pair size_limit (pair (or_zero (number w32)) (pair byte (pair byte (pair byte (pair days (number w16)))))))
+-- MAXSIZE, the next pool's number or 0, HIGHMIG, LOWMIG, RECLAIM, REUSEDELAY, MAXSCRATCH, and whether a client's objects are kept together
+abbrev pub pool_rule : Edition → Form PoolRule
+pool_rule e = viewed pool_with pool_fields (pair size_limit (pair (or_zero (number w32)) (pair byte (pair byte (pair byte (pair days (pair (number w16) (added e false flag))))))))
 
 -- a rule whose parameters are in their ranges
-abbrev pub settings : Form PoolRule
-settings = only is_pool pool_rule
+abbrev pub settings : Edition → Form PoolRule
+settings e = only is_pool (pool_rule e)
 
 -- ---- laws
 
@@ -104,9 +106,9 @@ size_forth (At n) = refl
 pub size_limit_form : IsForm size_limit
 size_limit_form = viewed_form size_with size_number size_back size_forth (limit_form w64 wide64)
 
-pub pool_rule_form : IsForm pool_rule
-pool_rule_form = viewed_form pool_with pool_fields (λ _. refl) (λ _. refl)
-    (pair_form size_limit_form (pair_form (or_zero_form (number_form w32 wide32)) (pair_form byte_form (pair_form byte_form (pair_form byte_form (pair_form days_form (number_form w16 wide16)))))))
+pub pool_rule_form : (e : Edition) → IsForm (pool_rule e)
+pool_rule_form e = viewed_form pool_with pool_fields (λ _. refl) (λ _. refl)
+    (pair_form size_limit_form (pair_form (or_zero_form (number_form w32 wide32)) (pair_form byte_form (pair_form byte_form (pair_form byte_form (pair_form days_form (pair_form (number_form w16 wide16) (added_form e false flag_form))))))))
 
-pub settings_form : IsForm settings
-settings_form = only_form is_pool pool_rule_form
+pub settings_form : (e : Edition) → IsForm (settings e)
+settings_form e = only_form is_pool (pool_rule_form e)

@@ -1,6 +1,6 @@
 use Rattle.std.specs.Prelude.{ℕ, ◌+◌, Bool, true, false, nat_lt, if◌then◌else◌, List, [], ◌∷◌, Option, Some, None, Result, Ok, Err}
 use Rattle.kinds.specs.declared.refusal.Refusal.{Refusal}
-use Rattle.kinds.specs.declared.refusal.Refusal.TheVariants.{Syntax, UnknownWord, Ambiguous, BadValue, NotFound, Exists, InUse, NoDefaultClass, BadHierarchy, DayBack, NoBackupGroup, NoSpace, Busy, Stale, Gone, Unavailable, WriteFault, TreeFault, Changed, DigestDiffers, TooLarge, RecordFull, InventoryFull, NotYet, LogFault, RunFull, Memory}
+use Rattle.kinds.specs.declared.refusal.Refusal.TheVariants.{Syntax, UnknownWord, Ambiguous, BadValue, NotFound, Exists, InUse, NoDefaultClass, BadHierarchy, DayBack, NoBackupGroup, NoArchiveGroup, NoSpace, Busy, Stale, Gone, Unavailable, WriteFault, TreeFault, Changed, DigestDiffers, TooLarge, RecordFull, InventoryFull, NotYet, LogFault, RunFull, Memory}
 
 -- the number under which a refusal is printed
 abbrev pub number_of : Refusal → ℕ
@@ -15,6 +15,7 @@ number_of NoDefaultClass = 13
 number_of BadHierarchy = 14
 number_of (DayBack _ _) = 15
 number_of NoBackupGroup = 16
+number_of NoArchiveGroup = 17
 number_of (NoSpace _) = 20
 number_of (Busy _) = 21
 number_of (Stale _) = 22

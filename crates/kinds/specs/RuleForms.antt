@@ -1,10 +1,11 @@
--- The bytes of a backup copy group, and that they are a form.
+-- The bytes of copy groups, and that they are forms.
 use Rattle.std.specs.Prelude.{◌≡◌, ℕ, Bool, [], ◌∷◌, Option, Some, None, refl}
 use Rattle.std.specs.Int.{w16, w32}
 use Rattle.fields.specs.Forms.{Form, IsForm, number, pair, viewed, only, coded, flag, limit, value_of}
 use Rattle.fields.specs.FieldLaws.{number_form, wide16, wide32}
 use Rattle.fields.specs.FormLaws.{pair_form, viewed_form, only_form, coded_form, flag_form, limit_form}
-use Rattle.kinds.specs.Rules.{is_rule}
+use Rattle.kinds.specs.Rules.{is_rule, is_archive_rule}
+use Rattle.kinds.specs.declared.rule.ArchiveRule.{ArchiveRule}
 use Rattle.kinds.specs.declared.rule.BackupRule.{BackupRule}
 use Rattle.kinds.specs.declared.rule.Limit.{Limit}
 use Rattle.kinds.specs.declared.rule.Limit.TheVariants.{At, NoLimit}
@@ -58,6 +59,20 @@ rule = viewed rule_with rule_fields (pair (number w32) (pair (number w16) (pair 
 abbrev pub group : Form BackupRule
 group = only is_rule rule
 
+-- DESTINATION and RETVER of an archive copy group
+abbrev pub archive_with : ℕ × Limit → ArchiveRule
+archive_with f = record { destination = f.0; ret_ver = f.1 }
+
+abbrev pub archive_fields : ArchiveRule → ℕ × Limit
+archive_fields r = (r.destination, r.ret_ver)
+
+abbrev pub archive_rule : Form ArchiveRule
+archive_rule = viewed archive_with archive_fields (pair (number w32) rule_limit)
+
+-- a rule whose parameters are in their ranges
+abbrev pub archive_group : Form ArchiveRule
+archive_group = only is_archive_rule archive_rule
+
 -- ---- laws
 
 limit_back : (o : Option ℕ) → limit_number (limit_with o) ≡ o
@@ -84,3 +99,9 @@ rule_form = viewed_form rule_with rule_fields (λ _. refl) (λ _. refl)
 
 pub group_form : IsForm group
 group_form = only_form is_rule rule_form
+
+pub archive_rule_form : IsForm archive_rule
+archive_rule_form = viewed_form archive_with archive_fields (λ _. refl) (λ _. refl) (pair_form (number_form w32 wide32) rule_limit_form)
+
+pub archive_group_form : IsForm archive_group
+archive_group_form = only_form is_archive_rule archive_rule_form

@@ -1,4 +1,4 @@
--- The bytes of names, paths, days, sizes, digests and segments, and that they are forms.
+-- The bytes of names, paths, texts, days, sizes, digests and segments, and that they are forms.
 use Rattle.std.specs.Prelude.{◌≡◌, ℕ, ◌==◌, Bool, true, false, List, Option, Some, None, if◌then◌else◌, unwrap_or, refl}
 use Rattle.std.proofs.Common.{sym, ◌∙◌, ap}
 use Rattle.std.specs.Int.{w16, w32, w64}
@@ -8,10 +8,13 @@ use Rattle.fields.specs.Forms.{Form, IsForm, number, block, text, pair, viewed, 
 use Rattle.fields.specs.FieldLaws.{number_form, block_form, text_form, wide16, wide32, wide64}
 use Rattle.fields.specs.FormLaws.{pair_form, viewed_form, partly_form, only_form}
 use Rattle.fields.specs.ListLaws.{items_form}
+use Rattle.fields.specs.Editions.{Edition, byte_count, byte_count_form}
 use Rattle.kinds.specs.Days.{is_day, is_days}
 use Rattle.kinds.specs.Names.{is_name}
 use Rattle.kinds.specs.Paths.{is_path}
 use Rattle.kinds.specs.Pools.{is_capacity}
+use Rattle.kinds.specs.Sizes.{is_size}
+use Rattle.kinds.specs.Texts.{is_text}
 use Rattle.kinds.specs.declared.segment.Digest.{Digest}
 use Rattle.kinds.specs.declared.segment.Segment.{Segment}
 
@@ -22,6 +25,10 @@ name most = only (is_name most) text
 -- a path: a text that is one
 abbrev pub path : ℕ → Form (List ℕ)
 path most = only (is_path most) text
+
+-- what a client says of an object that it archives
+abbrev pub description : Form (List ℕ)
+description = only is_text text
 
 -- a day: a number of four bytes that the calendar has
 abbrev pub day : Form ℕ
@@ -34,6 +41,10 @@ days = only is_days (number w16)
 -- how many bytes a volume has: a number of eight bytes
 abbrev pub capacity : Form ℕ
 capacity = only is_capacity (number w64)
+
+-- how many bytes an object has
+abbrev pub size : Edition → Form ℕ
+size e = only is_size (byte_count e)
 
 -- none for 0, and else the number
 abbrev pub unless_zero : ℕ → Option ℕ
@@ -57,12 +68,12 @@ segment_with f = record { file = f.0; offset = f.1.0; len = f.1.1 }
 abbrev pub segment_fields : Segment → ℕ × (ℕ × ℕ)
 segment_fields s = (s.file, (s.offset, s.len))
 
-abbrev pub segment : Form Segment
-segment = viewed segment_with segment_fields (pair (number w32) (pair (number w64) (number w32)))
+abbrev pub segment : Edition → Form Segment
+segment e = viewed segment_with segment_fields (pair (number w32) (pair (number w64) (byte_count e)))
 
 -- the segments of a copy: their number in four bytes, and the segments
-abbrev pub segments : Form (List Segment)
-segments = items 4294967295 segment
+abbrev pub segments : Edition → Form (List Segment)
+segments e = items 4294967295 (segment e)
 
 -- ---- laws
 
@@ -72,6 +83,9 @@ name_form most = only_form (is_name most) text_form
 pub path_form : (most : ℕ) → IsForm (path most)
 path_form most = only_form (is_path most) text_form
 
+pub description_form : IsForm description
+description_form = only_form is_text text_form
+
 pub day_form : IsForm day
 day_form = only_form is_day (number_form w32 wide32)
 
@@ -80,6 +94,9 @@ days_form = only_form is_days (number_form w16 wide16)
 
 pub capacity_form : IsForm capacity
 capacity_form = only_form is_capacity (number_form w64 wide64)
+
+pub size_form : (e : Edition) → IsForm (size e)
+size_form e = only_form is_size (byte_count_form e)
 
 unless_zero-back : (n : ℕ) (b : Bool) → (n == 0) ≡ b → unwrap_or (if b then None else Some n) 0 ≡ n
 unless_zero-back n true e = sym (eqb-true n 0 e)
@@ -93,8 +110,8 @@ or_zero_form {f} law = partly_form (λ n. Some (unless_zero n)) (λ o. unwrap_or
 pub digest_form : IsForm digest
 digest_form = viewed_form digest_with (λ (d : Digest). d.0) (λ _. refl) (λ _. refl) (block_form 32)
 
-pub segment_form : IsForm segment
-segment_form = viewed_form segment_with segment_fields (λ _. refl) (λ _. refl) (pair_form (number_form w32 wide32) (pair_form (number_form w64 wide64) (number_form w32 wide32)))
+pub segment_form : (e : Edition) → IsForm (segment e)
+segment_form e = viewed_form segment_with segment_fields (λ _. refl) (λ _. refl) (pair_form (number_form w32 wide32) (pair_form (number_form w64 wide64) (byte_count_form e)))
 
-pub segments_form : IsForm segments
-segments_form = items_form 4294967295 segment_form
+pub segments_form : (e : Edition) → IsForm (segments e)
+segments_form e = items_form 4294967295 (segment_form e)

@@ -4,7 +4,7 @@ use crate::day::Days;
 use crate::name::{Name, NodeName};
 use crate::path::FilespaceName;
 use crate::pool::{Access, Capacity, PoolKind, PoolSettings};
-use crate::rule::CopyGroup;
+use crate::rule::{ArchiveGroup, CopyGroup};
 use std::alloc::AllocError;
 
 /// What is done with a row that may be updated.
@@ -51,6 +51,14 @@ pub enum PolicyChange {
         set: Name,
         class: Name,
         group: CopyGroup,
+    },
+    /// Of the archive copy group of a class. A group that is deleted comes with the rule that it has.
+    ArchiveGroup {
+        verb: Verb,
+        domain: Name,
+        set: Name,
+        class: Name,
+        group: ArchiveGroup,
     },
     /// The class becomes its set's default.
     Assign {
@@ -172,6 +180,22 @@ impl Clone for PolicyChange {
             } => {
                 let (domain, set, class) = copy_three(domain, set, class)?;
                 Ok(PolicyChange::Group {
+                    verb: *verb,
+                    domain,
+                    set,
+                    class,
+                    group: *group,
+                })
+            }
+            PolicyChange::ArchiveGroup {
+                verb,
+                domain,
+                set,
+                class,
+                group,
+            } => {
+                let (domain, set, class) = copy_three(domain, set, class)?;
+                Ok(PolicyChange::ArchiveGroup {
                     verb: *verb,
                     domain,
                     set,

@@ -12,6 +12,8 @@ mod pool;
 mod refusal;
 mod rule;
 mod segment;
+mod size;
+mod text;
 
 pub use change::{DefineOrDelete, ObjectChange, PolicyChange, PoolChange, Verb};
 pub use day::{Day, Days};
@@ -21,5 +23,7 @@ pub use name::{Name, NameOf, NodeName};
 pub use path::{FilespaceName, Path, PathOf};
 pub use pool::{Access, Capacity, PoolKind, PoolRule, PoolSettings, SizeLimit};
 pub use refusal::{By, Holder, OpenRefused, Refusal, bad_value, foremost, sooner_of, unless};
-pub use rule::{BackupRule, CopyGroup, Limit, RuleFound, Still};
+pub use rule::{ArchiveGroup, ArchiveRule, BackupRule, CopyGroup, Limit, RuleFound, Still};
 pub use segment::{Digest, Segment, Segments};
+pub use size::ObjectSize;
+pub use text::Text;

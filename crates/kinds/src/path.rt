@@ -45,7 +45,8 @@ fn has_no_zero(bytes: &[u8]) -> bool
     !bytes.contains(&0)
 }
 
-fn is_utf8(bytes: &[u8]) -> bool
+/// Whether the bytes are UTF-8.
+pub fn is_utf8(bytes: &[u8]) -> bool
     ensures { result ≡ is_utf8 bytes.now }
 {
     match str::from_utf8(bytes) {

@@ -86,6 +86,8 @@ pub struct PoolRule {
     pub reuse_delay: Days,
     /// MAXSCRATCH: how many scratch volumes the pool may have; 0 to 9,999.
     pub max_scratch: u16,
+    /// COLLOCATE=NODE: a client's objects are kept on volumes of its own, as far as there is room; only in a pool of sequential volumes.
+    pub collocate: bool,
 }
 
 /// A rule of a storage pool whose parameters are in their ranges.

@@ -61,6 +61,8 @@ pub enum Refusal {
     DayBack { today: u32, given: u32 },
     /// 16: the management class that is to be used has no backup copy group.
     NoBackupGroup,
+    /// 17: the management class that is to be used has no archive copy group.
+    NoArchiveGroup,
     /// 20: no pool of the hierarchy that begins at this destination pool has room.
     NoSpace(u32),
     /// 21: there would be room if this ticket were given back, or an image is being written.
@@ -114,6 +116,7 @@ impl Refusal {
             Refusal::BadHierarchy => 14,
             Refusal::DayBack { .. } => 15,
             Refusal::NoBackupGroup => 16,
+            Refusal::NoArchiveGroup => 17,
             Refusal::NoSpace(_) => 20,
             Refusal::Busy(_) => 21,
             Refusal::Stale(_) => 22,

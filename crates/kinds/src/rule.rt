@@ -1,5 +1,5 @@
 ghost use Rattle.std.specs.Prelude.{◌≡◌, IsTrue, Some, None, if◌then◌else◌};
-ghost use Rattle.kinds.specs.Rules.{is_limit, is_rule};
+ghost use Rattle.kinds.specs.Rules.{is_limit, is_rule, is_archive_rule};
 
 use std::marker::Model;
 
@@ -69,11 +69,11 @@ impl Model for CopyGroup {
     ghost inverse = { λ r. record { rule = r } };
 }
 
-fn is_limit(least: u32, limit: Limit) -> bool
-    ensures { result ≡ is_limit least limit }
+fn is_limit(least: u32, most: u32, limit: Limit) -> bool
+    ensures { result ≡ is_limit least most limit }
 {
     match limit {
-        Limit::At(n) => least <= n && n <= 9999,
+        Limit::At(n) => least <= n && n <= most,
         Limit::NoLimit => true,
     }
 }
@@ -82,10 +82,10 @@ fn is_rule(rule: &BackupRule) -> bool
     ensures { result ≡ is_rule rule.now }
 {
     rule.frequency <= 9999
-        && is_limit(1, rule.ver_exists)
-        && is_limit(0, rule.ver_deleted)
-        && is_limit(0, rule.ret_extra)
-        && is_limit(0, rule.ret_only)
+        && is_limit(1, 9999, rule.ver_exists)
+        && is_limit(0, 9999, rule.ver_deleted)
+        && is_limit(0, 9999, rule.ret_extra)
+        && is_limit(0, 9999, rule.ret_only)
 }
 
 impl CopyGroup {
@@ -104,6 +104,56 @@ impl CopyGroup {
     pub fn rule(self) -> BackupRule
         ensures value { result ≡ self }
         ensures grammar { IsTrue (is_rule self) }
+    {
+        self.rule
+    }
+}
+
+/// What an archive copy group says: where archived objects go, and for how long they are kept.
+#[derive(Clone, Copy, Debug, PartialEq, Eq)]
+pub struct ArchiveRule {
+    /// DESTINATION: the number of the pool that takes archived objects.
+    pub destination: u32,
+    /// RETVER: for how many days an archived object is kept; 0 to 30,000.
+    pub ret_ver: Limit,
+}
+
+/// An archive copy group: a rule whose parameters are in their ranges.
+#[derive(Clone, Copy, Debug, PartialEq, Eq)]
+pub struct ArchiveGroup {
+    rule: ArchiveRule,
+}
+
+impl Model for ArchiveGroup {
+    ghost use Rattle.std.specs.Prelude.{IsTrue};
+    ghost use Rattle.kinds.specs.declared.rule.ArchiveRule.{ArchiveRule};
+    ghost use Rattle.kinds.specs.Rules.{is_archive_rule};
+
+    ghost Value = { ArchiveRule };
+
+    ghost view = { λ g. g.rule };
+
+    ghost invariant = { λ g. IsTrue (is_archive_rule g.rule) };
+
+    ghost inverse = { λ r. record { rule = r } };
+}
+
+impl ArchiveGroup {
+    /// The copy group with this rule; none where RETVER is outside its range.
+    pub fn new(rule: ArchiveRule) -> Option<Self>
+        ensures { result ≡ (if is_archive_rule rule then Some rule else None) }
+    {
+        if is_limit(0, 30000, rule.ret_ver) {
+            Some(ArchiveGroup { rule })
+        } else {
+            None
+        }
+    }
+
+    /// What the copy group says.
+    pub fn rule(self) -> ArchiveRule
+        ensures value { result ≡ self }
+        ensures grammar { IsTrue (is_archive_rule self) }
     {
         self.rule
     }

@@ -16,7 +16,7 @@ pub struct Segment {
     /// Where the segment's frame begins on the volume, in bytes.
     pub offset: u64,
     /// How many bytes of data follow the frame's header.
-    pub len: u32,
+    pub len: u64,
 }
 
 /// The segments of one copy of an object, in the order of their data; fewer than 2^32.

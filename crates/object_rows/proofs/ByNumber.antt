@@ -82,6 +82,10 @@ fixed_group k copies g n = ap (λ vs. record g { versions = vs }) (with_copies-o
 fixed_filespace : (k : ℕ) (copies : List CopyRow) (f : Filespace) → has_object k (versions_in f.groups) ≡ false → filespace_copied k copies f ≡ f
 fixed_filespace k copies f n = ap (λ gs. record f { groups = gs }) (mapped_others (λ (g : Group). g.versions) (group_copied k copies) k (fixed_group k copies) f.groups n)
 
+-- filespaces without the object stay as they are
+pub filespaces-others : (k : ℕ) (copies : List CopyRow) (fs : List (ℕ × Filespace)) → has_object k (versions_of fs) ≡ false → filespaces_copied k copies fs ≡ fs
+filespaces-others k copies fs n = mapped_others (λ (f : Filespace). versions_in f.groups) (filespace_copied k copies) k (fixed_filespace k copies) fs n
+
 -- the object's version has these copies: at its place, and wherever it stands
 pub copied-at : (k n : ℕ) (p : List ℕ) (copies : List CopyRow) (fs : List (ℕ × Filespace)) (f : Filespace) (g : Group) → filespace_at n fs ≡ Some f → grouped.group_at p f.groups ≡ Some g
     → has_object k g.versions ≡ true → are_distinct (versions_of fs) ≡ true

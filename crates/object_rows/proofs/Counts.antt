@@ -10,10 +10,10 @@ use Rattle.version_groups.specs.Versions.{are_distinct}
 use Rattle.object_rows.specs.declared.tally.Tally.{Tally}
 use Rattle.object_rows.specs.declared.place.Place.{Place}
 use Rattle.object_rows.specs.Filespaces.{group_at, versions_at}
-use Rattle.object_rows.specs.Items.{items_of_filespace, items_of_filespaces, items_of_group, items_of_version}
+use Rattle.object_rows.specs.Items.{items_of_filespace, items_of_filespaces, items_of_group, items_of_version, items_with}
 use Rattle.object_rows.specs.Places.{Indexed}
 use Rattle.object_rows.specs.Rows.{NewestIs}
-use Rattle.object_rows.specs.Tally.{Counts, CountsEach, Exchanges, ExchangesAt, IsCounted, Owes, OwesEach, WeighsTheSame, items_with, kept_at, placed_in, weigh_at, weigh_filespaces, weigh_group, weigh_groups}
+use Rattle.object_rows.specs.Tally.{Counts, CountsEach, Exchanges, ExchangesAt, IsCounted, Owes, OwesEach, WeighsTheSame, kept_at, placed_in, weigh_at, weigh_filespaces, weigh_group, weigh_groups}
 use Rattle.object_rows.proofs.Kept.{distinct_at}
 use Rattle.object_rows.proofs.Stands.{distinct-listed}
 use Rattle.object_rows.proofs.Weights.{exchange_remove, exchange_undo}
@@ -53,11 +53,11 @@ all_items fs =
 
 -- ---- what left and what came
 
-settled : (kept : Option ℕ) (new old was now : ℕ) → new + was ≡ old + now → Owes was (old + now) kept → Counts new kept
+pub settled : (kept : Option ℕ) (new old was now : ℕ) → new + was ≡ old + now → Owes was (old + now) kept → Counts new kept
 settled None new old was now e h = tt
 settled (Some n) new old was now e h = omega (arith, e, h)
 
-settled_each : (kept : Option (List (ℕ × ℕ))) (new old was now : ℕ → ℕ) → ((pool : ℕ) → new pool + was pool ≡ old pool + now pool) → OwesEach was (λ pool. old pool + now pool) kept → CountsEach new kept
+pub settled_each : (kept : Option (List (ℕ × ℕ))) (new old was now : ℕ → ℕ) → ((pool : ℕ) → new pool + was pool ≡ old pool + now pool) → OwesEach was (λ pool. old pool + now pool) kept → CountsEach new kept
 settled_each None new old was now e h = tt
 settled_each (Some counts) new old was now e h = λ pool. settled_one (kept_at pool counts) (new pool) (old pool) (was pool) (now pool) (e pool) (h pool) where
   settled_one : (n a b c d : ℕ) → a + c ≡ b + d → n + c ≡ b + d → n ≡ a

@@ -1,12 +1,17 @@
 pub mod Answered
+pub mod Apart
 pub mod Builds
 pub mod ByNumber
 pub mod Counts
 pub mod Full
 pub mod InFilespaces
 pub mod HeldCopies
+pub mod HeldCounts
+pub mod HeldLists
 pub mod IndexLaws
 pub mod Kept
+pub mod KeptChanges
+pub mod KeptLaws
 pub mod Least
 pub mod Made
 pub mod NamedSpaces

@@ -12,8 +12,10 @@ use Rattle.kinds.specs.declared.refusal.Refusal.{Refusal}
 use Rattle.kinds.specs.declared.refusal.Refusal.TheVariants.{Exists}
 use Rattle.version_groups.specs.declared.groups.Filespace.{Filespace}
 use Rattle.version_groups.specs.Entries.{on_ok, if_found}
+use Rattle.kinds.specs.Least.{lesser}
+use Rattle.object_rows.specs.declared.held_object.HeldRow.{HeldRow}
 use Rattle.object_rows.specs.declared.place.Node.{Node}
-use Rattle.object_rows.specs.Changes.{Changes, by_filespace, by_object, filespaces_defined, filespaces_without, least_object, nodes_with, nodes_without, unless_used}
+use Rattle.object_rows.specs.Changes.{Changes, by_filespace, by_object, filespaces_defined, filespaces_without, least_in, least_object, nodes_with, nodes_without, unless_used}
 use Rattle.object_rows.specs.Filespaces.{at_number, filespace_at}
 use Rattle.object_rows.specs.Names.{filespace_named, filespace_of, node_named}
 
@@ -68,20 +70,25 @@ nothing : (object : Option ℕ) → by_object object ≡ None → object ≡ Non
 nothing None h = refl
 nothing (Some n) h = absurd (cc)
 
-space_left : (number : ℕ) (filespaces : List (ℕ × Filespace)) (f : Filespace) → Some f ≡ filespace_at number filespaces → result_err (filespaces_without number filespaces) ≡ None
-    → (least_object f.groups ≡ None) × (filespaces_without number filespaces ≡ Ok (remove_entry (at_number number) filespaces))
-space_left number filespaces f found h =
-    let w = goes (remove_entry (at_number number) filespaces) (by_object (least_object f.groups)) (ap (λ o. result_err (if_found o step)) found ∙ h) in
-    (nothing (least_object f.groups) w.0, sym (ap (λ o. if_found o step) found) ∙ w.1) where
+no_lesser : (a b : Option ℕ) → lesser a b ≡ None → a ≡ None
+no_lesser None b h = refl
+no_lesser (Some n) None h = absurd (cc)
+no_lesser (Some n) (Some m) h = absurd (cc)
+
+space_left : (number : ℕ) (held : List (ℕ × HeldRow)) (filespaces : List (ℕ × Filespace)) (f : Filespace) → Some f ≡ filespace_at number filespaces → result_err (filespaces_without number held filespaces) ≡ None
+    → (least_object f.groups ≡ None) × (filespaces_without number held filespaces ≡ Ok (remove_entry (at_number number) filespaces))
+space_left number held filespaces f found h =
+    let w = goes (remove_entry (at_number number) filespaces) (by_object (lesser (least_object f.groups) (least_in number held))) (ap (λ o. result_err (if_found o step)) found ∙ h) in
+    (no_lesser (least_object f.groups) (least_in number held) (nothing (lesser (least_object f.groups) (least_in number held)) w.0), sym (ap (λ o. if_found o step) found) ∙ w.1) where
       step : Filespace → Result (List (ℕ × Filespace)) Refusal
-      step g = unless_used (by_object (least_object g.groups)) (remove_entry (at_number number) filespaces)
+      step g = unless_used (by_object (lesser (least_object g.groups) (least_in number held))) (remove_entry (at_number number) filespaces)
 
-pub space_is_unused : (number : ℕ) (filespaces : List (ℕ × Filespace)) (f : Filespace) → Some f ≡ filespace_at number filespaces → result_err (filespaces_without number filespaces) ≡ None → least_object f.groups ≡ None
-space_is_unused number filespaces f found h = (space_left number filespaces f found h).0
+pub space_is_unused : (number : ℕ) (held : List (ℕ × HeldRow)) (filespaces : List (ℕ × Filespace)) (f : Filespace) → Some f ≡ filespace_at number filespaces → result_err (filespaces_without number held filespaces) ≡ None → least_object f.groups ≡ None
+space_is_unused number held filespaces f found h = (space_left number held filespaces f found h).0
 
-pub space_goes : (number : ℕ) (filespaces : List (ℕ × Filespace)) (f : Filespace) → Some f ≡ filespace_at number filespaces → result_err (filespaces_without number filespaces) ≡ None
-    → filespaces_without number filespaces ≡ Ok (remove_entry (at_number number) filespaces)
-space_goes number filespaces f found h = (space_left number filespaces f found h).1
+pub space_goes : (number : ℕ) (held : List (ℕ × HeldRow)) (filespaces : List (ℕ × Filespace)) (f : Filespace) → Some f ≡ filespace_at number filespaces → result_err (filespaces_without number held filespaces) ≡ None
+    → filespaces_without number held filespaces ≡ Ok (remove_entry (at_number number) filespaces)
+space_goes number held filespaces f found h = (space_left number held filespaces f found h).1
 
 pub changes_refused : (A : Type 0) {S : Type 0} (change : ObjectChange) (e : Refusal) (old : S) (said : Result S Refusal) → Some e ≡ result_err said → Changes {A = A} change (Err e) old old said
 changes_refused A (changes.Node Define name domain) e old said h = (refl, inr (refused e said h))

@@ -8,10 +8,11 @@ use Rattle.version_groups.specs.declared.group.Group.{Group}
 use Rattle.version_groups.specs.declared.groups.Filespace.{Filespace}
 use Rattle.version_groups.specs.declared.versions.Version.{Version}
 use Rattle.version_groups.specs.Copies.{has_copy}
-use Rattle.object_rows.specs.Held.{filespaces_hold, groups_hold, holds_copy, versions_hold}
+use Rattle.object_rows.specs.declared.held_object.HeldRow.{HeldRow}
+use Rattle.object_rows.specs.Held.{filespaces_hold, groups_hold, held_hold, versions_hold}
+use Rattle.object_rows.specs.HeldRows.{weigh_held}
 use Rattle.object_rows.specs.Tally.{kept_at, placed_in, weigh, weigh_filespaces, weigh_group, weigh_groups}
 use Rattle.object_rows.proofs.Counts.{at_values}
-use Rattle.object_rows.proofs.HeldCopies.{held}
 
 -- ---- one after another
 
@@ -34,7 +35,7 @@ any_alike p q same (x ∷ xs) = ap (λ b. b || list_any p xs) (same x) ∙ ap (�
 some_of : {X : Type 0} (f : X → ℕ) (p : X → Bool) → ((x : X) → some_in (f x) ≡ p x) → (xs : List X) → some_in (sum_by f xs) ≡ list_any p xs
 some_of f p same xs = ap not (sum_by-zero f xs) ∙ not-all (λ x. eqb (f x) 0) xs ∙ any_alike (λ x. some_in (f x)) p same xs
 
-nothing_first : (n : ℕ) → 0 + n ≡ n
+pub nothing_first : (n : ℕ) → 0 + n ≡ n
 nothing_first n = omega arith
 
 one_or_none : (b : Bool) → some_in (cond b 1 0) ≡ b
@@ -59,5 +60,14 @@ in_filespaces pool fs =
     ∙ some_of (λ (e : ℕ × Filespace). weigh_groups 0 (placed_in pool) e.1.groups) (λ (e : ℕ × Filespace). groups_hold pool e.1.groups) (λ e. in_groups pool e.1.groups) fs
 
 -- a copy lies in the pool, as the counts say
-pub counted_held : (pool : ℕ) (counts : List (ℕ × ℕ)) (fs : List (ℕ × Filespace)) → kept_at pool counts ≡ weigh_filespaces 0 (placed_in pool) fs → not (eqb (kept_at pool counts) 0) ≡ holds_copy pool fs
-counted_held pool counts fs h = ap some_in h ∙ in_filespaces pool fs ∙ held pool fs
+pub counted_held : (pool : ℕ) (counts : List (ℕ × ℕ)) (fs : List (ℕ × Filespace)) → kept_at pool counts ≡ weigh_filespaces 0 (placed_in pool) fs → not (eqb (kept_at pool counts) 0) ≡ filespaces_hold pool fs
+counted_held pool counts fs h = ap some_in h ∙ in_filespaces pool fs
+
+in_held : (pool : ℕ) (held : List (ℕ × HeldRow)) → some_in (weigh_held (placed_in pool) held) ≡ held_hold pool held
+in_held pool held =
+    ap some_in (at_values (λ (r : HeldRow). placed_in pool r.held.version.copies) held)
+    ∙ some_of (λ (e : ℕ × HeldRow). placed_in pool e.1.held.version.copies) (λ (e : ℕ × HeldRow). has_copy pool e.1.held.version.copies) (λ e. in_copies pool e.1.held.version.copies) held
+
+-- and of a held object
+pub counted_rows : (pool : ℕ) (counts : List (ℕ × ℕ)) (held : List (ℕ × HeldRow)) → kept_at pool counts ≡ weigh_held (placed_in pool) held → not (eqb (kept_at pool counts) 0) ≡ held_hold pool held
+counted_rows pool counts held h = ap some_in h ∙ in_held pool held

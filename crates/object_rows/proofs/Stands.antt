@@ -120,7 +120,7 @@ pub listed-distinct : (fs : List (ℕ × Filespace)) → are_distinct (versions_
 listed-distinct fs d = distinct_places (listed fs) (versions_of fs) (keys-listed fs) d
 
 -- ---- a search of joined lists
-lookup-behind : {K V : Type 0} (test : K → Bool) (xs ys : List (K × V)) → lookup test xs ≡ None → lookup test (xs ++ ys) ≡ lookup test ys
+pub lookup-behind : {K V : Type 0} (test : K → Bool) (xs ys : List (K × V)) → lookup test xs ≡ None → lookup test (xs ++ ys) ≡ lookup test ys
 lookup-behind test [] ys h = refl
 lookup-behind test (x ∷ xs) ys h =
     elim (test x.0) as (λ b. cond b (Some x.1) (lookup test xs) ≡ None → cond b (Some x.1) (lookup test (xs ++ ys)) ≡ lookup test ys) [

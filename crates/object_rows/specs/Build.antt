@@ -1,8 +1,13 @@
 -- An index that is built from a list of pairs.
-use Rattle.std.specs.Prelude.{◌≡◌, Bool, true, false, List, ◌++◌, Result, Ok, Err}
+use Rattle.std.specs.Prelude.{◌≡◌, ℕ, Bool, true, false, not, is_some, List, ◌++◌, Result, Ok, Err}
+use Rattle.std.specs.List.{list_all}
+use Rattle.std.specs.Map.{lookup}
 use Rattle.std.specs.declared.cmp.Ordering.{Ordering}
 use Rattle.kinds.specs.declared.refusal.Refusal.{Refusal}
 use Rattle.kinds.specs.declared.refusal.Refusal.TheVariants.{Memory}
+use Rattle.object_rows.specs.declared.held_object.HeldRow.{HeldRow}
+use Rattle.object_rows.specs.declared.place.Place.{Place}
+use Rattle.object_rows.specs.Filespaces.{at_number}
 use Rattle.object_rows.specs.Index.{AreDistinct, IsIndex}
 
 module _ {K V : Type 0} (R : K → K → Ordering) where
@@ -15,3 +20,7 @@ module _ {K V : Type 0} (R : K → K → Ordering) where
   -- an index of some pairs becomes one of these pairs more
   abbrev pub Builds : Result Bool Refusal → List (K × V) → List (K × V) → List (K × V) → Type 0
   Builds result old new pairs = (done : List (K × V)) → IsIndex R old done → Built result new done pairs
+
+-- none of the held objects has a number that has a place
+abbrev pub are_apart : List (ℕ × Place) → List (ℕ × HeldRow) → Bool
+are_apart places held = list_all (λ e. not (is_some (lookup (at_number e.0) places))) held

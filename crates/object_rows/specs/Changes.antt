@@ -1,6 +1,6 @@
 -- What each change of nodes and filespaces makes of the rows, or how it is refused: what isn't there first, then what is there
 -- already, then what is used.
-use Rattle.std.specs.Prelude.{◌≡◌, ⊤, ℕ, false, List, [], ◌∷◌, map, Option, Some, None, is_some, Result, Ok, Err, if◌then◌else◌}
+use Rattle.std.specs.Prelude.{◌≡◌, ⊤, ℕ, ◌==◌, false, List, [], ◌∷◌, map, Option, Some, None, is_some, Result, Ok, Err, if◌then◌else◌}
 use Rattle.std.specs.BTreeMap.{insert_entry}
 use Rattle.std.specs.Map.{lookup, remove_entry}
 use Rattle.std.specs.Ordering.{nat_cmp}
@@ -16,6 +16,7 @@ use Rattle.kinds.specs.declared.refusal.Refusal.TheVariants.{Exists, InUse}
 use Rattle.version_groups.specs.declared.group.Group.{Group}
 use Rattle.version_groups.specs.declared.groups.Filespace.{Filespace}
 use Rattle.version_groups.specs.Entries.{on_ok, if_found}
+use Rattle.object_rows.specs.declared.held_object.HeldRow.{HeldRow}
 use Rattle.object_rows.specs.declared.place.Node.{Node}
 use Rattle.object_rows.specs.Filespaces.{at_number, filespace_at, versions_in}
 use Rattle.object_rows.specs.Names.{filespace_named, filespace_of, node_named}
@@ -29,6 +30,15 @@ least (n ∷ ns) = lesser (Some n) (least ns)
 -- the least object that has a version in the groups
 abbrev pub least_object : List (List ℕ × Group) → Option ℕ
 least_object groups = least (map (λ v. v.object) (versions_in groups))
+
+-- the numbers of the objects that are held in the filespace
+abbrev pub numbers_in : ℕ → List (ℕ × HeldRow) → List ℕ
+numbers_in filespace [] = []
+numbers_in filespace (e ∷ held) = if e.1.filespace == filespace then e.0 ∷ numbers_in filespace held else numbers_in filespace held
+
+-- the least object that is held in the filespace
+abbrev pub least_in : ℕ → List (ℕ × HeldRow) → Option ℕ
+least_in filespace held = least (numbers_in filespace held)
 
 -- what is done where nothing uses the thing, and the refusal where something does
 abbrev pub unless_used : {A : Type 0} → Option By → A → Result A Refusal
@@ -59,20 +69,20 @@ abbrev pub filespaces_defined : ℕ → List ℕ → ℕ → List (ℕ × Node) 
 filespaces_defined node name number nodes filespaces =
     if_found (lookup (at_number node) nodes) (λ _. if is_some (filespace_named node name filespaces) then Err Exists else Ok (insert_entry nat_cmp filespaces number (record { node = node; name = name; groups = [] })))
 
--- the filespaces once one is deleted: it has to be there, and without versions
-abbrev pub filespaces_without : ℕ → List (ℕ × Filespace) → Result (List (ℕ × Filespace)) Refusal
-filespaces_without number filespaces =
-    if_found (filespace_at number filespaces) (λ f. unless_used (by_object (least_object f.groups)) (remove_entry (at_number number) filespaces))
+-- the filespaces once one is deleted: it has to be there, without versions, and without held objects
+abbrev pub filespaces_without : ℕ → List (ℕ × HeldRow) → List (ℕ × Filespace) → Result (List (ℕ × Filespace)) Refusal
+filespaces_without number held filespaces =
+    if_found (filespace_at number filespaces) (λ f. unless_used (by_object (lesser (least_object f.groups) (least_in number held))) (remove_entry (at_number number) filespaces))
 
 abbrev pub with_nodes : Rows → Result (List (ℕ × Node)) Refusal → Result Rows Refusal
-with_nodes rows said = on_ok (λ nodes. record { nodes = nodes; filespaces = rows.filespaces }) said
+with_nodes rows said = on_ok (λ nodes. record { nodes = nodes; filespaces = rows.filespaces; held = rows.held }) said
 
 -- the rows after a change; a node that is defined gets this number
 abbrev pub rows_changed : ObjectChange → ℕ → Rows → Result Rows Refusal
 rows_changed (change.Node Define name domain) number rows = with_nodes rows (nodes_with name domain number rows.nodes)
 rows_changed (change.Node Delete name domain) number rows = with_nodes rows (nodes_without name rows.filespaces rows.nodes)
 rows_changed (change.Filespace Define node name filespace) number rows = with_filespaces rows (filespaces_defined node name filespace rows.nodes rows.filespaces)
-rows_changed (change.Filespace Delete node name filespace) number rows = with_filespaces rows (filespaces_without filespace rows.filespaces)
+rows_changed (change.Filespace Delete node name filespace) number rows = with_filespaces rows (filespaces_without filespace rows.held rows.filespaces)
 
 -- nothing has the number of what is defined
 abbrev pub HasFreeNumber : ObjectChange → ℕ → Rows → Type 0

@@ -1,9 +1,12 @@
 -- How many items the nodes and filespaces have, and what is left of the room for them.
 use Rattle.std.specs.Prelude.{ℕ, ◌+◌, ◌-◌, nat_le, List, length, Option, Some, None, if◌then◌else◌}
 use Rattle.std.specs.List.{sum_by}
+use Rattle.version_groups.specs.declared.copies.CopyRow.{CopyRow}
 use Rattle.version_groups.specs.declared.group.Group.{Group}
 use Rattle.version_groups.specs.declared.groups.Filespace.{Filespace}
 use Rattle.version_groups.specs.declared.versions.Version.{Version}
+use Rattle.object_rows.specs.declared.held_object.HeldRow.{HeldRow}
+use Rattle.object_rows.specs.HeldRows.{weigh_held}
 use Rattle.object_rows.specs.Rows.{Rows}
 
 -- the copies of a version, and their segments
@@ -22,9 +25,17 @@ items_of_filespace f = length f.groups + sum_by (λ g. items_of_group g.1) f.gro
 abbrev pub items_of_filespaces : List (ℕ × Filespace) → ℕ
 items_of_filespaces filespaces = sum_by (λ f. items_of_filespace f.1) filespaces
 
--- the nodes, the filespaces and what these have: groups, versions, copies and segments
+-- an object with its copies and their segments
+abbrev pub items_with : List CopyRow → ℕ
+items_with copies = 1 + (length copies + sum_by (λ c. length c.segments) copies)
+
+-- the held objects, each with its copies and their segments
+abbrev pub items_of_held : List (ℕ × HeldRow) → ℕ
+items_of_held held = weigh_held items_with held
+
+-- the nodes, the filespaces and what these have: groups, versions, copies and segments; and the held objects with theirs
 abbrev pub items_of_rows : Rows → ℕ
-items_of_rows rows = length rows.nodes + (length rows.filespaces + items_of_filespaces rows.filespaces)
+items_of_rows rows = length rows.nodes + (length rows.filespaces + items_of_filespaces rows.filespaces) + items_of_held rows.held
 
 -- what is left of the room once so many things are in it; none where they have no room
 abbrev pub left : ℕ → ℕ → Option ℕ

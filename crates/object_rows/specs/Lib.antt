@@ -2,6 +2,7 @@ pub mod Build
 pub mod Changes
 pub mod Filespaces
 pub mod Held
+pub mod HeldRows
 pub mod Index
 pub mod Items
 pub mod Names

@@ -1,5 +1,5 @@
 -- What is counted beside the rows.
-use Rattle.std.specs.Prelude.{◌≡◌, ℕ, ◌+◌, ◌==◌, List, length, Option, Some, None, IfSome, if◌then◌else◌}
+use Rattle.std.specs.Prelude.{◌≡◌, ℕ, ◌+◌, ◌==◌, List, Option, Some, None, IfSome, if◌then◌else◌}
 use Rattle.std.specs.List.{count_by, sum_by}
 use Rattle.std.specs.Map.{lookup, values_of}
 use Rattle.std.specs.Option.{option_map_or, unwrap_or}
@@ -8,9 +8,11 @@ use Rattle.version_groups.specs.declared.group.Group.{Group}
 use Rattle.version_groups.specs.declared.groups.Filespace.{Filespace}
 use Rattle.version_groups.specs.declared.versions.Version.{Version}
 use Rattle.version_groups.specs.Versions.{version_of}
+use Rattle.object_rows.specs.declared.held_object.HeldRow.{HeldRow}
 use Rattle.object_rows.specs.declared.tally.Tally.{Tally}
 use Rattle.object_rows.specs.Filespaces.{at_number, group_at}
-use Rattle.object_rows.specs.Items.{items_of_filespaces}
+use Rattle.object_rows.specs.HeldRows.{held_at, weigh_held, weigh_row}
+use Rattle.object_rows.specs.Items.{items_of_filespaces, items_of_held}
 
 -- ---- a weight of all versions, where one weighs what its copies do
 
@@ -46,15 +48,15 @@ abbrev pub ExchangesAt : ℕ → List ℕ → ℕ → List (ℕ × Filespace) �
 ExchangesAt n path object old new =
     (one : ℕ) (of : List CopyRow → ℕ) → weigh_filespaces one of new + weigh_at one of object (group_at n path old) ≡ weigh_filespaces one of old + weigh_at one of object (group_at n path new)
 
+-- of the held objects none but this one comes, goes or changes its weight
+abbrev pub ExchangesHeld : ℕ → List (ℕ × HeldRow) → List (ℕ × HeldRow) → Type 0
+ExchangesHeld object old new = (of : List CopyRow → ℕ) → weigh_held of new + weigh_row of (held_at object old) ≡ weigh_held of old + weigh_row of (held_at object new)
+
 -- nothing comes, goes or changes its weight
 abbrev pub WeighsTheSame : List (ℕ × Filespace) → List (ℕ × Filespace) → Type 0
 WeighsTheSame old new = (one : ℕ) (of : List CopyRow → ℕ) → weigh_filespaces one of new ≡ weigh_filespaces one of old
 
 -- ---- items
-
--- a version with its copies and their segments, as items
-abbrev pub items_with : List CopyRow → ℕ
-items_with copies = 1 + (length copies + sum_by (λ c. length c.segments) copies)
 
 -- the number that is kept, where one is kept, is less than the total by what is owed
 abbrev pub Owes : ℕ → ℕ → Option ℕ → Type 0
@@ -92,3 +94,8 @@ OwesEach owed total kept = IfSome kept (λ counts. (pool : ℕ) → kept_at pool
 pub record IsCounted (tally : Tally) (filespaces : List (ℕ × Filespace)) : Type 0 where
   pub items : Counts (items_of_filespaces filespaces) tally.items
   pub pools : CountsEach (λ pool. weigh_filespaces 0 (placed_in pool) filespaces) tally.pools
+
+-- what is kept is what the held objects have
+pub record IsCountedHeld (tally : Tally) (held : List (ℕ × HeldRow)) : Type 0 where
+  pub items : Counts (items_of_held held) tally.items
+  pub pools : CountsEach (λ pool. weigh_held (placed_in pool) held) tally.pools

@@ -1,11 +1,12 @@
 ghost use Rattle.std.specs.Prelude.{◌≡◌, IsTrue};
 ghost use Rattle.std.specs.Cmp.Lexicographic.{slice_cmp};
 ghost use Rattle.std.specs.Ordering.{nat_cmp};
-ghost use Rattle.object_rows.specs.Build.{Builds};
+ghost use Rattle.object_rows.specs.Build.{Builds, are_apart};
 ghost use Rattle.object_rows.specs.Names.{named};
 ghost use Rattle.object_rows.specs.Places.{are_full, are_all_full, AreAllOrderly, listed, listed_at, listed_in};
 ghost use Rattle.object_rows.specs.SpaceNames.{BuildsNames};
 
+use crate::held_object::HeldRow;
 use crate::place::{Node, Place};
 use crate::space_names;
 use crate::space_names::SpaceNames;
@@ -120,6 +121,18 @@ pub(crate) fn are_all_full(filespaces: &BTreeMap<u32, Filespace>) -> bool
 {
     'filespaces: for (_, filespace) in filespaces.iter() {
         if !are_full(filespace.groups.as_map()) {
+            return false;
+        }
+    }
+    true
+}
+
+/// Whether no held object has a number that has a place.
+pub(crate) fn are_apart(places: &BTreeMap<u64, Place>, held: &BTreeMap<u64, HeldRow>) -> bool
+    ensures { result ≡ are_apart places.now.entries held.now.entries }
+{
+    'rows: for (object, _) in held.iter() {
+        if places.contains_key(object) {
             return false;
         }
     }

@@ -1,8 +1,9 @@
 //! Pools in which a copy lies, found by a walk.
 
 ghost use Rattle.std.specs.Prelude.{◌≡◌};
-ghost use Rattle.object_rows.specs.Held.{versions_hold, groups_hold, filespaces_hold};
+ghost use Rattle.object_rows.specs.Held.{versions_hold, groups_hold, filespaces_hold, held_hold};
 
+use crate::held_object::HeldRow;
 use kinds::Path;
 use std::collections::BTreeMap;
 use version_groups::{Filespace, Group, Version};
@@ -37,6 +38,18 @@ pub(crate) fn filespaces_hold(filespaces: &BTreeMap<u32, Filespace>, pool: u32) 
 {
     'filespaces: for (_, filespace) in filespaces.iter() {
         if groups_hold(filespace.groups.as_map(), pool) {
+            return true;
+        }
+    }
+    false
+}
+
+/// Whether a held object has a copy in the pool.
+pub(crate) fn held_hold(held: &BTreeMap<u64, HeldRow>, pool: u32) -> bool
+    ensures { result ≡ held_hold pool held.now.entries }
+{
+    'rows: for (_, row) in held.iter() {
+        if row.held.version.copies.is_in(pool) {
             return true;
         }
     }

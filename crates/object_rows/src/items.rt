@@ -1,8 +1,9 @@
-//! How many items the filespaces have, as room that is left.
+//! How many items the filespaces and the held objects have, as room that is left.
 ghost use Rattle.std.specs.Prelude.{◌≡◌, length};
 ghost use Rattle.std.specs.List.{sum_by};
-ghost use Rattle.object_rows.specs.Items.{items_of_version, items_of_group, items_of_filespace, items_of_filespaces, left};
+ghost use Rattle.object_rows.specs.Items.{items_of_version, items_of_group, items_of_filespace, items_of_filespaces, items_of_held, items_with, left};
 
+use crate::held_object::HeldRow;
 use kinds::Path;
 use std::collections::BTreeMap;
 use version_groups::{CopyRow, Filespace, Group, Version};
@@ -45,6 +46,16 @@ pub(crate) fn left_by_version(version: &Version, room: u128) -> Option<u128>
     let copies = version.copies.as_slice();
     match left_by(copies.len(), room) {
         Some(rest) => left_by_copies(copies, rest),
+        None => None,
+    }
+}
+
+/// A held object and what it has.
+fn left_by_row(row: &HeldRow, room: u128) -> Option<u128>
+    ensures { result ≡ left (items_with row.now.held.version.copies) room }
+{
+    match left_by_many(1, room) {
+        Some(rest) => left_by_version(&row.held.version, rest),
         None => None,
     }
 }
@@ -103,6 +114,20 @@ pub(crate) fn left_by_filespaces(filespaces: &BTreeMap<u32, Filespace>, room: u1
     let mut rest = room;
     'filespaces: for (_, filespace) in filespaces.iter() {
         match left_by_filespace(filespace, rest) {
+            Some(less) => rest = less,
+            None => return None,
+        }
+    }
+    Some(rest)
+}
+
+/// The held objects and what they have.
+pub(crate) fn left_by_held(held: &BTreeMap<u64, HeldRow>, room: u128) -> Option<u128>
+    ensures { result ≡ left (items_of_held held.now.entries) room }
+{
+    let mut rest = room;
+    'rows: for (_, row) in held.iter() {
+        match left_by_row(row, rest) {
             Some(less) => rest = less,
             None => return None,
         }

@@ -1,24 +1,27 @@
-ghost use Rattle.std.specs.Prelude.{◌≡◌, ◌<◌, ℕ, MatchResult, ◌∷◌, true, IsTrue, Ok, Err, OnOk, Some, None, [], length};
+ghost use Rattle.std.specs.Prelude.{◌≡◌, ◌<◌, ℕ, MatchResult, ◌∷◌, true, IsTrue, Ok, Err, OnOk, Some, None, [], length, nat_le};
 ghost use Rattle.std.specs.Bool.{OnTrue};
 ghost use Rattle.std.specs.List.Sorted.{IsStrictlySortedBy};
 ghost use Rattle.std.specs.Map.{keys_of};
-ghost use Rattle.std.specs.Option.{option_copied};
+ghost use Rattle.std.specs.Option.{option_copied, option_map};
 ghost use Rattle.std.specs.Ordering.{nat_cmp};
 ghost use Rattle.std.specs.Result.{result_err};
 ghost use Rattle.kinds.specs.Answers.{Becomes, Makes};
 ghost use Rattle.kinds.specs.declared.refusal.Refusal.TheVariants.{Memory};
 ghost use Rattle.version_groups.specs.Versions.{copies_of, has_object, is_active, are_distinct, superseded, version_of};
-ghost use Rattle.version_groups.specs.declared.group.GroupChange.TheVariants.{Gone, Remove, Rebind, Undo};
+ghost use Rattle.version_groups.specs.declared.group.GroupChange.TheVariants.{Gone, Rebind, Undo};
 ghost use Rattle.version_groups.specs.declared.copies.CopyChange.TheVariants.{Add, Replace, Drop};
 ghost use Rattle.version_groups.specs.Copies.{has_copy, without_copy, Alters};
-ghost use Rattle.object_rows.specs.Changes.{Changes, HasFreeNumber, rows_changed};
+ghost use Rattle.object_rows.specs.Changes.{Changes, HasFreeNumber, least_in, rows_changed};
 ghost use Rattle.object_rows.specs.Held.{holds_copy};
+ghost use Rattle.object_rows.specs.HeldRows.{AreHeld, has_under, held_at};
 ghost use Rattle.object_rows.specs.Items.{items_of_rows, left};
 ghost use Rattle.object_rows.specs.Names.{filespace_named, filespace_of, node_named};
-ghost use Rattle.object_rows.specs.Filespaces.{group_at, versions_at, versions_of};
-ghost use Rattle.object_rows.specs.Places.{PathsAscend, filespace_with};
-ghost use Rattle.object_rows.specs.Rows.{IsNew, FreePool, IsMadeOf, IsSound, rows_with, rows_without, rows_after, rows_altered, UndoGivesBack};
+ghost use Rattle.object_rows.specs.Filespaces.{group_at, versions_at};
+ghost use Rattle.object_rows.specs.Places.{PathsAscend};
+ghost use Rattle.object_rows.specs.Rows.{IsNew, FreePool, IsMadeOf, IsSound, filespace_of_kept, kept_of, most_kept, rows_after, rows_altered, rows_cleared, rows_holding, rows_with, rows_without, UndoGivesBack};
 
+use crate::held_object::{HeldObject, HeldRow};
+use crate::held_rows::HeldRows;
 use crate::place::{Node, Place};
 use crate::space_names::SpaceNames;
 use crate::tally::Tally;
@@ -29,10 +32,10 @@ use std::collections::BTreeMap;
 use std::marker::Model;
 use version_groups::{CopyChange, CopyRow, Filespace, Group, Version};
 
-/// How many versions may be kept.
-const MOST_VERSIONS: usize = 1 << 20;
+/// How many objects may be kept.
+const MOST_KEPT: usize = 1 << 20;
 
-/// The client nodes, their filespaces and the versions in them.
+/// The client nodes, their filespaces, and the versions and held objects in them.
 #[derive(Drop)]
 pub struct Objects {
     alloc: Global,
@@ -42,9 +45,11 @@ pub struct Objects {
     spaces: BTreeMap<u32, SpaceNames>,
     places: BTreeMap<u64, Place>,
     tally: Tally,
+    held: HeldRows,
 }
 
 impl Model for Objects {
+    ghost use Rattle.object_rows.specs.HeldRows.{AreApart, AreHeld};
     ghost use Rattle.object_rows.specs.Names.{NodesIndexed, SpacesIndexed};
     ghost use Rattle.object_rows.specs.Places.{Indexed};
     ghost use Rattle.object_rows.specs.Rows.{Rows};
@@ -52,15 +57,15 @@ impl Model for Objects {
 
     ghost Value = { Rows };
 
-    ghost view = { λ o. record { nodes = o.nodes.entries; filespaces = o.filespaces.entries } };
+    ghost view = { λ o. record { nodes = o.nodes.entries; filespaces = o.filespaces.entries; held = o.held } };
 
-    ghost invariant = { λ o. NodesIndexed o.names.entries o.nodes.entries × Indexed o.places.entries o.filespaces.entries × IsCounted o.tally o.filespaces.entries × SpacesIndexed o.spaces.entries o.filespaces.entries };
+    ghost invariant = { λ o. NodesIndexed o.names.entries o.nodes.entries × Indexed o.places.entries o.filespaces.entries × IsCounted o.tally o.filespaces.entries × SpacesIndexed o.spaces.entries o.filespaces.entries × AreHeld o.held × AreApart o.filespaces.entries o.held };
 }
 
 impl Objects {
-    /// No nodes and no filespaces. It takes no memory.
+    /// No nodes, no filespaces and no held objects. It takes no memory.
     pub fn new(alloc: Global) -> Self
-        ensures { result ≡ record { nodes = []; filespaces = [] } }
+        ensures { result ≡ record { nodes = []; filespaces = []; held = [] } }
     {
         Objects {
             alloc,
@@ -70,17 +75,20 @@ impl Objects {
             spaces: BTreeMap::new(alloc),
             places: BTreeMap::new(alloc),
             tally: Tally::new(alloc),
+            held: HeldRows::new(alloc),
         }
     }
 
-    /// These nodes and filespaces; none where two nodes, or two filespaces of one node, have one name, two versions are of one object,
-    /// or a group has no version.
+    /// These nodes, filespaces and held objects; none where two nodes, or two filespaces of one node, have one name, two versions, or a
+    /// version and a held object, are of one number, a group has no version, or a held object doesn't stand under its number or has a
+    /// day from which it is inactive.
     pub fn from_parts(
         alloc: Global,
         nodes: BTreeMap<u32, Node>,
         filespaces: BTreeMap<u32, Filespace>,
+        held: BTreeMap<u64, HeldRow>,
     ) -> Result<Option<Self>, Refusal>
-        ensures { MatchResult result (IsMadeOf (record { nodes = nodes.entries; filespaces = filespaces.entries })) (λ e. e ≡ Memory) }
+        ensures { MatchResult result (IsMadeOf (record { nodes = nodes.entries; filespaces = filespaces.entries; held = held.entries })) (λ e. e ≡ Memory) }
     {
         if !build::are_all_full(&filespaces) {
             return Ok(None);
@@ -97,6 +105,12 @@ impl Objects {
         if !build::add_filespaces(&mut places, &filespaces)? {
             return Ok(None);
         }
+        if !build::are_apart(&places, &held) {
+            return Ok(None);
+        }
+        let Some(held) = HeldRows::from_map(alloc, held) else {
+            return Ok(None);
+        };
         let _ = nodes.len();
         let _ = filespaces.len();
         let tally = Tally::of(alloc, &filespaces);
@@ -108,6 +122,7 @@ impl Objects {
             spaces,
             places,
             tally,
+            held,
         }))
     }
 
@@ -135,6 +150,14 @@ impl Objects {
         let _ = &self.filespaces;
     }
 
+    /// The held objects by number, each with its filespace.
+    pub fn held(&self) -> &BTreeMap<u64, HeldRow>
+        ensures value { result.now.entries ≡ self.now.held }
+        ensures held { AreHeld self.now.held }
+    {
+        self.held.as_map()
+    }
+
     /// The number of the node with this name. It takes no memory.
     pub fn node_named(&self, name: &NodeName) -> Option<u32>
         ensures { result ≡ node_named name.now self.now.nodes }
@@ -156,24 +179,51 @@ impl Objects {
         spaces::of_node(&self.spaces, &self.filespaces, node)
     }
 
-    /// The version of the object. It takes no memory.
+    /// What is kept of the object, as a version or held. It takes no memory.
     pub fn find(&self, object: u64) -> Option<&Version>
-        ensures value { option_copied result ≡ version_of object (versions_of self.now.filespaces) }
-        ensures distinct { are_distinct (versions_of self.now.filespaces) ≡ true }
+        ensures value { option_copied result ≡ version_of object (kept_of self.now) }
+        ensures distinct { are_distinct (kept_of self.now) ≡ true }
     {
-        indexed::find(&self.places, &self.filespaces, object)
+        match indexed::find(&self.places, &self.filespaces, object) {
+            Some(version) => Some(version),
+            None => self.held.version(object),
+        }
     }
 
-    /// Whether a version that is kept is of the object. It takes no memory.
-    pub fn has_object(&self, object: u64) -> bool
-        ensures { result ≡ has_object object (versions_of self.now.filespaces) }
+    /// The held object with this number. It takes no memory.
+    pub fn find_held(&self, object: u64) -> Option<&HeldObject>
+        ensures { option_copied result ≡ option_map (λ row. row.held) (held_at object self.now.held) }
     {
-        self.places.contains_key(&object)
+        match self.held.find(object) {
+            None => None,
+            Some(row) => Some(&row.held),
+        }
+    }
+
+    /// Whether the object is held under this path of the filespace. It takes no memory.
+    pub fn has_held(&self, filespace: u32, path: &Path, object: u64) -> bool
+        ensures { result ≡ has_under filespace path.now object self.now.held }
+    {
+        self.held.has_under(filespace, path, object)
+    }
+
+    /// The least object that is held in the filespace. It takes no memory, and walks the held objects.
+    pub fn least_held_in(&self, filespace: u32) -> Option<u64>
+        ensures { result ≡ least_in filespace self.now.held }
+    {
+        self.held.least_in(filespace)
+    }
+
+    /// Whether the object is kept, as a version or held. It takes no memory.
+    pub fn has_object(&self, object: u64) -> bool
+        ensures { result ≡ has_object object (kept_of self.now) }
+    {
+        self.places.contains_key(&object) || self.held.contains(object)
     }
 
     /// Whether a copy of the object lies in the pool. It takes no memory.
     pub fn has_copy(&self, object: u64, pool: u32) -> bool
-        ensures { result ≡ has_copy pool (copies_of object (versions_of self.now.filespaces)) }
+        ensures { result ≡ has_copy pool (copies_of object (kept_of self.now)) }
     {
         match self.find(object) {
             None => false,
@@ -184,44 +234,56 @@ impl Objects {
     /// Whether a copy of the object, other than the one in the pool `from`, lies in the pool. It takes no memory.
     #[tactic(auto, using(crate::proofs::OtherCopies::has_copy_of_others))]
     pub fn has_other_copy(&self, object: u64, from: u32, pool: u32) -> bool
-        ensures { result ≡ has_copy pool (without_copy from (copies_of object (versions_of self.now.filespaces))) }
+        ensures { result ≡ has_copy pool (without_copy from (copies_of object (kept_of self.now))) }
     {
         from != pool && self.has_copy(object, pool)
     }
 
-    /// The number of the filespace in which the object's version stands. It takes no memory, and no walk.
+    /// The number of the filespace in which the object is kept. It takes no memory, and no walk.
     pub fn filespace_of(&self, object: u64) -> Option<u32>
-        ensures { result ≡ filespace_with object self.now.filespaces }
+        ensures { result ≡ filespace_of_kept object self.now }
     {
         match self.places.get(&object) {
-            None => None,
             Some(place) => Some(place.filespace),
+            None => match self.held.find(object) {
+                None => None,
+                Some(row) => Some(row.filespace),
+            },
         }
     }
 
-    /// How many versions are kept. It takes no memory, and no walk.
+    /// How many objects are kept. It takes no memory, and no walk.
     pub fn count(&self) -> usize
-        ensures { result ≡ length (versions_of self.now.filespaces) }
+        ensures { result ≡ length (kept_of self.now) }
     {
-        self.places.len()
+        self.places.len() + self.held.len()
     }
 
-    /// What is left of the room once the nodes and filespaces with their groups, versions, copies and segments are in it; none
-    /// where they have no room. It takes no memory, and no walk while they are fewer than 2^128.
+    /// Whether as many objects are kept as may be.
+    fn is_full(&self) -> bool
+        ensures { result ≡ nat_le most_kept (length (kept_of self.now)) }
+    {
+        self.count() >= MOST_KEPT
+    }
+
+    /// What is left of the room once the nodes and filespaces with their groups, versions, copies and segments, and the held objects with
+    /// their copies and segments, are in it; none where they have no room. It takes no memory, and no walk while they are fewer than
+    /// 2^128.
     pub fn items_left(&self, room: u128) -> Option<u128>
         ensures { result ≡ left (items_of_rows self.now) room }
     {
         let rest = items::left_by(self.nodes.len(), room)?;
         let rest = items::left_by(self.filespaces.len(), rest)?;
-        self.tally.items_left(&self.filespaces, rest)
+        let rest = self.tally.items_left(&self.filespaces, rest)?;
+        self.held.items_left(rest)
     }
 
-    /// Whether a copy of a version lies in the pool. It takes no memory, and no walk, unless memory was once wanted for the count of the
-    /// copies in a pool: then it walks the versions, up to such a copy.
+    /// Whether a copy of an object lies in the pool. It takes no memory, and no walk, unless memory was once wanted for the count of the
+    /// copies in a pool: then it walks the versions and the held objects, up to such a copy.
     pub fn holds_copy(&self, pool: u32) -> bool
-        ensures { result ≡ holds_copy pool self.now.filespaces }
+        ensures { result ≡ holds_copy pool self.now }
     {
-        self.tally.holds_copy(&self.filespaces, pool)
+        self.tally.holds_copy(&self.filespaces, pool) || self.held.holds_copy(pool)
     }
 
     /// The group of a path of a filespace. It takes no memory.
@@ -312,6 +374,7 @@ impl Objects {
                 ..
             } => {
                 spaces::delete(
+                    &self.held,
                     &self.places,
                     &mut self.spaces,
                     &mut self.filespaces,
@@ -324,7 +387,7 @@ impl Objects {
 
     /// Defines or deletes a node or a filespace. A node that is defined gets this number, which no node has. What is not there
     /// is `NotFound`: the node of a filespace that is defined, and the node or filespace that is deleted; a name that is taken is
-    /// `Exists`; a node with filespaces, or a filespace with versions, that is deleted is in use by the least of them. A
+    /// `Exists`; a node with filespaces, or a filespace with versions or held objects, that is deleted is in use by the least of them. A
     /// filespace is deleted by its number, and its node and name are not looked at, nor is the domain of a node that is deleted.
     pub fn change(&mut self, change: &ObjectChange, number: u32) -> Result<(), Refusal>
         requires { HasFreeNumber change.now number self.old }
@@ -338,7 +401,7 @@ impl Objects {
 
     /// Puts a new version in front of those of a path of a filespace, and binds the path to this class; the former active
     /// version is inactive from the day on which the new one was stored. A filespace that is not there is `NotFound`; where
-    /// 2^20 versions are kept already it is `InventoryFull`.
+    /// 2^20 objects are kept already it is `InventoryFull`.
     pub fn insert(
         &mut self,
         filespace: u32,
@@ -350,13 +413,13 @@ impl Objects {
         requires active { version.since ≡ None }
         ensures value { Becomes result self.old self.new (rows_with filespace path.now class.now version self.old) }
         ensures newest { OnOk result (versions_at filespace path.now self.new.filespaces ≡ version ∷ superseded version.stored (versions_at filespace path.now self.old.filespaces)) }
-        ensures found { OnOk result (version_of version.object (versions_of self.new.filespaces) ≡ Some version) }
+        ensures found { OnOk result (version_of version.object (kept_of self.new) ≡ Some version) }
         ensures undone { OnOk result (UndoGivesBack filespace path.now self.old self.new) }
     {
         if !self.filespaces.contains_key(&filespace) {
             return Err(Refusal::NotFound);
         }
-        if self.places.len() >= MOST_VERSIONS {
+        if self.is_full() {
             return Err(Refusal::InventoryFull);
         }
         let class = class.clone()?;
@@ -369,6 +432,24 @@ impl Objects {
             class,
             version,
         )
+    }
+
+    /// Holds an object in a filespace. A filespace that is not there is `NotFound`; where 2^20 objects are kept already it is
+    /// `InventoryFull`.
+    pub fn hold(&mut self, filespace: u32, held: HeldObject) -> Result<(), Refusal>
+        requires new { IsNew held.version.object self.old }
+        requires active { held.version.since ≡ None }
+        ensures value { Becomes result self.old self.new (rows_holding filespace held self.old) }
+        ensures found { OnOk result (version_of held.version.object (kept_of self.new) ≡ Some held.version) }
+        ensures undone { OnOk result (rows_without held.version.object self.new ≡ Ok self.old) }
+    {
+        if !self.filespaces.contains_key(&filespace) {
+            return Err(Refusal::NotFound);
+        }
+        if self.is_full() {
+            return Err(Refusal::InventoryFull);
+        }
+        self.held.put(filespace, held)
     }
 
     /// Makes the object, which is the path's active version, inactive from today on. A filespace, a path or an object in it
@@ -393,11 +474,15 @@ impl Objects {
         )
     }
 
-    /// Takes the object's version away; a group without versions goes. A filespace, a path or an object in it that is not
-    /// there is `NotFound`. It takes no memory.
+    /// Takes the object away that is kept under the path, as a version or held; a group without versions goes. A filespace, a path or an
+    /// object in it that is not there is `NotFound`. It takes no memory.
     pub fn remove(&mut self, filespace: u32, path: &Path, object: u64) -> Result<(), Refusal>
-        ensures { Makes result self.old self.new (rows_after filespace path.now (Remove object) self.old) }
+        ensures { Makes result self.old self.new (rows_cleared filespace path.now object self.old) }
     {
+        if self.held.has_under(filespace, path, object) {
+            self.held.take(object);
+            return Ok(());
+        }
         indexed::remove(
             &mut self.places,
             &mut self.filespaces,
@@ -408,11 +493,15 @@ impl Objects {
         )
     }
 
-    /// Takes the object's version away, whatever its path; a group without versions goes. An object that is not there is
+    /// Takes the object away, a version or held, whatever its path; a group without versions goes. An object that is not there is
     /// `NotFound`. It takes no memory.
     pub fn discard(&mut self, object: u64) -> Result<(), Refusal>
         ensures { Makes result self.old self.new (rows_without object self.old) }
     {
+        if self.held.contains(object) {
+            self.held.take(object);
+            return Ok(());
+        }
         indexed::discard(
             &mut self.places,
             &mut self.filespaces,
@@ -473,6 +562,9 @@ impl Objects {
         requires { FreePool change object self.old }
         ensures { Alters change result self.old self.new (rows_altered object change self.old) }
     {
+        if self.held.contains(object) {
+            return self.held.alter(object, change);
+        }
         indexed::alter(
             &self.places,
             &mut self.filespaces,
@@ -495,6 +587,7 @@ impl Clone for Objects {
             spaces: self.spaces.clone()?,
             places: self.places.clone()?,
             tally: self.tally.clone()?,
+            held: self.held.clone()?,
         })
     }
 }

@@ -2,8 +2,10 @@
 
 ghost use Rattle.std.specs.Prelude.{ℕ, ◌≡◌, ◌+◌, [], IfSome, if◌then◌else◌};
 ghost use Rattle.object_rows.specs.Filespaces.{at_number};
+ghost use Rattle.object_rows.specs.HeldRows.{weigh_held};
 ghost use Rattle.object_rows.specs.Tally.{kept_at, one_in, placed_in, weigh, weigh_filespaces, weigh_groups};
 
+use crate::held_object::HeldRow;
 use kinds::Path;
 use std::alloc::{AllocError, Global};
 use std::collections::BTreeMap;
@@ -134,6 +136,20 @@ impl PoolCounts {
         let mut counts = self;
         'filespaces: for (_, filespace) in filespaces.iter() {
             match counts.more_groups(filespace.groups.as_map()) {
+                Some(next) => counts = next,
+                None => return None,
+            }
+        }
+        Some(counts)
+    }
+
+    /// With the copies of the held objects. It walks them.
+    pub(crate) fn more_held(self, held: &BTreeMap<u64, HeldRow>) -> Option<Self>
+        ensures { IfSome result (λ counts. (q : ℕ) → kept_at q counts ≡ kept_at q self + weigh_held (placed_in q) held.now.entries) }
+    {
+        let mut counts = self;
+        'rows: for (_, row) in held.iter() {
+            match counts.more(row.held.version.copies.as_slice()) {
                 Some(next) => counts = next,
                 None => return None,
             }

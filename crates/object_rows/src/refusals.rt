@@ -5,7 +5,7 @@ ghost use Rattle.object_rows.specs.Changes.{nodes_with, nodes_without, filespace
 
 use crate::objects::Objects;
 use crate::spaces::least_object;
-use kinds::{By, DefineOrDelete, FilespaceName, NodeName, ObjectChange, Refusal};
+use kinds::{By, DefineOrDelete, FilespaceName, NodeName, ObjectChange, Refusal, lesser};
 
 fn node_define(objects: &Objects, name: &NodeName) -> Option<Refusal>
     ensures { (domain : List ℕ) (number : ℕ) → result ≡ result_err (nodes_with name.now domain number objects.now.nodes) }
@@ -42,11 +42,14 @@ fn filespace_define(objects: &Objects, node: u32, name: &FilespaceName) -> Optio
 }
 
 fn filespace_delete(objects: &Objects, filespace: u32) -> Option<Refusal>
-    ensures { result ≡ result_err (filespaces_without filespace objects.now.filespaces) }
+    ensures { result ≡ result_err (filespaces_without filespace objects.now.held objects.now.filespaces) }
 {
     match objects.filespaces().get(&filespace) {
         None => Some(Refusal::NotFound),
-        Some(row) => match least_object(row.groups.as_map()) {
+        Some(row) => match lesser(
+            least_object(row.groups.as_map()),
+            objects.least_held_in(filespace),
+        ) {
             Some(object) => Some(Refusal::InUse(By::Object(object))),
             None => None,
         },

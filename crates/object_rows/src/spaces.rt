@@ -10,6 +10,7 @@ ghost use Rattle.object_rows.specs.Places.{Indexed};
 ghost use Rattle.object_rows.specs.declared.tally.Tally.{Tally};
 ghost use Rattle.object_rows.specs.Tally.{IsCounted};
 
+use crate::held_rows::HeldRows;
 use crate::place::Place;
 use crate::space_names;
 use crate::space_names::SpaceNames;
@@ -119,6 +120,7 @@ pub(crate) fn define(
 /// Takes a filespace away, which is not refused.
 #[tactic(auto, using(crate::proofs::Made::space_goes))]
 pub(crate) fn delete(
+    held: &HeldRows,
     places: &BTreeMap<u64, Place>,
     spaces: &mut BTreeMap<u32, SpaceNames>,
     filespaces: &mut BTreeMap<u32, Filespace>,
@@ -126,8 +128,8 @@ pub(crate) fn delete(
 )
     requires indexed { Indexed places.now.entries filespaces.old.entries }
     requires named { SpacesIndexed spaces.old.entries filespaces.old.entries }
-    requires fine { result_err (filespaces_without number filespaces.old.entries) ≡ None }
-    ensures value { filespaces_without number filespaces.old.entries ≡ Ok filespaces.new.entries }
+    requires fine { result_err (filespaces_without number held.now filespaces.old.entries) ≡ None }
+    ensures value { filespaces_without number held.now filespaces.old.entries ≡ Ok filespaces.new.entries }
     ensures indexed { Indexed places.now.entries filespaces.new.entries }
     ensures named { SpacesIndexed spaces.new.entries filespaces.new.entries }
     ensures counted { (tally : Tally) → IsCounted tally filespaces.old.entries → IsCounted tally filespaces.new.entries }

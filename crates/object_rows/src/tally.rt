@@ -3,22 +3,24 @@
 ghost use Rattle.std.specs.Prelude.{ℕ, ◌≡◌, ◌+◌, []};
 ghost use Rattle.std.specs.Option.{option_copied};
 ghost use Rattle.object_rows.specs.Filespaces.{group_at};
-ghost use Rattle.object_rows.specs.Held.{holds_copy};
-ghost use Rattle.object_rows.specs.Items.{items_of_filespaces, left};
-ghost use Rattle.object_rows.specs.Tally.{Counts, CountsEach, IsCounted, Owes, OwesEach, items_with, placed_in, weigh_at};
+ghost use Rattle.object_rows.specs.Held.{filespaces_hold, held_hold};
+ghost use Rattle.object_rows.specs.HeldRows.{held_at, weigh_row};
+ghost use Rattle.object_rows.specs.Items.{items_of_filespaces, items_of_held, items_with, left};
+ghost use Rattle.object_rows.specs.Tally.{Counts, CountsEach, IsCounted, IsCountedHeld, Owes, OwesEach, placed_in, weigh_at};
 
-use crate::held::filespaces_hold;
-use crate::items::{left_by_filespaces, left_by_many, left_by_version};
+use crate::held::{filespaces_hold, held_hold};
+use crate::held_object::HeldRow;
+use crate::items::{left_by_filespaces, left_by_held, left_by_many, left_by_version};
 use crate::pool_counts::PoolCounts;
 use kinds::Path;
 use std::alloc::{AllocError, Global};
 use std::collections::BTreeMap;
 use version_groups::{Filespace, Group, Version};
 
-/// What is counted beside the rows, so that it needs no walk.
+/// What is counted beside rows, so that it needs no walk: of the filespaces, or of the held objects.
 #[derive(Drop)]
 pub(crate) struct Tally {
-    /// How many items the filespaces have: groups, versions, copies and segments; none once they would have been 2^128 or more.
+    /// How many items they have: groups, versions or held objects, copies and segments; none once they would have been 2^128 or more.
     pub(crate) items: Option<u128>,
     /// How many copies lie in each pool; none once memory was wanted for a pool in which no copy had lain.
     pub(crate) pools: Option<PoolCounts>,
@@ -55,6 +57,16 @@ fn items_at(group: Option<&Group>, object: u64) -> Option<u128>
             None => Some(1),
             Some(version) => items_with(version)?.checked_add(1),
         },
+    }
+}
+
+/// How many items a held object is, with its copies and their segments.
+fn items_of(row: Option<&HeldRow>) -> Option<u128>
+    ensures { Counts (weigh_row items_with (option_copied row.entry)) result }
+{
+    match row {
+        None => Some(0),
+        Some(row) => items_with(&row.held.version),
     }
 }
 
@@ -98,6 +110,26 @@ fn pools_more(counts: Option<PoolCounts>, group: Option<&Group>, object: u64) ->
     }
 }
 
+/// The counts without the copies of a held object.
+fn pools_less_row(counts: Option<PoolCounts>, row: Option<&HeldRow>) -> Option<PoolCounts>
+    ensures { (total : ℕ → ℕ) → CountsEach total counts → OwesEach (λ pool. weigh_row (placed_in pool) (option_copied row.entry)) total result }
+{
+    match row {
+        None => counts,
+        Some(row) => counts?.less(row.held.version.copies.as_slice()),
+    }
+}
+
+/// The counts with the copies of a held object.
+fn pools_more_row(counts: Option<PoolCounts>, row: Option<&HeldRow>) -> Option<PoolCounts>
+    ensures { (owed total : ℕ → ℕ) → OwesEach owed total counts → OwesEach owed (λ pool. total pool + weigh_row (placed_in pool) (option_copied row.entry)) result }
+{
+    match row {
+        None => counts,
+        Some(row) => counts?.more(row.held.version.copies.as_slice()),
+    }
+}
+
 /// The group of a path of a filespace.
 fn group_at<'a>(
     filespaces: &'a BTreeMap<u32, Filespace>,
@@ -115,7 +147,8 @@ fn group_at<'a>(
 impl Tally {
     /// No items and no copies. It takes no memory.
     pub(crate) fn new(alloc: Global) -> Self
-        ensures { IsCounted result [] }
+        ensures filespaces { IsCounted result [] }
+        ensures held { IsCountedHeld result [] }
     {
         Tally {
             items: Some(0),
@@ -132,6 +165,18 @@ impl Tally {
             Some(rest) => Some(u128::MAX - rest),
         };
         let pools = PoolCounts::new(alloc).more_filespaces(filespaces);
+        Tally { items, pools }
+    }
+
+    /// What the held objects have. It walks them.
+    pub(crate) fn of_held(alloc: Global, held: &BTreeMap<u64, HeldRow>) -> Self
+        ensures { IsCountedHeld result held.now.entries }
+    {
+        let items = match left_by_held(held, u128::MAX) {
+            None => None,
+            Some(rest) => Some(u128::MAX - rest),
+        };
+        let pools = PoolCounts::new(alloc).more_held(held);
         Tally { items, pools }
     }
 
@@ -153,11 +198,33 @@ impl Tally {
     /// Whether a copy of a version lies in the pool. It walks the filespaces only where no counts are kept.
     pub(crate) fn holds_copy(&self, filespaces: &BTreeMap<u32, Filespace>, pool: u32) -> bool
         requires { IsCounted self.now filespaces.now.entries }
-        ensures { result ≡ holds_copy pool filespaces.now.entries }
+        ensures { result ≡ filespaces_hold pool filespaces.now.entries }
     {
         match &self.pools {
             Some(counts) => counts.at(pool) != 0,
             None => filespaces_hold(filespaces, pool),
+        }
+    }
+
+    /// What is left of the room once what the held objects have is in it. It walks them only where no count is kept.
+    pub(crate) fn items_left_held(&self, held: &BTreeMap<u64, HeldRow>, room: u128) -> Option<u128>
+        requires { IsCountedHeld self.now held.now.entries }
+        ensures { result ≡ left (items_of_held held.now.entries) room }
+    {
+        match self.items {
+            Some(count) => left_by_many(count, room),
+            None => left_by_held(held, room),
+        }
+    }
+
+    /// Whether a copy of a held object lies in the pool. It walks them only where no counts are kept.
+    pub(crate) fn holds_copy_held(&self, held: &BTreeMap<u64, HeldRow>, pool: u32) -> bool
+        requires { IsCountedHeld self.now held.now.entries }
+        ensures { result ≡ held_hold pool held.now.entries }
+    {
+        match &self.pools {
+            Some(counts) => counts.at(pool) != 0,
+            None => held_hold(held, pool),
         }
     }
 
@@ -191,5 +258,24 @@ impl Tally {
         let group = group_at(filespaces, number, path);
         self.pools = pools_more(self.pools.take(), group, object);
         self.items = more(self.items, items_at(group, object));
+    }
+    /// Takes a held object out of the counts, where there is one of this number.
+    pub(crate) fn leave_held(&mut self, held: &BTreeMap<u64, HeldRow>, object: u64)
+        ensures items { (total : ℕ) → Counts total self.old.items → Owes (weigh_row items_with (held_at object held.now.entries)) total self.new.items }
+        ensures pools { (total : ℕ → ℕ) → CountsEach total self.old.pools → OwesEach (λ pool. weigh_row (placed_in pool) (held_at object held.now.entries)) total self.new.pools }
+    {
+        let row = held.get(&object);
+        self.pools = pools_less_row(self.pools.take(), row);
+        self.items = less(self.items, items_of(row));
+    }
+
+    /// Counts a held object, where there is one of this number.
+    pub(crate) fn enter_held(&mut self, held: &BTreeMap<u64, HeldRow>, object: u64)
+        ensures items { (owed total : ℕ) → Owes owed total self.old.items → Owes owed (total + weigh_row items_with (held_at object held.now.entries)) self.new.items }
+        ensures pools { (owed total : ℕ → ℕ) → OwesEach owed total self.old.pools → OwesEach owed (λ pool. total pool + weigh_row (placed_in pool) (held_at object held.now.entries)) self.new.pools }
+    {
+        let row = held.get(&object);
+        self.pools = pools_more_row(self.pools.take(), row);
+        self.items = more(self.items, items_of(row));
     }
 }

@@ -66,7 +66,7 @@ place pool size v = if is_sequential pool v.stores then None else place_among po
 abbrev pub segments_for : ℕ → ℕ → Inv → Option (List Segment)
 segments_for pool size v = if size == 0 then Some [] else option_map (λ s. s ∷ []) (place pool size v)
 
--- a class with the rule of its copy group, where the class is in the set and has one
+-- a class with the rule of its backup copy group, where the class is in the set and has one
 abbrev pub class_with_rule : SetRow → List ℕ → Option (List ℕ × BackupRule)
 class_with_rule set class = option_map (λ rule. (class, rule)) (group_of class set)
 
@@ -78,8 +78,8 @@ default_of_set set = option_and_then (class_with_rule set) set.default_class
 abbrev pub default_in : List ℕ → List (List ℕ × DomainRow) → Option (List ℕ × BackupRule)
 default_in domain domains = option_and_then default_of_set (active_in domain domains)
 
--- the management class to which a node's files are bound that no rule binds, with the rule of its copy group: the default class of the set
--- ACTIVE of the node's domain; none where the domain has no set ACTIVE, the set no default class, or the class no copy group
+-- the management class to which a node's files are bound that no rule binds, with the rule of its backup copy group: the default class of the set
+-- ACTIVE of the node's domain; none where the domain has no set ACTIVE, the set no default class, or the class no such group
 abbrev pub default_rule : ℕ → Inv → Option (List ℕ × BackupRule)
 default_rule node v = option_and_then (λ domain. default_in domain v.domains) (domain_of_node node v)
 

@@ -21,7 +21,7 @@ fn whole_blocks(bytes: u128) -> u128
 }
 
 /// How many bytes of a volume a file of so many bytes uses.
-fn block_bytes(len: u32) -> u128
+fn block_bytes(len: u64) -> u128
     ensures value { result ≡ block_bytes len }
     ensures few { result < 2 ^ 67 }
 {
@@ -57,7 +57,7 @@ fn is_writable(access: &Access) -> bool
 }
 
 /// Where a file goes on this volume, in bytes; none where the volume is not of the pool, not READWRITE or has no room.
-fn room_on(pool: u32, size: u32, file: u32, volume: &Volume) -> Option<u64>
+fn room_on(pool: u32, size: u64, file: u32, volume: &Volume) -> Option<u64>
     ensures { result ≡ (if has_room pool size (file, volume.now) then Some (blocks_end volume.now.segments) else None) }
 {
     if volume.pool != pool || !is_writable(&volume.access) {
@@ -71,7 +71,7 @@ fn room_on(pool: u32, size: u32, file: u32, volume: &Volume) -> Option<u64>
     }
 }
 
-fn place_among(pools: &Pools, pool: u32, size: u32) -> Option<Segment>
+fn place_among(pools: &Pools, pool: u32, size: u64) -> Option<Segment>
     ensures { result ≡ place_among pool size pools.now.volumes }
 {
     'volumes: for (file, volume) in pools.volumes() {
@@ -89,7 +89,7 @@ fn place_among(pools: &Pools, pool: u32, size: u32) -> Option<Segment>
 /// Where a file of `size` bytes goes in this pool: behind the blocks in use of the volume with the least file number that is of the
 /// pool, READWRITE and has room there; none where there is no such volume, or the pool is on sequential devices. It walks the volumes,
 /// and looks at the last segment of each. It takes no memory.
-pub fn place(tables: &Tables, pool: u32, size: u32) -> Option<Segment>
+pub fn place(tables: &Tables, pool: u32, size: u64) -> Option<Segment>
     ensures { result ≡ place pool size (inv_of tables.now) }
 {
     if tables.pools.is_sequential(pool) {
@@ -114,7 +114,7 @@ pub fn segments_for(
     alloc: Global,
     tables: &Tables,
     pool: u32,
-    size: u32,
+    size: u64,
 ) -> Result<Option<Segments>, Refusal>
     ensures { AnswersBy (λ segments. segments) result (segments_for pool size (inv_of tables.now)) }
 {

@@ -45,9 +45,9 @@ fn active_in<'a>(domains: &'a Domains, domain: &Name) -> Option<&'a PolicySet>
 fn group_of(set: &PolicySet, class: &Name) -> Option<BackupRule>
     ensures { result ≡ group_of class.now set.now }
 {
-    match set.classes().get(class) {
-        Some(Some(group)) => Some(group.rule()),
-        _ => None,
+    match set.classes().get(class)?.backup {
+        Some(group) => Some(group.rule()),
+        None => None,
     }
 }
 
@@ -78,9 +78,9 @@ fn default_in<'a>(domains: &'a Domains, domain: &Name) -> Option<(&'a Name, Back
     }
 }
 
-/// The management class to which a node's files are bound that no rule binds, with the rule of its copy group: the default class of
+/// The management class to which a node's files are bound that no rule binds, with the rule of its backup copy group: the default class of
 /// the set ACTIVE of the node's domain. None where the node is not there, its domain has no set ACTIVE, the set no default class, or
-/// the class no copy group. It walks the sets of that one domain, and takes no memory.
+/// the class no such group. It walks the sets of that one domain, and takes no memory.
 pub fn default_rule(tables: &Tables, node: u32) -> Option<(&Name, BackupRule)>
     ensures { option_map (λ found. (found.0.now, found.1)) result ≡ default_rule node (inv_of tables.now) }
 {

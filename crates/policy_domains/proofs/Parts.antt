@@ -5,7 +5,6 @@ use Rattle.std.specs.BTreeMap.{is_at}
 use Rattle.std.specs.Cmp.Lexicographic.{slice_cmp}
 use Rattle.std.specs.Ordering.{nat_cmp}
 use Rattle.std.specs.Result.{result_err}
-use Rattle.kinds.specs.declared.rule.BackupRule.{BackupRule}
 use Rattle.kinds.specs.declared.change.Verb.TheVariants.{Define, Update, Delete}
 use Rattle.kinds.specs.declared.refusal.Refusal.{Refusal}
 use Rattle.kinds.specs.declared.refusal.Refusal.TheVariants.{NotFound, Exists, NoDefaultClass}
@@ -13,13 +12,14 @@ use Rattle.kinds.specs.Answers.{Becomes}
 use Rattle.policy_domains.specs.Makings.{IsAsSaid, Brings}
 use Rattle.policy_domains.specs.Rows.{SetRow, DomainRow, active_set, row_of, with_row, without_row, with_value, within, defined, deleted, changed_row, changed}
 use Rattle.policy_domains.specs.Sets.{to_activate, activated}
-use Rattle.policy_domains.specs.Changes.{group_changed, IsRefusedLike}
+use Rattle.policy_domains.specs.Changes.{IsRefusedLike}
+use Rattle.policy_domains.specs.Groups.{group_changed}
 
 same_ok : {S : Type 0} (x y : S) → (let a : Result S Refusal = Ok x in let b : Result S Refusal = Ok y in a ≡ b) → x ≡ y
 same_ok x y h = cc
 
 -- what a step makes, put in its place
-within_said : {V W : Type 0} (place : V → W) (w : V) (new : W) (step : Result V Refusal) → new ≡ place w → IsAsSaid w step → IsAsSaid new (within place step)
+pub within_said : {V W : Type 0} (place : V → W) (w : V) (new : W) (step : Result V Refusal) → new ≡ place w → IsAsSaid w step → IsAsSaid new (within place step)
 within_said place w new (Ok v) put said = λ s h. put ∙ ap place (said v refl) ∙ same_ok (place v) s h
 within_said place w new (Err e) put said = λ s h. absurd (cc)
 
@@ -50,15 +50,15 @@ row_deleted name rows new h =
     ]
 
 -- a copy group comes, is replaced or goes
-pub group_put : (rule : BackupRule) (there : Option BackupRule) → IsAsSaid (Some rule) (group_changed Define rule there)
+pub group_put : {R : Type 0} (rule : R) (there : Option R) → IsAsSaid (Some rule) (group_changed Define rule there)
 group_put rule None = λ s h. same_ok (Some rule) s h
 group_put rule (Some r) = λ s h. absurd (cc)
 
-pub group_replaced : (rule : BackupRule) (there : Option BackupRule) → IsAsSaid (Some rule) (group_changed Update rule there)
+pub group_replaced : {R : Type 0} (rule : R) (there : Option R) → IsAsSaid (Some rule) (group_changed Update rule there)
 group_replaced rule None = λ s h. absurd (cc)
 group_replaced rule (Some r) = λ s h. same_ok (Some rule) s h
 
-pub group_deleted : (rule : BackupRule) (there : Option BackupRule) → IsAsSaid None (group_changed Delete rule there)
+pub group_deleted : {R : Type 0} (rule : R) (there : Option R) → IsAsSaid None (group_changed Delete rule there)
 group_deleted rule None = λ s h. absurd (cc)
 group_deleted rule (Some r) = λ s h. same_ok None s h
 

@@ -20,7 +20,7 @@ use Rattle.kinds.specs.Names.{is_same_name}
 use Rattle.policy_domains.specs.Rows.{SetRow, DomainRow, active_set, row_of, with_row, with_value, without_row, within, defined, deleted, changed_row, changed}
 use Rattle.policy_domains.specs.Sets.{empty_set, in_sets, set_changed}
 use Rattle.policy_domains.specs.Changes.{after, domain_of, names_active, set_after, set_within}
-use Rattle.policy_domains.specs.Rules.{group_of, default_group, first_found, rule_in, rule_of}
+use Rattle.policy_domains.specs.Rules.{group_of, default_group, first_found, rule_in, rule_of, archive_group_of, archive_in, archive_of}
 use Rattle.policy_domains.specs.Laws.{IsOfSets}
 use Rattle.policy_domains.proofs.Places.{name_of}
 
@@ -139,49 +139,69 @@ module _ (set : List ℕ) (other : is_same_name set active_set ≡ false) where
       any_keeps (Ok w) = tt
       any_keeps (Err e) = tt
 
--- a domain whose set ACTIVE is found as it was gives the same rules
-abbrev KeepsRules : DomainRow → DomainRow → Type 0
-KeepsRules old new = (class : List ℕ) → rule_in class new ≡ rule_in class old
+-- what a domain says that depends on BACKRETENTION and its set ACTIVE alone
+module _ {B : Type 0} (told : DomainRow → B)
+    (by_active : (old : DomainRow) (sets : List (List ℕ × SetRow)) → row_of active_set sets ≡ row_of active_set old.sets → told (record { back_retention = old.back_retention; sets = sets }) ≡ told old) where
+  abbrev KeepsTold : DomainRow → DomainRow → Type 0
+  KeepsTold old new = told new ≡ told old
 
-in_sets_keeps : (step : List (List ℕ × SetRow) → Result (List (List ℕ × SetRow)) Refusal) (row : DomainRow)
-    → IfOk (step row.sets) (KeepsActive row.sets) → IfOk (in_sets step row) (KeepsRules row)
-in_sets_keeps step row =
-    within_keeps (λ sets. record { back_retention = row.back_retention; sets = sets }) (KeepsActive row.sets) (KeepsRules row)
-    (λ sets h class. ap (λ o. first_found (option_and_then (group_of class) o) (option_and_then default_group o) row.back_retention) h) (step row.sets)
+  in_sets_keeps : (step : List (List ℕ × SetRow) → Result (List (List ℕ × SetRow)) Refusal) (row : DomainRow)
+      → IfOk (step row.sets) (KeepsActive row.sets) → IfOk (in_sets step row) (KeepsTold row)
+  in_sets_keeps step row =
+      within_keeps (λ sets. record { back_retention = row.back_retention; sets = sets }) (KeepsActive row.sets) (KeepsTold row) (by_active row) (step row.sets)
 
--- each rule of each domain is as it was
-abbrev KeepsAll : List (List ℕ × DomainRow) → List (List ℕ × DomainRow) → Type 0
-KeepsAll old new = (domain class : List ℕ) → rule_of new domain class ≡ rule_of old domain class
+  -- each domain says what it said
+  abbrev KeepsAll : List (List ℕ × DomainRow) → List (List ℕ × DomainRow) → Type 0
+  KeepsAll old new = (domain : List ℕ) → option_map told (row_of domain new) ≡ option_map told (row_of domain old)
 
-domain_keeps : (domain : List ℕ) (step : DomainRow → Result DomainRow Refusal) → ((row : DomainRow) → IfOk (step row) (KeepsRules row))
-    → (rows : List (List ℕ × DomainRow)) → IfOk (changed domain step rows) (KeepsAll rows)
-domain_keeps domain step keeps rows =
-    elim (row_of domain rows) as (λ o. row_of domain rows ≡ o → IfOk (changed_row domain step rows o) (KeepsAll rows)) [
-      | None ↦ λ _. tt
-      | Some v ↦ λ found.
-          within_keeps (λ w. with_value domain w rows) (KeepsRules v) (KeepsAll rows)
-          (λ w same d class. option_map-lookup-set_value (rule_in class) (is_at (slice_cmp nat_cmp domain)) (is_at (slice_cmp nat_cmp d)) rows v w found (same class))
-          (step v) (keeps v)
-    ] refl
+  domain_keeps : (domain : List ℕ) (step : DomainRow → Result DomainRow Refusal) → ((row : DomainRow) → IfOk (step row) (KeepsTold row))
+      → (rows : List (List ℕ × DomainRow)) → IfOk (changed domain step rows) (KeepsAll rows)
+  domain_keeps domain step keeps rows =
+      elim (row_of domain rows) as (λ o. row_of domain rows ≡ o → IfOk (changed_row domain step rows o) (KeepsAll rows)) [
+        | None ↦ λ _. tt
+        | Some v ↦ λ found.
+            within_keeps (λ w. with_value domain w rows) (KeepsTold v) (KeepsAll rows)
+            (λ w same d. option_map-lookup-set_value told (is_at (slice_cmp nat_cmp domain)) (is_at (slice_cmp nat_cmp d)) rows v w found same)
+            (step v) (keeps v)
+      ] refl
 
-set_keeps : (domain set : List ℕ) → is_same_name set active_set ≡ false → (step : SetRow → Result SetRow Refusal) (rows : List (List ℕ × DomainRow))
-    → IfOk (changed domain (in_sets (changed set step)) rows) (KeepsAll rows)
-set_keeps domain set other step rows =
-    domain_keeps domain (in_sets (changed set step)) (λ row. in_sets_keeps (changed set step) row (row_keeps set other step row.sets (row_of set row.sets))) rows
+  set_keeps : (domain set : List ℕ) → is_same_name set active_set ≡ false → (step : SetRow → Result SetRow Refusal) (rows : List (List ℕ × DomainRow))
+      → IfOk (changed domain (in_sets (changed set step)) rows) (KeepsAll rows)
+  set_keeps domain set other step rows =
+      domain_keeps domain (in_sets (changed set step)) (λ row. in_sets_keeps (changed set step) row (row_keeps set other step row.sets (row_of set row.sets))) rows
 
-after_keeps : (change : PolicyChange) → names_active change ≡ false → IsOfSets change → (rows : List (List ℕ × DomainRow)) → IfOk (after change rows) (KeepsAll rows)
-after_keeps (Domain verb domain days) other of_sets rows = absurd of_sets
-after_keeps (Set verb domain set) other of_sets rows =
-    domain_keeps domain (in_sets (set_changed verb set)) (λ row. in_sets_keeps (set_changed verb set) row (set_changed_keeps set other verb row.sets)) rows
-after_keeps (Activate domain set) other of_sets rows = absurd of_sets
-after_keeps change other of_sets rows = set_keeps (domain_of change) (name_of (set_within change)) other (set_after change) rows
+  after_keeps : (change : PolicyChange) → names_active change ≡ false → IsOfSets change → (rows : List (List ℕ × DomainRow)) → IfOk (after change rows) (KeepsAll rows)
+  after_keeps (Domain verb domain days) other of_sets rows = absurd of_sets
+  after_keeps (Set verb domain set) other of_sets rows =
+      domain_keeps domain (in_sets (set_changed verb set)) (λ row. in_sets_keeps (set_changed verb set) row (set_changed_keeps set other verb row.sets)) rows
+  after_keeps (Activate domain set) other of_sets rows = absurd of_sets
+  after_keeps change other of_sets rows = set_keeps (domain_of change) (name_of (set_within change)) other (set_after change) rows
 
-kept : {A : Type 0} (result : Result A Refusal) (old new : List (List ℕ × DomainRow)) (said : Result (List (List ℕ × DomainRow)) Refusal)
-    → Becomes result old new said → IfOk said (KeepsAll old) → KeepsAll old new
-kept (Ok _) old new said h keeps = subst (λ r. IfOk r (KeepsAll old)) h keeps
-kept (Err e) old new said h keeps = λ domain class. ap (λ rows. rule_of rows domain class) h.0
+  kept : {A : Type 0} (result : Result A Refusal) (old new : List (List ℕ × DomainRow)) (said : Result (List (List ℕ × DomainRow)) Refusal)
+      → Becomes result old new said → IfOk said (KeepsAll old) → KeepsAll old new
+  kept (Ok _) old new said h keeps = subst (λ r. IfOk r (KeepsAll old)) h keeps
+  kept (Err e) old new said h keeps = λ domain. ap (λ rows. option_map told (row_of domain rows)) h.0
 
--- whatever a change of a set, a class or a copy group answers, each rule is as it was
+  -- whatever a change of a set, a class or a copy group answers, each domain says what it said
+  all_kept : {A : Type 0} (change : PolicyChange) (result : Result A Refusal) (old new : List (List ℕ × DomainRow)) → names_active change ≡ false
+      → Becomes result old new (after change old) → IsOfSets change → KeepsAll old new
+  all_kept change result old new other becomes of_sets = kept result old new (after change old) becomes (after_keeps change other of_sets old)
+
+-- each rule by which versions are kept is as it was
 pub unbound : {A : Type 0} (change : PolicyChange) (result : Result A Refusal) (old new : List (List ℕ × DomainRow)) → names_active change ≡ false
     → Becomes result old new (after change old) → IsOfSets change → (domain class : List ℕ) → rule_of new domain class ≡ rule_of old domain class
-unbound change result old new other becomes of_sets = kept result old new (after change old) becomes (after_keeps change other of_sets old)
+unbound change result old new other becomes of_sets domain class =
+    all_kept (rule_in class) (λ row sets h. ap (λ o. first_found (option_and_then (group_of class) o) (option_and_then default_group o) row.back_retention) h)
+    change result old new other becomes of_sets domain
+
+joined : {A B : Type 0} (f : A → Option B) (o : Option A) → option_and_then f o ≡ option_and_then (λ b. b) (option_map f o)
+joined f None = refl
+joined f (Some a) = refl
+
+-- each rule by which archived objects are kept is as it was
+pub unarchived : {A : Type 0} (change : PolicyChange) (result : Result A Refusal) (old new : List (List ℕ × DomainRow)) → names_active change ≡ false
+    → Becomes result old new (after change old) → IsOfSets change → (domain class : List ℕ) → archive_of new domain class ≡ archive_of old domain class
+unarchived change result old new other becomes of_sets domain class =
+    joined (archive_in class) (row_of domain new)
+    ∙ ap (option_and_then (λ rule. rule)) (all_kept (archive_in class) (λ row sets h. ap (option_and_then (archive_group_of class)) h) change result old new other becomes of_sets domain)
+    ∙ sym (joined (archive_in class) (row_of domain old))

@@ -1,14 +1,15 @@
 -- What each change of the policy makes of the domains, or how it is refused: what isn't there first, then what is there
 -- already, then a set without a default class.
 use Rattle.std.specs.Prelude.{◌≡◌, ℕ, Bool, false, ⊤, List, Option, Some, None, Result, Ok, Err}
-use Rattle.kinds.specs.declared.rule.BackupRule.{BackupRule}
 use Rattle.kinds.specs.declared.change.Verb.{Verb}
 use Rattle.kinds.specs.declared.change.Verb.TheVariants.{Define, Update, Delete}
 use Rattle.kinds.specs.declared.change.PolicyChange.{PolicyChange}
-use Rattle.kinds.specs.declared.change.PolicyChange.TheVariants.{Domain, Set, Class, Group, Assign, Activate}
+use Rattle.kinds.specs.declared.change.PolicyChange.TheVariants.{Domain, Set, Class, Group, ArchiveGroup, Assign, Activate}
 use Rattle.kinds.specs.declared.refusal.Refusal.{Refusal}
-use Rattle.kinds.specs.declared.refusal.Refusal.TheVariants.{NotFound, Exists}
 use Rattle.kinds.specs.Names.{is_same_name}
+use Rattle.policy_domains.specs.declared.classes.AnyGroup.{AnyGroup}
+use Rattle.policy_domains.specs.declared.classes.AnyGroup.TheVariants.{Backup, Archive}
+use Rattle.policy_domains.specs.Groups.{groups_changed}
 use Rattle.policy_domains.specs.Rows.{SetRow, DomainRow, active_set, within, defined, deleted, changed}
 use Rattle.policy_domains.specs.Sets.{empty_domain, in_sets, set_changed, class_changed, assigned, activated}
 
@@ -18,26 +19,18 @@ domain_changed Define domain days = defined domain (empty_domain days)
 domain_changed Update domain days = changed domain (λ row. Ok (record { back_retention = days; sets = row.sets }))
 domain_changed Delete domain days = deleted domain
 
--- the copy group of a class is defined, replaced or deleted
-abbrev pub group_changed : Verb → BackupRule → Option BackupRule → Result (Option BackupRule) Refusal
-group_changed Define rule None = Ok (Some rule)
-group_changed Define rule (Some _) = Err Exists
-group_changed Update rule None = Err NotFound
-group_changed Update rule (Some _) = Ok (Some rule)
-group_changed Delete rule None = Err NotFound
-group_changed Delete rule (Some _) = Ok None
-
--- the copy group of a class of a set
-abbrev pub in_group : Verb → List ℕ → BackupRule → SetRow → Result SetRow Refusal
-in_group verb class rule set =
-    within (λ classes. record { default_class = set.default_class; classes = classes }) (changed class (group_changed verb rule) set.classes)
+-- a copy group of a class of a set
+abbrev pub in_group : Verb → List ℕ → AnyGroup → SetRow → Result SetRow Refusal
+in_group verb class group set =
+    within (λ classes. record { default_class = set.default_class; classes = classes }) (changed class (groups_changed verb group) set.classes)
 
 -- the domains after a change, or its refusal
 abbrev pub after : PolicyChange → List (List ℕ × DomainRow) → Result (List (List ℕ × DomainRow)) Refusal
 after (Domain verb domain days) = domain_changed verb domain days
 after (Set verb domain set) = changed domain (in_sets (set_changed verb set))
 after (Class verb domain set class) = changed domain (in_sets (changed set (class_changed verb class)))
-after (Group verb domain set class rule) = changed domain (in_sets (changed set (in_group verb class rule)))
+after (Group verb domain set class rule) = changed domain (in_sets (changed set (in_group verb class (Backup rule))))
+after (ArchiveGroup verb domain set class rule) = changed domain (in_sets (changed set (in_group verb class (Archive rule))))
 after (Assign domain set class) = changed domain (in_sets (changed set (assigned class)))
 after (Activate domain set) = changed domain (activated set)
 
@@ -47,6 +40,7 @@ domain_of (Domain verb domain days) = domain
 domain_of (Set verb domain set) = domain
 domain_of (Class verb domain set class) = domain
 domain_of (Group verb domain set class rule) = domain
+domain_of (ArchiveGroup verb domain set class rule) = domain
 domain_of (Assign domain set class) = domain
 domain_of (Activate domain set) = domain
 
@@ -56,13 +50,15 @@ set_within (Domain verb domain days) = None
 set_within (Set verb domain set) = None
 set_within (Class verb domain set class) = Some set
 set_within (Group verb domain set class rule) = Some set
+set_within (ArchiveGroup verb domain set class rule) = Some set
 set_within (Assign domain set class) = Some set
 set_within (Activate domain set) = None
 
 -- a set after a change within it, or its refusal
 abbrev pub set_after : PolicyChange → SetRow → Result SetRow Refusal
 set_after (Class verb domain set class) row = class_changed verb class row
-set_after (Group verb domain set class rule) row = in_group verb class rule row
+set_after (Group verb domain set class rule) row = in_group verb class (Backup rule) row
+set_after (ArchiveGroup verb domain set class rule) row = in_group verb class (Archive rule) row
 set_after (Assign domain set class) row = assigned class row
 set_after _ row = Ok row
 
@@ -79,6 +75,7 @@ names_active (Domain verb domain days) = false
 names_active (Set verb domain set) = is_same_name set active_set
 names_active (Class verb domain set class) = is_same_name set active_set
 names_active (Group verb domain set class rule) = is_same_name set active_set
+names_active (ArchiveGroup verb domain set class rule) = is_same_name set active_set
 names_active (Assign domain set class) = is_same_name set active_set
 names_active (Activate domain set) = is_same_name set active_set
 

@@ -1,5 +1,5 @@
 -- The policy of a server that was just formatted.
-use Rattle.std.specs.Prelude.{ℕ, false, List, [], ◌∷◌, Some, codes}
+use Rattle.std.specs.Prelude.{ℕ, false, List, [], ◌∷◌, Some, None, codes}
 use Rattle.kinds.specs.declared.rule.BackupRule.{BackupRule}
 use Rattle.kinds.specs.declared.rule.Limit.TheVariants.{At}
 use Rattle.kinds.specs.declared.rule.Still.TheVariants.{ShrStatic}
@@ -14,9 +14,9 @@ abbrev pub standard_rule : BackupRule
 standard_rule =
     record { destination = 1; frequency = 0; ver_exists = At 2; ver_deleted = At 1; ret_extra = At 30; ret_only = At 60; absolute = false; still = ShrStatic }
 
--- the class STANDARD is the default, with that copy group
+-- the class STANDARD is the default, with that copy group and no archive copy group
 abbrev pub standard_set : SetRow
-standard_set = record { default_class = Some standard; classes = (standard, Some standard_rule) ∷ [] }
+standard_set = record { default_class = Some standard; classes = (standard, record { backup = Some standard_rule; archive = None }) ∷ [] }
 
 -- the domain STANDARD, with BACKRETENTION 30, and its sets ACTIVE and STANDARD
 abbrev pub standard_domain : DomainRow

@@ -2,6 +2,7 @@ pub mod Ascending
 pub mod Changes
 pub mod Errors
 pub mod Fresh
+pub mod Groups
 pub mod Laws
 pub mod Makings
 pub mod Rows

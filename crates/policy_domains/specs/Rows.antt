@@ -5,15 +5,14 @@ use Rattle.std.specs.Cmp.Lexicographic.{slice_cmp, pointwise}
 use Rattle.std.specs.Map.{lookup, set_value, remove_entry}
 use Rattle.std.specs.BTreeMap.{insert_entry, is_at}
 use Rattle.kinds.specs.Names.{is_same_name}
-use Rattle.kinds.specs.declared.rule.BackupRule.{BackupRule}
 use Rattle.kinds.specs.declared.refusal.Refusal.{Refusal}
 use Rattle.kinds.specs.declared.refusal.Refusal.TheVariants.{NotFound, Exists}
+use Rattle.policy_domains.specs.declared.classes.ManagementClass.{ManagementClass}
 
--- a policy set: its default management class, where it has one, and its classes, each with the rule of its backup copy
--- group, where it has one
+-- a policy set: its default management class, where it has one, and its classes, each with the rules of its copy groups
 pub record SetRow : Type 0 where
   pub default_class : Option (List ℕ)
-  pub classes : List (List ℕ × Option BackupRule)
+  pub classes : List (List ℕ × ManagementClass)
 
 -- a policy domain: BACKRETENTION, in days, and its policy sets
 pub record DomainRow : Type 0 where

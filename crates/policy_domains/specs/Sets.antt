@@ -5,6 +5,7 @@ use Rattle.kinds.specs.declared.change.DefineOrDelete.TheVariants.{Define, Delet
 use Rattle.kinds.specs.declared.refusal.Refusal.{Refusal}
 use Rattle.kinds.specs.declared.refusal.Refusal.TheVariants.{NotFound, NoDefaultClass}
 use Rattle.kinds.specs.Names.{is_same_name}
+use Rattle.policy_domains.specs.declared.classes.ManagementClass.{ManagementClass}
 use Rattle.policy_domains.specs.Rows.{SetRow, DomainRow, active_set, row_of, with_row, within, defined, deleted}
 
 -- a set without classes
@@ -29,10 +30,14 @@ abbrev pub other_default : List ℕ → Option (List ℕ) → Option (List ℕ)
 other_default class None = None
 other_default class (Some d) = if is_same_name d class then None else Some d
 
+-- a class without copy groups
+abbrev pub bare_class : ManagementClass
+bare_class = record { backup = None; archive = None }
+
 -- a class is defined, without a copy group, or deleted: where it was its set's default, the set has none afterwards
 abbrev pub class_changed : DefineOrDelete → List ℕ → SetRow → Result SetRow Refusal
 class_changed Define class set =
-    within (λ classes. record { default_class = set.default_class; classes = classes }) (defined class None set.classes)
+    within (λ classes. record { default_class = set.default_class; classes = classes }) (defined class bare_class set.classes)
 class_changed Delete class set =
     within (λ classes. record { default_class = other_default class set.default_class; classes = classes }) (deleted class set.classes)
 

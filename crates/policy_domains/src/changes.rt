@@ -8,6 +8,7 @@ ghost use Rattle.policy_domains.specs.Rows.{active_set};
 ghost use Rattle.policy_domains.specs.Sets.{assigned};
 ghost use Rattle.policy_domains.specs.Changes.{domain_of, set_within, set_after, domains_after, names_active, after};
 
+use crate::classes::AnyGroup;
 use crate::makings::{activate, change_domain, change_set, change_within};
 use crate::policy::PolicyDomain;
 use crate::refusals::{class_in, group_in, of_activation, of_domain, of_set, of_within};
@@ -32,6 +33,7 @@ pub fn names_active(change: &PolicyChange) -> bool
         PolicyChange::Set { set, .. } => is_active(set),
         PolicyChange::Class { set, .. } => is_active(set),
         PolicyChange::Group { set, .. } => is_active(set),
+        PolicyChange::ArchiveGroup { set, .. } => is_active(set),
         PolicyChange::Assign { set, .. } => is_active(set),
         PolicyChange::Activate { set, .. } => is_active(set),
     }
@@ -46,6 +48,7 @@ fn domain_of(change: &PolicyChange) -> &Name
         PolicyChange::Set { domain, .. } => domain,
         PolicyChange::Class { domain, .. } => domain,
         PolicyChange::Group { domain, .. } => domain,
+        PolicyChange::ArchiveGroup { domain, .. } => domain,
         PolicyChange::Assign { domain, .. } => domain,
         PolicyChange::Activate { domain, .. } => domain,
     }
@@ -60,6 +63,7 @@ fn set_within(change: &PolicyChange) -> Option<&Name>
         PolicyChange::Set { .. } => None,
         PolicyChange::Class { set, .. } => Some(set),
         PolicyChange::Group { set, .. } => Some(set),
+        PolicyChange::ArchiveGroup { set, .. } => Some(set),
         PolicyChange::Assign { set, .. } => Some(set),
         PolicyChange::Activate { .. } => None,
     }
@@ -92,7 +96,18 @@ pub(crate) fn refusal_in(row: &PolicySet, change: &PolicyChange) -> Option<Refus
         PolicyChange::Domain { .. } => None,
         PolicyChange::Set { .. } => None,
         PolicyChange::Class { verb, class, .. } => class_in(row, *verb, class),
-        PolicyChange::Group { verb, class, .. } => group_in(row, *verb, class),
+        PolicyChange::Group {
+            verb,
+            class,
+            group,
+            ..
+        } => group_in(row, *verb, class, AnyGroup::Backup(*group)),
+        PolicyChange::ArchiveGroup {
+            verb,
+            class,
+            group,
+            ..
+        } => group_in(row, *verb, class, AnyGroup::Archive(*group)),
         PolicyChange::Assign { class, .. } => assign_in(row, class),
         PolicyChange::Activate { .. } => None,
     }
@@ -113,7 +128,16 @@ pub(crate) fn make_in(row: &mut PolicySet, change: &PolicyChange) -> Result<(), 
             group,
             ..
         } => {
-            row.change_group(*verb, class, *group);
+            row.change_group(*verb, class, AnyGroup::Backup(*group));
+            Ok(())
+        }
+        PolicyChange::ArchiveGroup {
+            verb,
+            class,
+            group,
+            ..
+        } => {
+            row.change_group(*verb, class, AnyGroup::Archive(*group));
             Ok(())
         }
         PolicyChange::Assign { class, .. } => assign(row, class),
@@ -130,6 +154,7 @@ fn refusal_outside(rows: &BTreeMap<Name, PolicyDomain>, change: &PolicyChange) -
         PolicyChange::Set { verb, domain, set } => of_set(rows, *verb, domain, set),
         PolicyChange::Class { .. } => None,
         PolicyChange::Group { .. } => None,
+        PolicyChange::ArchiveGroup { .. } => None,
         PolicyChange::Assign { .. } => None,
         PolicyChange::Activate { domain, set } => of_activation(rows, domain, set),
     }
@@ -155,6 +180,7 @@ fn make_outside(
         PolicyChange::Set { verb, domain, set } => change_set(alloc, rows, *verb, domain, set),
         PolicyChange::Class { .. } => Ok(()),
         PolicyChange::Group { .. } => Ok(()),
+        PolicyChange::ArchiveGroup { .. } => Ok(()),
         PolicyChange::Assign { .. } => Ok(()),
         PolicyChange::Activate { domain, set } => activate(rows, active, domain, set),
     }

@@ -4,6 +4,7 @@ ghost use Rattle.kinds.specs.Answers.{AnswersBy};
 ghost use Rattle.policy_domains.specs.Rows.{active_set};
 ghost use Rattle.policy_domains.specs.Fresh.{standard, standard_rule, standard_set, standard_domain};
 
+use crate::classes::ManagementClass;
 use crate::policy::PolicyDomain;
 use crate::sets::PolicySet;
 use kinds::{BackupRule, CopyGroup, Days, Limit, Name, Refusal, Still};
@@ -51,7 +52,11 @@ fn standard_set(alloc: Global) -> Result<PolicySet, Refusal>
 {
     let name = standard_name(alloc)?;
     let mut classes = BTreeMap::new(alloc);
-    classes.insert(name, Some(standard_group()))?;
+    let class = ManagementClass {
+        backup: Some(standard_group()),
+        archive: None,
+    };
+    classes.insert(name, class)?;
     let default_class = standard_name(alloc)?;
     Ok(PolicySet::from_parts(Some(default_class), classes))
 }

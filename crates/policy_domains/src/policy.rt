@@ -3,12 +3,12 @@ ghost use Rattle.policy_domains.specs.Makings.{Brings};
 ghost use Rattle.policy_domains.specs.Rows.{active_set, changed};
 ghost use Rattle.policy_domains.specs.Sets.{empty_domain, in_sets, set_changed, activated};
 ghost use Rattle.policy_domains.specs.Changes.{set_after};
-ghost use Rattle.policy_domains.specs.Rules.{rule_in};
+ghost use Rattle.policy_domains.specs.Rules.{rule_in, archive_in};
 
 use crate::changes::make_in;
 use crate::named::{define_row, delete_row};
 use crate::sets::PolicySet;
-use kinds::{Days, DefineOrDelete, Name, PolicyChange, Refusal, RuleFound};
+use kinds::{ArchiveRule, Days, DefineOrDelete, Name, PolicyChange, Refusal, RuleFound};
 use std::alloc::{AllocError, Global};
 use std::collections::BTreeMap;
 use std::marker::Model;
@@ -143,6 +143,13 @@ impl PolicyDomain {
                 (None, None) => grace,
             },
         }
+    }
+
+    pub(crate) fn archive_of(&self, active: &Name, class: &Name) -> Option<ArchiveRule>
+        requires { active.now ≡ active_set }
+        ensures { result ≡ archive_in class.now self.now }
+    {
+        self.sets.get(active)?.archive_group_of(class)
     }
 }
 

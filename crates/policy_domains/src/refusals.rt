@@ -2,17 +2,17 @@
 ghost use Rattle.std.specs.Prelude.{◌≡◌, ℕ};
 ghost use Rattle.std.specs.Option.{option_copied};
 ghost use Rattle.std.specs.Result.{result_err};
-ghost use Rattle.kinds.specs.declared.rule.BackupRule.{BackupRule};
 ghost use Rattle.policy_domains.specs.Errors.{set_at};
 ghost use Rattle.policy_domains.specs.Rows.{changed, row_of};
 ghost use Rattle.policy_domains.specs.Sets.{in_sets, set_changed, class_changed, to_activate, activated};
-ghost use Rattle.policy_domains.specs.Changes.{domain_changed, group_changed, in_group, set_after};
+ghost use Rattle.policy_domains.specs.Changes.{domain_changed, in_group, set_after};
 
 use crate::changes::refusal_in;
+use crate::classes::AnyGroup;
 use crate::named::{define_refusal, delete_refusal};
 use crate::policy::PolicyDomain;
 use crate::sets::PolicySet;
-use kinds::{CopyGroup, DefineOrDelete, Name, PolicyChange, Refusal, Verb};
+use kinds::{DefineOrDelete, Name, PolicyChange, Refusal, Verb};
 use std::collections::BTreeMap;
 
 /// How a change of the domain itself would be refused.
@@ -83,23 +83,18 @@ pub(crate) fn class_in(row: &PolicySet, verb: DefineOrDelete, class: &Name) -> O
     }
 }
 
-fn replace(there: Option<CopyGroup>, verb: Verb) -> Option<Refusal>
-    ensures { (rule : BackupRule) → result ≡ result_err (group_changed verb rule there) }
-{
-    match (verb, there) {
-        (Verb::Define, Some(_)) => Some(Refusal::Exists),
-        (Verb::Define, None) | (Verb::Update, Some(_)) | (Verb::Delete, Some(_)) => None,
-        (Verb::Update, None) | (Verb::Delete, None) => Some(Refusal::NotFound),
-    }
-}
-
 #[tactic(auto, using(crate::proofs::Errors::error_within, crate::proofs::Errors::error_changed))]
-pub(crate) fn group_in(row: &PolicySet, verb: Verb, class: &Name) -> Option<Refusal>
-    ensures { (rule : BackupRule) → result ≡ result_err (in_group verb class.now rule row.now) }
+pub(crate) fn group_in(
+    row: &PolicySet,
+    verb: Verb,
+    class: &Name,
+    group: AnyGroup,
+) -> Option<Refusal>
+    ensures { result ≡ result_err (in_group verb class.now group row.now) }
 {
     match row.classes().get(class) {
         None => Some(Refusal::NotFound),
-        Some(there) => replace(*there, verb),
+        Some(there) => there.refusal(verb, group),
     }
 }
 

@@ -1,22 +1,24 @@
 ghost use Rattle.std.specs.Prelude.{◌≡◌, Some};
 ghost use Rattle.std.specs.Option.{option_copied};
 ghost use Rattle.policy_domains.specs.Makings.{IsAsSaid, Brings};
-ghost use Rattle.policy_domains.specs.Rows.{changed};
-ghost use Rattle.policy_domains.specs.Sets.{empty_set, other_default, class_changed};
-ghost use Rattle.policy_domains.specs.Changes.{group_changed, in_group};
-ghost use Rattle.policy_domains.specs.Rules.{group_of, default_group};
+ghost use Rattle.policy_domains.specs.Rows.{changed, defined};
+ghost use Rattle.policy_domains.specs.Sets.{bare_class, empty_set, other_default, class_changed};
+ghost use Rattle.policy_domains.specs.Changes.{in_group};
+ghost use Rattle.policy_domains.specs.Groups.{groups_changed};
+ghost use Rattle.policy_domains.specs.Rules.{group_of, default_group, archive_group_of};
 
+use crate::classes::{AnyGroup, ManagementClass};
 use crate::named::{define_row, delete_row};
-use kinds::{BackupRule, CopyGroup, DefineOrDelete, Name, Refusal, Verb};
+use kinds::{ArchiveRule, BackupRule, DefineOrDelete, Name, Refusal, Verb};
 use std::alloc::{AllocError, Global};
 use std::collections::BTreeMap;
 use std::marker::Model;
 
-/// A policy set: its default management class, where it has one, and its classes, each with its backup copy group, where it has one.
+/// A policy set: its default management class, where it has one, and its classes.
 #[derive(Drop)]
 pub struct PolicySet {
     default_class: Option<Name>,
-    classes: BTreeMap<Name, Option<CopyGroup>>,
+    classes: BTreeMap<Name, ManagementClass>,
 }
 
 impl Model for PolicySet {
@@ -28,27 +30,16 @@ impl Model for PolicySet {
 }
 
 fn change_group(
-    classes: &mut BTreeMap<Name, Option<CopyGroup>>,
+    classes: &mut BTreeMap<Name, ManagementClass>,
     verb: Verb,
     class: &Name,
-    group: CopyGroup,
+    group: AnyGroup,
 )
-    ensures { IsAsSaid classes.new.entries (changed class.now (group_changed verb group) classes.old.entries) }
+    ensures { IsAsSaid classes.new.entries (changed class.now (groups_changed verb group) classes.old.entries) }
 {
     match classes.get_mut(class) {
-        Some(place) => replace_group(place, verb, group),
+        Some(place) => place.change(verb, group),
         None => (),
-    }
-}
-
-#[tactic(auto, using(crate::proofs::Parts::group_put, crate::proofs::Parts::group_replaced, crate::proofs::Parts::group_deleted))]
-fn replace_group(place: &mut Option<CopyGroup>, verb: Verb, group: CopyGroup)
-    ensures { IsAsSaid place.new (group_changed verb group place.old) }
-{
-    match verb {
-        Verb::Define => *place = Some(group),
-        Verb::Update => *place = Some(group),
-        Verb::Delete => *place = None,
     }
 }
 
@@ -62,12 +53,20 @@ fn other_default(default_class: Option<Name>, class: &Name) -> Option<Name>
     }
 }
 
+/// Puts a class without copy groups under its name.
+fn define_bare(classes: &mut BTreeMap<Name, ManagementClass>, class: &Name) -> Result<(), Refusal>
+    ensures { Brings result classes.old.entries classes.new.entries (defined class.now bare_class classes.old.entries) }
+{
+    let bare = ManagementClass {
+        backup: None,
+        archive: None,
+    };
+    define_row(classes, class, bare)
+}
+
 impl PolicySet {
     /// A set of these parts. It takes no memory.
-    pub fn from_parts(
-        default_class: Option<Name>,
-        classes: BTreeMap<Name, Option<CopyGroup>>,
-    ) -> Self
+    pub fn from_parts(default_class: Option<Name>, classes: BTreeMap<Name, ManagementClass>) -> Self
         ensures { result ≡ record { default_class = default_class; classes = classes.entries } }
     {
         PolicySet {
@@ -83,8 +82,8 @@ impl PolicySet {
         self.default_class.as_ref()
     }
 
-    /// The set's classes in ascending order of their names, each with its copy group, where it has one.
-    pub fn classes(&self) -> &BTreeMap<Name, Option<CopyGroup>>
+    /// The set's classes in ascending order of their names.
+    pub fn classes(&self) -> &BTreeMap<Name, ManagementClass>
         ensures { result.now.entries ≡ self.now.classes }
     {
         &self.classes
@@ -103,9 +102,19 @@ impl PolicySet {
     pub(crate) fn group_of(&self, class: &Name) -> Option<BackupRule>
         ensures { result ≡ group_of class.now self.now }
     {
-        match self.classes.get(class) {
-            Some(Some(group)) => Some(group.rule()),
-            _ => None,
+        match self.classes.get(class)?.backup {
+            Some(group) => Some(group.rule()),
+            None => None,
+        }
+    }
+
+    /// The archive rule of a class, where the class is there and has one.
+    pub(crate) fn archive_group_of(&self, class: &Name) -> Option<ArchiveRule>
+        ensures { result ≡ archive_group_of class.now self.now }
+    {
+        match self.classes.get(class)?.archive {
+            Some(group) => Some(group.rule()),
+            None => None,
         }
     }
 
@@ -123,7 +132,7 @@ impl PolicySet {
         ensures { Brings result self.old self.new (class_changed verb class.now self.old) }
     {
         match verb {
-            DefineOrDelete::Define => define_row(&mut self.classes, class, None),
+            DefineOrDelete::Define => define_bare(&mut self.classes, class),
             DefineOrDelete::Delete => {
                 delete_row(&mut self.classes, class);
                 self.default_class = other_default(self.default_class.take(), class);
@@ -132,7 +141,7 @@ impl PolicySet {
         }
     }
 
-    pub(crate) fn change_group(&mut self, verb: Verb, class: &Name, group: CopyGroup)
+    pub(crate) fn change_group(&mut self, verb: Verb, class: &Name, group: AnyGroup)
         ensures { IsAsSaid self.new (in_group verb class.now group self.old) }
     {
         change_group(&mut self.classes, verb, class, group)

@@ -3,7 +3,7 @@ ghost use Rattle.std.specs.Result.{result_err};
 ghost use Rattle.kinds.specs.Answers.{Becomes, AnswersBy};
 ghost use Rattle.policy_domains.specs.Rows.{active_set, row_of};
 ghost use Rattle.policy_domains.specs.Changes.{names_active, after, IsRefusedLike};
-ghost use Rattle.policy_domains.specs.Rules.{rule_of};
+ghost use Rattle.policy_domains.specs.Rules.{rule_of, archive_of};
 ghost use Rattle.policy_domains.specs.Fresh.{fresh};
 ghost use Rattle.policy_domains.specs.Laws.{IsOfSets};
 ghost use Rattle.policy_domains.specs.Ascending.{SetsAscend};
@@ -11,7 +11,7 @@ ghost use Rattle.policy_domains.specs.Ascending.{SetsAscend};
 use crate::initial::{active_name, standard_domain, standard_name};
 use crate::policy::PolicyDomain;
 use crate::{changes, refusals};
-use kinds::{Name, PolicyChange, Refusal, RuleFound};
+use kinds::{ArchiveRule, Name, PolicyChange, Refusal, RuleFound};
 use std::alloc::{AllocError, Global};
 use std::collections::BTreeMap;
 use std::marker::Model;
@@ -112,6 +112,8 @@ impl Domains {
         // A change of a set, a class, a copy group or a default class binds no client: that waits for the set's activation.
         ensures unbound { IsOfSets change.now → (domain class : List ℕ)
             → rule_of self.new domain class ≡ rule_of self.old domain class }
+        ensures unarchived { IsOfSets change.now → (domain class : List ℕ)
+            → archive_of self.new domain class ≡ archive_of self.old domain class }
     {
         change_rows(self.alloc, &self.active, &mut self.rows, change)
     }
@@ -142,6 +144,16 @@ impl Domains {
     {
         let row = self.rows.get(domain).unwrap();
         row.rule_of(&self.active, class)
+    }
+
+    /// The rule by which objects are kept that are archived under this management class: that of the class in the domain's set ACTIVE, where the class
+    /// is there and has an archive copy group. The domain is there. It takes no memory.
+    pub fn archive_of(&self, domain: &Name, class: &Name) -> Option<ArchiveRule>
+        requires { IsSome (row_of domain.now self.now) }
+        ensures { result ≡ archive_of self.now domain.now class.now }
+    {
+        let row = self.rows.get(domain).unwrap();
+        row.archive_of(&self.active, class)
     }
 }
 

@@ -81,6 +81,7 @@ backup_pool = record {
     reclaim = 60;
     reuse_delay = 0;
     max_scratch = 0;
+    collocate = false;
   };
 }
 

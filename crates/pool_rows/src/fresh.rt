@@ -36,6 +36,7 @@ fn default_settings() -> PoolSettings
         reclaim: 60,
         reuse_delay,
         max_scratch: 0,
+        collocate: false,
     };
     let Some(settings) = PoolSettings::new(rule) else {
         unreachable!()

@@ -17,6 +17,7 @@ fn usual_rule() -> Result<PoolRule, Fault> {
         reclaim: 60,
         reuse_delay: Days::new(0).ok_or(Fault::NoCommand)?,
         max_scratch: 0,
+        collocate: false,
     })
 }
 
@@ -35,6 +36,7 @@ fn set(rule: &mut PoolRule, word: &str) -> Result<(), Fault> {
         "reclaim" => rule.reclaim = byte(value)?,
         "delay" => rule.reuse_delay = days(value)?,
         "scratch" => rule.max_scratch = small(value)?,
+        "collocate" => rule.collocate = value == "node",
         _ => return Err(Fault::NoCommand),
     }
     Ok(())

@@ -42,7 +42,11 @@ fn put_rule(out: &mut String, rule: &PoolRule) -> Result<(), AllocError> {
     write!(
         out,
         " max {max_size:?} high {high} low {low} reclaim {reclaim} delay {delay} scratch {scratch}"
-    )
+    )?;
+    if rule.collocate {
+        out.push_str(" collocate")?;
+    }
+    Ok(())
 }
 
 fn put_pool(out: &mut String, number: u32, pool: &Pool) -> Result<(), AllocError> {

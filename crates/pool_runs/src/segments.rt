@@ -19,7 +19,7 @@ fn read_piece(words: &[&str]) -> Result<Piece, Fault> {
     let segment = Segment {
         file: number(file)?,
         offset: large(offset)?,
-        len: number(len)?,
+        len: large(len)?,
     };
     Ok(Piece {
         object: large(object)?,
@@ -35,19 +35,24 @@ fn of_length(words: &[&str]) -> Result<HeldSegment, Fault> {
     let segment = Segment {
         file: 4,
         offset: 0,
-        len: number(len)?,
+        len: large(len)?,
     };
     Ok(HeldSegment::new(1, &segment))
 }
 
+fn told(number: u128) -> Result<Answer, Fault> {
+    let number = u64::try_from(number).ok().ok_or(Fault::NoCommand)?;
+    Ok(Answer::Number(number))
+}
+
 /// How many blocks the frame of a segment of so many bytes uses.
 pub fn blocks(words: &[&str]) -> Result<Answer, Fault> {
-    Ok(Answer::Number(of_length(words)?.blocks()))
+    told(of_length(words)?.blocks())
 }
 
 /// How many bytes the frame of a segment of so many bytes has.
 pub fn bytes(words: &[&str]) -> Result<Answer, Fault> {
-    Ok(Answer::Number(of_length(words)?.frame_bytes()))
+    told(of_length(words)?.frame_bytes())
 }
 
 /// Whether the segment ends within its volume's capacity.

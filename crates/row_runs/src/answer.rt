@@ -1,5 +1,5 @@
 //! What a command is answered, and its words.
-use kinds::{Refusal, RuleFound};
+use kinds::{ArchiveRule, Refusal, RuleFound};
 use std::alloc::{AllocError, Global};
 
 /// What a command is answered.
@@ -14,6 +14,7 @@ pub enum Answer {
     Is(bool),
     Number(u64),
     Rule(RuleFound),
+    Archive(ArchiveRule),
 }
 
 /// Why a command has no answer.
@@ -55,6 +56,7 @@ fn word(answer: Answer) -> &'static str {
         Answer::Is(false) => "no",
         Answer::Number(_) => "a number",
         Answer::Rule(_) => "a rule",
+        Answer::Archive(_) => "an archive rule",
     }
 }
 
@@ -62,10 +64,15 @@ fn rule_text(alloc: Global, rule: &RuleFound) -> Result<String, AllocError> {
     format!(in alloc; "{rule:?}")
 }
 
+fn archive_text(alloc: Global, rule: &ArchiveRule) -> Result<String, AllocError> {
+    format!(in alloc; "{rule:?}")
+}
+
 fn answer_text(alloc: Global, answer: Answer) -> Result<String, AllocError> {
     match answer {
         Answer::Number(number) => format!(in alloc; "{number}"),
         Answer::Rule(rule) => rule_text(alloc, &rule),
+        Answer::Archive(rule) => archive_text(alloc, &rule),
         other => String::from_str(alloc, word(other)),
     }
 }

@@ -5,8 +5,9 @@
 //! - `new`: the policy of a new server, and no nodes; `copy`: a copy takes the place of both; `again`: so do those that are made of
 //!   their rows.
 //! - `domain VERB DOMAIN DAYS`, `set VERB DOMAIN SET`, `class VERB DOMAIN SET CLASS`, `group VERB DOMAIN SET CLASS POOL` with the other
-//!   values of a copy group that is defined without parameters, `assign DOMAIN SET CLASS`, `activate DOMAIN SET`: `change` of the
-//!   domains, where it doesn't name the set ACTIVE. `validate DOMAIN SET`; `rule DOMAIN CLASS`: `rule_of`, where the domain is there.
+//!   values of a copy group that is defined without parameters, `archive VERB DOMAIN SET CLASS POOL DAYS`, `assign DOMAIN SET CLASS`,
+//!   `activate DOMAIN SET`: `change` of the domains, where it doesn't name the set ACTIVE. `validate DOMAIN SET`; `rule DOMAIN CLASS`:
+//!   `rule_of`, and `archived DOMAIN CLASS`: `archive_of`, where the domain is there.
 //! - `node VERB NUMBER NODE`, `filespace VERB NODE NUMBER NAME`: `change` of the rows, where what is defined may have its number.
 //! - `insert FILESPACE PATH CLASS OBJECT DAY`, where the object is new; `gone FILESPACE PATH OBJECT DAY`: `mark_gone`, where it isn't an
 //!   inactive version; `undo FILESPACE PATH CLASS there`, or `gone`: `undo_insert`, where the path has a version; `rebind FILESPACE PATH
@@ -19,8 +20,8 @@
 //!   value of them, and then the old one stays.
 //! - `retained RULE there SINCE TODAY PLACE`, or `gone`: `retained`, where the first day is not after the second; `unretained RULE there
 //!   TODAY DAY DAY DAY`: `unretained` of three versions. A rule is `own`, `default`, `nolimit`, or the days of a BACKRETENTION.
-//! - `domains`; `show FILESPACE PATH`: the versions, the newest first; `find OBJECT`: one of them. A copy is shown as its pool and the
-//!   transaction that placed it, as `3@4`.
+//! - `domains`, a class with the destinations of its backup and its archive copy group, as `C=1+3`; `show FILESPACE PATH`: the versions, the
+//!   newest first; `find OBJECT`: one of them. A copy is shown as its pool and the transaction that placed it, as `3@4`.
 //!
 //! The stored output was written by hand, from the rules of policy, versions and retention.
 #![tactic(auto)]

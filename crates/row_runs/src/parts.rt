@@ -71,7 +71,8 @@ pub fn made(alloc: Global, words: &[&str]) -> Result<Option<Objects>, Fault> {
         parts.add(alloc, word)?;
     }
     let Parts { nodes, filespaces } = parts;
-    let made = Objects::from_parts(alloc, nodes, filespaces)?;
+    let held = BTreeMap::new(alloc);
+    let made = Objects::from_parts(alloc, nodes, filespaces, held)?;
     Ok(made)
 }
 
@@ -79,6 +80,7 @@ pub fn made(alloc: Global, words: &[&str]) -> Result<Option<Objects>, Fault> {
 pub fn made_again(alloc: Global, of: &Objects) -> Result<Option<Objects>, Fault> {
     let nodes = of.nodes().clone()?;
     let filespaces = of.filespaces().clone()?;
-    let made = Objects::from_parts(alloc, nodes, filespaces)?;
+    let held = of.held().clone()?;
+    let made = Objects::from_parts(alloc, nodes, filespaces, held)?;
     Ok(made)
 }

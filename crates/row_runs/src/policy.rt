@@ -2,7 +2,7 @@
 use crate::answer::{Answer, Fault};
 use crate::retention::usual_rule;
 use crate::words::{days, define_or_delete, name, number, verb};
-use kinds::{BackupRule, CopyGroup, Name, PolicyChange};
+use kinds::{ArchiveGroup, ArchiveRule, BackupRule, CopyGroup, Limit, Name, PolicyChange};
 use policy_domains::{Domains, names_active};
 use std::alloc::Global;
 
@@ -66,6 +66,29 @@ fn group_change(alloc: Global, words: &[&str]) -> Result<PolicyChange, Fault> {
     })
 }
 
+/// An archive copy group by which objects are kept for so many days, with this destination.
+fn archive_to(pool: &str, days: &str) -> Result<ArchiveGroup, Fault> {
+    let rule = ArchiveRule {
+        destination: number(pool)?,
+        ret_ver: Limit::At(number(days)?),
+    };
+    ArchiveGroup::new(rule).ok_or(Fault::NoCommand)
+}
+
+/// `define|update|delete DOMAIN SET CLASS POOL DAYS`.
+fn archive_change(alloc: Global, words: &[&str]) -> Result<PolicyChange, Fault> {
+    let [what, domain, set, class, pool, days] = words else {
+        return Err(Fault::NoCommand);
+    };
+    Ok(PolicyChange::ArchiveGroup {
+        verb: verb(what)?,
+        group: archive_to(pool, days)?,
+        domain: name(alloc, domain)?,
+        set: name(alloc, set)?,
+        class: name(alloc, class)?,
+    })
+}
+
 /// `DOMAIN SET CLASS`.
 fn assignment(alloc: Global, words: &[&str]) -> Result<PolicyChange, Fault> {
     let [domain, set, class] = words else {
@@ -95,6 +118,7 @@ fn change_of(alloc: Global, command: &str, words: &[&str]) -> Result<PolicyChang
         "set" => set_change(alloc, words),
         "class" => class_change(alloc, words),
         "group" => group_change(alloc, words),
+        "archive" => archive_change(alloc, words),
         "assign" => assignment(alloc, words),
         "activate" => activation(alloc, words),
         _ => Err(Fault::NoCommand),
@@ -147,4 +171,24 @@ pub fn rule(alloc: Global, domains: &Domains, words: &[&str]) -> Result<Answer, 
         return Err(Fault::NoCommand);
     };
     Ok(rule_in(domains, &name(alloc, domain)?, &name(alloc, class)?))
+}
+
+/// The archive rule of a class, where its domain is there.
+fn archive_rule_in(domains: &Domains, domain: &Name, class: &Name) -> Answer {
+    if domains.rows().contains_key(domain) {
+        match domains.archive_of(domain, class) {
+            Some(rule) => Answer::Archive(rule),
+            None => Answer::Nothing,
+        }
+    } else {
+        Answer::Unmet
+    }
+}
+
+/// The rule by which objects are kept that are archived under a class, `DOMAIN CLASS`.
+pub fn archive_rule(alloc: Global, domains: &Domains, words: &[&str]) -> Result<Answer, Fault> {
+    let [domain, class] = words else {
+        return Err(Fault::NoCommand);
+    };
+    Ok(archive_rule_in(domains, &name(alloc, domain)?, &name(alloc, class)?))
 }

@@ -1,6 +1,6 @@
 //! The rows of domains and of versions in words.
-use kinds::{CopyGroup, Name};
-use policy_domains::{Domains, PolicyDomain, PolicySet};
+use kinds::Name;
+use policy_domains::{Domains, ManagementClass, PolicyDomain, PolicySet};
 use std::alloc::{AllocError, Global};
 use version_groups::{CopyRow, Group, Version};
 
@@ -11,17 +11,22 @@ fn put_name(out: &mut String, name: &Name) -> Result<(), AllocError> {
     Ok(())
 }
 
-/// A class, and the destination of its copy group, where it has one.
-fn put_class(out: &mut String, name: &Name, group: &Option<CopyGroup>) -> Result<(), AllocError> {
+/// The number of a pool behind a sign.
+fn put_pool(out: &mut String, sign: char, pool: u32) -> Result<(), AllocError> {
+    write!(out, "{sign}{pool}")
+}
+
+/// A class, and the destinations of its backup and its archive copy group, where it has them.
+fn put_class(out: &mut String, name: &Name, class: &ManagementClass) -> Result<(), AllocError> {
     out.push(' ')?;
     put_name(out, name)?;
-    match group {
-        Some(group) => {
-            let pool = group.rule().destination;
-            write!(out, "={pool}")
-        }
-        None => Ok(()),
+    if let Some(group) = class.backup {
+        put_pool(out, '=', group.rule().destination)?;
     }
+    if let Some(group) = class.archive {
+        put_pool(out, '+', group.rule().destination)?;
+    }
+    Ok(())
 }
 
 fn put_default(out: &mut String, set: &PolicySet) -> Result<(), AllocError> {
@@ -39,8 +44,8 @@ fn put_set(out: &mut String, name: &Name, set: &PolicySet) -> Result<(), AllocEr
     out.push_str(", ")?;
     put_name(out, name)?;
     put_default(out, set)?;
-    for (class, group) in set.classes() {
-        put_class(out, class, group)?;
+    for (name, class) in set.classes() {
+        put_class(out, name, class)?;
     }
     Ok(())
 }

@@ -64,6 +64,7 @@ impl Run {
         match command {
             "validate" => policy::validate(self.alloc, &self.domains, words),
             "rule" => policy::rule(self.alloc, &self.domains, words),
+            "archived" => policy::archive_rule(self.alloc, &self.domains, words),
             _ => policy::change(self.alloc, &mut self.domains, command, words),
         }
     }

@@ -3,10 +3,17 @@ ghost use Rattle.std.specs.Prelude.{◌≡◌, None};
 
 use crate::answer::{Answer, Fault};
 use crate::words::{day, is_there, large, name, number, path};
-use kinds::{Day, Digest, Name, Path};
+use kinds::{Day, Digest, Name, ObjectSize, Path};
 use object_rows::Objects;
 use std::alloc::Global;
 use version_groups::{Copies, Version};
+
+fn five_bytes() -> ObjectSize {
+    let Some(size) = ObjectSize::new(5) else {
+        unreachable!()
+    };
+    size
+}
 
 /// An active version of five bytes without copies.
 fn version(alloc: Global, object: u64, stored: Day) -> Version
@@ -15,7 +22,7 @@ fn version(alloc: Global, object: u64, stored: Day) -> Version
 {
     Version {
         object,
-        size: 5,
+        size: five_bytes(),
         mtime: 7,
         digest: Digest([0; 32]),
         stored,

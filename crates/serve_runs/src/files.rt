@@ -8,6 +8,9 @@ use store_api::{Stop, Store, write_synced};
 /// From this moment on no call is made.
 const LATE: u64 = 1 << 61;
 
+/// Each file of a store has a number below this.
+pub const FILES: u32 = 10;
+
 /// The machine stops and starts again.
 pub fn stop(alloc: Global, store: &mut MemStore, choice: u64) {
     let before = mem::replace(store, MemStore::new(alloc));
@@ -29,4 +32,13 @@ pub fn write(store: &mut MemStore, file: u32, offset: u64, bytes: &[u8]) -> Resu
         Ok(()) => Ok(()),
         Err(_) => Err(Fault::Store),
     }
+}
+
+/// A store whose files read as those of another, all of them on the disk.
+pub fn copied(alloc: Global, store: &MemStore) -> Result<MemStore, Fault> {
+    let mut copy = MemStore::new(alloc);
+    for file in 0..FILES {
+        write(&mut copy, file, 0, store.bytes(file))?;
+    }
+    Ok(copy)
 }

@@ -14,6 +14,10 @@
 //!   stops. Then `run` follows with no script, and another with a GET of each file. Two rows, with a sign for each moment: how many files the first call said
 //!   that it stored, and how many the last one shows with their bytes, `-` where the store isn't formatted. Each file of the script has a path of its own.
 //! - `again CHOICE`: the second row, where the machine stops once more, at each call of the opening that follows; `!` where that changes it.
+//! - `opens CHOICE`: over copies of the store, all of which is on the disk, `run` is called with no script, once for each moment: all calls fail
+//!   from then on, and there the machine stops. Then `run` follows with the script. One row, with a sign for each moment: `=` where that run prints
+//!   what `do run` would over a copy that was never opened, also where the machine stops once more, at each call of the opening; else `!`. The
+//!   last sign is that of the first run in which no call fails.
 //! - `folder CHOICE`: as `stops`, over the files of an empty folder in memory, once for each call of these files. The two signs of each call stand
 //!   together, and those of calls in turn that have the same once.
 //! - `faults`: the script is run by `fresh`, once for each moment at which the one call fails. Two rows: the status, and the file whose call failed.
@@ -31,6 +35,7 @@ mod call;
 mod echo;
 mod files;
 mod folders;
+mod openings;
 mod run;
 mod sweeps;
 

@@ -2,7 +2,7 @@
 use crate::answer::{Fault, large, number, numbers, text};
 use crate::blank::BlankStore;
 use crate::call::{Said, call, last_line, text_of, words_of};
-use crate::{echo, files, folders, sweeps};
+use crate::{echo, files, folders, openings, sweeps};
 use hex::{decode, encode};
 use mem_store::MemStore;
 use std::alloc::{AllocError, Global};
@@ -260,6 +260,11 @@ impl Run {
         sweeps::again(self.alloc, large(choice)?, &script)
     }
 
+    fn opens(&mut self, choice: &str) -> Result<String, Fault> {
+        let script = self.take_script();
+        openings::opens(self.alloc, large(choice)?, &self.store, &script)
+    }
+
     fn all_faults(&mut self) -> Result<String, Fault> {
         let script = self.take_script();
         sweeps::faults(self.alloc, &script)
@@ -270,6 +275,7 @@ impl Run {
         match words {
             ["stops", choice] => self.stops(choice),
             ["again", choice] => self.again(choice),
+            ["opens", choice] => self.opens(choice),
             ["folder", choice] => self.folder_stops(choice),
             ["faults"] => self.all_faults(),
             _ => self.on_script(words),

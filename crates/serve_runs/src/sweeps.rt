@@ -1,11 +1,11 @@
 //! A script that is run over and over, with another call that fails each time.
 use crate::answer::Fault;
 use crate::call::{Said, call, text_of};
-use crate::files::{fail_at, stop};
+use crate::files::FILES;
 use hex::encode;
 use mem_store::MemStore;
 use std::alloc::{AllocError, Global};
-use store_api::Store;
+use store_api::{Stop, Store};
 use tree_api::{MemSink, MemSource};
 
 /// More moments than any script comes to.
@@ -13,9 +13,6 @@ pub const MOST: u64 = 1000;
 
 /// So many calls fail from a moment on: all that a run still makes.
 const REST: u64 = 64;
-
-/// How many of a store's files may have failed.
-const FILES: u32 = 10;
 
 /// The sign of a number below ten.
 pub fn digit(number: usize) -> char {
@@ -125,18 +122,9 @@ pub fn shown_over<S: Store + Drop>(
     }
 }
 
-/// What is shown after a stop, where no call fails.
-fn shown_after(
-    alloc: Global,
-    store: MemStore,
-    choice: u64,
-    gets: &str,
-    answers: &[String],
-) -> Result<char, AllocError> {
-    let mut store = store;
-    stop(alloc, &mut store, choice);
-    fail_at(alloc, &mut store, Vec::new(alloc));
-    shown_over(alloc, store, gets, answers)
+/// The store after a stop, where no call is to fail any more.
+fn stopped(alloc: Global, store: MemStore, choice: u64) -> MemStore {
+    store.stop(choice).with_failing(Vec::new(alloc))
 }
 
 /// What the script says that it stored, and what is shown after a stop, for each moment.
@@ -147,12 +135,26 @@ pub fn stops(alloc: Global, choice: u64, script: &str) -> Result<String, Fault> 
     for moment in 0..MOST {
         let (store, said) = run_until(alloc, script, moment)?;
         first.push(digit(stored(&said)))?;
-        last.push(shown_after(alloc, store, choice, &gets, &answers)?)?;
+        let left = stopped(alloc, store, choice);
+        last.push(shown_over(alloc, left, &gets, &answers)?)?;
         if said.status == 0 {
             return Ok(format!(in alloc; "{first}\n{last}")?);
         }
     }
     Err(Fault::NoCommand)
+}
+
+/// What a stop leaves of a store all calls of whose opening failed from the one on that begins so many after its first; and whether a call
+/// failed there.
+pub fn stopped_in_opening(
+    alloc: Global,
+    choice: u64,
+    store: MemStore,
+    later: u64,
+) -> Result<(MemStore, bool), AllocError> {
+    let failing = from(alloc, store.moment().saturating_add(later))?;
+    let (store, opened) = run(alloc, "run", store.with_failing(failing), "")?;
+    Ok((stopped(alloc, store, choice), opened.status == 5))
 }
 
 /// What is shown after one more stop, at the call of the opening that begins so many calls after its first; and whether a call failed there.
@@ -165,13 +167,10 @@ fn once_more(
     gets: &str,
     answers: &[String],
 ) -> Result<(char, bool), AllocError> {
-    let (mut store, _said) = run_until(alloc, script, moment)?;
-    stop(alloc, &mut store, choice);
-    let second = store.moment().saturating_add(later);
-    fail_at(alloc, &mut store, from(alloc, second)?);
-    let (store, opened) = run(alloc, "run", store, "")?;
-    let sign = shown_after(alloc, store, choice, gets, answers)?;
-    Ok((sign, opened.status == 5))
+    let (store, _said) = run_until(alloc, script, moment)?;
+    let left = stopped(alloc, store, choice);
+    let (store, has_failed) = stopped_in_opening(alloc, choice, left, later)?;
+    Ok((shown_over(alloc, store, gets, answers)?, has_failed))
 }
 
 /// What is shown whichever call of the opening stops once more.

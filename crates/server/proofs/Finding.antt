@@ -1,4 +1,4 @@
--- The active version that is found of a path is one of the versions that are kept.
+-- The active version that is found of a path is one of the objects that are kept.
 use Rattle.std.proofs.Common.{◌≡◌, inr, ℕ, ◌+◌, ◌%◌, ◌≤◌, eqb, Bool, true, false, cond, not, nat_le, is_none, List, [], ◌∷◌, ◌++◌, length, Option, Some, None, Result, refl, sym, ap, subst, ◌∙◌, arith}
 use Rattle.std.specs.Prelude.{IfSome, option_and_then}
 use Rattle.std.specs.Borrow.{Bor}
@@ -20,7 +20,8 @@ use Rattle.inventory_rows.specs.version_groups.declared.versions.Version.{Versio
 use Rattle.inventory_rows.specs.version_groups.Groups.{at_path}
 use Rattle.inventory_rows.specs.version_groups.Groups as group
 use Rattle.volume_frames.specs.Frames.{bytes_len}
-use Rattle.inventory_rows.specs.object_rows.Filespaces.{at_number, filespace_at, groups_in, versions_in}
+use Rattle.inventory_rows.specs.object_rows.Filespaces.{at_number, filespace_at, groups_in, versions_in, versions_of}
+use Rattle.inventory_rows.specs.object_rows.HeldRows.{held_versions}
 use Rattle.inventory_rows.specs.object_rows.Names.{filespace_named, node_named}
 use Rattle.inventory_rows.specs.volume_rows.declared.volume.Volume.{Volume}
 use Rattle.inventory_rows.specs.pool_rows.PoolRows.{is_sequential, pool_capacity}
@@ -74,7 +75,8 @@ module _ (P : Version → Type 0) where
 
   pub active_has : (filespace : ℕ) (path : List ℕ) (v : Inv) (w : Version) → AllByRecursion P (versions v) → active_version filespace path v ≡ Some w → P w
   active_has filespace path v w all h =
-      in_filespace path (filespace_at filespace v.clients.filespaces) w (λ f there. row_all (λ (f : Filespace). versions_in f.groups) (at_number filespace) v.clients.filespaces f all there) h
+      in_filespace path (filespace_at filespace v.clients.filespaces) w (λ f there. row_all (λ (f : Filespace). versions_in f.groups) (at_number filespace) v.clients.filespaces f
+      (front_all (versions_of v.clients.filespaces) (held_versions v.clients.held) all) there) h
 
   named_in : (path : List ℕ) (v : Inv) (o : Option ℕ) (w : Version) → AllByRecursion P (versions v) → option_and_then (λ (f : ℕ). active_version f path v) o ≡ Some w → P w
   named_in path v None w all h = absurd cc
@@ -84,7 +86,7 @@ module _ (P : Version → Type 0) where
   of_node filespace path v None w all h = absurd cc
   of_node filespace path v (Some node) w all h = named_in path v (filespace_named node filespace v.clients.filespaces) w all h
 
-  -- what holds of each version that is kept holds of the one that is found
+  -- what holds of each object that is kept holds of the version that is found
   pub found_has : (node filespace path : List ℕ) (v : Inv) (w : Version) → AllByRecursion P (versions v) → version_found node filespace path v ≡ Some w → P w
   found_has node filespace path v w all h = of_node filespace path v (node_named node v.clients.nodes) w all h
 

@@ -1,5 +1,5 @@
 -- A file's frame in its place, and the transaction that stores the file.
-use Rattle.std.proofs.Common.{◌≡◌, ℕ, ◌+◌, ◌≤◌, true, List, [], ◌∷◌, length, Option, Some, None, Result, Ok, Err, refl, sym, ap, subst, ◌∙◌, arith}
+use Rattle.std.proofs.Common.{◌≡◌, inl, ℕ, ◌+◌, ◌≤◌, true, List, [], ◌∷◌, length, Option, Some, None, Result, Ok, Err, refl, sym, ap, subst, ◌∙◌, arith}
 use Rattle.std.specs.List.{list_all}
 use Rattle.std.proofs.lemmas.List.{drop_all, take_all}
 use Rattle.std.proofs.lemmas.Option.{same_Some}
@@ -38,7 +38,7 @@ frames_there h object (b ∷ text) None long there = absurd cc
 frames_there h object text (Some s) long there =
     let all : length text ≤ s.len = omega (arith, long) in (
       omega (arith, long),
-      subst (λ (l : List ℕ). InStore h s.file s.offset (frame object 0 l)) (sym (take_all s.len text all)) (there s refl),
+      inl (subst (λ (l : List ℕ). InStore h s.file s.offset (frame object 0 l)) (sym (take_all s.len text all)) (there s refl)),
       drop_all s.len text all,
     )
 
@@ -51,9 +51,9 @@ module _ (state : State Inv) (valid : is_valid state.database ≡ true) (f : Fil
   wrote_beside : (s : Segment) (before after : History) → parts_fit (backed_up filespace (item_of f object class pool (s ∷ []))) state.database ≡ true → WroteWithin s.file s.offset (32 + s.len) before after → Stepped state state [] [] before after
   wrote_beside s before after fit wrote =
       let item : NewVersion = item_of f object class pool (s ∷ []) in
-      let fits : Fits item state.database = one_fits (record { filespace = filespace; scratch = []; items = item ∷ [] }) item state.database fit refl refl in
-      let far : 4 ≤ s.file = (from_four item state.database valid fits).0 in
-      let clear : list_all (λ e. are_clear (is_sequential pool state.database.stores) s e.1) (segments_on s.file state.database) ≡ true = (all_clear item state.database fits).0 in
+      let fits : Fits pool (s ∷ []) state.database = one_fits (record { filespace = filespace; scratch = []; items = item ∷ [] }) item state.database fit refl refl in
+      let far : 4 ≤ s.file = (from_four pool (s ∷ []) state.database valid fits).0 in
+      let clear : list_all (λ e. are_clear (is_sequential pool state.database.stores) s e.1) (segments_on s.file state.database) ≡ true = (all_clear pool (s ∷ []) state.database fits).0 in
       stepped_beside (λ (n : ℕ). n ≡ s.file) state before after (λ file ours is. absurd (omega (arith, far, ours, is))) wrote.goes
       (λ contents has. beside_kept contents before after state.database (is_sequential pool state.database.stores) s wrote clear has)
       (λ contents has. written_since contents before after state.database (is_sequential pool state.database.stores) s wrote clear has)

@@ -29,7 +29,7 @@ use Rattle.server.specs.Stops.{refuses}
 use Rattle.server.specs.World.{Kept, contents_after}
 use Rattle.server.proofs.Stepping.{does_none, went_joined, stepped_committed}
 
--- ---- what is kept of the versions
+-- ---- what is kept of the objects
 
 versions_same : (c : Change) (v : Inv) → LeavesVersions c → is_valid v ≡ true → refused no_journal c v ≡ None → versions (effect c v) ≡ versions v
 versions_same (change.Day day) v rows valid legal = day_same day v

@@ -84,7 +84,7 @@ does_none told moment faults r sure = record {
   later = later_same moment faults r.store;
 }
 
--- ---- a transaction after which the copies of every version stand already
+-- ---- a transaction after which the copies of every object stand already
 
 abbrev Stays : State Inv → Kept → History → Type 0
 Stays state k before = (contents : ℕ → List ℕ) → IsKept contents before state.database → IsKept (contents_after contents (k ∷ [])) before (database_after state.database (k ∷ []))

@@ -1,5 +1,5 @@
 -- What storing a file leaves, by how it ended.
-use Rattle.std.proofs.Common.{◌≡◌, ⊎_elim, inl, inr, ℕ, ◌-◌, ◌^◌, ◌<◌, ◌≤◌, Bool, true, false, cond, nat_lt, List, [], ◌∷◌, ◌++◌, length, Option, Some, None, Result, Ok, Err, refl, sym, ap, subst, ◌∙◌, arith}
+use Rattle.std.proofs.Common.{◌≡◌, ⊎_elim, inl, inr, ℕ, ◌-◌, ◌^◌, ◌<◌, ◌≤◌, Bool, true, false, cond, if◌then◌else◌, is_some, nat_lt, List, [], ◌∷◌, ◌++◌, length, Option, Some, None, Result, Ok, Err, refl, sym, ap, subst, ◌∙◌, arith}
 use Rattle.std.specs.Prelude.{IfSome}
 use Rattle.std.specs.Option.{option_or}
 use Rattle.std.proofs.lemmas.Bool.{lt-ltb, ltb-true}
@@ -8,9 +8,10 @@ use Rattle.store_api.specs.Disk.{History, now}
 use Rattle.store_api.specs.Told.{Told}
 use Rattle.store_api.proofs.Runs.{told_map}
 use Rattle.kinds.specs.declared.refusal.Refusal.{Refusal}
-use Rattle.kinds.specs.declared.refusal.Refusal.TheVariants.{NotFound, NoBackupGroup, NoSpace, WriteFault, RecordFull}
+use Rattle.kinds.specs.declared.refusal.Refusal.TheVariants.{NotFound, NoBackupGroup, NoSpace, WriteFault, TooLarge, RecordFull}
 use Rattle.kinds.specs.declared.rule.BackupRule.{BackupRule}
 use Rattle.kinds.specs.declared.segment.Segment.{Segment}
+use Rattle.kinds.specs.Sizes.{is_size}
 use Rattle.entries.specs.declared.change.Change.{Change}
 use Rattle.entries.specs.declared.entry.Entry.{Entry}
 use Rattle.entries.specs.EntryForm.{entry as entry_form}
@@ -30,7 +31,7 @@ use Rattle.server.specs.declared.stop.Stop.{Stop}
 use Rattle.server.specs.declared.stop.Stop.TheVariants.{Refused, LogFault, RunFull, Memory}
 use Rattle.server.specs.Outcomes.{Leaves}
 use Rattle.server.specs.Putting.{CommitsFile, IsAsLong, PutsFrame, frame_in, listed}
-use Rattle.server.specs.Requests.{Commits, DefinesAndStores, File, IsIn, Puts, PutsBy, PutsOf, PutsUnder, Stores, StoresIn, backed_up, entry, filespace_defined, item_of, kept, too_long, why_not}
+use Rattle.server.specs.Requests.{Commits, DefinesAndStores, File, IsIn, Puts, PutsBy, PutsOf, PutsSized, PutsUnder, Stores, StoresIn, backed_up, entry, filespace_defined, item_of, kept, too_long, why_not}
 use Rattle.server.specs.Running.{Running}
 use Rattle.server.specs.Steps.{Committed, CommitsEntry, Does, Joined, Later, Stepped, Went}
 use Rattle.server.specs.Stops.{refuses}
@@ -76,6 +77,16 @@ refuses_err (Some why) stop h = (why, refl, cc)
 pub refuses_ok : (o : Option Refusal) (done : Unit {0}) → (let result : Result (Unit {0}) Stop = Ok done in result ≡ refuses o) → o ≡ None
 refuses_ok None done h = refl
 refuses_ok (Some why) done h = absurd cc
+
+-- ---- how many bytes a file has
+
+-- the size is what was asked for, where an object may have so many bytes
+pub size_sized : (n : ℕ) (o : Option ℕ) → o ≡ (if is_size n then Some n else None) → IfSome o (λ size. size ≡ n)
+size_sized n o is =
+    subst (λ (p : Option ℕ). IfSome p (λ size. size ≡ n)) (sym is) (elim (is_size n) as (λ b. IfSome (if b then Some n else None) (λ size. size ≡ n)) [ true ↦ refl | false ↦ tt ])
+
+pub size_there : (n : ℕ) (o : Option ℕ) → o ≡ (if is_size n then Some n else None) → is_some o ≡ is_size n
+size_there n o is = ap (λ (p : Option ℕ). is_some p) is ∙ elim (is_size n) as (λ b. is_some (if b then Some n else None) ≡ b) [ true ↦ refl | false ↦ refl ]
 
 -- ---- a file that has its segment
 
@@ -303,13 +314,18 @@ module _ {S : Type 0} (told : S → Option History) (moment : S → ℕ) (faults
     puts_by node rule result added named ruled is =
         subst (λ (o : Option ℕ). Of o result added) (sym named) (subst (λ (o : Option (List ℕ × BackupRule)). By node o result added) (sym ruled) is)
 
-    module _ (node : ℕ) (class : List ℕ) (rule : BackupRule) (named : node_named f.node old.vault.database.clients.nodes ≡ Some node) (ruled : default_rule node old.vault.database ≡ Some (class, rule)) (result : Result ℕ Stop) where
+    puts_sized : (result : Result ℕ Stop) (added : List Kept) → is_size (length f.text) ≡ true → Of (node_named f.node old.vault.database.clients.nodes) result added
+        → PutsSized (λ file. Rose (faults old.store file) (faults new.store file)) (2 ^ 62 - 2 ^ 24 ≤ moment new.store) (is_size (length f.text)) f old.vault.database result added
+    puts_sized result added small is =
+        subst (λ (b : Bool). PutsSized (λ file. Rose (faults old.store file) (faults new.store file)) (2 ^ 62 - 2 ^ 24 ≤ moment new.store) b f old.vault.database result added) (sym small) is
+
+    module _ (small : is_size (length f.text) ≡ true) (node : ℕ) (class : List ℕ) (rule : BackupRule) (named : node_named f.node old.vault.database.clients.nodes ≡ Some node) (ruled : default_rule node old.vault.database ≡ Some (class, rule)) (result : Result ℕ Stop) where
       pub put_in : (filespace : ℕ) → filespace_named node f.filespace old.vault.database.clients.filespaces ≡ Some filespace → StoredIn f filespace class rule.destination result old new → PutAs f result old new
       put_in filespace there stored = (
         stored.0,
         stored.1,
         stored.2,
-        inr (puts_by node (Some (class, rule)) result stored.0 named ruled (subst (λ (o : Option ℕ). Under node class rule.destination o result stored.0) (sym there) stored.3)),
+        inr (puts_sized result stored.0 small (puts_by node (Some (class, rule)) result stored.0 named ruled (subst (λ (o : Option ℕ). Under node class rule.destination o result stored.0) (sym there) stored.3))),
       )
 
       pub put_new : filespace_named node f.filespace old.vault.database.clients.filespaces ≡ None → DefinedIn (filespace_defined node f.filespace old.vault.database) f class rule.destination result old new → PutAs f result old new
@@ -317,14 +333,33 @@ module _ {S : Type 0} (told : S → Option History) (moment : S → ℕ) (faults
         stored.0,
         stored.1,
         stored.2,
-        inr (puts_by node (Some (class, rule)) result stored.0 named ruled (subst (λ (o : Option ℕ). Under node class rule.destination o result stored.0) (sym none) stored.3)),
+        inr (puts_sized result stored.0 small (puts_by node (Some (class, rule)) result stored.0 named ruled (subst (λ (o : Option ℕ). Under node class rule.destination o result stored.0) (sym none) stored.3))),
       )
 
-  pub put_nowhere : (f : File) (server : Running S) → server.vault.fault ≡ None → node_named f.node server.vault.database.clients.nodes ≡ None → PutAs f (Err (Refused NotFound)) server server
-  put_nowhere f server sure none = ([], [], does_none told moment faults server sure, inr (subst (λ (o : Option ℕ). Of f server server o (Err (Refused NotFound)) []) (sym none) (refl, refl)))
+  -- it is too large
+  pub put_large : (f : File) (server : Running S) → server.vault.fault ≡ None → is_size (length f.text) ≡ false → PutAs f (Err (Refused TooLarge)) server server
+  put_large f server sure large = (
+    [],
+    [],
+    does_none told moment faults server sure,
+    inr (subst (λ (b : Bool). PutsSized (λ file. Rose (faults server.store file) (faults server.store file)) (2 ^ 62 - 2 ^ 24 ≤ moment server.store) b f server.vault.database (Err (Refused TooLarge)) []) (sym large) (refl, refl)),
+  )
 
-  pub put_unbound : (f : File) (node : ℕ) (server : Running S) → server.vault.fault ≡ None → node_named f.node server.vault.database.clients.nodes ≡ Some node → default_rule node server.vault.database ≡ None → PutAs f (Err (Refused NoBackupGroup)) server server
-  put_unbound f node server sure named none = ([], [], does_none told moment faults server sure, inr (puts_by f server server node None (Err (Refused NoBackupGroup)) [] named none (refl, refl)))
+  pub put_nowhere : (f : File) (server : Running S) → server.vault.fault ≡ None → is_size (length f.text) ≡ true → node_named f.node server.vault.database.clients.nodes ≡ None → PutAs f (Err (Refused NotFound)) server server
+  put_nowhere f server sure small none = (
+    [],
+    [],
+    does_none told moment faults server sure,
+    inr (puts_sized f server server (Err (Refused NotFound)) [] small (subst (λ (o : Option ℕ). Of f server server o (Err (Refused NotFound)) []) (sym none) (refl, refl))),
+  )
+
+  pub put_unbound : (f : File) (node : ℕ) (server : Running S) → server.vault.fault ≡ None → is_size (length f.text) ≡ true → node_named f.node server.vault.database.clients.nodes ≡ Some node → default_rule node server.vault.database ≡ None → PutAs f (Err (Refused NoBackupGroup)) server server
+  put_unbound f node server sure small named none = (
+    [],
+    [],
+    does_none told moment faults server sure,
+    inr (puts_sized f server server (Err (Refused NoBackupGroup)) [] small (puts_by f server server node None (Err (Refused NoBackupGroup)) [] named none (refl, refl))),
+  )
 
   pub put_unmade : (f : File) (server : Running S) → server.vault.fault ≡ None → PutAs f (Err Memory) server server
   put_unmade f server sure = ([], [], does_none told moment faults server sure, inl (inr refl, refl))

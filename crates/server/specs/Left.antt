@@ -7,9 +7,13 @@ use Rattle.vault.specs.Recovery.{Recovers}
 use Rattle.server.specs.Sound.{IsSound}
 use Rattle.server.specs.World.{Kept, database_after, contents_after}
 
+-- all of each file is on the disk
+abbrev pub IsAtRest : History → Type 0
+IsAtRest h = (file : ℕ) → standing h file ≡ settled (reads h file)
+
 -- A stop at that moment left these files: all of each is on the disk, and they read as an image of the moment.
 pub record IsLeft (h : History) (moment : ℕ) (after : History) : Type 0 where
-  pub durable : (file : ℕ) → standing after file ≡ settled (reads after file)
+  pub durable : IsAtRest after
   pub image : ImageAt h moment (reads after)
 
 -- The store has what was made up to some transaction, at least so many: it recovers to the database after the first of them, and is sound with the

@@ -17,7 +17,7 @@ Leaves told moment faults (Err (LogFault file)) added fresh old new = Breaks tol
 Leaves told moment faults (Err RunFull) added fresh old new = Does told moment faults added fresh old new
 Leaves told moment faults (Err Memory) added fresh old new = Does told moment faults added fresh old new
 
--- a transaction of rows other than versions: it leaves the versions, and brings none
+-- a transaction of rows other than objects: it leaves the objects, and brings none
 abbrev pub LeavesVersions : Change → Type 0
 LeavesVersions (change.Day day) = Unit {0}
 LeavesVersions (change.Policy c) = Unit {0}

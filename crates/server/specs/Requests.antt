@@ -1,5 +1,5 @@
 -- What is asked of a server: which transactions it makes and what it is answered, without any file or log.
-use Rattle.std.specs.Prelude.{◌≡◌, ◌⊎◌, ℕ, ◌+◌, ◌*◌, ◌^◌, ◌<◌, ◌≤◌, nat_lt, false, true, if◌then◌else◌, Option, Some, None, List, [], ◌∷◌, ◌++◌, length, Result, Ok, Err, codes}
+use Rattle.std.specs.Prelude.{◌≡◌, ◌⊎◌, ℕ, ◌+◌, ◌*◌, ◌^◌, ◌<◌, ◌≤◌, nat_lt, Bool, false, true, if◌then◌else◌, Option, Some, None, List, [], ◌∷◌, ◌++◌, length, Result, Ok, Err, codes}
 use Rattle.std.specs.List.{AllByRecursion}
 use Rattle.std.specs.Option.{option_or}
 use Rattle.sha2.specs.Sha256.{sha256}
@@ -9,9 +9,10 @@ use Rattle.kinds.specs.declared.change.PoolChange.TheVariants as store
 use Rattle.kinds.specs.declared.change.Verb.TheVariants as verb
 use Rattle.kinds.specs.declared.pool.Access.TheVariants.{ReadWrite}
 use Rattle.kinds.specs.declared.refusal.Refusal.{Refusal}
-use Rattle.kinds.specs.declared.refusal.Refusal.TheVariants.{NotFound, NoBackupGroup, NoSpace, Unavailable, WriteFault, RecordFull, InventoryFull}
+use Rattle.kinds.specs.declared.refusal.Refusal.TheVariants.{NotFound, NoBackupGroup, NoSpace, Unavailable, WriteFault, TooLarge, RecordFull, InventoryFull}
 use Rattle.kinds.specs.declared.rule.BackupRule.{BackupRule}
 use Rattle.kinds.specs.declared.segment.Segment.{Segment}
+use Rattle.kinds.specs.Sizes.{is_size}
 use Rattle.kinds.specs.ValueForms.{digest_with}
 use Rattle.entries.specs.change_items.declared.items.NewVersion.{NewVersion}
 use Rattle.entries.specs.declared.change.Change.{Change}
@@ -148,14 +149,19 @@ abbrev pub PutsOf : (rose : ℕ → Type 0) → (full : Type 0) → Option ℕ �
 PutsOf rose full None f v result added = (result ≡ Err (Refused NotFound)) × (added ≡ [])
 PutsOf rose full (Some node) f v result added = PutsBy rose full (default_rule node v) f node v result added
 
+-- where no object may have so many bytes, the file is refused, and nothing is looked for
+abbrev pub PutsSized : (rose : ℕ → Type 0) → (full : Type 0) → Bool → File → Inv → Result ℕ Stop → List Kept → Type 0
+PutsSized rose full false f v result added = (result ≡ Err (Refused TooLarge)) × (added ≡ [])
+PutsSized rose full true f v result added = PutsOf rose full (node_named f.node v.clients.nodes) f v result added
+
 -- nothing was begun: the moment is all but the last, or memory was wanted
 abbrev pub BeginsNot : {T : Type 0} → (full : Type 0) → Result T Stop → List Kept → Type 0
 BeginsNot full result added = (((result ≡ Err RunFull) × full) ⊎ (result ≡ Err Memory)) × (added ≡ [])
 
--- A file is put: its node has to be there, and the default class of the node's domain has to have a copy group; where nothing was begun, nothing is
--- looked for.
+-- A file is put: it has fewer than 2^44 bytes, its node has to be there, and the default class of the node's domain has to have a copy group; where
+-- nothing was begun, nothing is looked for.
 abbrev pub Puts : (rose : ℕ → Type 0) → (full : Type 0) → File → Inv → Result ℕ Stop → List Kept → Type 0
-Puts rose full f v result added = BeginsNot full result added ⊎ PutsOf rose full (node_named f.node v.clients.nodes) f v result added
+Puts rose full f v result added = BeginsNot full result added ⊎ PutsSized rose full (is_size (length f.text)) f v result added
 
 -- ---- a file that is read
 

@@ -13,7 +13,7 @@ pub record Running (S : Type 0) : Type 0 where
   pub vault : State Inv
   pub stamps : List ℕ
 
--- Whatever a stop leaves recovers to the server's database, and has every copy of every version of it in its frames.
+-- Whatever a stop leaves recovers to the server's database, and has every copy of every object of it in its frames.
 pub record IsGood (contents : ℕ → List ℕ) (state : State Inv) (h : History) : Type 0 where
   pub vault : vault.IsGood meaning state h
   pub kept : IsKept contents h state.database

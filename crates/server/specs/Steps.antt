@@ -43,7 +43,7 @@ pub record Stepped (old new : State Inv) (added : List Kept) (fresh : List ℕ) 
   pub went : Went old added fresh before after
   pub good : (contents : ℕ → List ℕ) → IsGood contents old before → IsGood (contents_after contents added) new after
 
--- Only files of the vault were written, and a transaction was committed, or is in doubt: where the copies of every version afterwards stand
+-- Only files of the vault were written, and a transaction was committed, or is in doubt: where the copies of every object afterwards stand
 -- already, over a good server each image since gives back the database before it or after it, and after it from its stamp on.
 pub record Joined (old : State Inv) (k : Kept) (fresh : List ℕ) (before after : History) : Type 0 where
   pub goes : GoesOn (λ file. file < 4) before after

@@ -1,8 +1,7 @@
 -- What a server has made of its database, and which bytes the objects have. Lists of transactions stand newest first.
 use Rattle.std.specs.Prelude.{ℕ, Option, Some, None, List, [], ◌∷◌, map}
-use Rattle.entries.specs.change_items.declared.items.NewVersion.{NewVersion}
 use Rattle.entries.specs.declared.change.Change.{Change}
-use Rattle.entries.specs.declared.change.Change.TheVariants.{Backup}
+use Rattle.entries.specs.declared.change.Change.TheVariants.{Backup, Hold}
 use Rattle.entries.specs.declared.entry.Entry.{Entry}
 use Rattle.store_api.specs.Disk.{History}
 use Rattle.contents.specs.Contents.{with_content, Holds, IsKept}
@@ -23,13 +22,14 @@ entry_of kept = kept.entry
 abbrev pub entries_of : List Kept → List Entry
 entries_of kept = map entry_of kept
 
-abbrev pub first_object : List NewVersion → Option ℕ
-first_object [] = None
-first_object (item ∷ items) = Some item.object
+abbrev pub first_of : List ℕ → Option ℕ
+first_of [] = None
+first_of (object ∷ objects) = Some object
 
--- the object that a transaction of one new version brings
+-- the object that a transaction of one new version, or of one archived object, brings
 abbrev pub brought : Change → Option ℕ
-brought (Backup c) = first_object c.items
+brought (Backup c) = first_of (map (λ i. i.object) c.items)
+brought (Hold c) = first_of (map (λ i. i.object) c.items)
 brought _ = None
 
 abbrev pub with_text : Option ℕ → List ℕ → (ℕ → List ℕ) → ℕ → List ℕ
@@ -46,7 +46,7 @@ abbrev pub contents_after : (ℕ → List ℕ) → List Kept → ℕ → List �
 contents_after first [] = first
 contents_after first (newest ∷ earlier) = with_text (brought newest.entry.change) newest.text (contents_after first earlier)
 
--- An image of the files gives back what is kept: it recovers to the database after these transactions, and every copy of every version of
+-- An image of the files gives back what is kept: it recovers to the database after these transactions, and every copy of every object of
 -- it stands in its frames, with the bytes of its object.
 pub record GivesBack (base : Inv) (first : ℕ → List ℕ) (kept : List Kept) (image : ℕ → List ℕ) : Type 0 where
   pub recovers : RecoversWithin meaning image (database_after base kept)

@@ -102,7 +102,7 @@ impl<S: Store> Server<S> {
         }
     }
 
-    /// Makes a transaction that leaves the versions as they are, where it is legal: on return it is durable. It makes at most 4 device calls.
+    /// Makes a transaction that leaves what is kept as it is, where it is legal: on return it is durable. It makes at most 4 device calls.
     pub fn change(&mut self, alloc: Global, change: Change) -> Result<(), Stop>
         requires sure { self.old.vault.fault ≡ None }
         requires rows { LeavesVersions change }

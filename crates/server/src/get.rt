@@ -23,7 +23,7 @@ use crate::stop::Stop;
 use contents::{Unread, read_copy};
 use inventory_rows::Tables;
 use inventory_rows::version_groups::{CopyRow, Version};
-use kinds::{FilespaceName, NodeName, Path, Refusal, Segment};
+use kinds::{FilespaceName, NodeName, ObjectSize, Path, Refusal, Segment};
 use placing::{active_version, can_read};
 use std::alloc::Global;
 use store_api::Store;
@@ -34,7 +34,7 @@ pub struct Shown {
     /// The object's number.
     pub object: u64,
     /// How many bytes it has.
-    pub size: u32,
+    pub size: ObjectSize,
     /// The bytes.
     pub bytes: Vec<u8>,
 }
@@ -119,7 +119,7 @@ fn read_version<S: Store>(
     ensures reads { ReadsVersion S.told S.moment_of S.faults_of (inv_of tables.now) version.now result store.old store.new }
     ensures later { Later S.moment_of S.faults_of store.old store.new }
 {
-    let mut bytes = match vec![in alloc; 0u8; version.size as usize] {
+    let mut bytes = match vec![in alloc; 0u8; version.size.bytes() as usize] {
         Ok(bytes) => bytes,
         Err(_) => return Err(Stop::Memory),
     };

@@ -7,20 +7,24 @@ ghost use Rattle.inventory.specs.Meant.{meaning};
 ghost use Rattle.inventory_rows.specs.Fresh.{fresh};
 ghost use Rattle.inventory_rows.specs.State.{Inv};
 ghost use Rattle.vault.specs.log_file.Safety.{acknowledged, AllSafe};
-ghost use Rattle.vault.specs.Openings.{Calm};
+ghost use Rattle.vault.specs.Openings.{Spared};
 ghost use Rattle.vault.specs.Recovery.{RecoversWithin};
 ghost use Rattle.vault.specs.Vaults.{State};
-ghost use Rattle.server.specs.Left.{IsLeft, HasFirst};
+ghost use Rattle.server.specs.Left.{IsAtRest, IsLeft, HasFirst};
 ghost use Rattle.server.specs.Running.{IsGood};
 ghost use Rattle.server.specs.Sound.{IsSound};
 ghost use Rattle.server.specs.Steps.{Went};
 ghost use Rattle.server.specs.World.{Kept, GivesBack};
 
-/// What a stop leaves, and what a stop leaves while the store is opened that another stop has left: an image of the moment of the first.
+/// What a stop leaves: an image of its moment, and all of it is on the disk.
 pub fn stops_leave_images()
-    ensures first { (h : History) (moment : ℕ) (after : History) → StopsAs (back h moment) after → IsLeft h moment after }
-    ensures again { (h : History) (moment : ℕ) (start mid : History) (second : ℕ) (after : History) → IsLeft h moment start → Calm start mid → now start ≤ second → second ≤ now mid →
-        StopsAs (back mid second) after → IsLeft h moment after }
+    ensures { (h : History) (moment : ℕ) (after : History) → StopsAs (back h moment) after → IsLeft h moment after }
+{}
+
+/// Where a store that a stop has left has what was made up to some transaction, so has the store that another stop leaves while it is opened; and so on, however often that may be.
+pub fn stops_while_opening()
+    ensures { (base : Inv) (first : ℕ → List ℕ) (kept : List Kept) (count : ℕ) (start mid : History) (second : ℕ) (after : History) → IsAtRest start → HasFirst base first kept count start → Spared meaning start mid → now start ≤ second → second ≤ now mid →
+        StopsAs (back mid second) after → IsAtRest after × HasFirst base first kept count after }
 {}
 
 /// Where each image of a run's moments gives back a front of its transactions, the store that a stop leaves recovers to the database after a front of them that has

@@ -1,6 +1,6 @@
 //! A backup server over a store: its database in a vault, its files in frames on volumes. Each call makes its transactions durable before
 //! it answers. Wherever the machine stops, what is left gives back the database with every transaction that was acknowledged, and every
-//! copy of every version in it.
+//! copy of every object in it.
 #![tactic(auto)]
 
 mod commit;

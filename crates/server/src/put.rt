@@ -1,10 +1,11 @@
 // How a client's file is stored.
-ghost use Rattle.std.specs.Prelude.{◌≡◌, ◌+◌, ◌-◌, ◌<◌, ◌≤◌, ◌^◌, List, ℕ, length, None, Some, Err, IfOk, IfErr, IfSome};
+ghost use Rattle.std.specs.Prelude.{◌≡◌, ◌+◌, ◌-◌, ◌≤◌, ◌^◌, List, ℕ, length, is_some, None, Some, Err, IfOk, IfErr, IfSome};
 ghost use Rattle.std.specs.Option.{option_map};
 ghost use Rattle.sha2.specs.Sha256.{sha256};
 ghost use Rattle.inventory_rows.specs.State.{inv_of};
 ghost use Rattle.store_api.specs.Cause.{Rose};
 ghost use Rattle.store_api.specs.Told.{Told};
+ghost use Rattle.kinds.specs.Sizes.{is_size};
 ghost use Rattle.kinds.specs.ValueForms.{digest_with};
 ghost use Rattle.kinds.specs.declared.change.DefineOrDelete.TheVariants as two;
 ghost use Rattle.kinds.specs.declared.change.ObjectChange.TheVariants as client;
@@ -27,8 +28,8 @@ use entries::{Change, Entry};
 use fields::Items;
 use inventory_rows::{Tables, are_ascending};
 use kinds::{
-    DefineOrDelete, Digest, FilespaceName, Name, NodeName, ObjectChange, Path, Refusal, Segment,
-    Segments,
+    DefineOrDelete, Digest, FilespaceName, Name, NodeName, ObjectChange, ObjectSize, Path, Refusal,
+    Segment, Segments,
 };
 use placing::{default_rule, place};
 use sha2::{Digest as _, Sha256};
@@ -46,7 +47,7 @@ pub struct NewFile<'a> {
     pub path: &'a Path,
     /// When the file was changed last, in seconds.
     pub mtime: u64,
-    /// Its bytes, fewer than 2^32.
+    /// Its bytes.
     pub text: &'a [u8],
 }
 
@@ -73,14 +74,23 @@ fn digest_of(text: &[u8]) -> Digest
     Digest(hasher.finalize())
 }
 
-/// The version that a file becomes.
+/// How many bytes a file has; none where no object may have so many.
+fn size_of(text: &[u8]) -> Option<ObjectSize>
+    ensures sized { IfSome result (λ size. size ≡ length text.now) }
+    ensures there { is_some result ≡ is_size (length text.now) }
+{
+    ObjectSize::new(text.len() as u64)
+}
+
+/// The version that a file of so many bytes becomes.
 fn new_version(
     file: NewFile<'_>,
+    size: ObjectSize,
     home: Home,
     object: u64,
     segments: Segments,
 ) -> Result<NewVersion, AllocError>
-    requires { length file.text.now < 2 ^ 32 }
+    requires { size ≡ length file.text.now }
     ensures { IfOk result (λ item. item ≡ item_of (file_of file.entry) object home.class home.pool segments) }
 {
     let Home {
@@ -91,7 +101,7 @@ fn new_version(
     Ok(NewVersion {
         path: file.path.clone()?,
         class,
-        size: file.text.len() as u32,
+        size,
         mtime: file.mtime,
         digest: digest_of(file.text),
         object,
@@ -119,20 +129,21 @@ fn backed_up(alloc: Global, filespace: u32, item: NewVersion) -> Result<Entry, A
     })
 }
 
-/// The transaction that stores a file, under this object number and in this segment.
+/// The transaction that stores a file of so many bytes, under this object number and in this segment.
 fn stored(
     alloc: Global,
     file: NewFile<'_>,
+    size: ObjectSize,
     home: Home,
     object: u64,
     segment: Option<Segment>,
 ) -> Result<Entry, AllocError>
-    requires { length file.text.now < 2 ^ 32 }
+    requires { size ≡ length file.text.now }
     ensures { IfOk result (λ made. made ≡ entry (backed_up home.filespace (item_of (file_of file.entry) object home.class home.pool (listed segment)))) }
 {
     let filespace = home.filespace;
     let segments = listed(alloc, segment)?;
-    let item = new_version(file, home, object, segments)?;
+    let item = new_version(file, size, home, object, segments)?;
     let entry = backed_up(alloc, filespace, item)?;
     Ok(entry)
 }
@@ -150,7 +161,7 @@ fn filespace_defined(node: u32, name: &FilespaceName, filespace: u32) -> Result<
 }
 
 /// The one segment of a file of so many bytes in this pool; an empty file has none. No answer where there is no place for it.
-fn place_for(tables: &Tables, pool: u32, size: u32) -> Option<Option<Segment>>
+fn place_for(tables: &Tables, pool: u32, size: u64) -> Option<Option<Segment>>
     ensures found { option_map listed result ≡ segments_for pool size (inv_of tables.now) }
     ensures long { IfSome result (λ segment. IsAsLong segment size) }
 {
@@ -182,7 +193,6 @@ fn frame_of(
     segment: Option<Segment>,
     text: &[u8],
 ) -> Result<Vec<u8>, AllocError>
-    requires { length text.now < 2 ^ 32 }
     ensures { IfOk result (λ bytes. bytes.items ≡ frame_in segment object text.now) }
 {
     match segment {
@@ -210,10 +220,10 @@ fn put_frame<S: Store>(store: &mut S, segment: Option<Segment>, frame: &[u8]) ->
 
 impl<S: Store> Server<S> {
     /// Stores a file under its path: on return it stands in its frame on a volume, and its transaction is durable. Answers the object's
-    /// number. It makes at most 10 device calls, and none where the moment is 2^62 - 2^24 or more, which it looks at first.
+    /// number. A file of 2^44 bytes or more is refused with `TooLarge`. It makes at most 10 device calls, and none where the moment is 2^62 - 2^24 or more,
+    /// which it looks at first.
     pub fn put(&mut self, alloc: Global, file: NewFile<'_>) -> Result<u64, Stop>
         requires sure { self.old.vault.fault ≡ None }
-        requires short { length file.text.now < 2 ^ 32 }
         ensures puts { (added : List Kept) × (fresh : List ℕ) × Leaves S.told S.moment_of S.faults_of result added fresh self.old self.new
             × Puts (λ f. Rose (S.faults_of self.old.store f) (S.faults_of self.new.store f)) (2 ^ 62 - 2 ^ 24 ≤ S.moment_of self.new.store) (file_of file.entry) self.old.vault.database result added }
         ensures generation { self.new.vault.generation ≡ self.old.vault.generation }
@@ -224,6 +234,9 @@ impl<S: Store> Server<S> {
             Ok(()) => {}
             Err(stop) => return Err(stop),
         }
+        let Some(size) = size_of(file.text) else {
+            return refused(Refusal::TooLarge);
+        };
         let tables = self.vault.database().tables();
         let Some(node) = tables.objects.node_named(file.node) else {
             return refused(Refusal::NotFound);
@@ -240,27 +253,29 @@ impl<S: Store> Server<S> {
             Some(filespace) => self.store_in(
                 alloc,
                 file,
+                size,
                 Home {
                     filespace,
                     class,
                     pool,
                 },
             ),
-            None => self.define_and_store(alloc, file, node, class, pool),
+            None => self.define_and_store(alloc, file, size, node, class, pool),
         }
     }
 
-    /// Defines the file's filespace, and stores the file in it.
+    /// Defines the filespace of a file of so many bytes, and stores the file in it.
     fn define_and_store(
         &mut self,
         alloc: Global,
         file: NewFile<'_>,
+        size: ObjectSize,
         node: u32,
         class: Name,
         pool: u32,
     ) -> Result<u64, Stop>
         requires sure { self.old.vault.fault ≡ None }
-        requires short { length file.text.now < 2 ^ 32 }
+        requires sized { size ≡ length file.text.now }
         ensures puts { (added : List Kept) × (fresh : List ℕ) × Leaves S.told S.moment_of S.faults_of result added fresh self.old self.new
             × DefinesAndStores (λ f. Rose (S.faults_of self.old.store f) (S.faults_of self.new.store f)) (2 ^ 62 - 2 ^ 24 ≤ S.moment_of self.new.store) (filespace_defined node file.entry.filespace.now self.old.vault.database) (file_of file.entry) class pool self.old.vault.database result added }
         ensures generation { self.new.vault.generation ≡ self.old.vault.generation }
@@ -278,6 +293,7 @@ impl<S: Store> Server<S> {
         self.store_in(
             alloc,
             file,
+            size,
             Home {
                 filespace,
                 class,
@@ -286,10 +302,16 @@ impl<S: Store> Server<S> {
         )
     }
 
-    /// Stores a file in a filespace that is there.
-    fn store_in(&mut self, alloc: Global, file: NewFile<'_>, home: Home) -> Result<u64, Stop>
+    /// Stores a file of so many bytes in a filespace that is there.
+    fn store_in(
+        &mut self,
+        alloc: Global,
+        file: NewFile<'_>,
+        size: ObjectSize,
+        home: Home,
+    ) -> Result<u64, Stop>
         requires sure { self.old.vault.fault ≡ None }
-        requires short { length file.text.now < 2 ^ 32 }
+        requires sized { size ≡ length file.text.now }
         ensures puts { (added : List Kept) × (fresh : List ℕ) × Leaves S.told S.moment_of S.faults_of result added fresh self.old self.new
             × Stores (λ f. Rose (S.faults_of self.old.store f) (S.faults_of self.new.store f)) (2 ^ 62 - 2 ^ 24 ≤ S.moment_of self.new.store) (file_of file.entry) home.filespace home.class home.pool self.old.vault.database result added }
         ensures generation { self.new.vault.generation ≡ self.old.vault.generation }
@@ -297,14 +319,14 @@ impl<S: Store> Server<S> {
     {
         let tables = self.vault.database().tables();
         let object = tables.next_object;
-        let Some(segment) = place_for(tables, home.pool, file.text.len() as u32) else {
+        let Some(segment) = place_for(tables, home.pool, file.text.len() as u64) else {
             return refused(Refusal::NoSpace(home.pool));
         };
         let frame = match frame_of(alloc, object, segment, file.text) {
             Ok(frame) => frame,
             Err(_) => return Err(Stop::Memory),
         };
-        let entry = match stored(alloc, file, home, object, segment) {
+        let entry = match stored(alloc, file, size, home, object, segment) {
             Ok(entry) => entry,
             Err(_) => return Err(Stop::Memory),
         };

@@ -5,6 +5,7 @@ use Rattle.store_api.specs.Disk.{History}
 use Rattle.kinds.specs.declared.refusal.OpenRefused.TheVariants as refused
 use Rattle.kinds.specs.declared.rule.BackupRule.{BackupRule}
 use Rattle.kinds.specs.declared.segment.Segment.{Segment}
+use Rattle.kinds.specs.Sizes.{is_size}
 use Rattle.entries.specs.declared.change.Change.{Change}
 use Rattle.inventory_rows.specs.version_groups.declared.versions.Version.{Version}
 use Rattle.inventory_rows.specs.object_rows.Names.{node_named, filespace_named}
@@ -22,7 +23,7 @@ use Rattle.script_loop.specs.declared.ends.End.TheVariants.{Done, SourceFault, S
 use Rattle.server.specs.declared.get.Shown.{Shown}
 use Rattle.server.specs.declared.stop.Stop.{Stop}
 use Rattle.server.specs.declared.stop.Stop.TheVariants.{Refused, LogFault, RunFull, Memory}
-use Rattle.server.specs.Requests.{File, RoseOfVault, Commits, BeginsNot, volume_defined, DefinesVolumeIn, filespace_defined, StoresIn, DefinesAndStores, PutsUnder, PutsBy, PutsOf, ShowsFound, GetsUnder, GetsOf, backed_up, item_of}
+use Rattle.server.specs.Requests.{File, RoseOfVault, Commits, BeginsNot, volume_defined, DefinesVolumeIn, filespace_defined, StoresIn, DefinesAndStores, PutsUnder, PutsBy, PutsOf, PutsSized, ShowsFound, GetsUnder, GetsOf, backed_up, item_of}
 use Rattle.server.specs.World.{Kept, database_after, contents_after}
 use Rattle.tsm_top.specs.Answers.{lines_of, Halted as HaltedSo}
 use Rattle.tsm_top.specs.Asking.{Asks, EndsAt, file_put}
@@ -74,6 +75,10 @@ module _ (rose : ℕ → Type 0) (full sure : Type 0) (file : ℕ) where
   puts_rose None f v made added is puts = absurd (cc (is, puts.0))
   puts_rose (Some node) f v made added is puts = by_rose (default_rule node v) f node v made added is puts
 
+  sized_rose : (fits : Bool) (f : File) (v : Inv) (made : Result ℕ Stop) (added : List Kept) → made ≡ Err (LogFault file) → PutsSized rose full fits f v made added → RoseOfVault rose file
+  sized_rose false f v made added is puts = absurd (cc (is, puts.0))
+  sized_rose true f v made added is puts = puts_rose (node_named f.node v.clients.nodes) f v made added is puts
+
   -- nothing was begun
   not_begun : {T : Type 0} (made : Result T Stop) (added : List Kept) → made ≡ Err (LogFault file) → BeginsNot full made added → ⊥
   not_begun made added is (inl run_full, none) = absurd (cc (is, run_full.0))
@@ -96,7 +101,7 @@ module _ (rose : ℕ → Type 0) (full sure : Type 0) (file : ℕ) where
     asks_rose generation (day number) said added next is (made, commits, lines, same) = commits_rose _ [] v made added (lines_fault _ made said file is lines) commits
     asks_rose generation (put node filespace path mtime text) said added next is (made, puts, lines, same) =
         let fault = lines_fault _ made said file is lines in
-        ⊎_elim (λ none. absurd (not_begun made added fault none)) (λ done. puts_rose (node_named node v.clients.nodes) (file_put node filespace path mtime text) v made added fault done) puts
+        ⊎_elim (λ none. absurd (not_begun made added fault none)) (λ done. sized_rose (is_size (length text)) (file_put node filespace path mtime text) v made added fault done) puts
     asks_rose generation (get node filespace path) said added next is (made, gets, lines, none, same) =
         let fault = lines_fault _ made said file is lines in
         ⊎_elim (λ run_full. absurd (cc (fault, run_full.0))) (λ done. gets_rose (node_named node v.clients.nodes) filespace path made fault done) gets

@@ -5,6 +5,7 @@ use Rattle.store_api.specs.Disk.{History, now, back, ImageAt}
 use Rattle.store_api.specs.Runs.{GoesOn, with_calls}
 use Rattle.store_api.specs.Told.{Told}
 use Rattle.store_api.proofs.Runs.{told_map, told_then, back_calls, back_now, goes_image_before, goes_none, goes_then}
+use Rattle.fields.specs.Editions.{second_form}
 use Rattle.kinds.specs.declared.segment.Segment.{Segment}
 use Rattle.inventory.specs.Meant.{meaning}
 use Rattle.inventory_rows.specs.State.{Inv}
@@ -85,14 +86,15 @@ there_then base first site state (Some a) None database generation end at goes g
 there_then base first site state (Some a) (Some b) database generation end at goes good = λ image here.
     let past : ImageAt a (now a) image = goes_image_before (λ f. Unit {0}) a b (now a) image goes (omega arith) (subst (λ (n : ℕ). ImageAt b n image) (sym at) here) in
     let whole = whole_image meaning state a image good.vault past in
-    let parts = subst (λ (v : Inv). (r : RecoversWithin meaning image v) × (r.generation ≡ site.generation) × (length (blocks (records_of r.entries)) ≡ site.log)) database (whole.recovers, whole.by_image ∙ generation, whole.log ∙ end) in
+    let parts = subst (λ (v : Inv). (r : RecoversWithin meaning image v) × (r.form ≡ second_form) × (r.generation ≡ site.generation) × (length (blocks (records_of r.entries)) ≡ site.log)) database (whole.recovers, whole.written, whole.by_image ∙ generation, whole.log ∙ end) in
     let safe = (stepped_none state a).went.since (contents_after first site.kept) good (now a) image (omega arith) (omega arith) past in
     let here_now = subst (λ (l : List Kept). GivesBack state.database (contents_after first site.kept) l image) (nothing_made safe.later safe.earlier safe.parts) safe.gives in
     let whole_now = subst (λ (v : Inv). GivesBack v (contents_after first site.kept) [] image) database here_now in
     record {
       gives = record { recovers = parts.0; holds = whole_now.holds };
-      by_image = parts.1;
-      log = parts.2;
+      written = parts.1;
+      by_image = parts.2;
+      log = parts.3;
     }
 
 module _ {S : Type 0} (told : S → Option History) (moment : S → ℕ) (faults : S → ℕ → ℕ) (clock : (s : S) → IfSome (told s) (λ h. now h ≡ moment s)) (start : Running S) (none : start.stamps ≡ []) where

@@ -5,6 +5,7 @@ use Rattle.store_api.specs.Disk.{History, now, reads}
 use Rattle.store_api.specs.Told.{Told}
 use Rattle.store_api.proofs.Pieces.{image_reads}
 use Rattle.store_api.proofs.Runs.{goes_later}
+use Rattle.fields.specs.Editions.{first_form, second_form}
 use Rattle.kinds.specs.declared.refusal.OpenRefused.{OpenRefused}
 use Rattle.kinds.specs.declared.refusal.OpenRefused.TheVariants as refused
 use Rattle.entries.specs.declared.entry.Entry.{Entry}
@@ -13,11 +14,11 @@ use Rattle.inventory.specs.Meaningful.{is_meaning}
 use Rattle.inventory_rows.specs.Fresh.{fresh}
 use Rattle.inventory_rows.specs.State.{Inv}
 use Rattle.script_loop.specs.declared.ends.End.{End}
-use Rattle.vault.specs.Openings.{Calm, is_formatted as has_gate, Formatted, SaysWhy, MayRefuseLooking, MayRefuseFormatting}
-use Rattle.vault.specs.Recovery.{RecoversWithin, IsBase}
-use Rattle.vault.proofs.Sounding.{newest_one}
-use Rattle.vault.proofs.Unique.{one_database, is_formatted, not_damaged_there}
-use Rattle.server.proofs.Soundness.{within_recovers, new_sound}
+use Rattle.vault.specs.Openings.{Calm, Spared, is_formatted as has_gate, Formatted, SaysWhy, MayRefuseLooking, MayRefuseFormatting}
+use Rattle.vault.specs.Recovery.{Recovers, IsBase}
+use Rattle.vault.proofs.Sounding.{ends_log, newest_one, within_recovers}
+use Rattle.vault.proofs.Unique.{one_database, one_form, is_formatted, not_damaged_there}
+use Rattle.server.proofs.Soundness.{new_sound}
 use Rattle.tsm_top.specs.Serve.{Command, format, run, fresh_run, Closing, no_command, formatted, exists, refused_opening, HasCause, OpensNot, IsNone, IsNew, HasImage, RunsOver, StartsAt, Sure, Spares, Opens, RanScript, RoseBetween}
 use Rattle.tsm_top.proofs.Saying.{ran_over}
 
@@ -25,12 +26,20 @@ use Rattle.tsm_top.proofs.Saying.{ran_over}
 new_base : (h : History) → IsNew (Some h) → IsBase meaning 0 fresh (reads h)
 new_base h new = new (now h) (reads h) (omega arith) (omega arith) (image_reads h)
 
-new_recovers : (h : History) → IsNew (Some h) → RecoversWithin meaning (reads h) fresh
-new_recovers h new = (new_base h new).recovers
+new_recovers : (h : History) → IsNew (Some h) → Recovers meaning (reads h) fresh
+new_recovers h new = within_recovers meaning (reads h) fresh (new_base h new).recovers
+
+-- and whatever they recover to is in the form that is written
+new_form : (h : History) → IsNew (Some h) → (d : Inv) (is : Recovers meaning (reads h) d) → is.form ≡ second_form
+new_form h new d is =
+    let base = new_base h new in
+    let r = base.recovers in
+    let own : Recovers meaning (reads h) fresh = record { form = r.form; generation = r.generation; base = r.base; entries = r.entries; valid = r.valid; newest = r.newest; log = ends_log _ _ r.log; legal = r.legal; gives = r.gives } in
+    one_form meaning is_meaning (reads h) d fresh is own ∙ base.written
 
 never_refused : (h : History) (refusal : OpenRefused) → IsNew (Some h) → (refusal ≡ refused.NotFormatted) ⊎ ((file : ℕ) × (at : ℕ) × (refusal ≡ refused.Damaged file at)) → SaysWhy meaning (reads h) refusal → ⊥
-never_refused h refusal new (inl is) says = is_formatted meaning is_meaning (reads h) fresh (within_recovers (reads h) fresh (new_recovers h new)) (subst (λ (r : OpenRefused). SaysWhy meaning (reads h) r) is says)
-never_refused h refusal new (inr (file, at, is)) says = not_damaged_there meaning is_meaning (reads h) fresh (within_recovers (reads h) fresh (new_recovers h new)) file at (subst (λ (r : OpenRefused). SaysWhy meaning (reads h) r) is says)
+never_refused h refusal new (inl is) says = is_formatted meaning is_meaning (reads h) fresh (new_recovers h new) (subst (λ (r : OpenRefused). SaysWhy meaning (reads h) r) is says)
+never_refused h refusal new (inr (file, at, is)) says = not_damaged_there meaning is_meaning (reads h) fresh (new_recovers h new) file at (subst (λ (r : OpenRefused). SaysWhy meaning (reads h) r) is says)
 
 tells_nothing : (x y : Option History) (refusal : OpenRefused) → is_some y ≡ is_some x → IsNew y → (refusal ≡ refused.NotFormatted) ⊎ ((file : ℕ) × (at : ℕ) × (refusal ≡ refused.Damaged file at)) → IsNone y refusal → is_some x ≡ false
 tells_nothing x None refusal same new is says = sym same
@@ -50,19 +59,24 @@ new_not x y refused.Memory last before mid after same new none not = not
 new_over : (x y : Option History) (base : Inv) → is_some y ≡ is_some x → HasImage false x → IsNew y → RunsOver run y base → RunsOver fresh_run x base
 new_over None y base same had new over = (had, tt)
 new_over (Some a) None base same had new over = absurd (cc)
-new_over (Some a) (Some h) base same had new over = (had, one_database meaning is_meaning (reads h) base fresh over (within_recovers (reads h) fresh (new_recovers h new)))
+new_over (Some a) (Some h) base same had new over = (had, one_database meaning is_meaning (reads h) base fresh over (new_recovers h new))
 
 new_sure : (first : ℕ → List ℕ) (x y : Option History) → is_some y ≡ is_some x → IsNew y → Sure fresh_run first x → Sure run first y
 new_sure first x None same new known = absurd (cc)
 new_sure first x (Some h) same new known = new_sound first h (λ moment files from to here. (new moment files from to here).recovers)
 
--- its newest image is of generation 0
+-- its newest image is of generation 0, and it is opened as that
 new_starts : (x y : Option History) (start : ℕ) → is_some y ≡ is_some x → IsNew y → StartsAt run y start → StartsAt fresh_run x start
 new_starts None y start same new starts = tt
 new_starts (Some a) None start same new starts = absurd (cc)
 new_starts (Some a) (Some h) start same new starts =
     let base = new_base h new in
-    (newest_one (reads h) start base.recovers.generation starts.0 (meaning.spelled base.recovers.base) starts.1 base.recovers.newest).0 ∙ base.by_image
+    let is = starts.1.0 in
+    let at : is.generation ≡ 0 = (newest_one (reads h) is.generation base.recovers.generation (meaning.spelled is.form is.base) (meaning.spelled base.recovers.form base.recovers.base) is.newest base.recovers.newest).0 ∙ base.by_image in
+    elim starts.1.1 [
+      | inl written ↦ written.1 ∙ at
+      | inr before ↦ absurd (let none : first_form ≡ second_form = sym before.0 ∙ new_form h new starts.0 is in cc)
+    ]
 
 pub tells_on : (R : History → History → Type 0) (x y : Option History) → Told x y R → is_some y ≡ is_some x
 tells_on R None None t = refl
@@ -89,7 +103,14 @@ new_script x y left_told before after opened last end status journal stamps base
   runs = λ first. ran_over (Sure run first y) (Sure fresh_run first x) first ran.database _ _ left_told end script was is (λ known. new_sure first x y same new known) (ran.runs first);
 }
 
--- what is new stays so while it is opened
+-- opening it changes nothing that is read
+spared_calm : (x y : Option History) → IsNew x → Told x y (Spared meaning) → Told x y Calm
+spared_calm None None new spared = tt
+spared_calm None (Some b) new spared = absurd spared
+spared_calm (Some a) None new spared = absurd spared
+spared_calm (Some a) (Some b) new spared = spared.calm (new_form a new)
+
+-- so what is new stays so meanwhile
 calm_new : (x y : Option History) → Told x y Calm → IsNew x → IsNew y
 calm_new None None calm new = tt
 calm_new None (Some b) calm new = absurd calm
@@ -100,12 +121,12 @@ calm_new (Some a) (Some b) calm new = λ moment files from to here. new (now a) 
     later_now a b calm le = (let grew : now a ≤ now b = goes_later (λ f. f < 4) a b calm.goes in omega (arith, grew, le))
 
 -- a new database was made, and then opened
-pub opens_new : (x y z : Option History) → is_some y ≡ is_some x → HasImage false x → IsNew y → Told y z Calm → Opens fresh_run x z
-opens_new x y z same had new calm = (had, tells_on Calm y z calm ∙ same, calm_new y z calm new)
+pub opens_new : (x y z : Option History) → is_some y ≡ is_some x → HasImage false x → IsNew y → Told y z (Spared meaning) → Opens fresh_run x z
+opens_new x y z same had new spared = (had, tells_on (Spared meaning) y z spared ∙ same, calm_new y z (spared_calm y z new spared) new)
 
 -- a new database that couldn't be opened
-pub refused_spares : (x y z : Option History) → is_some y ≡ is_some x → HasImage false x → Told y z Calm → Spares fresh_run x z
-refused_spares x y z same had calm = inr (had, tells_on Calm y z calm ∙ same)
+pub refused_spares : (x y z : Option History) → is_some y ≡ is_some x → HasImage false x → Told y z (Spared meaning) → Spares fresh_run x z
+refused_spares x y z same had spared = inr (had, tells_on (Spared meaning) y z spared ∙ same)
 
 -- ---- how a database is made
 

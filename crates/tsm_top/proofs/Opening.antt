@@ -1,5 +1,5 @@
 -- A script is run over a vault that was opened, over what the store holds or over a database that was just put there.
-use Rattle.std.proofs.Common.{◌≡◌, ℕ, Option, None, Some, IfSome, List, [], ◌++◌, length, Result, Ok, Err, reverse, refl, sym, ◌∙◌, ap, subst, append-nil}
+use Rattle.std.proofs.Common.{◌≡◌, ℕ, true, Option, None, Some, IfSome, List, [], ◌++◌, length, Result, Ok, Err, reverse, refl, sym, ◌∙◌, ap, subst, append-nil}
 use Rattle.store_api.specs.Disk.{History, now}
 use Rattle.store_api.specs.Told.{Told}
 use Rattle.store_api.specs.Runs.{GoesOn}
@@ -9,11 +9,12 @@ use Rattle.kinds.specs.declared.refusal.OpenRefused.TheVariants as refused
 use Rattle.entries.specs.declared.entry.Entry.{Entry}
 use Rattle.inventory.specs.Meant.{meaning}
 use Rattle.inventory_rows.specs.State.{Inv}
+use Rattle.inventory_rules.specs.Valid.{is_valid}
 use Rattle.vault.specs.log_file.Safety.{Timely, acknowledged}
 use Rattle.script_loop.specs.Runs.{Says}
 use Rattle.script_loop.specs.Ends.{DoneAtEnd, status_of}
 use Rattle.script_loop.specs.declared.ends.End.{End}
-use Rattle.vault.specs.Openings.{Opened, Calm, MayRefuseOpening}
+use Rattle.vault.specs.Openings.{Opened, Spared, MayRefuseOpening}
 use Rattle.vault.specs.Vaults.{State}
 use Rattle.server.specs.Running.{Running, IsSure}
 use Rattle.server.specs.Steps.{Later, Went}
@@ -98,8 +99,8 @@ says_none (Some a) (Some b) refusal opened = opened.says
 says_none (Some a) None refusal opened = absurd opened
 
 -- opening takes nothing away
-pub opened_calm : (x y : Option History) (result : Result (State Inv) OpenRefused) → Told x y (Opened meaning result) → Told x y Calm
-opened_calm x y result opened = told_map x y (Opened meaning result) Calm (λ a b done. done.calm) opened
+pub opened_spared : (x y : Option History) (result : Result (State Inv) OpenRefused) → Told x y (Opened meaning result) → Told x y (Spared meaning)
+opened_spared x y result opened = told_map x y (Opened meaning result) (Spared meaning) (λ a b done. done.spared) opened
 
 -- why a database isn't opened
 pub opens_not : (x y : Option History) (refusal : OpenRefused) (last : ℕ) (before after : ℕ → ℕ) → (let result : Result (State Inv) OpenRefused = Err refusal in Told x y (Opened meaning result)) → MayRefuseOpening before after last refusal → OpensNot run x last (RoseBetween before after) refusal
@@ -117,20 +118,20 @@ our_file refused.RunFull before after moment may = tt
 our_file refused.Memory before after moment may = tt
 
 -- a vault that was opened
-module _ (x y : Option History) (state : State Inv) (opened : (let result : Result (State Inv) OpenRefused = Ok state in Told x y (Opened meaning result))) where
+module _ (x y : Option History) (state : State Inv) (valid : is_valid state.database ≡ true) (opened : (let result : Result (State Inv) OpenRefused = Ok state in Told x y (Opened meaning result))) where
   sure_opened : (first : ℕ → List ℕ) (a b : Option History) → (let result : Result (State Inv) OpenRefused = Ok state in Told a b (Opened meaning result)) → Sure run first a → IsSure first state b
-  sure_opened first (Some a) (Some b) is known = opened_good first state a b known is
+  sure_opened first (Some a) (Some b) is known = opened_good first state a b valid known is
   sure_opened first None b is known = absurd known
   sure_opened first (Some a) None is known = absurd is
 
   runs_over : (a b : Option History) → (let result : Result (State Inv) OpenRefused = Ok state in Told a b (Opened meaning result)) → RunsOver run a state.database
   runs_over None b is = tt
-  runs_over (Some a) (Some b) is = is.recovers
+  runs_over (Some a) (Some b) is = is.opens.0
   runs_over (Some a) None is = absurd is
 
   starts_at : (a b : Option History) → (let result : Result (State Inv) OpenRefused = Ok state in Told a b (Opened meaning result)) → StartsAt run a state.generation
   starts_at None b is = tt
-  starts_at (Some a) (Some b) is = (is.images.payload, is.images.newest)
+  starts_at (Some a) (Some b) is = (state.database, is.opens)
   starts_at (Some a) None is = absurd is
 
   pub script : (left_told : Option History) (before after : ℕ → ℕ) (first_moment last : ℕ) (end : End) (status : ℕ) (journal : List Entry) (stamps : List ℕ) (base : Option Inv) (generation : ℕ) (text left was is : Option (List ℕ)) → base ≡ Some state.database → RanFrom state y left_told before after first_moment last end status journal stamps generation text left was is → RanScript run x left_told before after first_moment last end status journal stamps base generation text left was is

@@ -1,8 +1,9 @@
 -- What is said of a request under some premises is said under weaker ones: where more counts rose, the moment is later, or less is known of the bytes.
-use Rattle.std.proofs.Common.{⊎_elim, inl, inr, ℕ, Option, None, Some, List, [], ◌∷◌, length, Result, Ok, Err}
+use Rattle.std.proofs.Common.{⊎_elim, inl, inr, ℕ, Bool, true, false, Option, None, Some, List, [], ◌∷◌, length, Result, Ok, Err}
 use Rattle.std.specs.List.{AllByRecursion}
 use Rattle.kinds.specs.declared.rule.BackupRule.{BackupRule}
 use Rattle.kinds.specs.declared.segment.Segment.{Segment}
+use Rattle.kinds.specs.Sizes.{is_size}
 use Rattle.entries.specs.declared.change.Change.{Change}
 use Rattle.inventory_rows.specs.version_groups.declared.copies.CopyRow.{CopyRow}
 use Rattle.inventory_rows.specs.version_groups.declared.versions.Version.{Version}
@@ -16,7 +17,7 @@ use Rattle.script_loop.specs.declared.ends.Halt.{Halt}
 use Rattle.server.specs.declared.get.Shown.{Shown}
 use Rattle.server.specs.declared.stop.Stop.{Stop}
 use Rattle.server.specs.declared.stop.Stop.TheVariants.{Refused, LogFault, RunFull, Memory}
-use Rattle.server.specs.Requests.{File, Commits, volume_defined, DefinesVolumeIn, filespace_defined, StoresIn, DefinesAndStores, PutsUnder, PutsBy, PutsOf, Puts, BeginsNot, Follows, IsFrom, IsUnread, Shows, ShowsFound, GetsUnder, GetsOf, Checkpoints, backed_up, item_of}
+use Rattle.server.specs.Requests.{File, Commits, volume_defined, DefinesVolumeIn, filespace_defined, StoresIn, DefinesAndStores, PutsUnder, PutsBy, PutsOf, PutsSized, Puts, BeginsNot, Follows, IsFrom, IsUnread, Shows, ShowsFound, GetsUnder, GetsOf, Checkpoints, backed_up, item_of}
 use Rattle.server.specs.World.{Kept}
 use Rattle.tsm_top.specs.Asking.{Asks, RepliesTo, Replies, EndsAt, Stops, HaltedBy, FaultBehind, file_put}
 
@@ -62,8 +63,12 @@ module _ (rose more : ℕ → Type 0) (full late sure known : Type 0) (stands th
   puts_of None f v result added is = is
   puts_of (Some node) f v result added is = puts_by (default_rule node v) f node v result added is
 
+  puts_sized : (fits : Bool) (f : File) (v : Inv) (result : Result ℕ Stop) (added : List Kept) → PutsSized rose full fits f v result added → PutsSized more late fits f v result added
+  puts_sized false f v result added is = is
+  puts_sized true f v result added is = puts_of (node_named f.node v.clients.nodes) f v result added is
+
   puts : (f : File) (v : Inv) (result : Result ℕ Stop) (added : List Kept) → Puts rose full f v result added → Puts more late f v result added
-  puts f v result added is = ⊎_elim (λ none. inl (begins_not result added none)) (λ done. inr (puts_of (node_named f.node v.clients.nodes) f v result added done)) is
+  puts f v result added is = ⊎_elim (λ none. inl (begins_not result added none)) (λ done. inr (puts_sized (is_size (length f.text)) f v result added done)) is
 
   unread : (v : Inv) (segments : List Segment) → IsUnread rose v segments → IsUnread more v segments
   unread v [] is = is

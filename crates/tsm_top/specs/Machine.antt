@@ -3,6 +3,7 @@
 use Rattle.std.specs.Prelude.{◌≡◌, ◌⊎◌, ℕ, ◌+◌, ◌-◌, ◌^◌, ◌≤◌, Option, None, Some, IfSome, List, [], ◌∷◌, ◌++◌, length}
 use Rattle.store_api.specs.Cause.{Rose, NoneFell}
 use Rattle.store_api.specs.Disk.{History, back, ImageAt}
+use Rattle.fields.specs.Editions.{second_form}
 use Rattle.kinds.specs.declared.segment.Segment.{Segment}
 use Rattle.inventory_rows.specs.State.{Inv}
 use Rattle.script_loop.specs.Reply.{Answer}
@@ -54,9 +55,10 @@ pub record Grows (added : List Kept) (old new : Site) : Type 0 where
   pub timely : Timely old.moment new.moment fresh
   pub counts : NoneFell old.faults new.faults
 
--- An image of the files gives back a site: what was made, by a newest image of the site's generation and a log that ends where the site says.
+-- An image of the files gives back a site: what was made, by a newest image of the site's generation, in the form that is written, and a log that ends where the site says.
 pub record GivesSite (base : Inv) (first : ℕ → List ℕ) (site : Site) (image : ℕ → List ℕ) : Type 0 where
   pub gives : GivesBack base first site.kept image
+  pub written : gives.recovers.form ≡ second_form
   pub by_image : gives.recovers.generation ≡ site.generation
   pub log : length (blocks (records_of gives.recovers.entries)) ≡ site.log
 

@@ -8,7 +8,7 @@ use Rattle.kinds.specs.declared.refusal.Holder.{Holder}
 use Rattle.kinds.specs.declared.refusal.Holder.TheVariants.{Image}
 use Rattle.kinds.specs.declared.refusal.Holder.TheVariants as holders
 use Rattle.kinds.specs.declared.refusal.Refusal.{Refusal}
-use Rattle.kinds.specs.declared.refusal.Refusal.TheVariants.{Syntax, UnknownWord, Ambiguous, BadValue, NotFound, Exists, InUse, NoDefaultClass, BadHierarchy, DayBack, NoBackupGroup, NoSpace, Busy, Stale, Gone, Unavailable, WriteFault, TreeFault, Changed, DigestDiffers, TooLarge, RecordFull, InventoryFull, NotYet, LogFault, RunFull, Memory}
+use Rattle.kinds.specs.declared.refusal.Refusal.TheVariants.{Syntax, UnknownWord, Ambiguous, BadValue, NotFound, Exists, InUse, NoDefaultClass, BadHierarchy, DayBack, NoBackupGroup, NoArchiveGroup, NoSpace, Busy, Stale, Gone, Unavailable, WriteFault, TreeFault, Changed, DigestDiffers, TooLarge, RecordFull, InventoryFull, NotYet, LogFault, RunFull, Memory}
 
 -- the word of a refusal
 abbrev pub word_of : Refusal → List ℕ
@@ -23,6 +23,7 @@ word_of NoDefaultClass = codes "NoDefaultClass"
 word_of BadHierarchy = codes "BadHierarchy"
 word_of (DayBack _ _) = codes "DayBack"
 word_of NoBackupGroup = codes "NoBackupGroup"
+word_of NoArchiveGroup = codes "NoArchiveGroup"
 word_of (NoSpace _) = codes "NoSpace"
 word_of (Busy _) = codes "Busy"
 word_of (Stale _) = codes "Stale"
@@ -77,6 +78,7 @@ fields_of NoDefaultClass = []
 fields_of BadHierarchy = []
 fields_of (DayBack today given) = number_fields today given
 fields_of NoBackupGroup = []
+fields_of NoArchiveGroup = []
 fields_of (NoSpace pool) = number_field pool
 fields_of (Busy holder) = holder_field holder
 fields_of (Stale object) = number_field object

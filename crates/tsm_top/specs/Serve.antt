@@ -17,8 +17,8 @@ use Rattle.vault.specs.log_file.Safety.{Timely, acknowledged}
 use Rattle.script_loop.specs.Ends.{told_number, status_of, DoneAtEnd}
 use Rattle.script_loop.specs.Runs.{Says, IsFront}
 use Rattle.script_loop.specs.declared.ends.End.{End}
-use Rattle.vault.specs.Openings.{Calm, is_formatted, SaysWhy}
-use Rattle.vault.specs.Recovery.{Newest, Recovers, IsBase}
+use Rattle.vault.specs.Openings.{Spared, OpenedAs, is_formatted, SaysWhy}
+use Rattle.vault.specs.Recovery.{Recovers, IsBase}
 use Rattle.server.specs.Left.{HasFirst}
 use Rattle.server.specs.Running.{IsSure}
 use Rattle.server.specs.Sound.{IsSound}
@@ -116,18 +116,20 @@ IsNew told = IfSome told (λ h. EachImage (now h) h (IsBase meaning 0 fresh))
 abbrev pub StillTells : (told left : Option History) → Type 0
 StillTells told left = is_some left ≡ is_some told
 
--- What opening took from the files: nothing. Where they were opened, nothing that is read changed, and an image since is one that a stop might have left
--- at the start; where a database was to be made, the files were only looked at, or no image had an open gate.
+-- What opening took from the files: nothing. Where they were opened, only the vault's were written. Where the database isn't in the first form, nothing that is
+-- read changed, and each image since is one that a stop might have left at the start. Of a sound store, also of one in the first form, which is written anew in the
+-- second, each image since recovers to a database to which one recovers that a stop might have left at the start. Where a database was to be made, the files were
+-- only looked at, or no image had an open gate.
 abbrev pub Spares : Command → (told left : Option History) → Type 0
 Spares format told left = Told told left Looked ⊎ (HasImage false told × StillTells told left)
-Spares run told left = Told told left Calm
+Spares run told left = Told told left (Spared meaning)
 Spares fresh_run told left = Told told left Looked ⊎ (HasImage false told × StillTells told left)
 
--- What the store is when a script begins: of a database that was opened, what it was, as `Spares` says; of a new one, a store each of whose images of then is
--- that database, where no image had an open gate.
+-- What the store is when a script begins: of a database that was opened, what opening left of it, as `Spares` says; of a new one, a store each of whose images of
+-- then is that database, where no image had an open gate.
 abbrev pub Opens : Command → (told left : Option History) → Type 0
 Opens format told left = ⊥
-Opens run told left = Told told left Calm
+Opens run told left = Told told left (Spared meaning)
 Opens fresh_run told left = HasImage false told × StillTells told left × IsNew left
 
 -- The cause of it, where what is asked is one of these commands, and what it left of the files.
@@ -178,10 +180,11 @@ RunsOver format told base = ⊥
 RunsOver run told base = IfSome told (λ h. Recovers meaning (reads h) base)
 RunsOver fresh_run told base = HasImage false told × IfSome told (λ h. base ≡ fresh)
 
--- the generation of the newest image when a script begins; of a new database, over a store that tells its bytes, it is 0
+-- The generation of the newest image when a script begins, as which the database is opened: that of the image that was the newest or, where that is in the first
+-- form, the next one; of a new database, over a store that tells its bytes, it is 0.
 abbrev pub StartsAt : Command → (told : Option History) → ℕ → Type 0
 StartsAt format told start = ⊥
-StartsAt run told start = IfSome told (λ h. (payload : List ℕ) × Newest (reads h) start payload)
+StartsAt run told start = IfSome told (λ h. (d : Inv) × OpenedAs meaning (reads h) d start)
 StartsAt fresh_run told start = IfSome told (λ h. start ≡ 0)
 
 -- what is known at the start: of a store that is run, that it is sound, its objects having these bytes; of a new database that the store tells its bytes

@@ -22,6 +22,7 @@ fn word(refusal: &Refusal) -> &'static [u8]
         Refusal::BadHierarchy => b"BadHierarchy",
         Refusal::DayBack { .. } => b"DayBack",
         Refusal::NoBackupGroup => b"NoBackupGroup",
+        Refusal::NoArchiveGroup => b"NoArchiveGroup",
         Refusal::NoSpace(_) => b"NoSpace",
         Refusal::Busy(_) => b"Busy",
         Refusal::Stale(_) => b"Stale",
@@ -131,6 +132,7 @@ fn fields_text(alloc: Global, refusal: &Refusal) -> Result<Vec<u8>, AllocError>
         | Refusal::NoDefaultClass
         | Refusal::BadHierarchy
         | Refusal::NoBackupGroup
+        | Refusal::NoArchiveGroup
         | Refusal::Unavailable
         | Refusal::TreeFault
         | Refusal::TooLarge

@@ -131,7 +131,7 @@ fn shown_of(alloc: Global, file: &Shown) -> Result<Reply, Halt>
         Ok(()) => {}
         Err(_) => return Err(Halt::Memory),
     }
-    match text::read(alloc, file.object, file.size) {
+    match text::read(alloc, file.object, file.size.bytes()) {
         Ok(line) => say_last(reply, line),
         Err(_) => Err(Halt::Memory),
     }

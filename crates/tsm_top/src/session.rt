@@ -1,6 +1,6 @@
 // A session of the server, and how it answers a line.
 ghost use Rattle.std.specs.Prelude.{◌≡◌, ◌*◌, ◌^◌, IfOk, IfErr, ℕ, List, Result, None};
-ghost use Rattle.line_forms.specs.Line.{asked, AskedFits, ContentFits, IsVolumeSize, asked_view, register, define_volume, get};
+ghost use Rattle.line_forms.specs.Line.{asked, AskedFits, IsVolumeSize, asked_view, register, define_volume, get};
 ghost use Rattle.server.specs.declared.stop.Stop.{Stop};
 ghost use Rattle.server.specs.declared.stop.Stop.TheVariants.{Memory};
 ghost use Rattle.tsm_top.specs.Answers.{lines_of, ok_line, stored_line, shown_lines, Ends};
@@ -108,7 +108,6 @@ impl<S: Store> Session<S> {
     /// Stores a file.
     fn put(&mut self, alloc: Global, wanted: &PutAsked<'_>) -> Result<u64, Stop>
         requires sure { self.old.server.vault.fault ≡ None }
-        requires fits { ContentFits wanted.now.mtime wanted.now.text.now }
         ensures made { Made S.told S.moment_of S.faults_of self.old.server (put_view wanted.now) (lines_of stored_line result) self.new.server }
     {
         let file = NewFile {

@@ -13,7 +13,7 @@ pub(crate) fn stored(alloc: Global, object: u64) -> Result<Vec<u8>, AllocError>
     Ok(text.into_bytes())
 }
 
-pub(crate) fn read(alloc: Global, object: u64, size: u32) -> Result<Vec<u8>, AllocError>
+pub(crate) fn read(alloc: Global, object: u64, size: u64) -> Result<Vec<u8>, AllocError>
     ensures { IfOk result (λ text. text.items ≡ codes "OK object=" ++ (decimal object ++ (codes " size=" ++ decimal size))) }
 {
     let text = format!(in alloc; "OK object={object} size={size}")?;

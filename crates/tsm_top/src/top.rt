@@ -9,9 +9,8 @@ ghost use Rattle.kinds.specs.declared.refusal.OpenRefused.{OpenRefused};
 ghost use Rattle.script_loop.specs.declared.ends.End.{End};
 ghost use Rattle.script_loop.specs.Ends.{SourceCause, SinkCause};
 ghost use Rattle.vault.specs.log_file.Cursor.{Looked};
-ghost use Rattle.vault.specs.Openings.{Calm};
 ghost use Rattle.server.specs.Steps.{Later};
-ghost use Rattle.tsm_top.specs.Serve.{IsOnly, Asks, Command, format, run, fresh_run, Closing, no_command, formatted, exists, refused_opening, closing_line, closing_status, HasCauseOf, HasCause, Shuts, OpensNot, PutsLine, RoseBetween, IsOurFile, IsOurClosing, closing_of, HasImage, Opens, IsNew, StillTells, MakesNot, RanScript, RanFrom};
+ghost use Rattle.tsm_top.specs.Serve.{IsOnly, Asks, Command, format, run, fresh_run, Closing, no_command, formatted, exists, refused_opening, closing_line, closing_status, HasCauseOf, HasCause, Shuts, OpensNot, PutsLine, RoseBetween, IsOurFile, IsOurClosing, closing_of, HasImage, Spares, Opens, IsNew, StillTells, MakesNot, RanScript, RanFrom};
 
 use crate::session::Session;
 use entries::{Database, Entry};
@@ -288,7 +287,7 @@ fn open<S: Store, I: Source, O: Sink>(
     script: &mut I,
     out: &mut O,
 ) -> Ended<S>
-    ensures outcome { ((why : OpenRefused) × OpensNot run (S.told store) (S.moment_of result.store) (RoseBetween (S.faults_of store) (S.faults_of result.store)) why × Told (S.told store) (S.told result.store) Calm × Shuts (refused_opening why) (O.contents out.old) (O.contents out.new) (RoseIn (O.fault_count out.old) (O.fault_count out.new)) result.status result.journal.items result.stamps.items result.base result.generation result.opened (S.moment_of result.store) × (script.new ≡ script.old))
+    ensures outcome { ((why : OpenRefused) × OpensNot run (S.told store) (S.moment_of result.store) (RoseBetween (S.faults_of store) (S.faults_of result.store)) why × Spares run (S.told store) (S.told result.store) × Shuts (refused_opening why) (O.contents out.old) (O.contents out.new) (RoseIn (O.fault_count out.old) (O.fault_count out.new)) result.status result.journal.items result.stamps.items result.base result.generation result.opened (S.moment_of result.store) × (script.new ≡ script.old))
         ⊎ ((end : End) × (opening : S) × (S.moment_of opening ≡ result.opened) × Later S.moment_of S.faults_of store opening × Later S.moment_of S.faults_of opening result.store × Opens run (S.told store) (S.told opening) × Told (S.told opening) (S.told result.store) (GoesOn (λ file. Unit {0}))
         × RanScript run (S.told store) (S.told result.store) (S.faults_of opening) (S.faults_of result.store) result.opened (S.moment_of result.store) end result.status result.journal.items result.stamps.items result.base result.generation (I.left script.old) (I.left script.new) (O.contents out.old) (O.contents out.new)
         × SourceCause end (I.fault_count script.old) (I.fault_count script.new) × SinkCause end (O.fault_count out.old) (O.fault_count out.new)) }
@@ -300,6 +299,7 @@ fn open<S: Store, I: Source, O: Sink>(
         Ok(vault) => vault,
         Err(refusal) => return refused_by(alloc, store, out, refusal),
     };
+    vault.database().tables();
     let base = match vault.database().copy(alloc) {
         Ok(base) => base,
         Err(_) => return refused_by(alloc, store, out, OpenRefused::Memory),

@@ -1,18 +1,20 @@
 -- A new image takes the place of the older one.
-use Rattle.std.proofs.Common.{◌≡◌, ◌⊎◌, ⊎_elim, inl, inr, ℕ, ◌+◌, List, [], Result, Ok, refl, sym, subst, arith}
+use Rattle.std.proofs.Common.{◌≡◌, ◌⊎◌, ⊎_elim, inl, inr, ℕ, ◌+◌, List, [], Result, Ok, refl, sym, ◌∙◌, subst, arith}
 use Rattle.store_api.specs.Disk.{History, standing, now, Leaves}
 use Rattle.store_api.specs.Runs.{GoesOn, EachImage}
 use Rattle.store_api.proofs.Runs.{goes_weaker, goes_images, now_image}
 use Rattle.log_file.specs.Blocks.{LogEnds}
 use Rattle.log_file.proofs.Logs.{sure_since, sure_left}
 use Rattle.db_image.specs.declared.mark.Mark.TheVariants.{Server}
-use Rattle.db_image.specs.Images.{HasImage}
+use Rattle.db_image.proofs.One.{never_spent_other}
+use Rattle.db_image.specs.Images.{NeverSpent, HasImage}
 use Rattle.entries.specs.declared.entry.Entry.{Entry}
-use Rattle.entries.specs.Meaning.{Meaning}
+use Rattle.fields.specs.Editions.{Edition, second_form}
+use Rattle.entries.specs.Meaning.{Meaning, IsMeaning}
 use Rattle.vault.specs.Files.{image_file, log_file, IsOurs, IsOf}
-use Rattle.vault.specs.Recovery.{Older, Newest, records_of, after_all, RecoversWithin}
+use Rattle.vault.specs.Recovery.{Older, Newest, records_in, after_all, RecoversWithin}
 use Rattle.vault.specs.Images.{IsImage, StaysOlder, Replaced}
-use Rattle.vault.specs.Vaults.{Holds}
+use Rattle.vault.specs.Vaults.{HoldsIn, Holds}
 use Rattle.vault.proofs.Replacing.{can_shut}
 use Rattle.vault.proofs.Goodness.{image_ours, log_ours, image_log, image_next, log_next, image_again, image_left, image_beside, older_left}
 
@@ -30,38 +32,40 @@ pub log_apart : (generation : ℕ) → ¬ IsOf (generation + 1) (log_file genera
 log_apart generation (inl is) = image_log (generation + 1) generation (sym is)
 log_apart generation (inr is) = log_next generation is
 
-module _ {D : Type 0} (m : Meaning D) (generation : ℕ) (base : D) (entries : List Entry) (end : ℕ) (d : D) (valid : m.Valid d) (payload : List ℕ) (spelled : payload ≡ m.spelled d) (old new : History) (holds : Holds m generation base entries end old) where
+module _ {D : Type 0} (m : Meaning D) (generation : ℕ) (base : D) (entries : List Entry) (end : ℕ) (d : D) (valid : m.Valid second_form d) (payload : List ℕ) (spelled : payload ≡ m.spelled second_form d) (unspent : NeverSpent Server (generation + 1) payload) (old new : History) (form : Edition) (holds : HoldsIn form m generation base entries end old) where
   module _ {T E : Type 0} (result : Result T E) (replaced : Replaced (generation + 1) payload result old new) where
     -- each image since recovers to what was there, or to what was put in its place
     pub replaced_since : EachImage (now old) new (λ files. RecoversWithin m files (after_all m base entries) ⊎ RecoversWithin m files d)
     replaced_since moment files from to here =
-        let stands : HasImage (image_file generation) Server (files (image_file generation)) generation (m.spelled base) =
-        image_left old (image_file generation) generation (m.spelled base) (files (image_file generation)) holds.image (goes_images (IsOf (generation + 1)) old new (image_file generation) (image_apart generation) replaced.goes moment files from to here) in
+        let stands : HasImage (image_file generation) Server (files (image_file generation)) generation (m.spelled form base) =
+        image_left old (image_file generation) generation (m.spelled form base) (files (image_file generation)) holds.image (goes_images (IsOf (generation + 1)) old new (image_file generation) (image_apart generation) replaced.goes moment files from to here) in
         ⊎_elim
         (λ older. inl (record {
+          form = form;
           generation = generation;
           base = base;
           entries = entries;
           valid = holds.valid;
           newest = record { stands = stands; other = older };
-          log = sure_since (IsOf (generation + 1)) old new (log_file generation) (records_of entries) end (log_apart generation) replaced.goes holds.log moment files from to here;
+          log = sure_since (IsOf (generation + 1)) old new (log_file generation) (records_in form entries) end (log_apart generation) replaced.goes holds.log moment files from to here;
           legal = holds.legal;
           gives = refl;
         }))
         (λ begun. inr (record {
+          form = second_form;
           generation = generation + 1;
           base = d;
           entries = [];
           valid = valid;
           newest = record {
             stands = subst (λ (p : List ℕ). HasImage (image_file (generation + 1)) Server (files (image_file (generation + 1))) (generation + 1) p) spelled begun.0;
-            other = subst (λ (n : ℕ). Older (generation + 1) n (files n)) (sym (image_again generation)) (inr (generation, m.spelled base, stands, omega arith));
+            other = subst (λ (n : ℕ). Older (generation + 1) n (files n)) (sym (image_again generation)) (inr (generation, m.spelled form base, stands, omega arith));
           };
           log = begun.1;
           legal = tt;
           gives = refl;
         }))
-        (replaced.since generation holds.other moment files from to here)
+        (replaced.since generation unspent holds.other moment files from to here)
 
     pub replaced_ours : GoesOn IsOurs old new
     replaced_ours = goes_weaker (IsOf (generation + 1)) IsOurs old new (of_ours (generation + 1)) replaced.goes
@@ -69,21 +73,27 @@ module _ {D : Type 0} (m : Meaning D) (generation : ℕ) (base : D) (entries : L
   -- the new image is there to stay
   pub replaced_holds : {T E : Type 0} (log : T) → (let result : Result T E = Ok log in Replaced (generation + 1) payload result old new) → Holds m (generation + 1) d [] 0 new
   replaced_holds log replaced =
-      let there = replaced.stands (can_shut generation (image_file (generation + 1)) old holds.other) in
+      let there = replaced.stands unspent (can_shut generation (image_file (generation + 1)) old holds.other) in
       record {
         image = subst (λ (p : List ℕ). IsImage new (image_file (generation + 1)) (generation + 1) p) spelled there.0;
-        other = subst (λ (n : ℕ). StaysOlder (generation + 1) n new) (sym (image_again generation)) (inr (generation, m.spelled base, image_beside (IsOf (generation + 1)) old new replaced.goes (image_file generation) generation (m.spelled base) (image_apart generation) holds.image, omega arith));
+        other = subst (λ (n : ℕ). StaysOlder (generation + 1) n new) (sym (image_again generation)) (inr (generation, m.spelled form base, image_beside (IsOf (generation + 1)) old new replaced.goes (image_file generation) generation (m.spelled form base) (image_apart generation) holds.image, omega arith));
         log = there.1;
         valid = valid;
         legal = tt;
       }
 
+-- a database in the form that is written is never spent
+pub written_unspent : {D : Type 0} (m : Meaning D) (law : IsMeaning m) (generation : ℕ) (payload : List ℕ) (d : D) → m.Valid second_form d → payload ≡ m.spelled second_form d → NeverSpent Server generation payload
+written_unspent m law generation payload d valid spelled =
+    let begins = law.begins second_form d valid in
+    subst (NeverSpent Server generation) (sym (spelled ∙ begins.1)) (never_spent_other Server generation 2 begins.0 (λ e. absurd (omega (arith, e))))
+
 -- an image of now is that database, with an empty log
-pub holds_fresh : {D : Type 0} (m : Meaning D) (generation : ℕ) (d : D) (h : History) → Holds m generation d [] 0 h → EachImage (now h) h (λ files. Newest files generation (m.spelled d) × LogEnds (files (log_file generation)) [])
+pub holds_fresh : {D : Type 0} (m : Meaning D) (generation : ℕ) (d : D) (h : History) → Holds m generation d [] 0 h → EachImage (now h) h (λ files. Newest files generation (m.spelled second_form d) × LogEnds (files (log_file generation)) [])
 holds_fresh m generation d h holds moment files from to here =
     let there = now_image h files (subst (λ k. Rattle.store_api.specs.Disk.ImageAt h k files) (let e : moment ≡ now h = omega (arith, from, to) in e) here) in (
       record {
-        stands = image_left h (image_file generation) generation (m.spelled d) (files (image_file generation)) holds.image (there (image_file generation));
+        stands = image_left h (image_file generation) generation (m.spelled second_form d) (files (image_file generation)) holds.image (there (image_file generation));
         other = older_left generation (image_file (generation + 1)) h (files (image_file (generation + 1))) holds.other (there (image_file (generation + 1)));
       },
       sure_left h (log_file generation) [] 0 (files (log_file generation)) holds.log (there (log_file generation)),

@@ -14,6 +14,7 @@ use Rattle.log_file.specs.Sure.{IsSure, HasWaiting}
 use Rattle.log_file.proofs.Appending.{sure_waits}
 use Rattle.entries.specs.declared.entry.Entry.{Entry}
 use Rattle.entries.specs.EntryForm.{entry}
+use Rattle.fields.specs.Editions.{second_form}
 use Rattle.entries.specs.Meaning.{Meaning, IsLegal}
 use Rattle.vault.specs.Files.{image_file, log_file, IsOurs}
 use Rattle.vault.specs.Recovery.{Newest, records_of, after_all, AllLegal, RecoversWithin}
@@ -91,18 +92,18 @@ module _ {D : Type 0} (m : Meaning D) (vault : State D) (old new : History) (fil
   goes_ours = goes_weaker (λ other. other ≡ log_file vault.generation) IsOurs old new (λ other here. subst IsOurs (sym here) (log_ours vault.generation)) goes_log
 
   module _ (durable : D) (held : IsHeld m vault durable old) where
-    newest_since : EachImage (now old) new (λ files. Newest files vault.generation (m.spelled held.base))
+    newest_since : EachImage (now old) new (λ files. Newest files vault.generation (m.spelled second_form held.base))
     newest_since moment files from to here =
         newest_left m vault.generation held.base held.entries vault.sure old files held.holds
         (goes_images (λ other. other ≡ log_file vault.generation) old new (image_file vault.generation) (image_log vault.generation vault.generation) goes_log moment files from to here)
         (older_left vault.generation (image_file (vault.generation + 1)) old (files (image_file (vault.generation + 1))) held.holds.other
         (goes_images (λ other. other ≡ log_file vault.generation) old new (image_file (vault.generation + 1)) (image_log (vault.generation + 1) vault.generation) goes_log moment files from to here))
 
-    recovers_with : (files : ℕ → List ℕ) (entries : List Entry) → Newest files vault.generation (m.spelled held.base) → LogEnds (files (log_file vault.generation)) (records_of entries) → AllLegal m held.base entries → RecoversWithin m files (after_all m held.base entries)
-    recovers_with files entries newest log legal = record { generation = vault.generation; base = held.base; entries = entries; valid = held.holds.valid; newest = newest; log = log; legal = legal; gives = refl }
+    recovers_with : (files : ℕ → List ℕ) (entries : List Entry) → Newest files vault.generation (m.spelled second_form held.base) → LogEnds (files (log_file vault.generation)) (records_of entries) → AllLegal m held.base entries → RecoversWithin m files (after_all m held.base entries)
+    recovers_with files entries newest log legal = record { form = second_form; generation = vault.generation; base = held.base; entries = entries; valid = held.holds.valid; newest = newest; log = log; legal = legal; gives = refl }
 
     -- the forced entries alone
-    recovers_forced : (files : ℕ → List ℕ) → Newest files vault.generation (m.spelled held.base) → LogEnds (files file) (records_of held.entries) → RecoversWithin m files durable
+    recovers_forced : (files : ℕ → List ℕ) → Newest files vault.generation (m.spelled second_form held.base) → LogEnds (files file) (records_of held.entries) → RecoversWithin m files durable
     recovers_forced files newest log = subst (RecoversWithin m files) (sym held.gives) (recovers_with files held.entries newest (subst (λ (n : ℕ). LogEnds (files n) (records_of held.entries)) is_log log) held.holds.legal)
 
     all_legal : AllLegal m held.base (held.waiting ++ held.entries)
@@ -112,7 +113,7 @@ module _ {D : Type 0} (m : Meaning D) (vault : State D) (old new : History) (fil
     all_gives = held.all ∙ ap (λ (d : D). after_all m d held.waiting) held.gives ∙ sym (after_join m held.base held.waiting held.entries)
 
     -- and all of them
-    recovers_all : (files : ℕ → List ℕ) → Newest files vault.generation (m.spelled held.base) → LogEnds (files file) (records_of held.entries ++ records_of held.waiting) → RecoversWithin m files vault.database
+    recovers_all : (files : ℕ → List ℕ) → Newest files vault.generation (m.spelled second_form held.base) → LogEnds (files file) (records_of held.entries ++ records_of held.waiting) → RecoversWithin m files vault.database
     recovers_all files newest log =
         subst (RecoversWithin m files) (sym all_gives)
         (recovers_with files (held.waiting ++ held.entries) newest
@@ -124,7 +125,7 @@ module _ {D : Type 0} (m : Meaning D) (vault : State D) (old new : History) (fil
 
     holds_new : (entries : List Entry) (end : ℕ) → IsSure new file (records_of entries) end → AllLegal m held.base entries → Holds m vault.generation held.base entries end new
     holds_new entries end sure legal = record {
-      image = image_beside (λ other. other ≡ log_file vault.generation) old new goes_log (image_file vault.generation) vault.generation (m.spelled held.base) (image_log vault.generation vault.generation) held.holds.image;
+      image = image_beside (λ other. other ≡ log_file vault.generation) old new goes_log (image_file vault.generation) vault.generation (m.spelled second_form held.base) (image_log vault.generation vault.generation) held.holds.image;
       other = older_beside (λ other. other ≡ log_file vault.generation) old new goes_log vault.generation (image_file (vault.generation + 1)) (image_log (vault.generation + 1) vault.generation) held.holds.other;
       log = subst (λ (n : ℕ). IsSure new n (records_of entries) end) is_log sure;
       valid = held.holds.valid;

@@ -1,5 +1,5 @@
 -- The newest image is found, and its payload read.
-use Rattle.std.proofs.Common.{◌≡◌, inl, inr, ℕ, ◌+◌, ◌<◌, ◌%◌, List, Option, None, Some, IfSome, Ok, Err, refl, sym, ◌∙◌, subst, arith}
+use Rattle.std.proofs.Common.{◌≡◌, inl, inr, ℕ, ◌+◌, ◌<◌, ◌≤◌, ◌^◌, ◌%◌, ◌++◌, List, Option, None, Some, IfSome, Ok, Err, refl, sym, ◌∙◌, ap, subst, arith}
 use Rattle.std.specs.Option.{option_map}
 use Rattle.std.proofs.lemmas.Bool.{cases_lt, lt-ltb, le-ltb}
 use Rattle.store_api.specs.Disk.{History, reads}
@@ -15,7 +15,8 @@ use Rattle.db_image.specs.declared.head.Head.{Head}
 use Rattle.db_image.specs.Images.{HasImage}
 use Rattle.db_image.specs.Reads.{FindsHead, SaysDamage}
 use Rattle.db_image.proofs.One.{one, opened, not_damaged, head_image}
-use Rattle.entries.specs.Meaning.{Meaning}
+use Rattle.fields.specs.Editions.{first_form}
+use Rattle.entries.specs.Meaning.{Meaning, IsMeaning, Spells}
 use Rattle.vault.specs.Files.{image_file}
 use Rattle.vault.specs.Recovery.{Older, Newest, Headed}
 use Rattle.vault.specs.Openings.{greater, FindsNewest, HeadsRefused, BaseRefused}
@@ -109,3 +110,9 @@ module _ {D : Type 0} (m : Meaning D) (files : ℕ → List ℕ) (generation fil
 
   pub not_shut : (payload : List ℕ) → IsClosed (files file) → Newest files generation payload → ⊥
   not_shut payload closed newest = opened file generation Server (files file) payload (stands_there payload newest) closed
+
+-- an image of the last generation whose payload is in the first form is none
+pub last_spent : {D : Type 0} (m : Meaning D) (law : IsMeaning m) (files : ℕ → List ℕ) (generation : ℕ) (payload : List ℕ) (d : D) → Spells m first_form payload d → 2 ^ 62 ≤ generation + 1 → Newest files generation payload → ⊥
+last_spent m law files generation payload d spells last newest =
+    let begins = law.begins first_form d spells.0 in
+    newest.stands.unspent (omega (arith, last, newest.stands.allowed.0), (begins.0 ++ newest.stands.rest, ap (λ (l : List ℕ). l ++ newest.stands.rest) (spells.1 ∙ begins.1)))

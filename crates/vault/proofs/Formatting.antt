@@ -10,13 +10,14 @@ use Rattle.log_file.specs.declared.writer.Log.{Log}
 use Rattle.log_file.specs.Steps.{Created}
 use Rattle.db_image.specs.Steps.{FirmShut, Shut}
 use Rattle.db_image.proofs.One.{can_shut}
-use Rattle.entries.specs.Meaning.{Meaning}
+use Rattle.fields.specs.Editions.{second_form}
+use Rattle.entries.specs.Meaning.{Meaning, IsMeaning}
 use Rattle.vault.specs.Files.{image_file, IsOurs, IsOf}
 use Rattle.vault.specs.Recovery.{IsBase}
 use Rattle.vault.specs.Images.{IsImage, Replaced}
 use Rattle.vault.specs.Vaults.{Holds}
 use Rattle.vault.specs.Openings.{SettledBelow, SettledAll, Cleared, Formatted}
-use Rattle.vault.proofs.Checkpointing.{holds_fresh}
+use Rattle.vault.proofs.Checkpointing.{holds_fresh, written_unspent}
 use Rattle.vault.proofs.Goodness.{shut_beside, image_ours, log_ours}
 use Rattle.vault.proofs.Sounding.{settled_below}
 use Rattle.vault.proofs.Telling.{told_three}
@@ -87,7 +88,8 @@ module _ {D : Type 0} (m : Meaning D) (d : D) where
   holds_base generation h holds moment files from to here =
       let fresh = holds_fresh m generation d h holds moment files from to here in
       record {
-        recovers = record { generation = generation; base = d; entries = []; valid = holds.valid; newest = fresh.0; log = fresh.1; legal = tt; gives = refl };
+        recovers = record { form = second_form; generation = generation; base = d; entries = []; valid = holds.valid; newest = fresh.0; log = fresh.1; legal = tt; gives = refl };
+        written = refl;
         by_image = refl;
         alone = refl;
       }
@@ -96,11 +98,11 @@ module _ {D : Type 0} (m : Meaning D) (d : D) where
   not_formatted why old new goes = record { goes = goes; installed = tt }
 
   -- an image of any generation, written where both gates were shut
-  pub image_put : {U V : Type 0} (generation : ℕ) (log : U) (payload : List ℕ) → m.Valid d → payload ≡ m.spelled d → (old mid clear new : History) → SettledBelow 4 old mid → IsClear mid clear → (let put : Result U V = Ok log in Replaced generation payload put clear new) → GoesOn IsOurs old new × EachImage (now new) new (IsBase m generation d)
-  image_put generation log payload valid spelled old mid clear new below clears replaced =
+  pub image_put : {U V : Type 0} (generation : ℕ) (log : U) (payload : List ℕ) → IsMeaning m → m.Valid second_form d → payload ≡ m.spelled second_form d → (old mid clear new : History) → SettledBelow 4 old mid → IsClear mid clear → (let put : Result U V = Ok log in Replaced generation payload put clear new) → GoesOn IsOurs old new × EachImage (now new) new (IsBase m generation d)
+  image_put generation log payload law valid spelled old mid clear new below clears replaced =
       let shut = clears.shut (λ file lt. below.durable file (omega (arith, lt)) ∙ ap settled (sym (below.calm.same file))) in
       let here = shut_in clear (image_file generation) (omega arith) shut in
-      let there = replaced.stands (inl (here.gate, here.firm)) in (
+      let there = replaced.stands (written_unspent m law generation payload d valid spelled) (inl (here.gate, here.firm)) in (
         goes_then IsOurs old mid new below.calm.goes (goes_then IsOurs mid clear new clears.goes (goes_weaker (IsOf generation) IsOurs clear new (of_ours generation) replaced.goes)),
         holds_base generation new (record {
           image = subst (λ (p : List ℕ). IsImage new (image_file generation) generation p) spelled there.0;
@@ -127,11 +129,11 @@ module _ {D : Type 0} (m : Meaning D) (d : D) where
           told_three w x y z IsSettled IsClear (Replaced generation payload failed) (Formatted m d result)
           (λ h k l n all clears replaced. not_formatted again h n (goes_then IsOurs h k n all.calm.goes (goes_then IsOurs k l n clears.goes (goes_weaker (IsOf generation) IsOurs l n (of_ours generation) replaced.goes)))) settles cleared put
 
-      pub told_put : (done : Unit {0}) (log : Log) → m.Valid d → payload ≡ m.spelled d → Told x y IsClear → (let put : Result Log ℕ = Ok log in Told y z (Replaced generation payload put)) → Told w x IsSettled → generation ≡ 0 → (let result : Result (Unit {0}) OpenRefused = Ok done in Told w z (Formatted m d result))
-      told_put done log valid spelled cleared put settles first =
+      pub told_put : (done : Unit {0}) (log : Log) → IsMeaning m → m.Valid second_form d → payload ≡ m.spelled second_form d → Told x y IsClear → (let put : Result Log ℕ = Ok log in Told y z (Replaced generation payload put)) → Told w x IsSettled → generation ≡ 0 → (let result : Result (Unit {0}) OpenRefused = Ok done in Told w z (Formatted m d result))
+      told_put done log law valid spelled cleared put settles first =
           let made : Result Log ℕ = Ok log in
           let result : Result (Unit {0}) OpenRefused = Ok done in
           told_three w x y z IsSettled IsClear (Replaced generation payload made) (Formatted m d result)
           (λ h k l n all clears replaced.
-          let is = image_put generation log payload valid spelled h k l n (settled_below tt h k all) clears replaced in
+          let is = image_put generation log payload law valid spelled h k l n (settled_below tt h k all) clears replaced in
           record { goes = is.0; installed = subst (λ (g : ℕ). EachImage (now n) n (IsBase m g d)) first is.1 }) settles cleared put

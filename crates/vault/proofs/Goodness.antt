@@ -12,11 +12,12 @@ use Rattle.db_image.specs.Images.{image_bytes, HasImage}
 use Rattle.db_image.specs.Steps.{FirmShut}
 use Rattle.db_image.proofs.One.{stands_image}
 use Rattle.entries.specs.declared.entry.Entry.{Entry}
+use Rattle.fields.specs.Editions.{Edition, second_form}
 use Rattle.entries.specs.Meaning.{Meaning}
 use Rattle.vault.specs.Files.{image_file, log_file, IsOurs}
-use Rattle.vault.specs.Recovery.{Older, Newest, records_of, after_all, RecoversWithin}
+use Rattle.vault.specs.Recovery.{Older, Newest, records_in, records_of, after_all, RecoversWithin}
 use Rattle.vault.specs.Images.{IsImage, StaysOlder}
-use Rattle.vault.specs.Vaults.{State, Holds, IsGood, IsHeld, IsLeft, RecoversAs}
+use Rattle.vault.specs.Vaults.{State, HoldsIn, IsGoodIn, IsGood, IsHeld, IsLeft, RecoversAs}
 use Rattle.vault.proofs.Replacing.{shut_left}
 
 -- the vault's files
@@ -40,7 +41,7 @@ image_again generation = omega arith
 
 -- what a stop leaves of an image that no stop takes away
 pub image_left : (h : History) (file generation : ℕ) (payload left : List ℕ) → IsImage h file generation payload → Leaves (standing h file) left → HasImage file Server left generation payload
-image_left h file generation payload left is leaves = stands_image file generation Server left payload is.allowed is.small (leaves_firm (standing h file) left 0 (image_bytes Server generation payload) leaves is.firm)
+image_left h file generation payload left is leaves = stands_image file generation Server left payload is.allowed is.unspent is.small (leaves_firm (standing h file) left 0 (image_bytes Server generation payload) leaves is.firm)
 
 -- and of an older one
 pub older_left : (bound file : ℕ) (h : History) (left : List ℕ) → StaysOlder bound file h → Leaves (standing h file) left → Older bound file left
@@ -49,7 +50,7 @@ older_left bound file h left (inr there) leaves = inr (there.0, there.1, image_l
 
 module _ (theirs : ℕ → Type 0) (old new : History) (goes : GoesOn theirs old new) where
   pub image_beside : (file generation : ℕ) (payload : List ℕ) → ¬ theirs file → IsImage old file generation payload → IsImage new file generation payload
-  image_beside file generation payload beside is = record { firm = firm_beside theirs old new file 0 (image_bytes Server generation payload) beside goes is.firm; allowed = is.allowed; small = is.small }
+  image_beside file generation payload beside is = record { firm = firm_beside theirs old new file 0 (image_bytes Server generation payload) beside goes is.firm; allowed = is.allowed; unspent = is.unspent; small = is.small }
 
   pub shut_beside : (file : ℕ) → ¬ theirs file → FirmShut (standing old file) → FirmShut (standing new file)
   shut_beside file beside shut = record { gate = shut.gate; closed = shut.closed; firm = firm_beside theirs old new file 0 (shut.gate ∷ []) beside goes shut.firm }
@@ -58,12 +59,12 @@ module _ (theirs : ℕ → Type 0) (old new : History) (goes : GoesOn theirs old
   older_beside bound file beside (inl shut) = inl (shut_beside file beside shut)
   older_beside bound file beside (inr there) = inr (there.0, there.1, image_beside file there.0 there.1 beside there.2, there.3)
 
-  pub holds_beside : {D : Type 0} (m : Meaning D) (generation : ℕ) (base : D) (entries : List Entry) (end : ℕ) → ¬ theirs (image_file generation) → ¬ theirs (image_file (generation + 1)) → ¬ theirs (log_file generation) →
-      Holds m generation base entries end old → Holds m generation base entries end new
-  holds_beside m generation base entries end a b l holds = record {
-    image = image_beside (image_file generation) generation (m.spelled base) a holds.image;
+  pub holds_beside : {D : Type 0} {form : Edition} (m : Meaning D) (generation : ℕ) (base : D) (entries : List Entry) (end : ℕ) → ¬ theirs (image_file generation) → ¬ theirs (image_file (generation + 1)) → ¬ theirs (log_file generation) →
+      HoldsIn form m generation base entries end old → HoldsIn form m generation base entries end new
+  holds_beside {D} {form} m generation base entries end a b l holds = record {
+    image = image_beside (image_file generation) generation (m.spelled form base) a holds.image;
     other = older_beside generation (image_file (generation + 1)) b holds.other;
-    log = sure_beside theirs old new (log_file generation) (records_of entries) end l goes holds.log;
+    log = sure_beside theirs old new (log_file generation) (records_in form entries) end l goes holds.log;
     valid = holds.valid;
     legal = holds.legal;
   }
@@ -75,26 +76,27 @@ pub record LeftOf (generation : ℕ) (h : History) (files : ℕ → List ℕ) : 
   pub log : Leaves (standing h (log_file generation)) (files (log_file generation))
 
 module _ {D : Type 0} (m : Meaning D) where
-  pub newest_left : (generation : ℕ) (base : D) (entries : List Entry) (end : ℕ) (h : History) (files : ℕ → List ℕ) → Holds m generation base entries end h →
-      Leaves (standing h (image_file generation)) (files (image_file generation)) → Older generation (image_file (generation + 1)) (files (image_file (generation + 1))) → Newest files generation (m.spelled base)
-  newest_left generation base entries end h files holds left older = record { stands = image_left h (image_file generation) generation (m.spelled base) (files (image_file generation)) holds.image left; other = older }
+  pub newest_left : {form : Edition} (generation : ℕ) (base : D) (entries : List Entry) (end : ℕ) (h : History) (files : ℕ → List ℕ) → HoldsIn form m generation base entries end h →
+      Leaves (standing h (image_file generation)) (files (image_file generation)) → Older generation (image_file (generation + 1)) (files (image_file (generation + 1))) → Newest files generation (m.spelled form base)
+  newest_left {form} generation base entries end h files holds left older = record { stands = image_left h (image_file generation) generation (m.spelled form base) (files (image_file generation)) holds.image left; other = older }
 
-  pub holds_left : (generation : ℕ) (base : D) (entries : List Entry) (end : ℕ) (h : History) (files : ℕ → List ℕ) → Holds m generation base entries end h → LeftOf generation h files → RecoversWithin m files (after_all m base entries)
-  holds_left generation base entries end h files holds left = record {
+  pub holds_left : {form : Edition} (generation : ℕ) (base : D) (entries : List Entry) (end : ℕ) (h : History) (files : ℕ → List ℕ) → HoldsIn form m generation base entries end h → LeftOf generation h files → RecoversWithin m files (after_all m base entries)
+  holds_left {form} generation base entries end h files holds left = record {
+    form = form;
     generation = generation;
     base = base;
     entries = entries;
     valid = holds.valid;
     newest = newest_left generation base entries end h files holds left.image (older_left generation (image_file (generation + 1)) h (files (image_file (generation + 1))) holds.other left.other);
-    log = sure_left h (log_file generation) (records_of entries) end (files (log_file generation)) holds.log left.log;
+    log = sure_left h (log_file generation) (records_in form entries) end (files (log_file generation)) holds.log left.log;
     legal = holds.legal;
     gives = refl;
   }
 
-  pub good_left : (vault : State D) (h : History) (files : ℕ → List ℕ) → IsGood m vault h → LeftOf vault.generation h files → RecoversWithin m files vault.database
+  pub good_left : {form : Edition} (vault : State D) (h : History) (files : ℕ → List ℕ) → IsGoodIn form m vault h → LeftOf vault.generation h files → RecoversWithin m files vault.database
   good_left vault h files good left = subst (RecoversWithin m files) (sym good.gives) (holds_left vault.generation good.base good.entries vault.end h files good.holds left)
 
-  pub good_beside : (theirs : ℕ → Type 0) (vault : State D) (old new : History) → ((file : ℕ) → IsOurs file → ¬ theirs file) → GoesOn theirs old new → IsGood m vault old → IsGood m vault new
+  pub good_beside : {form : Edition} (theirs : ℕ → Type 0) (vault : State D) (old new : History) → ((file : ℕ) → IsOurs file → ¬ theirs file) → GoesOn theirs old new → IsGoodIn form m vault old → IsGoodIn form m vault new
   good_beside theirs vault old new apart goes good = record {
     base = good.base;
     entries = good.entries;
@@ -144,7 +146,7 @@ module _ {D : Type 0} (m : Meaning D) where
         within = held.within;
       }
 
-  pub good_since : (theirs : ℕ → Type 0) (vault : State D) (old new : History) → ((file : ℕ) → IsOurs file → ¬ theirs file) → GoesOn theirs old new → IsGood m vault old → EachImage (now old) new (λ files. RecoversWithin m files vault.database)
+  pub good_since : {form : Edition} (theirs : ℕ → Type 0) (vault : State D) (old new : History) → ((file : ℕ) → IsOurs file → ¬ theirs file) → GoesOn theirs old new → IsGoodIn form m vault old → EachImage (now old) new (λ files. RecoversWithin m files vault.database)
   good_since theirs vault old new apart goes good moment files from to here =
       good_left vault old files good
       (record {
@@ -153,7 +155,7 @@ module _ {D : Type 0} (m : Meaning D) where
         log = goes_images theirs old new (log_file vault.generation) (apart (log_file vault.generation) (log_ours vault.generation)) goes moment files from to here;
       })
 
-  pub good_image : (vault : State D) (h : History) (files : ℕ → List ℕ) → IsGood m vault h → ImageAt h (now h) files → RecoversWithin m files vault.database
+  pub good_image : {form : Edition} (vault : State D) (h : History) (files : ℕ → List ℕ) → IsGoodIn form m vault h → ImageAt h (now h) files → RecoversWithin m files vault.database
   good_image vault h files good here =
       good_left vault h files good (record { image = now_image h files here (image_file vault.generation); other = now_image h files here (image_file (vault.generation + 1)); log = now_image h files here (log_file vault.generation) })
 
@@ -163,6 +165,7 @@ module _ {D : Type 0} (m : Meaning D) where
       let holds = good.holds in
       record {
         recovers = record {
+          form = second_form;
           generation = vault.generation;
           base = good.base;
           entries = good.entries;
@@ -173,5 +176,6 @@ module _ {D : Type 0} (m : Meaning D) where
           gives = good.gives;
         };
         by_image = refl;
+        written = refl;
         log = sym holds.log.is_end;
       }

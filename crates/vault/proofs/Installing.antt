@@ -1,5 +1,5 @@
 -- A database is put in the place of what files recover to.
-use Rattle.std.proofs.Common.{◌≡◌, ◌⊎◌, ⊎_elim, inl, inr, ℕ, ◌+◌, ◌<◌, ◌^◌, List, Option, None, Some, Result, Ok, Err, OnOk, refl, sym, subst, arith}
+use Rattle.std.proofs.Common.{◌≡◌, ◌⊎◌, ⊎_elim, inl, inr, ℕ, ◌+◌, ◌<◌, ◌^◌, Bool, List, Option, None, Some, Result, Ok, Err, OnOk, refl, sym, subst, arith}
 use Rattle.std.proofs.lemmas.Bool.{cases_lt}
 use Rattle.store_api.specs.Disk.{History, reads, standing, settled, now, ImageAt}
 use Rattle.store_api.specs.Runs.{GoesOn, EachImage, Firm}
@@ -10,19 +10,20 @@ use Rattle.kinds.specs.declared.refusal.OpenRefused.{OpenRefused}
 use Rattle.kinds.specs.declared.refusal.OpenRefused.TheVariants.{NotFormatted, Damaged}
 use Rattle.log_file.specs.declared.writer.Log.{Log}
 use Rattle.db_image.specs.declared.mark.Mark.TheVariants.{Server}
-use Rattle.db_image.specs.Images.{image_bytes}
+use Rattle.db_image.specs.Images.{image_bytes, NeverSpent}
 use Rattle.db_image.specs.Steps.{CanShut}
-use Rattle.db_image.proofs.One.{can_shut, image_settled}
+use Rattle.db_image.proofs.One.{can_shut, image_settled, never_spent_less}
+use Rattle.fields.specs.Editions.{Edition, second_form}
 use Rattle.entries.specs.Meaning.{Meaning, IsMeaning}
-use Rattle.vault.specs.Files.{image_file, log_file, IsOurs, IsOf}
-use Rattle.vault.specs.Recovery.{records_of, Recovers, RecoversWithin, IsBase, IsNext, IsInstalledAs}
+use Rattle.vault.specs.Files.{image_file, IsOurs, IsOf}
+use Rattle.vault.specs.Recovery.{Recovers, RecoversWithin, IsBase, IsNext, IsInstalledAs}
 use Rattle.vault.specs.Images.{IsImage, StaysOlder, Replaced}
-use Rattle.vault.specs.Vaults.{State, IsGood}
-use Rattle.vault.specs.Openings.{IsSound, Calm, Opened, ImagesAre, Formatted, HadOne, PutBehind, Installed, SaysWhy}
-use Rattle.vault.proofs.Checkpointing.{replaced_since, image_apart}
+use Rattle.vault.specs.Vaults.{State, IsGoodIn}
+use Rattle.vault.specs.Openings.{form_of, Recovered, ImagesAre, Formatted, HadOne, PutBehind, Installed, SaysWhy}
+use Rattle.vault.proofs.Checkpointing.{replaced_since, image_apart, written_unspent}
 use Rattle.vault.proofs.Goodness.{image_again, image_beside, good_image, good_since}
 use Rattle.vault.proofs.Formatting.{of_ours, holds_base}
-use Rattle.vault.proofs.Sounding.{ends_log, newest_one}
+use Rattle.vault.proofs.Sounding.{within_recovers, had_one}
 use Rattle.vault.proofs.Unique.{is_formatted, not_damaged_there}
 
 -- what an answer brings, one step on
@@ -37,18 +38,21 @@ first_again generation last = inr (elim (cases_lt (generation + 1) (2 ^ 62)) [ i
 module _ {D : Type 0} (m : Meaning D) (vault : State D) (d : D) where
   -- nothing was done
   pub none_put : {T E : Type 0} (why : E) (h : History) → (let result : Result T E = Err why in PutBehind m vault d result h h)
-  none_put why h = record { goes = goes_none IsOurs h; installed = tt; since = λ few good moment files from to here. inl (good_since m (λ file. ⊥) vault h h (λ file ours no. no) (goes_none (λ file. ⊥) h) good moment files from to here) }
+  none_put why h = record { goes = goes_none IsOurs h; installed = tt; since = λ few form good moment files from to here. inl (good_since m (λ file. ⊥) vault h h (λ file ours no. no) (goes_none (λ file. ⊥) h) good moment files from to here) }
 
   -- it was behind the last generation
   pub put_again : {T E : Type 0} (result : Result T E) (old new : History) → (vault.generation + 1 < 2 ^ 62 → ⊥) → Formatted m d result old new → PutBehind m vault d result old new
   put_again (Ok done) old new last formatted = record { goes = formatted.goes; installed = λ start are. (0, first_again vault.generation last, formatted.installed); since = λ few. absurd (last few) }
   put_again (Err why) old new last formatted = record { goes = formatted.goes; installed = tt; since = λ few. absurd (last few) }
 
-  module _ (payload : List ℕ) (valid : m.Valid d) (spelled : payload ≡ m.spelled d) (old new : History) where
-    since : {U V : Type 0} (put : Result U V) → Replaced (vault.generation + 1) payload put old new → vault.generation + 1 < 2 ^ 62 → IsGood m vault old → EachImage (now old) new (λ files. RecoversWithin m files vault.database ⊎ RecoversWithin m files d)
-    since put replaced few good moment files from to here =
+  module _ (payload : List ℕ) (law : IsMeaning m) (valid : m.Valid second_form d) (spelled : payload ≡ m.spelled second_form d) (old new : History) where
+    unspent : NeverSpent Server (vault.generation + 1) payload
+    unspent = written_unspent m law (vault.generation + 1) payload d valid spelled
+
+    since : {U V : Type 0} (put : Result U V) → Replaced (vault.generation + 1) payload put old new → vault.generation + 1 < 2 ^ 62 → (form : Edition) → IsGoodIn form m vault old → EachImage (now old) new (λ files. RecoversWithin m files vault.database ⊎ RecoversWithin m files d)
+    since put replaced few form good moment files from to here =
         ⊎_elim (λ before. inl (subst (RecoversWithin m files) (sym good.gives) before)) (λ after. inr after)
-        (replaced_since m vault.generation good.base good.entries vault.end d valid payload spelled old new good.holds put replaced moment files from to here)
+        (replaced_since m vault.generation good.base good.entries vault.end d valid payload spelled unspent old new form good.holds put replaced moment files from to here)
 
     ours : {U V : Type 0} (put : Result U V) → Replaced (vault.generation + 1) payload put old new → GoesOn IsOurs old new
     ours put replaced = goes_weaker (IsOf (vault.generation + 1)) IsOurs old new (of_ours (vault.generation + 1)) replaced.goes
@@ -63,10 +67,11 @@ module _ {D : Type 0} (m : Meaning D) (vault : State D) (d : D) where
         installed start are =
             let durable : (file : ℕ) → file < 2 → standing old file ≡ settled (reads start file) = are.durable in
             let can : CanShut (standing old (image_file (vault.generation + 1))) = subst CanShut (sym (durable (image_file (vault.generation + 1)) (omega arith))) (can_shut (reads start (image_file (vault.generation + 1)))) in
-            let there = replaced.stands can in
+            let there = replaced.stands unspent can in
             let before : IsImage old (image_file vault.generation) vault.generation are.payload = record {
               firm = subst (λ s. Firm s 0 (image_bytes Server vault.generation are.payload)) (sym (durable (image_file vault.generation) (omega arith))) (image_settled (image_file vault.generation) vault.generation Server (reads start (image_file vault.generation)) are.payload are.newest.stands);
               allowed = are.newest.stands.allowed;
+              unspent = never_spent_less Server vault.generation are.payload few;
               small = are.newest.stands.small;
             } in
             holds_base m d (vault.generation + 1) new (record {
@@ -78,33 +83,26 @@ module _ {D : Type 0} (m : Meaning D) (vault : State D) (d : D) where
             })
 
 -- what is told of it, where the image is of the next generation
-module _ {D : Type 0} (m : Meaning D) (vault : State D) (d : D) (valid : m.Valid d) (x y : Option History) (next : ℕ) (payload : List ℕ) (spelled : payload ≡ m.spelled d) where
+module _ {D : Type 0} (m : Meaning D) (vault : State D) (d : D) (law : IsMeaning m) (valid : m.Valid second_form d) (x y : Option History) (next : ℕ) (payload : List ℕ) (spelled : payload ≡ m.spelled second_form d) where
   pub told_not_put : (why : OpenRefused) (failed : ℕ) → (let put : Result Log ℕ = Err failed in Told x y (Replaced next payload put)) → next ≡ vault.generation + 1 → (let result : Result (Unit {0}) OpenRefused = Err why in Told x y (PutBehind m vault d result))
   told_not_put why failed put is =
       let made : Result Log ℕ = Err failed in
       let result : Result (Unit {0}) OpenRefused = Err why in
-      told_map x y (Replaced next payload made) (PutBehind m vault d result) (λ old new replaced. not_put m vault d payload valid spelled old new why failed (subst (λ (k : ℕ). Replaced k payload made old new) is replaced)) put
+      told_map x y (Replaced next payload made) (PutBehind m vault d result) (λ old new replaced. not_put m vault d payload law valid spelled old new why failed (subst (λ (k : ℕ). Replaced k payload made old new) is replaced)) put
 
   pub told_put : (done : Unit {0}) (log : Log) → (let put : Result Log ℕ = Ok log in Told x y (Replaced next payload put)) → next ≡ vault.generation + 1 → vault.generation + 1 < 2 ^ 62 → (let result : Result (Unit {0}) OpenRefused = Ok done in Told x y (PutBehind m vault d result))
   told_put done log put is few =
       let made : Result Log ℕ = Ok log in
       let result : Result (Unit {0}) OpenRefused = Ok done in
-      told_map x y (Replaced next payload made) (PutBehind m vault d result) (λ old new replaced. is_put m vault d payload valid spelled old new done log few (subst (λ (k : ℕ). Replaced k payload made old new) is replaced)) put
+      told_map x y (Replaced next payload made) (PutBehind m vault d result) (λ old new replaced. is_put m vault d payload law valid spelled old new done log few (subst (λ (k : ℕ). Replaced k payload made old new) is replaced)) put
 
 module _ {D : Type 0} (m : Meaning D) (law : IsMeaning m) (d : D) (old mid new : History) where
-  -- while it was read each image was one of the start
-  had_one : (h : History) → Calm old h → IsSound m old → EachImage (now old) h (HadOne m old)
-  had_one h calm sound moment files from to here =
-      let start = calm.images moment files from to here in
-      let is = sound files start in
-      record { database = is.0; recovers = is.1; start = files; left = start; same = is.1 }
-
-  pub installed_behind : {T E : Type 0} (vault : State D) (result : Result T E) → (let opening : Result (State D) OpenRefused = Ok vault in Opened m opening old mid) → PutBehind m vault d result mid new → Installed m d result old new
-  installed_behind vault result opened put = record {
+  pub installed_behind : {T E : Type 0} (vault : State D) (first : Bool) (result : Result T E) → (let opening : Result (State D × Bool) OpenRefused = Ok (vault, first) in Recovered m opening old mid) → PutBehind m vault d result mid new → Installed m d result old new
+  installed_behind vault first result opened put = record {
     goes = goes_then IsOurs old mid new opened.calm.goes put.goes;
     installed = on_ok result (λ f. as_next (f old opened.images)) put.installed;
     since = λ sound few.
-        each_then IsOurs old mid new (λ files. HadOne m old files ⊎ RecoversWithin m files d) put.goes (λ moment files from to here. inl (had_one mid opened.calm sound moment files from to here))
+        each_then IsOurs old mid new (λ files. HadOne m old files ⊎ RecoversWithin m files d) put.goes (λ moment files from to here. inl (had_one m old mid opened.calm sound moment files from to here))
         (λ moment files from to here. ⊎_elim
         (λ before. inl (record {
           database = vault.database;
@@ -114,21 +112,20 @@ module _ {D : Type 0} (m : Meaning D) (law : IsMeaning m) (d : D) (old mid new :
           same = good_image m vault mid (reads mid) (opened.good sound) (image_reads mid);
         }))
         (λ after. inr after)
-        (put.since (few vault.generation opened.images.payload opened.images.newest) (opened.good sound) moment files from to here));
+        (put.since (few vault.generation opened.images.payload opened.images.newest) (form_of first) (opened.good sound) moment files from to here));
   }
     where
       as_next : (next : ℕ) × IsNext vault.generation next × EachImage (now new) new (IsBase m next d) → (next : ℕ) × IsInstalledAs m (reads old) next × EachImage (now new) new (IsBase m next d)
       as_next is =
-          let recovers : Recovers m (reads old) vault.database = opened.recovers in
-          let same : recovers.generation ≡ vault.generation = (newest_one (reads old) recovers.generation vault.generation (m.spelled recovers.base) opened.images.payload recovers.newest opened.images.newest).0 in
-          (is.0, inl (vault.database, recovers, subst (λ (g : ℕ). IsNext g is.0) (sym same) is.1), is.2)
+          let recovers : Recovers m (reads old) vault.database = opened.recovers.0 in
+          (is.0, inl (vault.database, recovers, subst (λ (g : ℕ). IsNext g is.0) (sym opened.recovers.2) is.1), is.2)
 
-  pub installed_again : {T E : Type 0} (refusal : OpenRefused) (result : Result T E) → (((e : D) → Recovers m (reads old) e → SaysWhy m (reads old) refusal → ⊥)) → (let opening : Result (State D) OpenRefused = Err refusal in Opened m opening old mid) → Formatted m d result mid new → Installed m d result old new
+  pub installed_again : {T E : Type 0} (refusal : OpenRefused) (result : Result T E) → (((e : D) → Recovers m (reads old) e → SaysWhy m (reads old) refusal → ⊥)) → (let opening : Result (State D × Bool) OpenRefused = Err refusal in Recovered m opening old mid) → Formatted m d result mid new → Installed m d result old new
   installed_again refusal result none opened formatted = record {
     goes = goes_then IsOurs old mid new opened.calm.goes formatted.goes;
     installed = on_ok result (λ each. (0, inr ((λ e recovers. none e recovers opened.says), refl), each)) formatted.installed;
     since = λ sound few. absurd (let is = sound (reads old) (image_reads old) in
-        none is.0 (record { generation = is.1.generation; base = is.1.base; entries = is.1.entries; valid = is.1.valid; newest = is.1.newest; log = ends_log (reads old (log_file is.1.generation)) (records_of is.1.entries) is.1.log; legal = is.1.legal; gives = is.1.gives }) opened.says);
+        none is.0 (within_recovers m (reads old) is.0 is.1) opened.says);
   }
 
   pub not_formatted : (e : D) → Recovers m (reads old) e → SaysWhy m (reads old) NotFormatted → ⊥
@@ -138,7 +135,7 @@ module _ {D : Type 0} (m : Meaning D) (law : IsMeaning m) (d : D) (old mid new :
   not_damaged file at e recovers says = not_damaged_there m law (reads old) e recovers file at says
 
 -- the files couldn't be read
-pub not_read : {D T E : Type 0} (m : Meaning D) (d : D) (why : E) (refusal : OpenRefused) (old new : History) → (let opening : Result (State D) OpenRefused = Err refusal in Opened m opening old new) → (let result : Result T E = Err why in Installed m d result old new)
+pub not_read : {D T E : Type 0} (m : Meaning D) (d : D) (why : E) (refusal : OpenRefused) (old new : History) → (let opening : Result (State D × Bool) OpenRefused = Err refusal in Recovered m opening old new) → (let result : Result T E = Err why in Installed m d result old new)
 not_read m d why refusal old new opened = record {
   goes = opened.calm.goes;
   installed = tt;

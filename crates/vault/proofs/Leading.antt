@@ -17,7 +17,8 @@ use Rattle.db_image.specs.declared.phase.Progress.TheVariants.{More, Done}
 use Rattle.db_image.specs.Steps.{FirmShut, KeepsShut}
 use Rattle.entries.specs.declared.entry.Entry.{Entry}
 use Rattle.entries.specs.EntryForm.{entry}
-use Rattle.entries.specs.Meaning.{Meaning}
+use Rattle.fields.specs.Editions.{second_form}
+use Rattle.entries.specs.Meaning.{Meaning, IsMeaning}
 use Rattle.vault.specs.Files.{image_file, log_file, IsOurs, IsOf}
 use Rattle.vault.specs.Recovery.{Older, Newest, records_of, after_all, AllLegal, RecoversWithin}
 use Rattle.vault.specs.Images.{StaysOlder}
@@ -26,7 +27,7 @@ use Rattle.vault.specs.Vaults.{State, Holds, IsGood, IsHeld, IsPending, all_forc
 use Rattle.vault.proofs.Leaving.{either_after}
 use Rattle.vault.proofs.Goodness.{image_again, image_left, image_beside, older_left, newest_left, held_since, held_is}
 use Rattle.vault.proofs.Committing.{good_held, log_goes}
-use Rattle.vault.proofs.Checkpointing.{of_ours, image_apart, log_apart}
+use Rattle.vault.proofs.Checkpointing.{of_ours, image_apart, log_apart, written_unspent}
 use Rattle.vault.proofs.Piecing.{between_all}
 
 -- the records of entries, oldest first
@@ -62,12 +63,13 @@ module _ {D : Type 0} (m : Meaning D) (vault : State D) (old new : History) (goe
     closed_recovers : (moment : ℕ) (files : ℕ → List ℕ) → now old ≤ moment → moment ≤ now new → ImageAt new moment files → IsClosed (files (image_file (vault.generation + 1))) → RecoversWithin m files durable
     closed_recovers moment files from to here closed =
         subst (RecoversWithin m files) (sym held.gives) (record {
+          form = second_form;
           generation = vault.generation;
           base = held.base;
           entries = held.entries;
           valid = held.holds.valid;
           newest = record {
-            stands = image_left old (image_file vault.generation) vault.generation (m.spelled held.base) (files (image_file vault.generation)) held.holds.image (goes_images (IsOf (vault.generation + 1)) old new (image_file vault.generation) (image_apart vault.generation) goes moment files from to here);
+            stands = image_left old (image_file vault.generation) vault.generation (m.spelled second_form held.base) (files (image_file vault.generation)) held.holds.image (goes_images (IsOf (vault.generation + 1)) old new (image_file vault.generation) (image_apart vault.generation) goes moment files from to here);
             other = inl closed;
           };
           log = sure_since (IsOf (vault.generation + 1)) old new (log_file vault.generation) (records_of held.entries) vault.sure (log_apart vault.generation) goes held.holds.log moment files from to here;
@@ -83,7 +85,7 @@ module _ {D : Type 0} (m : Meaning D) (vault : State D) (old new : History) (goe
           entries = held.entries;
           waiting = held.waiting;
           holds = record {
-            image = image_beside (IsOf (vault.generation + 1)) old new goes (image_file vault.generation) vault.generation (m.spelled held.base) (image_apart vault.generation) held.holds.image;
+            image = image_beside (IsOf (vault.generation + 1)) old new goes (image_file vault.generation) vault.generation (m.spelled second_form held.base) (image_apart vault.generation) held.holds.image;
             other = inl shut;
             log = log;
             valid = held.holds.valid;
@@ -114,8 +116,8 @@ module _ {D : Type 0} (m : Meaning D) (vault : State D) (old new : History) (goe
       goes = goes_ours;
       leads = λ durable snapshot held is.
           let which : is.pending ≡ pending = same_pending m vault snapshot old is pending there in
-          let stood : StandsAt (vault.generation + 1) (m.spelled snapshot) vault.journal pending old = subst (λ (p : Pending). StandsAt (vault.generation + 1) (m.spelled snapshot) vault.journal p old) which is.stands in
-          let stands = on (m.spelled snapshot) stood in
+          let stood : StandsAt (vault.generation + 1) (m.spelled second_form snapshot) vault.journal pending old = subst (λ (p : Pending). StandsAt (vault.generation + 1) (m.spelled second_form snapshot) vault.journal p old) which is.stands in
+          let stands = on (m.spelled second_form snapshot) stood in
           let starts : is.pending.start ≡ last.start = ap (λ (p : Pending). p.start) which ∙ sym same in
           subst (λ (v : State D). IsPending m v snapshot new × IsHeld m v durable new) (sym is_after) (
             record {
@@ -224,7 +226,7 @@ module _ {D : Type 0} (m : Meaning D) (vault middle : State D) (is_middle : midd
 
 -- an image of now has the newest image and its log
 pub holds_made : {D : Type 0} (m : Meaning D) (generation : ℕ) (base : D) (entries : List Entry) (end : ℕ) (h : History) → Holds m generation base entries end h
-    → EachImage (now h) h (λ files. Newest files generation (m.spelled base) × LogEnds (files (log_file generation)) (records_of entries))
+    → EachImage (now h) h (λ files. Newest files generation (m.spelled second_form base) × LogEnds (files (log_file generation)) (records_of entries))
 holds_made m generation base entries end h holds moment files from to here =
     let there = now_image h files (subst (λ k. ImageAt h k files) (let e : moment ≡ now h = omega (arith, from, to) in e) here) in (
       newest_left m generation base entries end h files holds (there (image_file generation)) (older_left generation (image_file (generation + 1)) h (files (image_file (generation + 1))) holds.other (there (image_file (generation + 1)))),
@@ -265,8 +267,8 @@ module _ {D : Type 0} (m : Meaning D) (vault : State D) (pending : Pending) (the
     which : is.pending ≡ pending
     which = same_pending m vault snapshot old is pending there
 
-    stood : StandsAt (vault.generation + 1) (m.spelled snapshot) vault.journal pending old
-    stood = subst (λ (p : Pending). StandsAt (vault.generation + 1) (m.spelled snapshot) vault.journal p old) which is.stands
+    stood : StandsAt (vault.generation + 1) (m.spelled second_form snapshot) vault.journal pending old
+    stood = subst (λ (p : Pending). StandsAt (vault.generation + 1) (m.spelled second_form snapshot) vault.journal p old) which is.stands
 
     legal_behind : AllLegal m snapshot (reverse (drop pending.start vault.journal))
     legal_behind = subst (λ (p : Pending). AllLegal m snapshot (reverse (drop p.start vault.journal))) which is.legal
@@ -279,6 +281,7 @@ module _ {D : Type 0} (m : Meaning D) (vault : State D) (pending : Pending) (the
         ⊎_elim
         (λ closed. inl (closed_recovers m vault old new finished.goes durable held moment files from to here closed))
         (λ both. inr (record {
+          form = second_form;
           generation = vault.generation + 1;
           base = snapshot;
           entries = reverse (drop pending.start vault.journal);
@@ -287,16 +290,16 @@ module _ {D : Type 0} (m : Meaning D) (vault : State D) (pending : Pending) (the
             stands = both.0;
             other = subst (λ (n : ℕ). Older (vault.generation + 1) n (files n)) (sym (image_again vault.generation)) (inr (
               vault.generation,
-              m.spelled held.base,
-              image_left old (image_file vault.generation) vault.generation (m.spelled held.base) (files (image_file vault.generation)) held.holds.image (goes_images (IsOf (vault.generation + 1)) old new (image_file vault.generation) (image_apart vault.generation) finished.goes moment files from to here),
+              m.spelled second_form held.base,
+              image_left old (image_file vault.generation) vault.generation (m.spelled second_form held.base) (files (image_file vault.generation)) held.holds.image (goes_images (IsOf (vault.generation + 1)) old new (image_file vault.generation) (image_apart vault.generation) finished.goes moment files from to here),
               omega arith,
             ));
           };
-          log = subst (λ (l : List (List ℕ)). LogEnds (files (log_file (vault.generation + 1))) l) (all_copied (m.spelled snapshot) stood) both.1;
+          log = subst (λ (l : List (List ℕ)). LogEnds (files (log_file (vault.generation + 1))) l) (all_copied (m.spelled second_form snapshot) stood) both.1;
           legal = legal_behind;
           gives = gives_behind;
         }))
-        (finished.since (m.spelled snapshot) vault.journal stood moment files from to here)
+        (finished.since (m.spelled second_form snapshot) vault.journal stood moment files from to here)
 
     left_close : IsLeft (RecoversToEither m durable vault.database) new
     left_close = either_after m IsOurs durable vault.database old new (goes_ours m vault old new finished.goes) since_close
@@ -307,16 +310,16 @@ module _ {D : Type 0} (m : Meaning D) (vault : State D) (pending : Pending) (the
   module _ {F : Type 0} (last : log.State) (finished : (let result : Result log.State F = Ok last in Finished (vault.generation + 1) pending result old new)) (durable snapshot : D) (held : IsHeld m vault durable old) (is : IsPending m vault snapshot old) where
     holds_done : Holds m (vault.generation + 1) snapshot (reverse (drop pending.start vault.journal)) last.end new
     holds_done =
-        let stands = finished.stands (m.spelled snapshot) vault.journal (stood (Ok last) finished durable snapshot held is) in
+        let stands = finished.stands (m.spelled second_form snapshot) vault.journal (stood (Ok last) finished durable snapshot held is) in
         record {
           image = stands.0;
           other = subst (λ (n : ℕ). StaysOlder (vault.generation + 1) n new) (sym (image_again vault.generation)) (inr (
             vault.generation,
-            m.spelled held.base,
-            image_beside (IsOf (vault.generation + 1)) old new finished.goes (image_file vault.generation) vault.generation (m.spelled held.base) (image_apart vault.generation) held.holds.image,
+            m.spelled second_form held.base,
+            image_beside (IsOf (vault.generation + 1)) old new finished.goes (image_file vault.generation) vault.generation (m.spelled second_form held.base) (image_apart vault.generation) held.holds.image,
             omega arith,
           ));
-          log = subst (λ (l : List (List ℕ)). IsSure new (log_file (vault.generation + 1)) l last.end) (all_copied (m.spelled snapshot) (stood (Ok last) finished durable snapshot held is)) stands.1;
+          log = subst (λ (l : List (List ℕ)). IsSure new (log_file (vault.generation + 1)) l last.end) (all_copied (m.spelled second_form snapshot) (stood (Ok last) finished durable snapshot held is)) stands.1;
           valid = is.valid;
           legal = legal_behind (Ok last) finished durable snapshot held is;
         }
@@ -359,7 +362,7 @@ pub begins_not_forced : {D T U E : Type 0} (m : Meaning D) (vault after : State 
 begins_not_forced m vault after why old new forces = record { goes = log_goes vault.generation old new forces.goes; begun = tt; since = forces.since; left = forces.left }
 
 -- its image was begun
-module _ {D : Type 0} (m : Meaning D) (vault : State D) (payload : List ℕ) (spelled_so : payload ≡ m.spelled vault.database) (made : ℕ) (old new : History) where
+module _ {D : Type 0} (m : Meaning D) (vault : State D) (payload : List ℕ) (spelled_so : payload ≡ m.spelled second_form vault.database) (made : ℕ) (old new : History) where
   module _ {E : Type 0} (result : Result Pending E) (starts : Starts (vault.generation + 1) payload made result old new) where
     goes_starts : GoesOn IsOurs old new
     goes_starts = goes_weaker (IsOf (vault.generation + 1)) IsOurs old new (of_ours (vault.generation + 1)) starts.goes
@@ -367,12 +370,13 @@ module _ {D : Type 0} (m : Meaning D) (vault : State D) (payload : List ℕ) (sp
     since_starts : IsGood m vault old → EachImage (now old) new (λ files. RecoversWithin m files vault.database)
     since_starts good moment files from to here =
         subst (RecoversWithin m files) (sym good.gives) (record {
+          form = second_form;
           generation = vault.generation;
           base = good.base;
           entries = good.entries;
           valid = good.holds.valid;
           newest = record {
-            stands = image_left old (image_file vault.generation) vault.generation (m.spelled good.base) (files (image_file vault.generation)) good.holds.image (goes_images (IsOf (vault.generation + 1)) old new (image_file vault.generation) (image_apart vault.generation) starts.goes moment files from to here);
+            stands = image_left old (image_file vault.generation) vault.generation (m.spelled second_form good.base) (files (image_file vault.generation)) good.holds.image (goes_images (IsOf (vault.generation + 1)) old new (image_file vault.generation) (image_apart vault.generation) starts.goes moment files from to here);
             other = starts.since vault.generation good.holds.other moment files from to here;
           };
           log = sure_since (IsOf (vault.generation + 1)) old new (log_file vault.generation) (records_of good.entries) vault.end (log_apart vault.generation) starts.goes good.holds.log moment files from to here;
@@ -383,23 +387,23 @@ module _ {D : Type 0} (m : Meaning D) (vault : State D) (payload : List ℕ) (sp
   pub start_failed : {T E F : Type 0} (failed : F) (why : E) (after : State D) → (let result : Result Pending F = Err failed in Starts (vault.generation + 1) payload made result old new) → (let result : Result T E = Err why in Started m vault result after old new)
   start_failed failed why after starts = record { goes = goes_starts (Err failed) starts; begun = tt; since = since_starts (Err failed) starts }
 
-  pub start_made : {T E F : Type 0} (pending : Pending) (begun : T) (after : State D) → m.Valid vault.database → made ≡ length vault.journal → pending.start ≡ made → after ≡ with_pending vault (Some pending) → (let result : Result Pending F = Ok pending in Starts (vault.generation + 1) payload made result old new)
+  pub start_made : {T E F : Type 0} (pending : Pending) (begun : T) (after : State D) → IsMeaning m → m.Valid second_form vault.database → made ≡ length vault.journal → pending.start ≡ made → after ≡ with_pending vault (Some pending) → (let result : Result Pending F = Ok pending in Starts (vault.generation + 1) payload made result old new)
       → (let result : Result T E = Ok begun in Started m vault result after old new)
-  start_made {T} {E} {F} pending begun after valid all same is_after starts = record {
+  start_made {T} {E} {F} pending begun after law valid all same is_after starts = record {
     goes = goes_starts {E = F} (Ok pending) starts;
     begun = λ good. subst (λ (v : State D). IsGood m v new × IsPending m v vault.database new) (sym is_after) (good_new good, pending_new good);
     since = since_starts {E = F} (Ok pending) starts;
   }
     where
-      stands : IsGood m vault old → StandsAt (vault.generation + 1) (m.spelled vault.database) vault.journal pending new
-      stands good = subst (λ (l : List ℕ). StandsAt (vault.generation + 1) l vault.journal pending new) spelled_so (starts.stands vault.generation vault.journal good.holds.other all)
+      stands : IsGood m vault old → StandsAt (vault.generation + 1) (m.spelled second_form vault.database) vault.journal pending new
+      stands good = subst (λ (l : List ℕ). StandsAt (vault.generation + 1) l vault.journal pending new) spelled_so (starts.stands vault.generation vault.journal (written_unspent m law (vault.generation + 1) payload vault.database valid spelled_so) good.holds.other all)
 
       good_new : IsGood m vault old → IsGood m (with_pending vault (Some pending)) new
       good_new good = record {
         base = good.base;
         entries = good.entries;
         holds = record {
-          image = image_beside (IsOf (vault.generation + 1)) old new starts.goes (image_file vault.generation) vault.generation (m.spelled good.base) (image_apart vault.generation) good.holds.image;
+          image = image_beside (IsOf (vault.generation + 1)) old new starts.goes (image_file vault.generation) vault.generation (m.spelled second_form good.base) (image_apart vault.generation) good.holds.image;
           other = inl (stands good).shut;
           log = sure_beside (IsOf (vault.generation + 1)) old new (log_file vault.generation) (records_of good.entries) vault.end (log_apart vault.generation) starts.goes good.holds.log;
           valid = good.holds.valid;

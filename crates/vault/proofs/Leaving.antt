@@ -10,7 +10,7 @@ use Rattle.db_image.specs.declared.mark.Mark.TheVariants.{Server}
 use Rattle.db_image.specs.Images.{HasImage}
 use Rattle.entries.specs.Meaning.{Meaning}
 use Rattle.vault.specs.Files.{image_file, log_file, IsOurs}
-use Rattle.vault.specs.Recovery.{Older, records_of, RecoversWithin}
+use Rattle.vault.specs.Recovery.{Older, records_in, RecoversWithin}
 use Rattle.vault.specs.Vaults.{State, IsGood, IsLeft, RecoversToEither}
 use Rattle.vault.proofs.Goodness.{image_ours, log_ours, good_left}
 
@@ -43,15 +43,16 @@ module _ {D : Type 0} (m : Meaning D) where
   -- what files recover to, the vault's files say
   one_ours : (d : D) → OfOurs (λ files. RecoversWithin m files d)
   one_ours d files others same r = record {
+    form = r.form;
     generation = r.generation;
     base = r.base;
     entries = r.entries;
     valid = r.valid;
     newest = record {
-      stands = subst (λ (b : List ℕ). HasImage (image_file r.generation) Server b r.generation (m.spelled r.base)) (same (image_file r.generation) (image_ours r.generation)) r.newest.stands;
+      stands = subst (λ (b : List ℕ). HasImage (image_file r.generation) Server b r.generation (m.spelled r.form r.base)) (same (image_file r.generation) (image_ours r.generation)) r.newest.stands;
       other = subst (λ (b : List ℕ). Older r.generation (image_file (r.generation + 1)) b) (same (image_file (r.generation + 1)) (image_ours (r.generation + 1))) r.newest.other;
     };
-    log = subst (λ (b : List ℕ). LogEnds b (records_of r.entries)) (same (log_file r.generation) (log_ours r.generation)) r.log;
+    log = subst (λ (b : List ℕ). LogEnds b (records_in r.form r.entries)) (same (log_file r.generation) (log_ours r.generation)) r.log;
     legal = r.legal;
     gives = r.gives;
   }

@@ -12,6 +12,8 @@ mod Leading
 mod Piecing
 mod Replacing
 mod Replaying
+pub mod Resting
+mod Rewriting
 pub mod Sounding
 mod Stepping
 mod Telling

@@ -19,11 +19,12 @@ use Rattle.log_file.proofs.Logs.{sure_beside, sure_since}
 use Rattle.db_image.specs.declared.phase.Phase.{Phase}
 use Rattle.db_image.specs.declared.phase.Phase.TheVariants.{Begun, Written, Durable, Open, Failed as Stuck}
 use Rattle.db_image.specs.declared.mark.Mark.TheVariants.{Server}
-use Rattle.db_image.specs.Images.{HasImage}
+use Rattle.db_image.specs.Images.{HasImage, NeverSpent}
 use Rattle.db_image.specs.Steps.{Job, FirmShut, Underway, UnderwayAs, KeepsShut, IsWriting, Stepped, at_phase, further, written_to}
 use Rattle.db_image.proofs.One.{stands_image, underway_beside}
 use Rattle.entries.specs.declared.entry.Entry.{Entry}
 use Rattle.entries.specs.EntryForm.{entry}
+use Rattle.fields.specs.Editions.{second_form}
 use Rattle.entries.specs.Meaning.{Meaning, IsLegal}
 use Rattle.vault.specs.Files.{image_file, log_file, IsOurs, IsOf}
 use Rattle.vault.specs.Images.{StaysOlder}
@@ -88,6 +89,7 @@ pub stands_beside : (generation : ℕ) (payload : List ℕ) (journal : List Entr
     → StandsAt generation payload journal pending old → StandsAt generation payload journal pending new
 stands_beside generation payload journal pending theirs old new image_apart log_apart goes at = record {
   few = at.few;
+  unspent = at.unspent;
   small = at.small;
   job = at.job;
   underway = underway_beside theirs old new goes pending.job.phase pending.job (λ is. image_apart (subst theirs (ap (λ (j : Job). j.file) at.job) is)) at.underway;
@@ -101,6 +103,7 @@ stands_beside generation payload journal pending theirs old new image_apart log_
 pub stands_more : (generation : ℕ) (payload : List ℕ) (journal more : List Entry) (pending : Pending) (h : History) → StandsAt generation payload journal pending h → StandsAt generation payload (journal ++ more) pending h
 stands_more generation payload journal more pending h at = record {
   few = at.few;
+  unspent = at.unspent;
   small = at.small;
   job = at.job;
   underway = at.underway;
@@ -152,6 +155,7 @@ module _ (generation : ℕ) (pending : Pending) (orderly : IsOrderly generation 
     goes = goes_piece (Ok answer) step;
     stands = λ payload journal at. record {
       few = at.few;
+      unspent = at.unspent;
       small = at.small;
       job = is ∙ ap (λ (j : Job). at_phase job.phase j) at.job;
       underway = step.underway at.underway;
@@ -173,6 +177,7 @@ log_begun generation pending file is_log its old new made done none ends created
   goes = goes_gen generation file is_log old new created.goes;
   stands = λ payload journal at. record {
     few = at.few;
+    unspent = at.unspent;
     small = at.small;
     job = at.job;
     underway = under_log generation file is_log old new created.goes payload pending.job at.job at.underway;
@@ -257,9 +262,10 @@ module _ (generation : ℕ) (payload : List ℕ) (made : ℕ) (few : generation 
         (shut_mid job first begun_phase (ap (λ (j : Job). j.file) is_first) (ap (λ (j : Job). j.phase) is_first ∙ ap (λ (j : Job). written_to 65536 (length j.payload)) (sym is_job)) answer old mid mid step bound
         (subst (λ (n : ℕ). StaysOlder bound n old) (sym at_file) stays))
 
-    stands_first : (bound : ℕ) (journal : List Entry) → StaysOlder bound (image_file generation) old → made ≡ length journal → StandsAt generation payload journal (record { job = first; start = made; copied = made; log = None }) mid
-    stands_first bound journal stays all = record {
+    stands_first : (bound : ℕ) (journal : List Entry) → NeverSpent Server generation payload → StaysOlder bound (image_file generation) old → made ≡ length journal → StandsAt generation payload journal (record { job = first; start = made; copied = made; log = None }) mid
+    stands_first bound journal unspent stays all = record {
       few = few;
+      unspent = unspent;
       small = omega (arith, short);
       job = is_first ∙ ap (λ (j : Job). at_phase (written_to 65536 (length payload)) j) is_job ∙ ap (job_of generation payload) (sym (ap (λ (j : Job). j.phase) is_first));
       underway = step.underway (subst (λ (p : Phase). UnderwayAs p job old) (sym begun_phase) (can_shut bound job.file old (subst (λ (n : ℕ). StaysOlder bound n old) (sym at_file) stays)));
@@ -284,7 +290,7 @@ module _ (generation : ℕ) (payload : List ℕ) (made : ℕ) (few : generation 
     pub started : {U E F : Type 0} (next : Pending) (done : U) → (let result : Result U E = Ok done in Furthered generation (record { job = first; start = made; copied = made; log = None }) next result mid new) → (let result : Result Pending F = Ok next in Starts generation payload made result old new)
     started {U} {E} next done further = record {
       goes = goes_further {E = E} next (Ok done) further;
-      stands = λ bound journal stays all. further.stands payload journal (stands_first bound journal stays all);
+      stands = λ bound journal unspent stays all. further.stands payload journal (stands_first bound journal unspent stays all);
       since = since_further {E = E} next (Ok done) further;
     }
 
@@ -298,6 +304,7 @@ log_extended generation pending before its is_log batch place old new there ends
       let written = copied.written (records_between journal pending.start pending.copied) (records_between journal pending.copied place) (subst (λ (n : ℕ). IsWritten old n (records_between journal pending.start pending.copied) before.end) (sym is_log) was) is fits in
       record {
         few = at.few;
+        unspent = at.unspent;
         small = at.small;
         job = at.job;
         underway = under_log generation before.file is_log old new copied.goes payload pending.job at.job at.underway;
@@ -349,7 +356,7 @@ module _ (generation : ℕ) (pending : Pending) (orderly : IsOrderly generation 
           ⊎_elim
           (λ closed. inl (subst (λ (j : Job). IsClosed (image j.file)) at.job closed))
           (λ stands. inr (
-            stands_image (image_file generation) generation Server (image (image_file generation)) payload (at.few, refl) at.small
+            stands_image (image_file generation) generation Server (image (image_file generation)) payload (at.few, refl) at.unspent at.small
                 (subst (λ (j : Job). Rattle.store_api.specs.Runs.Stands (image j.file) 0 (Rattle.db_image.specs.Images.image_bytes j.mark j.number j.payload)) at.job stands),
             log,
           ))
@@ -376,6 +383,7 @@ module _ (generation : ℕ) (pending : Pending) (orderly : IsOrderly generation 
       record {
         firm = subst (λ (j : Job). Underway j new) (is ∙ ap (λ (j : Job). at_phase Open j) at.job) (step.underway (under_mid payload journal at));
         allowed = (at.few, refl);
+        unspent = at.unspent;
         small = at.small;
       },
       subst (λ (n : ℕ). IsSure new (log_file generation) (records_between journal pending.start pending.copied) n) (sym ends)
@@ -437,7 +445,7 @@ module _ {D : Type 0} (m : Meaning D) (vault : State D) (old new : History) (goe
     pending = is.pending;
     is = is.is;
     valid = is.valid;
-    stands = stands_more (vault.generation + 1) (m.spelled snapshot) vault.journal (e ∷ []) is.pending new (stands_new (m.spelled snapshot) is.pending is.stands);
+    stands = stands_more (vault.generation + 1) (m.spelled second_form snapshot) vault.journal (e ∷ []) is.pending new (stands_new (m.spelled second_form snapshot) is.pending is.stands);
     legal = subst (λ (l : List Entry). AllLegal m snapshot l) (sym more) (fits, subst (λ (d : D). IsLegal m d e) is.gives legal, is.legal);
     gives = ap (λ (d : D). m.after d e) is.gives ∙ ap (after_all m snapshot) (sym more);
   }
@@ -450,7 +458,7 @@ module _ {D : Type 0} (m : Meaning D) (vault : State D) (old new : History) (goe
     pending = is.pending;
     is = is.is;
     valid = is.valid;
-    stands = stands_new (m.spelled snapshot) is.pending is.stands;
+    stands = stands_new (m.spelled second_form snapshot) is.pending is.stands;
     legal = is.legal;
     gives = is.gives;
   }
@@ -488,7 +496,7 @@ pending_beside m theirs vault snapshot old new apart goes is = record {
   is = is.is;
   valid = is.valid;
   stands =
-      stands_beside (vault.generation + 1) (m.spelled snapshot) vault.journal is.pending theirs old new (apart (image_file (vault.generation + 1)) (image_ours (vault.generation + 1))) (apart (log_file (vault.generation + 1)) (log_ours (vault.generation + 1))) goes is.stands;
+      stands_beside (vault.generation + 1) (m.spelled second_form snapshot) vault.journal is.pending theirs old new (apart (image_file (vault.generation + 1)) (image_ours (vault.generation + 1))) (apart (log_file (vault.generation + 1)) (log_ours (vault.generation + 1))) goes is.stands;
   legal = is.legal;
   gives = is.gives;
 }

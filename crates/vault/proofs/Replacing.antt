@@ -14,7 +14,7 @@ use Rattle.log_file.proofs.Logs.{sure_beside, sure_since}
 use Rattle.db_image.specs.declared.mark.Mark.TheVariants.{Server}
 use Rattle.db_image.specs.declared.phase.Phase.{Phase}
 use Rattle.db_image.specs.declared.phase.Phase.TheVariants.{Begun, Written, Durable, Open, Failed as Stuck}
-use Rattle.db_image.specs.Images.{image_bytes, body_bytes}
+use Rattle.db_image.specs.Images.{image_bytes, body_bytes, NeverSpent}
 use Rattle.db_image.specs.Steps.{Job, FirmShut, CanShut, Underway, UnderwayAs, KeepsShut, OldOrShut, IsWriting, Stepped, at_phase, further, written_to}
 use Rattle.db_image.proofs.Gates.{is_shut}
 use Rattle.db_image.proofs.One.{stands_image, underway_beside}
@@ -36,7 +36,7 @@ pub each_older : (bound file : ℕ) (old new : History) → StaysOlder bound fil
 each_older bound file old new (inl shut) keeps older = each_weaker (now old) new _ _ (λ image closed. inl closed) (keeps shut).1
 each_older bound file old new (inr there) keeps older =
     each_weaker (now old) new (λ files. IsClosed (files file) ⊎ _) (λ files. Older bound file (files file))
-    (λ image has. elim has [ inl closed ↦ inl closed | inr stands ↦ inr (there.0, there.1, stands_image file there.0 Server (image file) there.1 there.2.allowed there.2.small stands, there.3) ]) (older (body_bytes Server there.0 there.1) there.2.firm)
+    (λ image has. elim has [ inl closed ↦ inl closed | inr stands ↦ inr (there.0, there.1, stands_image file there.0 Server (image file) there.1 there.2.allowed there.2.unspent there.2.small stands, there.3) ]) (older (body_bytes Server there.0 there.1) there.2.firm)
 
 -- an image that is being written has its gate shut for good
 under_shut : (phase : Phase) (job : Job) (len began moment : ℕ) (h : History) → IsPaced phase len began moment → UnderwayAs phase job h → FirmShut (standing h job.file)
@@ -127,7 +127,7 @@ module _ (generation : ℕ) (payload : List ℕ) where
         (subst (λ (j : Job). EachImage (now old) new (λ files. Older bound j.file (files j.file))) is (wrote.since bound (subst (λ (j : Job). StaysOlder bound j.file old) (sym is) stays)))
 
     pub not_written : {T E : Type 0} (failed : Failed) (why : E) (old new : History) → (let first : Result (Unit {0}) Failed = Err failed in Wrote job first old new) → (let result : Result T E = Err why in Replaced generation payload result old new)
-    not_written failed why old new wrote = record { goes = first_goes (Err failed) old new wrote; stands = tt; since = first_since (Err failed) old new wrote }
+    not_written failed why old new wrote = record { goes = first_goes (Err failed) old new wrote; stands = tt; since = λ bound unspent. first_since (Err failed) old new wrote bound }
 
     module _ (old mid : History) (wrote : (let first : Result (Unit {0}) Failed = Ok tt in Wrote job first old mid)) where
       durable_mid : CanShut (standing old (image_file generation)) → UnderwayAs Durable (first_job generation payload) mid
@@ -156,7 +156,7 @@ module _ (generation : ℕ) (payload : List ℕ) where
             (each_weaker (now mid) next (λ files. IsClosed (files (image_file generation))) _ (λ image closed. inl (inl closed)) (shut_since bound stays))
 
         pub not_created : {T E : Type 0} (why : E) → (let result : Result T E = Err why in Replaced generation payload result old next)
-        not_created why = record { goes = goes_next; stands = tt; since = since_next }
+        not_created why = record { goes = goes_next; stands = tt; since = λ bound unspent. since_next bound }
 
         durable_next : CanShut (standing old (image_file generation)) → UnderwayAs Durable (first_job generation payload) next
         durable_next can = underway_beside (λ other. other ≡ log_file generation) mid next begins_goes Durable (first_job generation payload) (λ e. apart (sym e)) (durable_mid can)
@@ -180,13 +180,13 @@ module _ (generation : ℕ) (payload : List ℕ) where
                 subst (λ (j : Job). EachImage (now next) new (λ files. IsClosed (files j.file) ⊎ Stands (files j.file) 0 (image_bytes j.mark j.number j.payload))) at_durable
                 (step.opening (ap (λ (j : Job). j.phase) at_durable) (subst (λ (j : Job). Underway j next) (sym at_durable) (durable_next (can_shut bound (image_file generation) old stays))))
 
-            since_new : (bound : ℕ) → StaysOlder bound (image_file generation) old → EachImage (now old) new (λ files. Older bound (image_file generation) (files (image_file generation)) ⊎ IsBegun generation payload files)
-            since_new bound stays =
+            since_new : (bound : ℕ) → NeverSpent Server generation payload → StaysOlder bound (image_file generation) old → EachImage (now old) new (λ files. Older bound (image_file generation) (files (image_file generation)) ⊎ IsBegun generation payload files)
+            since_new bound unspent stays =
                 each_then (IsOf generation) old next new (λ files. Older bound (image_file generation) (files (image_file generation)) ⊎ IsBegun generation payload files) opens_ours (since_next bound stays)
                 (λ moment image from to here. elim (either_since bound stays moment image from to here) [
                   | inl closed ↦ inl (inl closed)
                   | inr stands ↦ inr (
-                    stands_image (image_file generation) generation Server (image (image_file generation)) payload (few, refl) (omega (arith, short)) stands,
+                    stands_image (image_file generation) generation Server (image (image_file generation)) payload (few, refl) unspent (omega (arith, short)) stands,
                     sure_since (λ other. other ≡ image_file generation) next new (log_file generation) [] 0 apart opens_goes sure moment image from to here,
                   )
                 ])
@@ -197,10 +197,11 @@ module _ (generation : ℕ) (payload : List ℕ) where
           pub is_opened : {U T E : Type 0} (answer : U) (log : T) (new : History) → last ≡ at_phase Open (first_job generation payload) → (let opened : Result U Failed = Ok answer in Stepped second last opened next new) → (let result : Result T E = Ok log in Replaced generation payload result old new)
           is_opened answer log new is_open step = record {
             goes = goes_new (Ok answer) new step;
-            stands = λ can. (
+            stands = λ unspent can. (
               record {
                 firm = subst (λ (j : Job). Underway j new) is_open (step.underway (subst (λ (j : Job). Underway j next) (sym at_durable) (durable_next can)));
                 allowed = (few, refl);
+                unspent = unspent;
                 small = omega (arith, short);
               },
               sure_beside (λ other. other ≡ image_file generation) next new (log_file generation) [] 0 apart (opens_goes (Ok answer) new step) sure,

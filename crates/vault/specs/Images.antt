@@ -6,7 +6,7 @@ use Rattle.log_file.specs.Blocks.{LogEnds}
 use Rattle.log_file.specs.Sure.{IsSure}
 use Rattle.db_image.specs.declared.mark.Mark.TheVariants.{Server}
 use Rattle.db_image.specs.declared.phase.Phase.TheVariants.{Durable, Begun, Written, Open, Failed}
-use Rattle.db_image.specs.Images.{image_bytes, IsNumber, HasImage}
+use Rattle.db_image.specs.Images.{image_bytes, IsNumber, NeverSpent, HasImage}
 use Rattle.db_image.specs.declared.phase.Phase.{Phase}
 use Rattle.db_image.specs.Steps.{Job, FirmShut, CanShut, Underway, UnderwayAs, KeepsShut}
 use Rattle.vault.specs.Files.{image_file, log_file, IsOf}
@@ -16,6 +16,7 @@ use Rattle.vault.specs.Recovery.{Older}
 pub record IsImage (h : History) (file generation : ℕ) (payload : List ℕ) : Type 0 where
   pub firm : Firm (standing h file) 0 (image_bytes Server generation payload)
   pub allowed : IsNumber Server file generation
+  pub unspent : NeverSpent Server generation payload
   pub small : length payload < 2 ^ 64
 
 -- No stop changes that no image with an open gate is in the file, or one of an older generation.
@@ -36,8 +37,8 @@ IsBegun generation payload files = HasImage (image_file generation) Server (file
 -- image's file, or a shut gate, or the new image and the empty log.
 pub record Replaced {T E : Type 0} (generation : ℕ) (payload : List ℕ) (result : Result T E) (old new : History) : Type 0 where
   pub goes : GoesOn (IsOf generation) old new
-  pub stands : OnOk result (CanShut (standing old (image_file generation)) → IsImage new (image_file generation) generation payload × IsSure new (log_file generation) [] 0)
-  pub since : (bound : ℕ) → StaysOlder bound (image_file generation) old → EachImage (now old) new (λ files. Older bound (image_file generation) (files (image_file generation)) ⊎ IsBegun generation payload files)
+  pub stands : OnOk result (NeverSpent Server generation payload → CanShut (standing old (image_file generation)) → IsImage new (image_file generation) generation payload × IsSure new (log_file generation) [] 0)
+  pub since : (bound : ℕ) → NeverSpent Server generation payload → StaysOlder bound (image_file generation) old → EachImage (now old) new (λ files. Older bound (image_file generation) (files (image_file generation)) ⊎ IsBegun generation payload files)
 
 -- An image was written on, up to its gate. Its gate stays shut.
 pub record Went {T E : Type 0} (job next : Job) (result : Result T E) (old new : History) : Type 0 where

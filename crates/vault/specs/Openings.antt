@@ -13,11 +13,12 @@ use Rattle.db_image.specs.declared.mark.Mark.TheVariants.{Server}
 use Rattle.db_image.specs.Images as image
 use Rattle.db_image.specs.Steps.{FirmShut}
 use Rattle.entries.specs.declared.entry.Entry.{Entry}
-use Rattle.entries.specs.EntryForm as entry
+use Rattle.fields.specs.Editions.{Edition, first_form, second_form}
+use Rattle.entries.specs.EntryForm.{SpellsIn}
 use Rattle.entries.specs.Meaning.{Meaning, IsLegal, Spells}
 use Rattle.vault.specs.Files.{image_file, IsOurs}
-use Rattle.vault.specs.Recovery.{Newest, Headed, NotFormatted, IsDamaged, IsForeign, IsRefused, LogDamaged, Recovers, RecoversWithin, IsBase, IsNext, IsInstalledAs, records_of, after_all, AllLegal}
-use Rattle.vault.specs.Vaults.{State, IsGood}
+use Rattle.vault.specs.Recovery.{Newest, Headed, NotFormatted, IsDamaged, IsForeign, IsRefused, LogDamaged, Recovers, RecoversWithin, IsBase, IsNext, IsInstalledAs, records_in, after_all, AllLegalIn}
+use Rattle.vault.specs.Vaults.{State, IsGoodIn, IsGood}
 
 -- The store is sound: each image of now recovers to a database, and the gate that ends its log lies within its file.
 abbrev pub IsSound : {D : Type 0} → Meaning D → History → Type 0
@@ -87,9 +88,14 @@ BaseRefused m generation payload (refused.ReadFault file) = Unit {0}
 BaseRefused m generation payload refused.RunFull = Unit {0}
 BaseRefused m generation payload refused.Memory = Unit {0}
 
--- which database a payload is the spelling of
-abbrev pub FindsBase : {D : Type 0} → Meaning D → ℕ → List ℕ → Result D OpenRefused → Type 0
-FindsBase m generation payload (Ok d) = Spells m payload d
+-- the form, by whether it is the first
+abbrev pub form_of : Bool → Edition
+form_of true = first_form
+form_of false = second_form
+
+-- which database a payload is the spelling of, and whether in the first form
+abbrev pub FindsBase : {D : Type 0} → Meaning D → ℕ → List ℕ → Result (D × Bool) OpenRefused → Type 0
+FindsBase m generation payload (Ok found) = Spells m (form_of found.1) payload found.0
 FindsBase m generation payload (Err refusal) = BaseRefused m generation payload refusal
 
 -- an entry was applied, or it isn't legal
@@ -97,35 +103,35 @@ abbrev pub AppliesEntry : {D : Type 0} → Meaning D → Entry → D → D → B
 AppliesEntry m e old new true = IsLegal m old e × (new ≡ m.after old e)
 AppliesEntry m e old new false = IsLegal m old e → ⊥
 
--- a record was applied, or it is no entry that is legal there
-abbrev pub Applies : {D : Type 0} → Meaning D → List ℕ → D → D → Bool → Type 0
-Applies m payload old new true = (e : Entry) × entry.Spells payload e × IsLegal m old e × (new ≡ m.after old e)
-Applies m payload old new false = IsRefused m old payload
+-- a record was applied, or it is no entry of the form that is legal there
+abbrev pub Applies : {D : Type 0} → Edition → Meaning D → List ℕ → D → D → Bool → Type 0
+Applies form m payload old new true = (e : Entry) × SpellsIn form payload e × IsLegal m old e × (new ≡ m.after old e)
+Applies form m payload old new false = IsRefused form m old payload
 
 -- a refusal that says that a base's log is damaged says where
-abbrev pub LogRefused : {D : Type 0} → Meaning D → D → ℕ → List ℕ → OpenRefused → Type 0
-LogRefused m base file bytes (refused.Damaged which at) = (which ≡ file) × LogDamaged m base bytes at
-LogRefused m base file bytes refused.NotFormatted = ⊥
-LogRefused m base file bytes (refused.ReadFault which) = Unit {0}
-LogRefused m base file bytes refused.RunFull = Unit {0}
-LogRefused m base file bytes refused.Memory = Unit {0}
+abbrev pub LogRefused : {D : Type 0} → Edition → Meaning D → D → ℕ → List ℕ → OpenRefused → Type 0
+LogRefused form m base file bytes (refused.Damaged which at) = (which ≡ file) × LogDamaged form m base bytes at
+LogRefused form m base file bytes refused.NotFormatted = ⊥
+LogRefused form m base file bytes (refused.ReadFault which) = Unit {0}
+LogRefused form m base file bytes refused.RunFull = Unit {0}
+LogRefused form m base file bytes refused.Memory = Unit {0}
 
--- the log has these entries, legal one after another on the base, and this is the database after them
-pub record Replays {D : Type 0} (m : Meaning D) (base : D) (bytes : List ℕ) (d : D) (end : ℕ) : Type 0 where
+-- the log has these entries of the form, legal one after another on the base, and this is the database after them
+pub record Replays {D : Type 0} (form : Edition) (m : Meaning D) (base : D) (bytes : List ℕ) (d : D) (end : ℕ) : Type 0 where
   pub entries : List Entry
-  pub log : LogIs bytes (records_of entries)
-  pub legal : AllLegal m base entries
+  pub log : LogIs bytes (records_in form entries)
+  pub legal : AllLegalIn form m base entries
   pub gives : d ≡ after_all m base entries
-  pub is_end : end ≡ length (blocks (records_of entries))
+  pub is_end : end ≡ length (blocks (records_in form entries))
 
 -- A log was made durable and its entries were applied. Nothing that is read changed.
-pub record Replayed {D : Type 0} (m : Meaning D) (base : D) (file : ℕ) (result : Result log.State OpenRefused) (d : D) (old new : History) : Type 0 where
+pub record Replayed {D : Type 0} (form : Edition) (m : Meaning D) (base : D) (file : ℕ) (result : Result log.State OpenRefused) (d : D) (old new : History) : Type 0 where
   pub goes : GoesOn (λ other. other ≡ file) old new
   pub same : reads new file ≡ reads old file
   pub left : KeepsLeft file old new
-  pub replays : IfOk result (λ log. Replays m base (reads old file) d log.end)
+  pub replays : IfOk result (λ log. Replays form m base (reads old file) d log.end)
   pub sure : OnOk result ((payloads : List (List ℕ)) → LogEnds (reads old file) payloads → IsSure new file payloads (length (blocks payloads)))
-  pub damaged : IfErr result (LogRefused m base file (reads old file))
+  pub damaged : IfErr result (LogRefused form m base file (reads old file))
 
 -- a refusal that says that the files are damaged or not formatted is right
 abbrev pub SaysWhy : {D : Type 0} → Meaning D → (ℕ → List ℕ) → OpenRefused → Type 0
@@ -141,13 +147,45 @@ pub record ImagesAre (generation : ℕ) (old new : History) : Type 0 where
   pub newest : Newest (reads old) generation payload
   pub durable : (file : ℕ) → file < 2 → standing new file ≡ settled (reads old file)
 
--- The vault was opened. Nothing that is read changed, and each image since is one that a stop might have left at the start. On Ok the
--- files recover to the vault's database; what refuses as not formatted or damaged says what they are. Over a sound store no stop
--- takes anything of the vault away.
-pub record Opened {D : Type 0} (m : Meaning D) (result : Result (State D) OpenRefused) (old new : History) : Type 0 where
+-- What the files recover to was read, and whether it stands there in the first form. Nothing that is read changed, and each image since is one that a stop might
+-- have left at the start. What refuses as not formatted or damaged says what the files are. Over a sound store no stop takes anything away.
+pub record Recovered {D : Type 0} (m : Meaning D) (result : Result (State D × Bool) OpenRefused) (old new : History) : Type 0 where
   pub calm : Calm old new
-  pub recovers : IfOk result (λ vault. Recovers m (reads old) vault.database)
-  pub images : IfOk result (λ vault. ImagesAre vault.generation old new)
+  pub recovers : IfOk result (λ found. (is : Recovers m (reads old) found.0.database) × (is.form ≡ form_of found.1) × (is.generation ≡ found.0.generation))
+  pub images : IfOk result (λ found. ImagesAre found.0.generation old new)
+  pub says : IfErr result (SaysWhy m (reads old))
+  pub good : IsSound m old → IfOk result (λ found. IsGoodIn (form_of found.1) m found.0 new)
+
+-- A vault that was read was written in its next generation, in the form that is written. Each image since recovers to its database. On Ok it is the same vault there.
+pub record Rewritten {D : Type 0} (m : Meaning D) (vault : State D) (result : Result (State D) OpenRefused) (old new : History) : Type 0 where
+  pub goes : GoesOn IsOurs old new
+  pub since : (form : Edition) → IsGoodIn form m vault old → EachImage (now old) new (λ files. RecoversWithin m files vault.database)
+  pub good : IfOk result (λ next. (form : Edition) → IsGoodIn form m vault old → IsGood m next new)
+
+-- the files recover to a database to which those that a stop might have left then recover, too
+pub record HadOne {D : Type 0} (m : Meaning D) (old : History) (files : ℕ → List ℕ) : Type 0 where
+  pub database : D
+  pub recovers : RecoversWithin m files database
+  pub start : ℕ → List ℕ
+  pub left : ImageAt old (now old) start
+  pub same : RecoversWithin m start database
+
+-- What opening takes from the files: nothing. Only the vault's own are written. Where what they recover to isn't in the first form, nothing that is read changed, and each image since is one that a stop might have left at the
+-- start. Of a sound store, also of one in the first form, each image since recovers to a database to which one recovers that a stop might have left at the start.
+pub record Spared {D : Type 0} (m : Meaning D) (old new : History) : Type 0 where
+  pub goes : GoesOn IsOurs old new
+  pub calm : ((d : D) (is : Recovers m (reads old) d) → is.form ≡ second_form) → Calm old new
+  pub since : IsSound m old → EachImage (now old) new (HadOne m old)
+
+-- Files recover to this database, and this is the generation as which they are opened: that of their newest image or, where that is in the first form, the next one.
+abbrev pub OpenedAs : {D : Type 0} → Meaning D → (ℕ → List ℕ) → D → ℕ → Type 0
+OpenedAs m files d generation = (is : Recovers m files d) × (((is.form ≡ second_form) × (generation ≡ is.generation)) ⊎ ((is.form ≡ first_form) × (generation ≡ is.generation + 1)))
+
+-- The vault was opened. On Ok the files recovered to the vault's database; what refuses as not formatted or damaged says what they are. Over a sound store no
+-- stop takes anything of the vault away, which is in the form that is written.
+pub record Opened {D : Type 0} (m : Meaning D) (result : Result (State D) OpenRefused) (old new : History) : Type 0 where
+  pub spared : Spared m old new
+  pub opens : IfOk result (λ vault. OpenedAs m (reads old) vault.database vault.generation)
   pub says : IfErr result (SaysWhy m (reads old))
   pub good : IsSound m old → IfOk result (λ vault. IsGood m vault new)
 
@@ -177,20 +215,12 @@ pub record Formatted {D T E : Type 0} (m : Meaning D) (d : D) (result : Result T
   pub goes : GoesOn IsOurs old new
   pub installed : OnOk result (EachImage (now new) new (IsBase m 0 d))
 
--- the files recover to a database to which those that a stop might have left then recover, too
-pub record HadOne {D : Type 0} (m : Meaning D) (old : History) (files : ℕ → List ℕ) : Type 0 where
-  pub database : D
-  pub recovers : RecoversWithin m files database
-  pub start : ℕ → List ℕ
-  pub left : ImageAt old (now old) start
-  pub same : RecoversWithin m start database
-
 -- A database was put into the files of a vault, whose images are on the disk, as its next generation with an empty log. Where the vault was good and its
 -- generation isn't the last, each image since recovers to what it did, or to that database.
 pub record PutBehind {D T E : Type 0} (m : Meaning D) (vault : State D) (d : D) (result : Result T E) (old new : History) : Type 0 where
   pub goes : GoesOn IsOurs old new
   pub installed : OnOk result ((start : History) → ImagesAre vault.generation start old → (next : ℕ) × IsNext vault.generation next × EachImage (now new) new (IsBase m next d))
-  pub since : vault.generation + 1 < 2 ^ 62 → IsGood m vault old → EachImage (now old) new (λ files. RecoversWithin m files vault.database ⊎ RecoversWithin m files d)
+  pub since : vault.generation + 1 < 2 ^ 62 → (form : Edition) → IsGoodIn form m vault old → EachImage (now old) new (λ files. RecoversWithin m files vault.database ⊎ RecoversWithin m files d)
 
 -- no newest image is of the last generation
 abbrev pub NotLast : (ℕ → List ℕ) → Type 0

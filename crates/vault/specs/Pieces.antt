@@ -9,7 +9,7 @@ use Rattle.log_file.specs.Sure as log
 use Rattle.db_image.specs.declared.mark.Mark.TheVariants.{Server}
 use Rattle.db_image.specs.declared.phase.Phase.{Phase}
 use Rattle.db_image.specs.declared.phase.Phase.TheVariants.{Begun, Written, Durable, Open, Failed}
-use Rattle.db_image.specs.Images.{HasImage}
+use Rattle.db_image.specs.Images.{NeverSpent, HasImage}
 use Rattle.db_image.specs.Steps.{Job, FirmShut, Underway, KeepsShut, at_phase, further}
 use Rattle.entries.specs.declared.entry.Entry.{Entry}
 use Rattle.entries.specs.EntryForm.{entry}
@@ -80,6 +80,7 @@ CopiesAt generation journal start copied (Some log) h = IsWritten h (log_file ge
 -- A checkpoint stands in the files of its generation as far as it was made, and no stop opens its image's gate.
 pub record StandsAt (generation : ℕ) (payload : List ℕ) (journal : List Entry) (pending : Pending) (h : History) : Type 0 where
   pub few : generation < 2 ^ 62
+  pub unspent : NeverSpent Server generation payload
   pub small : length payload < 2 ^ 64
   pub job : pending.job ≡ job_of generation payload pending.job.phase
   pub underway : Underway pending.job h
@@ -98,7 +99,7 @@ Nears journal pending next = (next.start ≡ pending.start)
 -- shut gate.
 pub record Starts {E : Type 0} (generation : ℕ) (payload : List ℕ) (start : ℕ) (result : Result Pending E) (old new : History) : Type 0 where
   pub goes : GoesOn (IsOf generation) old new
-  pub stands : IfOk result (λ pending. (bound : ℕ) (journal : List Entry) → StaysOlder bound (image_file generation) old → start ≡ length journal → StandsAt generation payload journal pending new)
+  pub stands : IfOk result (λ pending. (bound : ℕ) (journal : List Entry) → NeverSpent Server generation payload → StaysOlder bound (image_file generation) old → start ≡ length journal → StandsAt generation payload journal pending new)
   pub since : (bound : ℕ) → StaysOlder bound (image_file generation) old → EachImage (now old) new (λ files. Older bound (image_file generation) (files (image_file generation)))
 
 -- A checkpoint went on by a step: a piece of its payload was written, or its log was begun. Only its files were written, and its image's gate stays

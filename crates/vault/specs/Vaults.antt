@@ -10,10 +10,11 @@ use Rattle.log_file.specs.Sure as log
 use Rattle.kinds.specs.declared.refusal.Refusal.{Refusal}
 use Rattle.kinds.specs.declared.refusal.Refusal.TheVariants.{LogFault, RecordFull, Memory}
 use Rattle.entries.specs.declared.entry.Entry.{Entry}
+use Rattle.fields.specs.Editions.{Edition, second_form}
 use Rattle.entries.specs.EntryForm.{entry}
 use Rattle.entries.specs.Meaning.{Meaning}
 use Rattle.vault.specs.Files.{image_file, log_file, IsOurs}
-use Rattle.vault.specs.Recovery.{Newest, records_of, after_all, AllLegal, RecoversWithin}
+use Rattle.vault.specs.Recovery.{Newest, records_in, records_of, after_all, AllLegalIn, AllLegal, RecoversWithin}
 use Rattle.db_image.specs.declared.phase.Progress.{Progress}
 use Rattle.db_image.specs.declared.phase.Progress.TheVariants.{More, Done}
 use Rattle.db_image.specs.Steps.{written_to}
@@ -34,13 +35,17 @@ pub record State (D : Type 0) : Type 0 where
   pub fault : Option (ℕ × ℕ)
   pub pending : Option Pending
 
--- No stop takes away the newest image, or anything of its log, and the other image is older.
-pub record Holds {D : Type 0} (m : Meaning D) (generation : ℕ) (base : D) (entries : List Entry) (end : ℕ) (h : History) : Type 0 where
-  pub image : IsImage h (image_file generation) generation (m.spelled base)
+-- No stop takes away the newest image, which is of this form, or anything of its log, and the other image is older.
+pub record HoldsIn {D : Type 0} (form : Edition) (m : Meaning D) (generation : ℕ) (base : D) (entries : List Entry) (end : ℕ) (h : History) : Type 0 where
+  pub image : IsImage h (image_file generation) generation (m.spelled form base)
   pub other : StaysOlder generation (image_file (generation + 1)) h
-  pub log : IsSure h (log_file generation) (records_of entries) end
-  pub valid : m.Valid base
-  pub legal : AllLegal m base entries
+  pub log : IsSure h (log_file generation) (records_in form entries) end
+  pub valid : m.Valid form base
+  pub legal : AllLegalIn form m base entries
+
+-- the same in the form that is written
+abbrev pub Holds : {D : Type 0} → Meaning D → (generation : ℕ) → (base : D) → List Entry → (end : ℕ) → History → Type 0
+Holds m generation base entries end h = HoldsIn second_form m generation base entries end h
 
 -- What a vault keeps is in order: its log is that of its generation, and where no fault halted it no record of the log is in doubt; a checkpoint that was begun
 -- is of the next generation; and each entry of the journal has few enough bytes.
@@ -50,19 +55,24 @@ pub record IsWhole (generation : ℕ) (journal : List Entry) (log : log.State) (
   pub short : AllByRecursion IsShort journal
   pub orderly : AllOrderly (generation + 1) pending
 
--- Whatever a stop leaves, it recovers to the vault's database: nothing that was committed waits for a force.
-pub record IsGood {D : Type 0} (m : Meaning D) (vault : State D) (h : History) : Type 0 where
+-- Whatever a stop leaves, it recovers to the vault's database by an image and a log of this form: nothing that was committed waits for a force.
+pub record IsGoodIn {D : Type 0} (form : Edition) (m : Meaning D) (vault : State D) (h : History) : Type 0 where
   pub base : D
   pub entries : List Entry
-  pub holds : Holds m vault.generation base entries vault.end h
+  pub holds : HoldsIn form m vault.generation base entries vault.end h
   pub gives : vault.database ≡ after_all m base entries
   pub none : vault.sure ≡ vault.end
   pub all : vault.forced ≡ length vault.journal
+
+-- the same in the form that is written
+abbrev pub IsGood : {D : Type 0} → Meaning D → State D → History → Type 0
+IsGood m vault h = IsGoodIn second_form m vault h
 
 -- The files recover to the vault's database, by a newest image of its generation and a log that ends where the vault's does.
 pub record RecoversAs {D : Type 0} (m : Meaning D) (vault : State D) (files : ℕ → List ℕ) : Type 0 where
   pub recovers : RecoversWithin m files vault.database
   pub by_image : recovers.generation ≡ vault.generation
+  pub written : recovers.form ≡ second_form
   pub log : length (blocks (records_of recovers.entries)) ≡ vault.end
 
 -- Whatever a stop leaves, it recovers to the database `durable`, which has all that was forced and nothing of what wasn't. The vault's
@@ -191,8 +201,8 @@ IsLeft P h = (files : ℕ → List ℕ) → LeftNow IsOurs h files → P files
 pub record IsPending {D : Type 0} (m : Meaning D) (vault : State D) (snapshot : D) (h : History) : Type 0 where
   pub pending : Pending
   pub is : vault.pending ≡ Some pending
-  pub valid : m.Valid snapshot
-  pub stands : StandsAt (vault.generation + 1) (m.spelled snapshot) vault.journal pending h
+  pub valid : m.Valid second_form snapshot
+  pub stands : StandsAt (vault.generation + 1) (m.spelled second_form snapshot) vault.journal pending h
   pub legal : AllLegal m snapshot (reverse (drop pending.start vault.journal))
   pub gives : vault.database ≡ after_all m snapshot (reverse (drop pending.start vault.journal))
 
@@ -230,7 +240,7 @@ pub record Committed {D T E : Type 0} (m : Meaning D) (vault : State D) (e : Ent
 
 -- the newest image is the database, and its log is empty
 abbrev pub IsFresh : {D : Type 0} → Meaning D → State D → (ℕ → List ℕ) → Type 0
-IsFresh m vault files = Newest files vault.generation (m.spelled vault.database) × LogEnds (files (log_file vault.generation)) []
+IsFresh m vault files = Newest files vault.generation (m.spelled second_form vault.database) × LogEnds (files (log_file vault.generation)) []
 
 -- A checkpoint was made, after what waited was forced. On Ok the vault is good, and the newest image of each image of now is the database and its log is empty.
 -- Whatever came of it, each image since recovers to the database with nothing of what waited or to that with all of it, and so does whatever a stop leaves of the vault's files right
@@ -253,7 +263,7 @@ Faults vault before after refusal next = (vault.fault ≡ None) × ((file : ℕ)
 -- A checkpoint of the vault's database was begun: its first piece is written, and it has all of the journal.
 abbrev pub IsStarted : {D : Type 0} → Meaning D → State D → State D → Type 0
 IsStarted m vault next = (pending : Pending) × (next ≡ with_pending vault (Some pending)) × (pending.start ≡ length vault.journal) × (pending.copied ≡ length vault.journal)
-    × (length (m.spelled vault.database) < 2 ^ 36) × (pending.job ≡ job_of (vault.generation + 1) (m.spelled vault.database) (written_to 65536 (length (m.spelled vault.database))))
+    × (length (m.spelled second_form vault.database) < 2 ^ 36) × (pending.job ≡ job_of (vault.generation + 1) (m.spelled second_form vault.database) (written_to 65536 (length (m.spelled second_form vault.database))))
 
 -- the same, behind a force
 abbrev pub IsBegun : {D : Type 0} → Meaning D → State D → State D → Type 0
@@ -284,7 +294,7 @@ IsInStep vault began moment = (pending : Pending) × (vault.pending ≡ Some pen
 
 -- the newest image is this database, and its log has the entries of the journal from a place on
 abbrev pub IsMadeOf : {D : Type 0} → Meaning D → State D → (snapshot : D) → (start : ℕ) → (ℕ → List ℕ) → Type 0
-IsMadeOf m vault snapshot start files = Newest files vault.generation (m.spelled snapshot) × LogEnds (files (log_file vault.generation)) (records_of (reverse (drop start vault.journal)))
+IsMadeOf m vault snapshot start files = Newest files vault.generation (m.spelled second_form snapshot) × LogEnds (files (log_file vault.generation)) (records_of (reverse (drop start vault.journal)))
 
 -- What a step leaves of a checkpoint of `snapshot`, over a vault with that durable database. It goes on, and nothing more is durable. Or it is done, and the vault is good: the newest image of
 -- each image of now is `snapshot`, and its log has all that was committed since.

@@ -1,12 +1,13 @@
 // How a database is put into files.
-ghost use Rattle.std.specs.Prelude.{◌≡◌, ◌+◌, ◌-◌, ◌<◌, ◌≤◌, ◌^◌, max, length, OnOk, IfErr};
+ghost use Rattle.std.specs.Prelude.{◌≡◌, ◌+◌, ◌-◌, ◌<◌, ◌≤◌, ◌^◌, [], None, max, length, IfOk, OnOk, IfErr};
 ghost use Rattle.store_api.specs.Cause.{Rose, NoneFell};
 ghost use Rattle.store_api.specs.Told.{Told};
 ghost use Rattle.vault.specs.Files.{IsOurs};
 ghost use Rattle.kinds.specs.declared.refusal.OpenRefused.TheVariants.{RunFull};
-ghost use Rattle.vault.specs.Openings.{Cleared, Formatted, PutBehind, Installed, MayRefuseFormatting};
+ghost use Rattle.vault.specs.Openings.{Cleared, Formatted, PutBehind, Installed, Rewritten, MayRefuseFormatting};
 
-use crate::open::settle_all;
+use crate::files::LAST;
+use crate::open::{recover, settle_all};
 use crate::vault::Vault;
 use crate::write::put_generation;
 use db_image::shut_gate;
@@ -15,9 +16,6 @@ use kinds::OpenRefused;
 use log_file::Log;
 use std::alloc::Global;
 use store_api::Store;
-
-/// The last generation.
-const LAST: u64 = (1 << 62) - 1;
 
 const FULL: u64 = (1 << 62) - (1 << 24);
 
@@ -122,6 +120,36 @@ fn put_behind<D: Database, S: Store>(
     }
 }
 
+/// Writes what a vault holds as its next generation, in the form that is written, and answers it as it stands there.
+pub(crate) fn rewrite<D: Database, S: Store>(
+    alloc: Global,
+    store: &mut S,
+    vault: Vault<D>,
+) -> Result<Vault<D>, OpenRefused>
+    requires number { vault.generation + 1 < 2 ^ 62 }
+    ensures told { Told (S.told store.old) (S.told store.new) (Rewritten D.meaning vault result) }
+    ensures same { IfOk result (λ next. (next.generation ≡ vault.generation + 1) × (next.database ≡ vault.database)) }
+    ensures begun { IfOk result (λ next. (next.journal ≡ []) × (next.fault ≡ None)) }
+    ensures refused { IfErr result (MayRefuseFormatting (S.faults_of store.old) (S.faults_of store.new) (S.moment_of store.new)) }
+    ensures time { S.moment_of store.new ≤ max (S.moment_of store.old) (2 ^ 62) }
+    ensures later { S.moment_of store.old ≤ S.moment_of store.new }
+    ensures counts { NoneFell (S.faults_of store.old) (S.faults_of store.new) }
+{
+    match ready(store) {
+        Ok(()) => {}
+        Err(refused) => return Err(refused),
+    }
+    let generation = vault.generation() + 1;
+    let payload = match vault.database().encode(alloc) {
+        Ok(payload) => payload,
+        Err(_) => return Err(OpenRefused::Memory),
+    };
+    match put_generation(store, generation, payload) {
+        Ok(log) => Ok(Vault::opened(alloc, generation, vault.into_database(), log)),
+        Err(file) => Err(OpenRefused::ReadFault(file)),
+    }
+}
+
 impl<D: Database> Vault<D> {
     /// Puts a database in the place of what the files recover to, as a new generation; where they recover to nothing, and
     /// behind the last generation, as `format` does. Refused as `format` is, and for want of memory also while the files
@@ -137,8 +165,8 @@ impl<D: Database> Vault<D> {
             Ok(()) => {}
             Err(refused) => return Err(refused),
         }
-        match Vault::<D>::open(alloc, store) {
-            Ok(vault) => put_behind(alloc, store, vault, database),
+        match recover::<D, S>(alloc, store) {
+            Ok((vault, _)) => put_behind(alloc, store, vault, database),
             Err(OpenRefused::NotFormatted) => begin_again(alloc, store, database),
             Err(OpenRefused::Damaged(_, _)) => begin_again(alloc, store, database),
             Err(OpenRefused::ReadFault(file)) => Err(OpenRefused::ReadFault(file)),

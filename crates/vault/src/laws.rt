@@ -1,10 +1,11 @@
 // What the definitions mean for the layers above, as laws. Each stands on a function that does nothing.
 ghost use Rattle.std.specs.Prelude.{◌≡◌, ℕ, ◌+◌, ◌≤◌, Bool, IsTrue, List};
-ghost use Rattle.store_api.specs.Disk.{History, now, ImageAt};
+ghost use Rattle.store_api.specs.Disk.{History, standing, settled, reads, now, ImageAt};
 ghost use Rattle.store_api.specs.Runs.{GoesOn, EachImage};
 ghost use Rattle.log_file.specs.Blocks.{IsClosed};
-ghost use Rattle.vault.specs.Files.{image_file};
+ghost use Rattle.vault.specs.Files.{image_file, IsOurs};
 ghost use Rattle.vault.specs.Recovery.{NotFormatted, IsDamaged, Recovers, RecoversWithin};
+ghost use Rattle.vault.specs.Openings.{IsSound};
 ghost use Rattle.vault.specs.Vaults.{State, IsGood, IsHeld, IsPending, IsLeft, RecoversAs, RecoversToEither};
 
 use entries::Database;
@@ -62,9 +63,15 @@ pub fn left_since<D: Database>()
         IsLeft (RecoversToEither D.meaning before after) old → EachImage (now old) new (RecoversToEither D.meaning before after) }
 {}
 
-/// Files recover to one database at most, and to none where they aren't formatted or are damaged.
+/// Where all of the vault's files is on the disk, as after a stop, and they are sound, each image of now recovers to what they recover to.
+pub fn one_at_rest<D: Database>()
+    ensures { (h : History) (d : D) (files : ℕ → List ℕ) → ((file : ℕ) → IsOurs file → standing h file ≡ settled (reads h file)) → IsSound D.meaning h → Recovers D.meaning (reads h) d → ImageAt h (now h) files → RecoversWithin D.meaning files d }
+{}
+
+/// Files recover to one database at most, in one form, and to none where they aren't formatted or are damaged.
 pub fn one_recovery<D: Database>()
     ensures one { (files : ℕ → List ℕ) (d other : D) → Recovers D.meaning files d → Recovers D.meaning files other → d ≡ other }
+    ensures form { (files : ℕ → List ℕ) (d other : D) (a : Recovers D.meaning files d) (b : Recovers D.meaning files other) → a.form ≡ b.form }
     ensures formatted { (files : ℕ → List ℕ) (d : D) → Recovers D.meaning files d → NotFormatted files → ⊥ }
     ensures damaged { (files : ℕ → List ℕ) (d : D) (file at : ℕ) → Recovers D.meaning files d → IsDamaged D.meaning files file at → ⊥ }
 {}

@@ -4,6 +4,7 @@ ghost use Rattle.kinds.specs.declared.refusal.Refusal.TheVariants.{LogFault, Mem
 ghost use Rattle.entries.specs.EntryForm.{entry as entry_form};
 ghost use Rattle.store_api.specs.Cause.{NoneFell};
 ghost use Rattle.store_api.specs.Told.{Told};
+ghost use Rattle.fields.specs.Editions.{second_form};
 ghost use Rattle.entries.specs.Meaning.{IsLegal};
 ghost use Rattle.vault.specs.Files.{image_file, log_file};
 ghost use Rattle.db_image.specs.declared.phase.Progress.TheVariants.{More, Done};
@@ -112,6 +113,22 @@ impl<D: Database> Vault<D> {
             pending: _,
         } = self;
         journal
+    }
+
+    /// The database, without the transactions of this run.
+    pub(crate) fn into_database(self) -> D
+        ensures { result ≡ self.database }
+    {
+        let Vault {
+            generation: _,
+            database,
+            journal: _,
+            forced: _,
+            log: _,
+            fault: _,
+            pending: _,
+        } = self;
+        database
     }
 
     /// Makes a transaction, and answers its number. It waits for a force: until then no stop leaves it. Refused with 30
@@ -286,8 +303,8 @@ impl<D: Database> Vault<D> {
         requires number { self.old.generation + 1 < 2 ^ 62 }
         requires sure { self.old.fault ≡ None }
         requires short { length payload.items < 2 ^ 36 }
-        requires valid { D.meaning.Valid self.old.database }
-        requires spelled { payload.items ≡ D.meaning.spelled self.old.database }
+        requires valid { D.meaning.Valid second_form self.old.database }
+        requires spelled { payload.items ≡ D.meaning.spelled second_form self.old.database }
         ensures told { Told (S.told store.old) (S.told store.new) (Started D.meaning self.old result self.new) }
         ensures answer { IfOk result (λ begun. (begun.0 ≡ image_file (self.old.generation + 1)) × (begun.1 ≡ D.meaning.number self.old.database)) }
         ensures ok { OnOk result (IsStarted D.meaning self.old self.new) }

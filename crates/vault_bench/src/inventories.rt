@@ -45,7 +45,7 @@ fn encode_all<D: Database>(alloc: Global, database: &D, times: u32) -> Result<u6
 
 /// How many bytes are a database's; 0 where they are none's.
 fn decoded<D: Database>(alloc: Global, bytes: &[u8]) -> Result<u64, Refusal> {
-    match D::decode(alloc, bytes) {
+    match D::decode_two(alloc, bytes) {
         Ok(Some(_database)) => Ok(bytes.len() as u64),
         Ok(None) => Ok(0),
         Err(refusal) => Err(refusal),

@@ -1,6 +1,6 @@
 // How the transactions are spelled.
 use crate::filling::BATCH;
-use fields::{Memory, put_u32, put_u64};
+use fields::{Memory, put_u64};
 use std::alloc::{AllocError, Global};
 
 /// Actor 0 defines the node N in the domain STANDARD, which gets the number 1.
@@ -33,18 +33,18 @@ fn path_of(version: u32) -> u32 {
     (version / (BATCH * VERSIONS)) * BATCH + version % BATCH
 }
 
-/// Puts the spelling of the version with this number, 128 bytes: its path; its class STANDARD, its size of 1,000 bytes and its time; its digest; its
+/// Puts the spelling of the version with this number, 136 bytes: its path; its class STANDARD, its size of 1,000 bytes and its time; its digest; its
 /// object, and a segment of one block of the volume.
 fn put_version(out: &mut Vec<u8>, number: u32) -> Result<(), Memory> {
     let object = u64::from(number) + 1;
     out.extend_from_slice(b"\0\x28")?;
     out.extend_from_slice(path(path_of(number)).as_slice())?;
-    out.extend_from_slice(b"\0\x08STANDARD\0\0\x03\xe8\0\0\0\0\0\0\0\x07")?;
+    out.extend_from_slice(b"\0\x08STANDARD\0\0\0\0\0\0\x03\xe8\0\0\0\0\0\0\0\x07")?;
     out.extend_from_slice(&[7; 32])?;
     put_u64(out, object)?;
     out.extend_from_slice(b"\0\0\0\x01\0\0\0\x01\0\0\0\x04")?;
     put_u64(out, object * 4096)?;
-    put_u32(out, 1000)?;
+    put_u64(out, 1000)?;
     Ok(())
 }
 

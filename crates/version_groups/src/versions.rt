@@ -7,7 +7,7 @@ ghost use Rattle.version_groups.specs.Entries.{on_ok};
 ghost use Rattle.version_groups.specs.Versions.{has_object, are_distinct, version_of, has_active, retired, superseded, revived, undone, is_empty, superseded_older, without_object, is_active, copies_of, copies_at, put_copies_at, versions_altered};
 
 use crate::copies::{Copies, CopyChange};
-use kinds::{Day, Digest, Refusal};
+use kinds::{Day, Digest, ObjectSize, Refusal};
 use std::alloc::{AllocError, Global};
 use std::marker::Model;
 
@@ -17,7 +17,7 @@ pub struct Version {
     /// The object's number.
     pub object: u64,
     /// How many bytes the file has.
-    pub size: u32,
+    pub size: ObjectSize,
     /// When the file was changed last, as the client said.
     pub mtime: u64,
     /// The SHA-256 of the file's bytes.

@@ -1,12 +1,20 @@
 -- Segments of stored objects in their frames, over whole files.
-use Rattle.std.specs.Prelude.{◌≡◌, ℕ, ◌+◌, ◌≤◌, suc, codes, List, [], ◌∷◌, ◌++◌, length, take, drop, ◌<◌}
+use Rattle.std.specs.Prelude.{◌≡◌, ◌⊎◌, ℕ, ◌+◌, ◌≤◌, ◌^◌, suc, codes, List, [], ◌∷◌, ◌++◌, length, take, drop, ◌<◌}
 use Rattle.std.specs.List.{slice_index_or}
 use Rattle.std.specs.Int.{w32, w64, to_be_bytes}
 use Rattle.kinds.specs.declared.segment.Segment.{Segment}
 
--- The header of a segment's frame: `TSMFRAME`, the object, the segment's number, the length of its data, and 8 bytes 0.
+-- The header of a segment's frame: `TSMFRAM2`, the object, the segment's number, 4 bytes 0, and the length of its data in 8 bytes.
 unfoldable pub frame_header : ℕ → ℕ → ℕ → List ℕ
-frame_header object number len = codes "TSMFRAME" ++ (to_be_bytes w64 object ++ (to_be_bytes w32 number ++ (to_be_bytes w32 len ++ to_be_bytes w64 0)))
+frame_header object number len = codes "TSMFRAM2" ++ (to_be_bytes w64 object ++ (to_be_bytes w32 number ++ (to_be_bytes w32 0 ++ to_be_bytes w64 len)))
+
+-- The header as it was written before: `TSMFRAME`, the object, the segment's number, the length of its data in 4 bytes, and 8 bytes 0.
+unfoldable pub first_header : ℕ → ℕ → ℕ → List ℕ
+first_header object number len = codes "TSMFRAME" ++ (to_be_bytes w64 object ++ (to_be_bytes w32 number ++ (to_be_bytes w32 len ++ to_be_bytes w64 0)))
+
+-- Bytes are the header of a segment's frame, in one of the two forms. The first has no lengths from 2^32 on.
+abbrev pub IsHeader : List ℕ → ℕ → ℕ → ℕ → Type 0
+IsHeader bytes object number len = (bytes ≡ frame_header object number len) ⊎ ((len < 2 ^ 32) × (bytes ≡ first_header object number len))
 
 -- so many bytes of a file, from a place on
 abbrev pub piece : List ℕ → ℕ → ℕ → List ℕ
@@ -24,9 +32,9 @@ data_end segment = data_place segment + segment.len
 abbrev pub data_of : List ℕ → Segment → List ℕ
 data_of file segment = piece file (data_place segment) segment.len
 
--- The frame of an object's segment stands in a file: the header stands at the segment's place, and all of the data behind it.
+-- The frame of an object's segment stands in a file: a header stands at the segment's place, and all of the data behind it.
 pub record FramedAt (file : List ℕ) (object number : ℕ) (segment : Segment) : Type 0 where
-  pub header : piece file segment.offset (length (frame_header object number segment.len)) ≡ frame_header object number segment.len
+  pub header : IsHeader (piece file segment.offset 32) object number segment.len
   pub within : data_end segment ≤ length file
 
 -- segments of a copy, numbered from there on, are framed in an image, which has the bytes of each file

@@ -1,23 +1,25 @@
 // What the frames of a copy mean for the layers above, as laws. Each stands on a function that does nothing.
 ghost use Rattle.std.specs.Prelude.{◌≡◌, ◌↔◌, ℕ, ◌+◌, ◌<◌, ◌^◌, List, ◌++◌, length};
 ghost use Rattle.kinds.specs.declared.segment.Segment.{Segment};
-ghost use Rattle.volume_frames.specs.Frames.{frame_header, piece, data_of, FramedAt, FramedFrom, Framed, bytes_of, bytes_len, KeepsFrame, KeepsFrames};
+ghost use Rattle.volume_frames.specs.Frames.{IsHeader, piece, data_of, FramedAt, FramedFrom, Framed, bytes_of, bytes_len, KeepsFrame, KeepsFrames};
 
-/// Headers tell what they name: two that are alike name the same object, number and length.
+/// Headers tell what they name: bytes are a header of no more than one object, number and length.
 pub fn headers_tell()
-    ensures { (object number len other_object other_number other_len : ℕ) →
-        object < 2 ^ 64 → number < 2 ^ 32 → len < 2 ^ 32 → other_object < 2 ^ 64 → other_number < 2 ^ 32 → other_len < 2 ^ 32 →
-        frame_header object number len ≡ frame_header other_object other_number other_len →
+    ensures { (bytes : List ℕ) (object number len other_object other_number other_len : ℕ) →
+        object < 2 ^ 64 → number < 2 ^ 32 → len < 2 ^ 64 → other_object < 2 ^ 64 → other_number < 2 ^ 32 → other_len < 2 ^ 64 →
+        IsHeader bytes object number len → IsHeader bytes other_object other_number other_len →
         (object ≡ other_object) × (number ≡ other_number) × (len ≡ other_len) }
 {}
 
-/// A frame is its header and, right behind it, its data.
+/// A frame is a header, of either form, and, right behind it, its data.
 pub fn frame_is_written()
-    ensures made { (file bytes : List ℕ) (object number : ℕ) (segment : Segment) → length bytes ≡ segment.len →
-        piece file segment.offset (32 + segment.len) ≡ frame_header object number segment.len ++ bytes →
+    ensures made { (file header bytes : List ℕ) (object number : ℕ) (segment : Segment) →
+        IsHeader header object number segment.len → length bytes ≡ segment.len →
+        piece file segment.offset (32 + segment.len) ≡ header ++ bytes →
         FramedAt file object number segment × (data_of file segment ≡ bytes) }
     ensures whole { (file : List ℕ) (object number : ℕ) (segment : Segment) → FramedAt file object number segment →
-        piece file segment.offset (32 + segment.len) ≡ frame_header object number segment.len ++ data_of file segment }
+        IsHeader (piece file segment.offset 32) object number segment.len
+        × (piece file segment.offset (32 + segment.len) ≡ piece file segment.offset 32 ++ data_of file segment) }
 {}
 
 /// The bytes of a framed copy are as many as its segments' lengths are together.

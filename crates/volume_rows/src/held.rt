@@ -10,7 +10,7 @@ pub struct HeldSegment {
     /// The object's number.
     pub object: u64,
     /// How many bytes of data follow the frame's header.
-    pub len: u32,
+    pub len: u64,
 }
 
 impl HeldSegment {
@@ -28,18 +28,18 @@ impl HeldSegment {
     }
 
     /// How many bytes the segment's frame has: a header of 32, and the data.
-    pub fn frame_bytes(&self) -> u64
+    pub fn frame_bytes(&self) -> u128
         ensures value { result ≡ frame_bytes self.now }
-        ensures few { result < 2 ^ 33 }
+        ensures few { result < 2 ^ 65 }
     {
-        self.len as u64 + 32
+        self.len as u128 + 32
     }
 
     /// How many blocks of 4,096 bytes the segment's frame uses.
-    pub fn blocks(&self) -> u64
+    pub fn blocks(&self) -> u128
         ensures value { result ≡ blocks_of self.now }
-        ensures few { result < 2 ^ 33 }
+        ensures few { result < 2 ^ 65 }
     {
-        (self.len as u64 + 32).div_ceil(4096)
+        (self.len as u128 + 32).div_ceil(4096)
     }
 }

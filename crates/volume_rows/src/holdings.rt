@@ -12,15 +12,15 @@ use std::collections::BTreeMap;
 use std::marker::Model;
 
 /// So many bytes of frames, or blocks of them, are more than the segments on one volume may have.
-const MOST: u64 = 1 << 56;
+const MOST: u128 = 1 << 56;
 
 /// The segments on a volume. Contracts see them as the list of the segments by offset, object and length, each with the
 /// number of its repeats: 0 for a segment that stands there once.
 #[derive(Drop)]
 pub struct Holdings {
     map: BTreeMap<HeldSegment, u64>,
-    live: u64,
-    blocks: u64,
+    live: u128,
+    blocks: u128,
 }
 
 impl Model for Holdings {
@@ -131,7 +131,7 @@ impl Holdings {
         ensures value { result ≡ live_bytes self.now }
         ensures few { result < 2 ^ 56 }
     {
-        self.live
+        self.live as u64
     }
 
     /// How many blocks of 4,096 bytes the segments' frames use in all.
@@ -139,7 +139,7 @@ impl Holdings {
         ensures value { result ≡ used_blocks self.now }
         ensures few { result < 2 ^ 56 }
     {
-        self.blocks
+        self.blocks as u64
     }
 
     /// The least object with a segment there.

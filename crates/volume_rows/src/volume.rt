@@ -99,7 +99,7 @@ impl Volume {
         ensures undone { OnOk result (undo_on sequential segment self.old.end self.old.emptied self.new ≡ self.old) }
     {
         let _capacity = self.capacity.bytes();
-        let end = segment.offset + 32 + segment.len as u64;
+        let end = segment.offset + 32 + segment.len;
         self.segments.put(segment)?;
         if sequential {
             self.end = self.end.max(end);

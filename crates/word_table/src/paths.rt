@@ -3,7 +3,7 @@ use crate::text::{parted, plain, refused};
 use choosers::{Binder, Bound, Rule, match_rules, read_rules};
 use kinds::{Name, Refusal};
 use path_patterns::Pattern;
-use policy_domains::PolicySet;
+use policy_domains::{ManagementClass, PolicySet};
 use std::alloc::{AllocError, Global};
 use std::collections::BTreeMap;
 
@@ -81,7 +81,11 @@ fn file_told(alloc: Global, text: &[u8]) -> Result<Vec<u8>, AllocError> {
 /// A policy set with one class, BIG.
 fn set_with_big(alloc: Global) -> Result<PolicySet, Refusal> {
     let mut classes = BTreeMap::new(alloc);
-    classes.insert(Name::read(alloc, b"BIG", 30)?, None)?;
+    let class = ManagementClass {
+        backup: None,
+        archive: None,
+    };
+    classes.insert(Name::read(alloc, b"BIG", 30)?, class)?;
     Ok(PolicySet::from_parts(None, classes))
 }
 

@@ -8,8 +8,10 @@ use crate::day::{Day, Days};
 use crate::name::NameOf;
 use crate::path::PathOf;
 use crate::pool::{Access, Capacity, PoolKind, PoolSettings};
-use crate::rule::{CopyGroup, Still};
+use crate::rule::{ArchiveGroup, CopyGroup, Still};
 use crate::segment::{Digest, Segment, Segments};
+use crate::size::ObjectSize;
+use crate::text::Text;
 use fields::{Formed, Items};
 
 /// A type each of whose values has a spelling.
@@ -67,6 +69,18 @@ impl Fitting for Days {
 impl Fitting for Capacity {
     fn fits(&self) {
         let _bytes = self.bytes();
+    }
+}
+
+impl Fitting for ObjectSize {
+    fn fits(&self) {
+        let _bytes = self.bytes();
+    }
+}
+
+impl Fitting for Text {
+    fn fits(&self) {
+        let _bytes = self.as_bytes();
     }
 }
 
@@ -160,6 +174,13 @@ impl Fitting for Segments {
 }
 
 impl Fitting for CopyGroup {
+    fn fits(&self) {
+        let rule = self.rule();
+        rule.destination.fits();
+    }
+}
+
+impl Fitting for ArchiveGroup {
     fn fits(&self) {
         let rule = self.rule();
         rule.destination.fits();

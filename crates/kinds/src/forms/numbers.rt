@@ -1,9 +1,14 @@
-//! Days, spans of days and sizes of volumes: numbers in their ranges.
-ghost use Rattle.kinds.specs.ValueForms.{day, day_form, days, days_form, capacity, capacity_form};
+//! Days, spans of days, sizes of volumes and of objects: numbers in their ranges.
+ghost use Rattle.fields.specs.Editions.{second_form};
+ghost use Rattle.kinds.specs.ValueForms.{day, day_form, days, days_form, capacity, capacity_form, size, size_form};
 
 use crate::day::{Day, Days};
 use crate::pool::Capacity;
-use fields::{Fault, Formed, Memory, Reader, put_u16, put_u32, put_u64};
+use crate::size::ObjectSize;
+use fields::{
+    By, Decoder, Fault, Formed, InEdition, Memory, Reader, Second, put_u16, put_u32, put_u64,
+    take_byte_count,
+};
 use std::alloc::Global;
 
 /// The day's number in four bytes.
@@ -61,4 +66,33 @@ impl Formed for Capacity {
     }
 
     ghost is_form = { capacity_form };
+}
+
+/// How many bytes these are, as a count of bytes.
+impl<E: InEdition> Decoder<ObjectSize> for By<E> {
+    ghost form = { size E.edition };
+
+    fn take(_alloc: Global, reader: &mut Reader<'_>) -> Result<ObjectSize, Fault> {
+        let bytes = take_byte_count::<E>(reader)?;
+        match ObjectSize::new(bytes) {
+            Some(size) => Ok(size),
+            None => Err(Fault::Malformed),
+        }
+    }
+
+    ghost is_form = { size_form E.edition };
+}
+
+impl Formed for ObjectSize {
+    ghost form = { size second_form };
+
+    fn write_to(&self, out: &mut Vec<u8>) -> Result<(), Memory> {
+        put_u64(out, self.bytes())
+    }
+
+    fn read_from(alloc: Global, reader: &mut Reader<'_>) -> Result<Self, Fault> {
+        By::<Second>::take(alloc, reader)
+    }
+
+    ghost is_form = { size_form second_form };
 }

@@ -1,8 +1,9 @@
-//! Names and paths: texts that are such as they stand.
-ghost use Rattle.kinds.specs.ValueForms.{name, name_form, path, path_form};
+//! Names, paths and texts, which are such as they stand.
+ghost use Rattle.kinds.specs.ValueForms.{name, name_form, path, path_form, description, description_form};
 
 use crate::name::NameOf;
 use crate::path::PathOf;
+use crate::text::Text;
 use fields::{Fault, Formed, Memory, Reader, put_text};
 use std::alloc::Global;
 
@@ -46,4 +47,25 @@ impl<const MOST: u32> Formed for PathOf<MOST> {
     }
 
     ghost is_form = { path_form MOST };
+}
+
+/// The length in two bytes, and the text's bytes.
+impl Formed for Text {
+    ghost form = { description };
+
+    fn write_to(&self, out: &mut Vec<u8>) -> Result<(), Memory> {
+        put_text(out, self.as_bytes())
+    }
+
+    #[tactic(auto, unfolding(fields::specs::Reading::text_at))]
+    fn read_from(alloc: Global, reader: &mut Reader<'_>) -> Result<Self, Fault> {
+        let bytes = reader.text()?;
+        let bytes = Vec::from_slice(alloc, bytes)?;
+        match Text::from_bytes(bytes) {
+            Some(text) => Ok(text),
+            None => Err(Fault::Malformed),
+        }
+    }
+
+    ghost is_form = { description_form };
 }

@@ -9,9 +9,9 @@ pub returns-clause-stands : goal.returns-clause-stands
 returns-clause-stands c = stands_image
 
 pub returns-clause-left : goal.returns-clause-left
-returns-clause-left c h file number mark payload left allowed small firm leaves =
-    stands_image file number mark left payload allowed small (leaves_firm (standing h file) left 0 (image_bytes mark number payload) leaves firm)
+returns-clause-left c h file number mark payload left allowed never small firm leaves =
+    stands_image file number mark left payload allowed never small (leaves_firm (standing h file) left 0 (image_bytes mark number payload) leaves firm)
 
 pub returns-clause-images : goal.returns-clause-images
-returns-clause-images c h file number mark payload image allowed small firm here =
-    stands_image file number mark (image file) payload allowed small (leaves_firm (standing h file) (image file) 0 (image_bytes mark number payload) (now_image h image here file) firm)
+returns-clause-images c h file number mark payload image allowed never small firm here =
+    stands_image file number mark (image file) payload allowed never small (leaves_firm (standing h file) (image file) 0 (image_bytes mark number payload) (now_image h image here file) firm)

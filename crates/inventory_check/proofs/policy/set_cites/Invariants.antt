@@ -5,4 +5,4 @@ use Rattle.inventory_check.specs.Rows.{class_cites, set_cites}
 use Rattle.inventory_check.proofs.policy.set_cites.Given as goal
 
 abbrev pub invariant-classes : goal.invariant-classes
-invariant-classes l = list_all (λ c. class_cites (inv_of l.tables) c.1) l.group-iterator ≡ set_cites (inv_of l.tables) l.set
+invariant-classes l = list_all (λ c. class_cites (inv_of l.tables) c.1) l.class-iterator ≡ set_cites (inv_of l.tables) l.set

@@ -7,8 +7,8 @@ use Rattle.inventory_effects.proofs.arrivals.insert.Goals as goal
 
 pub returns-in-Ok : goal.returns-in-Ok
 returns-in-Ok c =
-    inserted_goes c.args.filespace c.args.item.now (inv_of c.args.tables.now) c.in_ok-path.path c.in_ok-class.class c.in_ok-class.active c.insert.new.self c.max-tables.result c.in_ok-version.version c.args.log.now c.push.new.self
-    c.requires c.in_ok-version.ensures c.max-tables.ensures c.in_ok-path.ensures.cases c.in_ok-class.ensures c.in_ok-push.ensures c.in-Ok.ensures.value c.in-Ok.ensures.newest c.in-Ok.ensures.undone
+    inserted_goes c.args.filespace c.args.item.now (inv_of c.args.tables.now) c.in_ok-path.path c.in_ok-class.class c.in_ok-class.active c.insert.new.self c.next_behind-tables.result c.in_ok-version.version c.args.log.now c.push.new.self
+    c.requires c.in_ok-version.ensures c.next_behind-tables.ensures c.in_ok-path.ensures.cases c.in_ok-class.ensures c.in_ok-push.ensures c.in-Ok.ensures.value c.in-Ok.ensures.newest c.in-Ok.ensures.undone
 
 pub returns-in-Err : goal.returns-in-Err
 returns-in-Err c = (

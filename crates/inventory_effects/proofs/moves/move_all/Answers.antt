@@ -1,6 +1,6 @@
 use Rattle.std.proofs.Common.{ap, ◌∙◌}
 use Rattle.inventory_rows.specs.State.{Inv, inv_of}
-use Rattle.inventory_effects.proofs.Discards.{put_moved-number}
+use Rattle.inventory_effects.proofs.Numbers.{put_moved-number}
 use Rattle.inventory_effects.proofs.moves.move_all.Goals as goal
 
 pub place_each-requires : goal.place_each-requires

@@ -1,4 +1,5 @@
-use Rattle.std.proofs.Common.{[], ◌∷◌}
+use Rattle.std.proofs.Common.{[], ◌∷◌, ◌++◌}
+use Rattle.inventory_rules.specs.Backups.{after_refused}
 use Rattle.inventory_rules.specs.Common.{file_bound, files_refused}
 use Rattle.inventory_laws.proofs.BackupCounts.{begin_counted, delete_takes, end_takes}
 use Rattle.inventory_laws.proofs.BackupRows.{begin_stays, delete_stays, end_stays}
@@ -23,7 +24,7 @@ pub returns-clause-clients_stay : goal.returns-clause-clients_stay
 returns-clause-clients_stay c j x v valid tied legal sizes = object_stays j x v valid tied legal sizes
 
 pub returns-clause-begun_stays : goal.returns-clause-begun_stays
-returns-clause-begun_stays c j file v valid tied legal sizes = begin_stays j file v valid tied legal sizes
+returns-clause-begun_stays c j file after v valid tied legal sizes = begin_stays j file after v valid tied legal sizes
 
 pub returns-clause-ended_stays : goal.returns-clause-ended_stays
 returns-clause-ended_stays c j file v valid tied legal sizes = end_stays j file v valid tied legal sizes
@@ -44,7 +45,7 @@ pub returns-clause-clients_less : goal.returns-clause-clients_less
 returns-clause-clients_less c x v old = client_counts.clients_take x v old
 
 pub returns-clause-begun_counted : goal.returns-clause-begun_counted
-returns-clause-begun_counted c j file v legal = begin_counted file v legal
+returns-clause-begun_counted c j file after v legal = begin_counted file after v legal
 
 pub returns-clause-ended_less : goal.returns-clause-ended_less
 returns-clause-ended_less c file v = end_takes file v
@@ -59,4 +60,5 @@ pub returns-clause-clients_made : goal.returns-clause-clients_made
 returns-clause-clients_made c j x v facts legal = can_clients x v facts legal
 
 pub returns-clause-begun_made : goal.returns-clause-begun_made
-returns-clause-begun_made c j file v legal = file_below file v (back_nil (files_refused (file ∷ []) v) (file_bound file v) legal)
+returns-clause-begun_made c j file after v legal =
+    file_below file v (back_nil (files_refused (file ∷ []) v) (file_bound file v) (back_nil (after_refused after v) (files_refused (file ∷ []) v ++ file_bound file v) legal))

@@ -16,9 +16,6 @@ returns-in-Object g c = c.client_refused.ensures ∙ ap (λ change. foremost (ca
 pub returns-in-Pool : goal.returns-in-Pool
 returns-in-Pool g c = c.store_refused.ensures ∙ ap (λ change. foremost (causes (g.J.Past.journal c.args.past.now) change (inv_of c.args.tables.now))) (sym c.in-Pool.is)
 
-pub returns-in-Backup : goal.returns-in-Backup
-returns-in-Backup g c = c.versions_refused.ensures ∙ ap (λ change. foremost (causes (g.J.Past.journal c.args.past.now) change (inv_of c.args.tables.now))) (sym c.in-Backup.is)
-
 pub returns-in-Move : goal.returns-in-Move
 returns-in-Move g c = c.moves_refused.ensures ∙ ap (λ change. foremost (causes (g.J.Past.journal c.args.past.now) change (inv_of c.args.tables.now))) (sym c.in-Move.is)
 

@@ -1,6 +1,6 @@
 use Rattle.std.proofs.Common.{sym}
 use Rattle.std.proofs.lemmas.Str.{is_utf8-from_IsUtf8}
-use Rattle.kinds.proofs.Text.{untested}
+use Rattle.kinds.proofs.Utf8.{untested}
 use Rattle.kinds.proofs.path.is_utf8.Goals as goal
 
 pub returns-in-Ok : goal.returns-in-Ok

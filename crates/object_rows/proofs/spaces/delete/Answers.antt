@@ -9,13 +9,13 @@ use Rattle.object_rows.proofs.spaces.delete.Goals as goal
 pub returns-clause-indexed : goal.returns-clause-indexed
 returns-clause-indexed c =
     space_deleted c.args.places.now.entries c.args.filespaces.now.entries c.remove.new.self.entries c.args.number c.in-Some.filespace.now c.requires.indexed (sym c.in-Some.ensures.value)
-    (space_is_unused c.args.number c.args.filespaces.now.entries c.in-Some.filespace.now c.in-Some.ensures.value c.requires.fine) c.remove.ensures.entries c.remove.ensures.ordered
+    (space_is_unused c.args.number c.args.held.now c.args.filespaces.now.entries c.in-Some.filespace.now c.in-Some.ensures.value c.requires.fine) c.remove.ensures.entries c.remove.ensures.ordered
 
 pub returns-clause-counted : goal.returns-clause-counted
 returns-clause-counted c = λ tally.
     counted_same tally c.args.filespaces.now.entries c.remove.new.self.entries
     (deleted_weighs c.args.number c.in-Some.filespace.now c.args.filespaces.now.entries c.remove.new.self.entries c.requires.indexed.orderly (sym c.in-Some.ensures.value)
-    (space_is_unused c.args.number c.args.filespaces.now.entries c.in-Some.filespace.now c.in-Some.ensures.value c.requires.fine) c.remove.ensures.entries)
+    (space_is_unused c.args.number c.args.held.now c.args.filespaces.now.entries c.in-Some.filespace.now c.in-Some.ensures.value c.requires.fine) c.remove.ensures.entries)
 
 pub returns-clause-named : goal.returns-clause-named
 returns-clause-named c =

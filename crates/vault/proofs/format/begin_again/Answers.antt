@@ -8,7 +8,7 @@ returns-in-Err-clear-clause-told g c = told_not_cleared g.D.Database.meaning c.a
 
 pub returns-in-Ok-put_generation-clause-told : goal.returns-in-Ok-put_generation-clause-told
 returns-in-Ok-put_generation-clause-told g c =
-    told_put g.D.Database.meaning c.args.database.now (g.S.Store.told c.args.store.now) _ (g.S.Store.told c.clear.new.store) (g.S.Store.told c.put_generation.new.store) _ c.in-Ok.payload.items _ _ c.encode.ensures.valid c.in-Ok.ensures.spelled c.in-Ok-clear.ensures.told c.in-Ok-put_generation.ensures.told (search rules) refl
+    told_put g.D.Database.meaning c.args.database.now (g.S.Store.told c.args.store.now) _ (g.S.Store.told c.clear.new.store) (g.S.Store.told c.put_generation.new.store) _ c.in-Ok.payload.items _ _ g.met.D.Database.is_meaning c.encode.ensures.valid c.in-Ok.ensures.spelled c.in-Ok-clear.ensures.told c.in-Ok-put_generation.ensures.told (search rules) refl
 
 pub returns-in-Err-put_generation-clause-told : goal.returns-in-Err-put_generation-clause-told
 returns-in-Err-put_generation-clause-told g c =

@@ -9,11 +9,11 @@ returns-in-Err-clause-told g c = told_none_put (g.S.Store.told c.args.store.now)
 
 pub returns-in-Ok-put_generation-clause-told : goal.returns-in-Ok-put_generation-clause-told
 returns-in-Ok-put_generation-clause-told g c =
-    told_put g.D.Database.meaning c.args.vault c.args.database.now c.encode.ensures.valid (g.S.Store.told c.args.store.now) (g.S.Store.told c.put_generation.new.store) _ c.in-Ok.payload.items c.in-Ok.ensures.spelled _ _ c.in-Ok-put_generation.ensures.told (search rules) (search rules)
+    told_put g.D.Database.meaning c.args.vault c.args.database.now g.met.D.Database.is_meaning c.encode.ensures.valid (g.S.Store.told c.args.store.now) (g.S.Store.told c.put_generation.new.store) _ c.in-Ok.payload.items c.in-Ok.ensures.spelled _ _ c.in-Ok-put_generation.ensures.told (search rules) (search rules)
 
 pub returns-clause-told : goal.returns-clause-told
 returns-clause-told g c =
-    told_not_put g.D.Database.meaning c.args.vault c.args.database.now c.encode.ensures.valid (g.S.Store.told c.args.store.now) (g.S.Store.told c.put_generation.new.store) _ c.in-Ok.payload.items c.in-Ok.ensures.spelled _ _ c.in-Err-put_generation.ensures.told (search rules)
+    told_not_put g.D.Database.meaning c.args.vault c.args.database.now g.met.D.Database.is_meaning c.encode.ensures.valid (g.S.Store.told c.args.store.now) (g.S.Store.told c.put_generation.new.store) _ c.in-Ok.payload.items c.in-Ok.ensures.spelled _ _ c.in-Err-put_generation.ensures.told (search rules)
 
 pub returns-then-generation-ge-LAST-clause-told : goal.returns-then-generation-ge-LAST-clause-told
 returns-then-generation-ge-LAST-clause-told g c =

@@ -16,8 +16,8 @@ returns-in-Ok-read_piece-clause-finds g c =
     let into = c.read_piece.new.into in
     let Reads : List ℕ → Type 0 = λ bytes. ReadsFrom bytes 0 into count in
     reads_both told c.args.file (λ bytes. c.in-Ok.len ≡ length bytes) Reads _ (λ bytes len reads.
-    let many : count ≡ min 24 c.in-Ok.len = omega (arith, reads.many, len) in
-    let front : take count into ≡ take 24 bytes = reads.same ∙ front_of bytes count c.in-Ok.len len many in
+    let many : count ≡ min 25 c.in-Ok.len = omega (arith, reads.many, len) in
+    let front : take count into ≡ take 25 bytes = reads.same ∙ front_of bytes count c.in-Ok.len len many in
     head_found c.args.file c.args.mark bytes (take count into) c.in-Ok.len c.parse_head.result len c.in-Ok.ensures.len.0 front c.parse_head.ensures.within (c.parse_head.ensures.gives (omega (arith, many, length-take count into))))
     c.in-Ok.ensures.len.1 (back_reads told mid c.args.file Reads c.in-Ok.ensures.looked c.in-Ok-read_piece.ensures.bytes)
 

@@ -1,4 +1,4 @@
-use Rattle.std.proofs.Common.{◌≡◌, ◌≤◌, arith}
+use Rattle.std.proofs.Common.{◌≤◌, arith}
 use Rattle.std.proofs.lemmas.Bool.{leb-true}
 use Rattle.inventory_rules.specs.Facts.{Facts}
 use Rattle.inventory_laws.proofs.Facts.{facts_of}

@@ -1,0 +1,8 @@
+use Rattle.kinds.proofs.Joins.{nine}
+use Rattle.change_items.specs.ItemForms.{new_held_object}
+use Rattle.change_items.proofs.items.NewHeldObjectFormed.write_to.Goals as goal
+
+pub returns : goal.returns
+unfolding new_held_object
+returns c =
+    nine _ _ _ _ _ _ _ _ _ _ _ _ _ _ _ _ _ _ _ c.in_ok-write_to.ensures c.in_ok-write_to-2.ensures c.in_ok-write_to-3.ensures c.in_ok-put_u64.ensures.ok c.in_ok-write_to-4.ensures c.in_ok-put_u64-2.ensures.ok c.in_ok-put_u32.ensures.ok c.in_ok-write_to-5.ensures c.in_ok-write_to-6.ensures

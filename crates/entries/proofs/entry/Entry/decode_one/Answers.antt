@@ -1,0 +1,6 @@
+use Rattle.fields.specs.Editions.{first_form}
+use Rattle.entries.proofs.Spelling.{none_spelled}
+use Rattle.entries.proofs.entry.Entry.decode_one.Goals as goal
+
+pub returns-clause-none : goal.returns-clause-none
+returns-clause-none c = none_spelled first_form c.in_ok-entry.entry c.args.bytes.now c.in_ok-entry.ensures.none
