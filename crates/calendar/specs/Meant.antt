@@ -1,5 +1,5 @@
 -- A calendar keeps the laws of a database.
-use Rattle.std.proofs.Common.{◌≡◌, ℕ, ◌^◌, ◌<◌, List, [], ◌++◌, refl, sym, ap, ◌∙◌, arith}
+use Rattle.std.proofs.Common.{◌≡◌, ℕ, ◌^◌, ◌<◌, ◌≤◌, List, [], ◌++◌, length, refl, sym, ap, ◌∙◌, arith}
 use Rattle.std.proofs.lemmas.Bool.{ltb-true}
 use Rattle.std.proofs.lemmas.Option.{same_Some}
 use Rattle.fields.specs.Editions.{Edition, second_form}
@@ -14,11 +14,14 @@ one form d other a b same =
 few : (d : Dated) → (dated second_form).Fits d → d.number < 2 ^ 62
 few d fits = ltb-true d.number (2 ^ 62) fits.1.1
 
+memo_few : (d : Dated) → (dated second_form).Fits d → length d.memo ≤ 2 ^ 20
+memo_few d fits = fits.1.0.1.1
+
 pub is_meaning : IsMeaning meaning
 is_meaning = record {
   next = λ d e. refl;
   one = one;
   begins = λ form d valid. ((unmarked form).spell d, refl);
-  short = λ d valid. omega arith;
+  short = λ d valid. omega (arith, memo_few d valid);
   few = few;
 }

@@ -2,18 +2,19 @@
 //! comment, which begins with `#`, is printed as it stands.
 //!
 //! - `new`: an empty store, and no vault is open.
-//! - `format`, `open`, `checkpoint`; a number: a transaction that brings that day, and a force; `+` and a number: a transaction that
-//!   waits for a force, and `force`; `begin`, which begins a checkpoint, and `next`, which takes a step of it; and `install`: the open
-//!   vault's calendar is installed in its own store.
+//! - `format`, and `long`, which formats with a memo of 200,000 bytes; `open`, `checkpoint`; a number: a transaction that brings that
+//!   day, and a force; `+` and a number: a transaction that waits for a force, and `force`; `begin`, which begins a checkpoint, and
+//!   `next`, which takes a step of it; and `install`: the open vault's calendar is installed in its own store.
 //! - `stop CHOICE`: the machine stops and starts again. `fail MOMENT..`: the calls that begin then fail.
 //! - `write FILE OFFSET HEX`: these bytes are written and made durable; `cut FILE LENGTH`; `show FILE`: the bytes; `moment`.
 //! - `stops CHOICE STEP..`: the steps over an empty store, once for each moment: the call that begins then fails, and there the machine
-//!   stops. One sign for each: the number of the last transaction that is then recovered, or `-` where the store isn't formatted.
-//!   The last sign is that of the run in which no call failed.
+//!   stops. One sign for each: the number of the last transaction that is then recovered, or `-` where the store isn't formatted,
+//!   and `!` where the memo is another. The last sign is that of the run in which no call failed.
 //! - `again CHOICE STEP..`: the same, and then the machine stops once more at each call of the opening. `!` where a later opening
 //!   recovers anything else.
 //! - `faults STEP..`: the steps over an empty store, once for each moment at which the call fails: the file that the refusal
 //!   names, and `!` where it is another refusal, or where the vault then takes a transaction, or answers otherwise.
+//! - `here` in front of one of these three: the same, over copies of the store, all of which is on the disk, in place of an empty one.
 //!
 //! The stored output was written by hand, from the order of the device calls.
 #![tactic(auto)]

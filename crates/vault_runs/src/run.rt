@@ -4,6 +4,7 @@ use crate::steps::Desk;
 use crate::sweeps;
 use crate::words::{large, number, numbers, step, steps, words_of};
 use hex::{decode, encode};
+use mem_store::MemStore;
 use std::alloc::{AllocError, Global};
 use store_api::Store;
 
@@ -13,6 +14,30 @@ pub struct Run {
     alloc: Global,
     desk: Desk,
     trial: Desk,
+}
+
+/// What a command on copies of a store is answered.
+fn sweep(
+    alloc: Global,
+    trial: &mut Desk,
+    store: &MemStore,
+    words: &[&str],
+) -> Result<String, Fault> {
+    match words {
+        ["stops", choice, words @ ..] => {
+            let steps = steps(alloc, words)?;
+            sweeps::stops(alloc, trial, store, large(choice)?, &steps)
+        }
+        ["again", choice, words @ ..] => {
+            let steps = steps(alloc, words)?;
+            sweeps::again(alloc, trial, store, large(choice)?, &steps)
+        }
+        ["faults", words @ ..] => {
+            let steps = steps(alloc, words)?;
+            sweeps::faults(alloc, trial, store, &steps)
+        }
+        _ => Err(Fault::NoCommand),
+    }
 }
 
 impl Run {
@@ -30,7 +55,7 @@ impl Run {
     }
 
     fn start_again(&mut self) -> Result<String, Fault> {
-        self.desk.begin(self.alloc, Vec::new(self.alloc));
+        self.desk.begin(self.alloc);
         self.done()
     }
 
@@ -74,28 +99,16 @@ impl Run {
         Ok(self.desk.text(self.alloc)?)
     }
 
-    fn stops(&mut self, choice: &str, words: &[&str]) -> Result<String, Fault> {
-        let steps = steps(self.alloc, words)?;
-        sweeps::stops(self.alloc, &mut self.trial, large(choice)?, &steps)
-    }
-
-    fn again(&mut self, choice: &str, words: &[&str]) -> Result<String, Fault> {
-        let steps = steps(self.alloc, words)?;
-        sweeps::again(self.alloc, &mut self.trial, large(choice)?, &steps)
-    }
-
-    fn faults(&mut self, words: &[&str]) -> Result<String, Fault> {
-        let steps = steps(self.alloc, words)?;
-        sweeps::faults(self.alloc, &mut self.trial, &steps)
-    }
-
-    /// What a command on many stores is answered.
+    /// What a command on many stores is answered, which begins with copies of the store or with empty ones.
     fn sweep(&mut self, words: &[&str]) -> Result<String, Fault> {
         match words {
-            ["stops", choice, steps @ ..] => self.stops(choice, steps),
-            ["again", choice, steps @ ..] => self.again(choice, steps),
-            ["faults", steps @ ..] => self.faults(steps),
-            _ => Err(Fault::NoCommand),
+            ["here", words @ ..] => sweep(self.alloc, &mut self.trial, &self.desk.store, words),
+            _ => sweep(
+                self.alloc,
+                &mut self.trial,
+                &MemStore::new(self.alloc),
+                words,
+            ),
         }
     }
 

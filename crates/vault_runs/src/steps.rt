@@ -12,6 +12,15 @@ use vault::{Progress, Vault};
 /// From this moment on no step is made.
 const LATE: u64 = 1 << 61;
 
+/// How many bytes a long memo has.
+const MEMO: usize = 200_000;
+
+/// The most bytes that a memo may have.
+const MOST: usize = 1 << 20;
+
+/// How many files a vault has.
+const FILES: u32 = 4;
+
 /// From this generation on no checkpoint is made.
 const LAST: u64 = 1 << 61;
 
@@ -19,6 +28,8 @@ const LAST: u64 = 1 << 61;
 #[derive(Clone, Copy)]
 pub enum Step {
     Format,
+    /// A format with a calendar that has a long memo.
+    Long,
     Open,
     /// A transaction that brings this day, and a force.
     Commit(Day),
@@ -146,6 +157,37 @@ fn cut_file(store: &mut MemStore, file: u32, len: u64) -> Result<(), Fault> {
     }
 }
 
+/// The byte of a long memo at this place.
+fn memo_byte(at: usize) -> u8 {
+    (at % 251) as u8
+}
+
+/// A calendar with a long memo.
+fn long_calendar(alloc: Global) -> Result<Calendar, Fault> {
+    let mut memo = Vec::with_capacity(alloc, MEMO)?;
+    for at in 0..MEMO {
+        match memo.push(memo_byte(at)) {
+            Ok(()) => {}
+            Err(_) => return Err(Fault::Refused(Refusal::Memory)),
+        }
+    }
+    if memo.len() > MOST {
+        return Err(Fault::NoCommand);
+    }
+    Ok(Calendar::with_memo(memo))
+}
+
+/// Whether a calendar has no memo, or the long one.
+fn is_whole(calendar: &Calendar) -> bool {
+    let memo = calendar.memo();
+    memo.is_empty()
+        || memo.len() == MEMO
+            && memo
+                .iter()
+                .enumerate()
+                .all(|(at, byte)| *byte == memo_byte(at))
+}
+
 /// What is known of an open vault.
 fn shown(alloc: Global, vault: &Vault<Calendar>) -> Result<String, AllocError> {
     let number = vault.database().number();
@@ -177,18 +219,30 @@ impl Desk {
         }
     }
 
-    /// The number of the last transaction of the open vault.
+    /// The number of the last transaction of the open vault, where its memo is one that was formatted.
     pub fn number(&self) -> Option<u64> {
         match &self.vault {
-            Some(vault) => Some(vault.database().number()),
-            None => None,
+            Some(vault) if is_whole(vault.database()) => Some(vault.database().number()),
+            _ => None,
         }
     }
 
-    /// An empty store, over which the calls that begin at these moments fail.
-    pub fn begin(&mut self, alloc: Global, moments: Vec<u64>) {
+    /// An empty store.
+    pub fn begin(&mut self, alloc: Global) {
         self.close();
-        self.store = MemStore::new(alloc).with_failing(moments);
+        self.store = MemStore::new(alloc);
+    }
+
+    /// A store whose files read as those of another, all of them on the disk.
+    pub fn copy(&mut self, alloc: Global, store: &MemStore) -> Result<(), Fault> {
+        self.begin(alloc);
+        for file in 0..FILES {
+            let bytes = store.bytes(file);
+            if !bytes.is_empty() {
+                self.write(file, 0, bytes)?;
+            }
+        }
+        Ok(())
     }
 
     /// Closes the vault that is open.
@@ -196,9 +250,9 @@ impl Desk {
         drop(self.vault.take());
     }
 
-    fn format(&mut self, alloc: Global) -> Result<(), Fault> {
+    fn format(&mut self, alloc: Global, calendar: Calendar) -> Result<(), Fault> {
         self.close();
-        Vault::<Calendar>::format(alloc, &mut self.store, &Calendar::new())?;
+        Vault::<Calendar>::format(alloc, &mut self.store, &calendar)?;
         Ok(())
     }
 
@@ -260,7 +314,8 @@ impl Desk {
     /// Makes a step.
     pub fn make(&mut self, alloc: Global, step: Step) -> Result<(), Fault> {
         match step {
-            Step::Format => self.format(alloc),
+            Step::Format => self.format(alloc, Calendar::new(alloc)),
+            Step::Long => self.format(alloc, long_calendar(alloc)?),
             Step::Open => self.open(alloc),
             Step::Commit(day) => self.commit(alloc, day, true),
             Step::Wait(day) => self.commit(alloc, day, false),

@@ -2,7 +2,8 @@
 use crate::answer::Fault;
 use crate::steps::{Desk, Step};
 use kinds::{OpenRefused, Refusal};
-use std::alloc::{AllocError, Global};
+use mem_store::MemStore;
+use std::alloc::Global;
 use store_api::Store;
 
 /// More moments than any script comes to.
@@ -28,14 +29,17 @@ fn recovered(alloc: Global, desk: &mut Desk) -> char {
     }
 }
 
-/// What the steps are answered over an empty store, where the call at this moment fails.
+/// What the steps are answered over a copy of the store, where the call fails that begins so many calls after the first.
 fn made(
     alloc: Global,
     desk: &mut Desk,
+    store: &MemStore,
     steps: &[Step],
-    moment: u64,
-) -> Result<Result<(), Fault>, AllocError> {
-    desk.begin(alloc, [moment].to_vec(alloc)?);
+    later: u64,
+) -> Result<Result<(), Fault>, Fault> {
+    desk.copy(alloc, store)?;
+    let moment = desk.store.moment().saturating_add(later);
+    desk.fail_at(alloc, [moment].to_vec(alloc)?);
     Ok(desk.make_all(alloc, steps))
 }
 
@@ -47,10 +51,16 @@ fn after_stop(alloc: Global, desk: &mut Desk, choice: u64) -> char {
 }
 
 /// What is recovered after a stop at each moment.
-pub fn stops(alloc: Global, desk: &mut Desk, choice: u64, steps: &[Step]) -> Result<String, Fault> {
+pub fn stops(
+    alloc: Global,
+    desk: &mut Desk,
+    store: &MemStore,
+    choice: u64,
+    steps: &[Step],
+) -> Result<String, Fault> {
     let mut signs = String::new(alloc);
     for moment in 0..MOST {
-        let answered = made(alloc, desk, steps, moment)?;
+        let answered = made(alloc, desk, store, steps, moment)?;
         signs.push(after_stop(alloc, desk, choice))?;
         if answered.is_ok() {
             return Ok(signs);
@@ -64,12 +74,13 @@ pub fn stops(alloc: Global, desk: &mut Desk, choice: u64, steps: &[Step]) -> Res
 fn once_more(
     alloc: Global,
     desk: &mut Desk,
+    store: &MemStore,
     choice: u64,
     steps: &[Step],
     moment: u64,
     later: u64,
 ) -> Result<(char, bool), Fault> {
-    let _ = made(alloc, desk, steps, moment)?;
+    let _ = made(alloc, desk, store, steps, moment)?;
     desk.stop(alloc, choice);
     let second = desk.store.moment().saturating_add(later);
     desk.fail_at(alloc, [second].to_vec(alloc)?);
@@ -81,13 +92,14 @@ fn once_more(
 fn always(
     alloc: Global,
     desk: &mut Desk,
+    store: &MemStore,
     choice: u64,
     steps: &[Step],
     moment: u64,
 ) -> Result<char, Fault> {
-    let (first, _) = once_more(alloc, desk, choice, steps, moment, 0)?;
+    let (first, _) = once_more(alloc, desk, store, choice, steps, moment, 0)?;
     for later in 1..MOST {
-        let (sign, failed) = once_more(alloc, desk, choice, steps, moment, later)?;
+        let (sign, failed) = once_more(alloc, desk, store, choice, steps, moment, later)?;
         if sign != first {
             return Ok('!');
         }
@@ -99,11 +111,17 @@ fn always(
 }
 
 /// What is recovered after a stop at each moment and one more in the opening.
-pub fn again(alloc: Global, desk: &mut Desk, choice: u64, steps: &[Step]) -> Result<String, Fault> {
+pub fn again(
+    alloc: Global,
+    desk: &mut Desk,
+    store: &MemStore,
+    choice: u64,
+    steps: &[Step],
+) -> Result<String, Fault> {
     let mut signs = String::new(alloc);
     for moment in 0..MOST {
-        signs.push(always(alloc, desk, choice, steps, moment)?)?;
-        if made(alloc, desk, steps, moment)?.is_ok() {
+        signs.push(always(alloc, desk, store, choice, steps, moment)?)?;
+        if made(alloc, desk, store, steps, moment)?.is_ok() {
             return Ok(signs);
         }
     }
@@ -129,10 +147,15 @@ fn named(alloc: Global, desk: &mut Desk, fault: Fault) -> char {
 }
 
 /// The file that the refusal names where the call at each moment fails.
-pub fn faults(alloc: Global, desk: &mut Desk, steps: &[Step]) -> Result<String, Fault> {
+pub fn faults(
+    alloc: Global,
+    desk: &mut Desk,
+    store: &MemStore,
+    steps: &[Step],
+) -> Result<String, Fault> {
     let mut signs = String::new(alloc);
     for moment in 0..MOST {
-        match made(alloc, desk, steps, moment)? {
+        match made(alloc, desk, store, steps, moment)? {
             Ok(()) => return Ok(signs),
             Err(fault) => signs.push(named(alloc, desk, fault))?,
         }

@@ -45,6 +45,7 @@ fn day_step(word: &str) -> Result<Step, Fault> {
 pub fn step(word: &str) -> Result<Step, Fault> {
     match word {
         "format" => Ok(Step::Format),
+        "long" => Ok(Step::Long),
         "open" => Ok(Step::Open),
         "checkpoint" => Ok(Step::Checkpoint),
         "begin" => Ok(Step::Begin),
