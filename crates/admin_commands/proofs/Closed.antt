@@ -1,0 +1,178 @@
+-- A command's own refusals are three.
+use Rattle.std.proofs.Common.{inl, inr, ℕ, Bool, true, false, is_some, unwrap_or, List, [], ◌∷◌, Option, Some, None, Result, Ok, Err, IfErr, if◌then◌else◌, refl, subst}
+use Rattle.kinds.specs.Answers.{Answers}
+use Rattle.kinds.specs.Pools.{is_pool}
+use Rattle.kinds.specs.Refusals.{bad_value}
+use Rattle.kinds.specs.Rules.{is_rule}
+use Rattle.kinds.specs.declared.change.DefineOrDelete.TheVariants as two
+use Rattle.kinds.specs.declared.change.ObjectChange.TheVariants as client
+use Rattle.kinds.specs.declared.change.PolicyChange.TheVariants as policy
+use Rattle.kinds.specs.declared.change.PoolChange.TheVariants as store
+use Rattle.kinds.specs.declared.change.Verb.{Verb}
+use Rattle.kinds.specs.declared.change.Verb.TheVariants as verb
+use Rattle.kinds.specs.declared.pool.PoolKind.{PoolKind}
+use Rattle.kinds.specs.declared.pool.PoolRule.{PoolRule}
+use Rattle.kinds.specs.declared.refusal.Refusal.{Refusal}
+use Rattle.kinds.specs.declared.refusal.Refusal.TheVariants.{BadHierarchy}
+use Rattle.kinds.specs.declared.rule.BackupRule.{BackupRule}
+use Rattle.entries.specs.declared.change.Change.TheVariants as change
+use Rattle.inventory_rows.specs.version_groups.Entries.{if_found}
+use Rattle.inventory_answers.specs.declared.lines.PoolLine.{PoolLine}
+use Rattle.inventory_answers.specs.declared.reply.Answer.{Answer}
+use Rattle.admin_words.specs.declared.policy.GroupUpdate.{GroupUpdate}
+use Rattle.admin_words.specs.declared.pools.PoolUpdate.{PoolUpdate}
+use Rattle.admin_words.specs.declared.command.Command.{Command}
+use Rattle.admin_words.specs.declared.command.Command.TheVariants as commands
+use Rattle.admin_words.specs.declared.command.PolicyCommand.{PolicyCommand}
+use Rattle.admin_words.specs.declared.command.PolicyCommand.TheVariants.{DeleteDomain}
+use Rattle.admin_words.specs.declared.command.ClassCommand.{ClassCommand}
+use Rattle.admin_words.specs.declared.command.ClassCommand.TheVariants.{DefineGroup, DeleteGroup, UpdateGroup}
+use Rattle.admin_words.specs.declared.command.NodeCommand.{NodeCommand}
+use Rattle.admin_words.specs.declared.command.NodeCommand.TheVariants.{DeleteFilespace, RemoveNode}
+use Rattle.admin_words.specs.declared.command.PoolCommand.{PoolCommand}
+use Rattle.admin_words.specs.declared.command.PoolCommand.TheVariants.{BackupPool, DefinePool, DeleteDevClass, DeletePool, MigratePool, ReclaimPool, RestorePool, UpdatePool}
+use Rattle.admin_words.specs.declared.command.VolumeCommand.{VolumeCommand}
+use Rattle.admin_words.specs.declared.command.VolumeCommand.TheVariants.{AuditVolume, DefineVolume, DeleteVolume, MoveData, RestoreVolume, UpdateVolume}
+use Rattle.admin_words.specs.declared.command.FileCommand.{FileCommand}
+use Rattle.admin_words.specs.declared.command.FileCommand.TheVariants.{Incremental, Put, RestoreFiles}
+use Rattle.admin_words.specs.declared.command.DatabaseCommand.{DatabaseCommand}
+use Rattle.admin_words.specs.declared.command.DatabaseCommand.TheVariants.{BackupDatabase}
+use Rattle.admin_commands.specs.declared.work.Work.{Work}
+use Rattle.admin_commands.specs.declared.work.Work.TheVariants as work
+use Rattle.admin_commands.specs.Found.{behind, number_found, device_found, next_found, domain_named, group_of, node_named, filespace_named, device_named, pool_named, pool_called, the_pool, the_volume}
+use Rattle.admin_commands.specs.Policy.{group_changed, new_rule, other_rule, destination_for, update_rule}
+use Rattle.admin_commands.specs.Stores.{class_deleted, pool_changed, new_settings, is_definition, other_settings, is_ordered, next_for, update_settings, capacity_for, new_volume, access_changed, may_move, moved, moved_from, move_data}
+use Rattle.admin_commands.specs.Orders.{policies, clients, run, run_found, run_filespace, run_in, policy_work, class_work, node_work, pool_work, volume_work, file_work, database_work, work_of}
+use Rattle.admin_commands.specs.Own.{IsOwn, IsClosed}
+
+-- what isn't there is NotFound
+found_own : {A : Type 0} (o : Option A) (f : A → Result Work Refusal) → ((x : A) → IfErr (f x) IsOwn) → IfErr (if_found o f) IsOwn
+found_own None f h = inr (inl refl)
+found_own (Some x) f h = h x
+
+test_own : (b : Bool) (x y : Result Work Refusal) → IfErr x IsOwn → IfErr y IsOwn → IfErr (if b then x else y) IsOwn
+test_own true x y h k = h
+test_own false x y h k = k
+
+group_own : (v : Verb) (domain set class : List ℕ) (rule : BackupRule) → IfErr (group_changed v domain set class rule) IsOwn
+group_own v domain set class rule = test_own (is_rule rule) (Ok (work.Commit (change.Policy (policy.Group v domain set class rule)))) (Err bad_value) tt (inl refl)
+
+settings_own : (v : Verb) (pool class : List ℕ) (kind : PoolKind) (rule : PoolRule) → IfErr (pool_changed v pool class kind rule) IsOwn
+settings_own v pool class kind rule = test_own (is_pool rule) (Ok (work.Commit (change.Pool (store.Pool v pool class kind rule)))) (Err bad_value) tt (inl refl)
+
+run_own : (answers : List Answer) → IfErr (run_found answers) IsOwn
+run_own answers = found_own (number_found answers) (λ number. run (number ∷ [])) (λ number. tt)
+
+filespace_own : (name : List ℕ) (answers : List Answer) → IfErr (run_filespace name answers) IsOwn
+filespace_own name answers = found_own (filespace_named name answers) (λ f. run (f.number ∷ [])) (λ f. tt)
+
+rule_own : (g : GroupUpdate) (old : BackupRule) (answers : List Answer) → IfErr (update_rule g old answers) IsOwn
+rule_own g old answers =
+    found_own (destination_for g.destination old.destination answers) (λ d. group_changed verb.Update g.domain g.set g.class (other_rule g old d)) (λ d. group_own verb.Update g.domain g.set g.class (other_rule g old d))
+
+update_own : (u : PoolUpdate) (old : PoolLine) (answers : List Answer) → IfErr (update_settings u old answers) IsOwn
+update_own u old answers =
+    found_own (next_for u.next old.settings.next answers) (λ next. pool_changed verb.Update u.pool old.class old.kind (other_settings u old.settings next)) (λ next. settings_own verb.Update u.pool old.class old.kind (other_settings u old.settings next))
+
+class_own : (class : List ℕ) (capacity : Option ℕ) → IfErr (class_deleted class capacity) IsOwn
+class_own class None = inr (inl refl)
+class_own class (Some capacity) = tt
+
+volume_own : (volume : List ℕ) (pool : ℕ) (capacity : Option ℕ) → IfErr (new_volume volume pool capacity) IsOwn
+volume_own volume pool None = inl refl
+volume_own volume pool (Some capacity) = tt
+
+move_own : (to : Option (List ℕ)) (answers : List Answer) → IfErr (move_data to answers) IsOwn
+move_own None answers = found_own (number_found answers) (λ file. run (file ∷ 0 ∷ [])) (λ file. tt)
+move_own (Some name) answers =
+    found_own (the_volume answers) (λ v. moved_from v name (behind answers)) (λ v.
+    found_own (pool_called v.pool (behind answers)) (λ own. if_found (pool_named name (behind answers)) (λ to. moved v.file own to)) (λ own.
+    found_own (pool_named name (behind answers)) (λ to. moved v.file own to) (λ to.
+    test_own (may_move own to) (run (v.file ∷ to.number ∷ [])) (Err BadHierarchy) tt (inr (inr refl)))))
+
+in_own : (class : Option (List ℕ)) (answers : List Answer) → IfErr (run_in class answers) IsOwn
+in_own None answers = tt
+in_own (Some class) answers = found_own (device_found answers) (λ device. run []) (λ device. tt)
+
+policy_own : (c : PolicyCommand) (answers : List Answer) → IfErr (policy_work c answers) IsOwn
+policy_own (DeleteDomain d) answers = found_own (domain_named d.domain answers) (λ old. policies (policy.Domain verb.Delete d.domain old.back_retention)) (λ old. tt)
+policy_own _ answers = tt
+
+classes_own : (c : ClassCommand) (answers : List Answer) → IfErr (class_work c answers) IsOwn
+classes_own (DefineGroup g) answers =
+    found_own (number_found answers) (λ d. group_changed verb.Define g.domain g.set g.class (new_rule g d)) (λ d. group_own verb.Define g.domain g.set g.class (new_rule g d))
+classes_own (DeleteGroup c) answers =
+    found_own (group_of c.class answers) (λ old. group_changed verb.Delete c.domain c.set c.class old.rule) (λ old. group_own verb.Delete c.domain c.set c.class old.rule)
+classes_own (UpdateGroup g) answers = found_own (group_of g.class answers) (λ old. update_rule g old.rule (behind answers)) (λ old. rule_own g old.rule (behind answers))
+classes_own _ answers = tt
+
+nodes_own : (c : NodeCommand) (answers : List Answer) → IfErr (node_work c answers) IsOwn
+nodes_own (DeleteFilespace f) answers = filespace_own f.filespace answers
+nodes_own (RemoveNode n) answers = found_own (node_named n.node answers) (λ old. clients (client.Node two.Delete n.node old.domain)) (λ old. tt)
+nodes_own _ answers = tt
+
+pools_own : (c : PoolCommand) (answers : List Answer) → IfErr (pool_work c answers) IsOwn
+pools_own (BackupPool b) answers =
+    found_own (number_found answers) (λ primary. if_found (number_found (behind answers)) (λ copy. run (primary ∷ copy ∷ []))) (λ primary.
+    found_own (number_found (behind answers)) (λ copy. run (primary ∷ copy ∷ [])) (λ copy. tt))
+pools_own (DefinePool d) answers =
+    test_own (is_definition d) (if_found (next_found d.next answers) (λ next. pool_changed verb.Define d.pool d.class d.kind (new_settings d next))) (Err bad_value)
+    (found_own (next_found d.next answers) (λ next. pool_changed verb.Define d.pool d.class d.kind (new_settings d next)) (λ next. settings_own verb.Define d.pool d.class d.kind (new_settings d next)))
+    (inl refl)
+pools_own (DeleteDevClass c) answers = found_own (device_found answers) (λ device. class_deleted c.class device) (λ device. class_own c.class device)
+pools_own (DeletePool p) answers =
+    found_own (the_pool answers) (λ old. pool_changed verb.Delete p.pool old.class old.kind old.settings) (λ old. settings_own verb.Delete p.pool old.class old.kind old.settings)
+pools_own (MigratePool m) answers =
+    found_own (the_pool answers) (λ p. if is_some p.settings.next then run (p.number ∷ unwrap_or m.low p.settings.low ∷ []) else Err BadHierarchy) (λ p.
+    test_own (is_some p.settings.next) (run (p.number ∷ unwrap_or m.low p.settings.low ∷ [])) (Err BadHierarchy) tt (inr (inr refl)))
+pools_own (ReclaimPool r) answers = found_own (the_pool answers) (λ p. run (p.number ∷ unwrap_or r.threshold p.settings.reclaim ∷ [])) (λ p. tt)
+pools_own (RestorePool p) answers = run_own answers
+pools_own (UpdatePool u) answers =
+    test_own (is_ordered u.low u.high) (if_found (the_pool answers) (λ old. update_settings u old (behind answers))) (Err bad_value)
+    (found_own (the_pool answers) (λ old. update_settings u old (behind answers)) (λ old. update_own u old (behind answers)))
+    (inl refl)
+pools_own _ answers = tt
+
+volumes_own : (c : VolumeCommand) (answers : List Answer) → IfErr (volume_work c answers) IsOwn
+volumes_own (AuditVolume a) answers = run_own answers
+volumes_own (DefineVolume d) answers =
+    found_own (the_pool answers) (λ p. if_found (device_named p.class (behind answers)) (λ device. new_volume d.volume p.number (capacity_for device.capacity d.format_size))) (λ p.
+    found_own (device_named p.class (behind answers)) (λ device. new_volume d.volume p.number (capacity_for device.capacity d.format_size)) (λ device.
+    volume_own d.volume p.number (capacity_for device.capacity d.format_size)))
+volumes_own (DeleteVolume d) answers = run_own answers
+volumes_own (MoveData m) answers = move_own m.pool answers
+volumes_own (RestoreVolume v) answers = run_own answers
+volumes_own (UpdateVolume u) answers =
+    found_own (the_volume answers) (λ old. if_found (pool_called old.pool (behind answers)) (λ p. access_changed u p.number old)) (λ old.
+    found_own (pool_called old.pool (behind answers)) (λ p. access_changed u p.number old) (λ p. tt))
+volumes_own _ answers = tt
+
+files_own : (c : FileCommand) (answers : List Answer) → IfErr (file_work c answers) IsOwn
+files_own (Incremental i) answers = run_own answers
+files_own (Put p) answers = run_own answers
+files_own (RestoreFiles r) answers = filespace_own r.filespace answers
+files_own _ answers = tt
+
+database_own : (c : DatabaseCommand) (answers : List Answer) → IfErr (database_work c answers) IsOwn
+database_own (BackupDatabase b) answers = in_own b.dev_class answers
+database_own _ answers = tt
+
+-- what a command may be refused with
+command_own : (c : Command) (answers : List Answer) → IfErr (work_of c answers) IsOwn
+command_own (commands.Policy c) answers = policy_own c answers
+command_own (commands.Class c) answers = classes_own c answers
+command_own (commands.Node c) answers = nodes_own c answers
+command_own (commands.Pool c) answers = pools_own c answers
+command_own (commands.Volume c) answers = volumes_own c answers
+command_own (commands.File c) answers = files_own c answers
+command_own (commands.Database c) answers = database_own c answers
+command_own (commands.Block c) answers = tt
+
+closed_by : (r said : Result Work Refusal) → Answers r said → IfErr said IsOwn → IsClosed r
+closed_by (Ok x) said h k = tt
+closed_by (Err e) said (inl memory) k = inl memory
+closed_by (Err e) said (inr same) k = inr (subst (λ s. IfErr s IsOwn) same k)
+
+-- an answer that is what is said of a command is refused as a command may be
+pub closed : (c : Command) (answers : List Answer) (r : Result Work Refusal) → Answers r (work_of c answers) → IsClosed r
+closed c answers r h = closed_by r (work_of c answers) h (command_own c answers)

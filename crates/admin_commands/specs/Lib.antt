@@ -1,0 +1,5 @@
+pub mod Found
+pub mod Orders
+pub mod Own
+pub mod Policy
+pub mod Stores
