@@ -1,8 +1,10 @@
-//! The files of a folder in memory: names over stores in memory. They tell what they have, and can be told to fail, to take few bytes
-//! a call, and stopped.
+//! What the system gives the server, in memory: the files of a folder, names over stores in memory, and the standard streams. They tell
+//! what they have, and can be told to fail, to move few bytes a call, and the files to be stopped.
 #![tactic(auto)]
 
 mod entries;
 mod mem;
+mod streams;
 
 pub use mem::{MemFiles, MemHandle};
+pub use streams::{MemReader, MemWriter};

@@ -27,7 +27,7 @@ pub struct MemHandle {
 
 /// The files of a folder in memory, which tell what they have. Each call but `stop` counts; those that are listed fail, and so does one
 /// that finds no memory. A listed call has no effect, but that a write has half of what it would have had. The folder is made, made
-/// durable and locked by one call each, in this order.
+/// durable and locked by one call each, in this order. Calls can be listed for the time behind later stops, too.
 #[derive(Drop)]
 pub struct MemFiles {
     pub(crate) alloc: Global,
@@ -37,6 +37,8 @@ pub struct MemFiles {
     pub(crate) count: u64,
     // the numbers, from 0 on, of the calls that fail
     pub(crate) failing: Vec<u64>,
+    // the same for the time behind each stop that is to come, the next one's last
+    pub(crate) later: Vec<Vec<u64>>,
     // how many bytes a call reads or writes at most
     pub(crate) most: usize,
 }
@@ -70,6 +72,14 @@ fn empty(alloc: Global, name: &str) -> Result<Entry, AllocError>
     })
 }
 
+// The list for the time behind the next stop, which is taken away; an empty one where there is none.
+fn take_next(alloc: Global, later: &mut Vec<Vec<u64>>) -> Vec<u64> {
+    match later.pop() {
+        Some(failing) => failing,
+        None => Vec::new(alloc),
+    }
+}
+
 // Copies what stands from an offset on, at most the buffer's length and the most that is asked for, and answers how many bytes that are.
 fn copy_from(bytes: &[u8], offset: u64, into: &mut [u8], most: usize) -> usize
     requires { 0 < most }
@@ -96,6 +106,7 @@ impl MemFiles {
             at: At::Away,
             count: 0,
             failing: Vec::new(alloc),
+            later: Vec::new(alloc),
             most: usize::MAX,
         }
     }
@@ -109,6 +120,16 @@ impl MemFiles {
         files.count = 0;
         files.failing = failing;
         files.most = most;
+        files
+    }
+
+    /// The files of which behind each stop that is to come the calls fail that its list has, the first call behind it being 0. The next
+    /// stop's list is the last one; where there are no more, no call fails.
+    pub fn failing_behind_stops(self, lists: Vec<Vec<u64>>) -> MemFiles
+        ensures { folder_of result ≡ folder_of self }
+    {
+        let mut files = self;
+        files.later = lists;
         files
     }
 
@@ -255,8 +276,8 @@ impl Files for MemFiles {
 
 impl Stop for MemFiles {
     /// The files after a stop now and a start. Of a file whose name is sure, and where bit 61 of `choice` is 1 of each, the stop leaves
-    /// what its store leaves at a stop by this choice; of another one an empty file. From then on no call fails, and they are counted
-    /// from 0 on.
+    /// what its store leaves at a stop by this choice; of another one an empty file. From then on the calls fail that were listed for
+    /// the time behind this stop, and they are counted from 0 on.
     fn stop(self, choice: u64) -> Self {
         let MemFiles {
             alloc,
@@ -264,15 +285,18 @@ impl Stop for MemFiles {
             at: _,
             count: _,
             failing: _,
+            mut later,
             most,
         } = self;
         stop_all(alloc, &mut entries, choice);
+        let failing = take_next(alloc, &mut later);
         MemFiles {
             alloc,
             entries,
             at: At::Away,
             count: 0,
-            failing: Vec::new(alloc),
+            failing,
+            later,
             most,
         }
     }
