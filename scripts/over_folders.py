@@ -26,8 +26,9 @@ def need(holds, words):
 
 
 def run(tsm, folder, words, script="", **how):
-    """Runs the program in a folder, over a script, to its end: its status, and what it put. Nothing may stand on standard error."""
-    ran = subprocess.run([tsm, *words], cwd=folder, input=script.encode(), stdout=subprocess.PIPE, stderr=subprocess.PIPE, **how)
+    """Runs the program in a folder, over a script (a text, or bytes), to its end: its status, and what it put. Nothing may stand on standard error."""
+    data = script if isinstance(script, bytes) else script.encode()
+    ran = subprocess.run([tsm, *words], cwd=folder, input=data, stdout=subprocess.PIPE, stderr=subprocess.PIPE, **how)
     need(not ran.stderr, f"{words} put {ran.stderr[:200]!r} on standard error")
     return ran.returncode, ran.stdout.decode(errors="replace")
 

@@ -3,7 +3,7 @@ use Rattle.std.proofs.Common.{◌≡◌, inl, inr, ℕ, Bool, true, false, is_so
 use Rattle.kinds.specs.Answers.{Answers}
 use Rattle.kinds.specs.Pools.{is_pool}
 use Rattle.kinds.specs.Refusals.{bad_value, number_of}
-use Rattle.kinds.specs.Rules.{is_rule}
+use Rattle.kinds.specs.Rules.{is_archive_rule, is_rule}
 use Rattle.kinds.specs.declared.change.DefineOrDelete.TheVariants as two
 use Rattle.kinds.specs.declared.change.ObjectChange.TheVariants as client
 use Rattle.kinds.specs.declared.change.PolicyChange.TheVariants as policy
@@ -14,37 +14,40 @@ use Rattle.kinds.specs.declared.pool.PoolKind.{PoolKind}
 use Rattle.kinds.specs.declared.pool.PoolRule.{PoolRule}
 use Rattle.kinds.specs.declared.refusal.Refusal.{Refusal}
 use Rattle.kinds.specs.declared.refusal.Refusal.TheVariants.{BadHierarchy}
+use Rattle.kinds.specs.declared.rule.ArchiveRule.{ArchiveRule}
 use Rattle.kinds.specs.declared.rule.BackupRule.{BackupRule}
 use Rattle.entries.specs.declared.change.Change.TheVariants as change
 use Rattle.inventory_rows.specs.version_groups.Entries.{if_found}
 use Rattle.inventory_answers.specs.declared.lines.PoolLine.{PoolLine}
 use Rattle.inventory_answers.specs.declared.lines.VolumeLine.{VolumeLine}
+use Rattle.inventory_answers.specs.declared.query.Query.TheVariants as query
 use Rattle.inventory_answers.specs.declared.reply.Answer.{Answer}
+use Rattle.admin_words.specs.declared.policy.ArchiveUpdate.{ArchiveUpdate}
 use Rattle.admin_words.specs.declared.policy.GroupUpdate.{GroupUpdate}
 use Rattle.admin_words.specs.declared.pools.Migration.{Migration}
 use Rattle.admin_words.specs.declared.pools.PoolUpdate.{PoolUpdate}
 use Rattle.admin_words.specs.declared.command.Command.{Command}
 use Rattle.admin_words.specs.declared.command.Command.TheVariants as commands
 use Rattle.admin_words.specs.declared.command.PolicyCommand.{PolicyCommand}
-use Rattle.admin_words.specs.declared.command.PolicyCommand.TheVariants.{DeleteDomain}
+use Rattle.admin_words.specs.declared.command.PolicyCommand.TheVariants.{DeleteDomain, ValidateSet}
 use Rattle.admin_words.specs.declared.command.ClassCommand.{ClassCommand}
-use Rattle.admin_words.specs.declared.command.ClassCommand.TheVariants.{DefineGroup, DeleteGroup, UpdateGroup}
+use Rattle.admin_words.specs.declared.command.ClassCommand.TheVariants.{DefineArchiveGroup, DefineGroup, DeleteArchiveGroup, DeleteGroup, UpdateArchiveGroup, UpdateGroup}
 use Rattle.admin_words.specs.declared.command.NodeCommand.{NodeCommand}
-use Rattle.admin_words.specs.declared.command.NodeCommand.TheVariants.{DeleteFilespace, RemoveNode}
+use Rattle.admin_words.specs.declared.command.NodeCommand.TheVariants.{DeleteFilespace, QueryArchive, RemoveNode}
 use Rattle.admin_words.specs.declared.command.PoolCommand.{PoolCommand}
 use Rattle.admin_words.specs.declared.command.PoolCommand.TheVariants.{BackupPool, DefinePool, DeleteDevClass, DeletePool, MigratePool, ReclaimPool, RestorePool, UpdatePool}
 use Rattle.admin_words.specs.declared.command.VolumeCommand.{VolumeCommand}
 use Rattle.admin_words.specs.declared.command.VolumeCommand.TheVariants.{AuditVolume, DefineVolume, DeleteVolume, MoveData, RestoreVolume, UpdateVolume}
 use Rattle.admin_words.specs.declared.command.FileCommand.{FileCommand}
-use Rattle.admin_words.specs.declared.command.FileCommand.TheVariants.{Incremental, Put, RestoreFiles}
+use Rattle.admin_words.specs.declared.command.FileCommand.TheVariants.{ArchiveFiles, Incremental, Put, RestoreFiles, RetrieveFiles}
 use Rattle.admin_words.specs.declared.command.DatabaseCommand.{DatabaseCommand}
 use Rattle.admin_words.specs.declared.command.DatabaseCommand.TheVariants.{BackupDatabase}
 use Rattle.admin_commands.specs.declared.work.Work.{Work}
 use Rattle.admin_commands.specs.declared.work.Work.TheVariants as work
-use Rattle.admin_commands.specs.Found.{behind, number_found, device_found, next_found, domain_named, group_of, node_named, filespace_named, device_named, pool_named, pool_called, the_pool, the_volume}
-use Rattle.admin_commands.specs.Policy.{group_changed, new_rule, other_rule, destination_for, update_rule}
-use Rattle.admin_commands.specs.Stores.{class_deleted, pool_changed, new_settings, is_definition, other_settings, is_ordered, next_for, update_settings, capacity_for, new_volume, access_changed, may_move, moved, moved_from, move_data}
-use Rattle.admin_commands.specs.Orders.{policies, clients, run, run_found, run_filespace, run_in, policy_work, class_work, node_work, pool_work, volume_work, file_work, database_work, work_of}
+use Rattle.admin_commands.specs.Found.{behind, number_found, device_found, next_found, domain_named, set_named, archive_of, group_of, node_named, filespace_named, device_named, pool_named, pool_called, the_pool, the_volume}
+use Rattle.admin_commands.specs.Policy.{group_changed, new_rule, other_rule, destination_for, update_rule, archive_changed, new_archive, other_archive, update_archive_rule}
+use Rattle.admin_commands.specs.Stores.{class_deleted, pool_changed, new_settings, collocates_disk, is_definition, other_settings, is_ordered, next_for, update_settings, update_found, capacity_for, new_volume, access_changed, may_move, moved, moved_from, move_data}
+use Rattle.admin_commands.specs.Orders.{policies, clients, show, run, run_found, run_filespace, run_in, policy_work, class_work, node_work, pool_work, volume_work, file_work, database_work, work_of}
 use Rattle.admin_commands.specs.Own.{Comes, ends_there, parts, leaves_from, leaves, breaks_hierarchy}
 
 -- the answer is BadHierarchy
@@ -67,6 +70,9 @@ group_not v domain set class rule = test_not (is_rule rule) (Ok (work.Commit (ch
 settings_not : (v : Verb) (pool class : List ℕ) (kind : PoolKind) (rule : PoolRule) → is_said (pool_changed v pool class kind rule) ≡ false
 settings_not v pool class kind rule = test_not (is_pool rule) (Ok (work.Commit (change.Pool (store.Pool v pool class kind rule)))) (Err bad_value) refl refl
 
+archive_not : (v : Verb) (domain set class : List ℕ) (rule : ArchiveRule) → is_said (archive_changed v domain set class rule) ≡ false
+archive_not v domain set class rule = test_not (is_archive_rule rule) (Ok (work.Commit (change.Policy (policy.ArchiveGroup v domain set class rule)))) (Err bad_value) refl refl
+
 run_not : (answers : List Answer) → is_said (run_found answers) ≡ false
 run_not answers = found_not (number_found answers) (λ number. run (number ∷ [])) (λ number. refl)
 
@@ -77,9 +83,17 @@ rule_not : (g : GroupUpdate) (old : BackupRule) (answers : List Answer) → is_s
 rule_not g old answers =
     found_not (destination_for g.destination old.destination answers) (λ d. group_changed verb.Update g.domain g.set g.class (other_rule g old d)) (λ d. group_not verb.Update g.domain g.set g.class (other_rule g old d))
 
+archive_rule_not : (g : ArchiveUpdate) (old : ArchiveRule) (answers : List Answer) → is_said (update_archive_rule g old answers) ≡ false
+archive_rule_not g old answers =
+    found_not (destination_for g.destination old.destination answers) (λ d. archive_changed verb.Update g.domain g.set g.class (other_archive g old d)) (λ d. archive_not verb.Update g.domain g.set g.class (other_archive g old d))
+
 update_not : (u : PoolUpdate) (old : PoolLine) (answers : List Answer) → is_said (update_settings u old answers) ≡ false
 update_not u old answers =
     found_not (next_for u.next old.settings.next answers) (λ next. pool_changed verb.Update u.pool old.class old.kind (other_settings u old.settings next)) (λ next. settings_not verb.Update u.pool old.class old.kind (other_settings u old.settings next))
+
+update_found_not : (u : PoolUpdate) (old : PoolLine) (answers : List Answer) → is_said (update_found u old answers) ≡ false
+update_found_not u old answers =
+    test_not (collocates_disk u old) (Err bad_value) (update_settings u old answers) refl (update_not u old answers)
 
 class_not : (class : List ℕ) (capacity : Option ℕ) → is_said (class_deleted class capacity) ≡ false
 class_not class None = refl
@@ -117,9 +131,15 @@ in_not (Some class) answers = found_not (device_found answers) (λ device. run [
 
 policy_not : (c : PolicyCommand) (answers : List Answer) → is_said (policy_work c answers) ≡ false
 policy_not (DeleteDomain d) answers = found_not (domain_named d.domain answers) (λ old. policies (policy.Domain verb.Delete d.domain old.back_retention)) (λ old. refl)
+policy_not (ValidateSet s) answers = found_not (set_named s.set answers) (λ set. run []) (λ set. refl)
 policy_not _ answers = refl
 
 classes_not : (c : ClassCommand) (answers : List Answer) → is_said (class_work c answers) ≡ false
+classes_not (DefineArchiveGroup g) answers =
+    found_not (number_found answers) (λ d. archive_changed verb.Define g.domain g.set g.class (new_archive g d)) (λ d. archive_not verb.Define g.domain g.set g.class (new_archive g d))
+classes_not (DeleteArchiveGroup c) answers =
+    found_not (archive_of c.class answers) (λ old. archive_changed verb.Delete c.domain c.set c.class old) (λ old. archive_not verb.Delete c.domain c.set c.class old)
+classes_not (UpdateArchiveGroup g) answers = found_not (archive_of g.class answers) (λ old. update_archive_rule g old (behind answers)) (λ old. archive_rule_not g old (behind answers))
 classes_not (DefineGroup g) answers =
     found_not (number_found answers) (λ d. group_changed verb.Define g.domain g.set g.class (new_rule g d)) (λ d. group_not verb.Define g.domain g.set g.class (new_rule g d))
 classes_not (DeleteGroup c) answers =
@@ -129,6 +149,7 @@ classes_not _ answers = refl
 
 nodes_not : (c : NodeCommand) (answers : List Answer) → is_said (node_work c answers) ≡ false
 nodes_not (DeleteFilespace f) answers = filespace_not f.filespace answers
+nodes_not (QueryArchive f) answers = found_not (filespace_named f.filespace answers) (λ f. show (query.Held f.number)) (λ f. refl)
 nodes_not (RemoveNode n) answers = found_not (node_named n.node answers) (λ old. clients (client.Node two.Delete n.node old.domain)) (λ old. refl)
 nodes_not _ answers = refl
 
@@ -147,8 +168,8 @@ pools_not (MigratePool m) answers = migrate_said m (the_pool answers)
 pools_not (ReclaimPool r) answers = found_not (the_pool answers) (λ p. run (p.number ∷ unwrap_or r.threshold p.settings.reclaim ∷ [])) (λ p. refl)
 pools_not (RestorePool p) answers = run_not answers
 pools_not (UpdatePool u) answers =
-    test_not (is_ordered u.low u.high) (if_found (the_pool answers) (λ old. update_settings u old (behind answers))) (Err bad_value)
-    (found_not (the_pool answers) (λ old. update_settings u old (behind answers)) (λ old. update_not u old (behind answers)))
+    test_not (is_ordered u.low u.high) (if_found (the_pool answers) (λ old. update_found u old (behind answers))) (Err bad_value)
+    (found_not (the_pool answers) (λ old. update_found u old (behind answers)) (λ old. update_found_not u old (behind answers)))
     refl
 pools_not _ answers = refl
 
@@ -167,9 +188,11 @@ volumes_not (UpdateVolume u) answers =
 volumes_not _ answers = refl
 
 files_not : (c : FileCommand) (answers : List Answer) → is_said (file_work c answers) ≡ false
+files_not (ArchiveFiles a) answers = run_not answers
 files_not (Incremental i) answers = run_not answers
 files_not (Put p) answers = run_not answers
 files_not (RestoreFiles r) answers = filespace_not r.filespace answers
+files_not (RetrieveFiles r) answers = filespace_not r.filespace answers
 files_not _ answers = refl
 
 database_not : (c : DatabaseCommand) (answers : List Answer) → is_said (database_work c answers) ≡ false

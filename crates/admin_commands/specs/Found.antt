@@ -3,14 +3,17 @@ use Rattle.std.specs.Prelude.{ℕ, List, [], ◌∷◌, Option, Some, None}
 use Rattle.std.specs.List.{find}
 use Rattle.std.specs.Option.{option_map}
 use Rattle.kinds.specs.Names.{is_same_name}
+use Rattle.kinds.specs.declared.rule.ArchiveRule.{ArchiveRule}
 use Rattle.inventory_work.specs.declared.search.Found.{Found}
 use Rattle.inventory_work.specs.declared.search.Found.TheVariants as found
+use Rattle.inventory_answers.specs.declared.lines.ClassLine.{ClassLine}
 use Rattle.inventory_answers.specs.declared.lines.DeviceLine.{DeviceLine}
 use Rattle.inventory_answers.specs.declared.lines.DomainLine.{DomainLine}
 use Rattle.inventory_answers.specs.declared.lines.FilespaceLine.{FilespaceLine}
 use Rattle.inventory_answers.specs.declared.lines.GroupLine.{GroupLine}
 use Rattle.inventory_answers.specs.declared.lines.NodeLine.{NodeLine}
 use Rattle.inventory_answers.specs.declared.lines.PoolLine.{PoolLine}
+use Rattle.inventory_answers.specs.declared.lines.SetLine.{SetLine}
 use Rattle.inventory_answers.specs.declared.lines.VolumeLine.{VolumeLine}
 use Rattle.inventory_answers.specs.declared.reply.Answer.{Answer}
 use Rattle.inventory_answers.specs.declared.reply.Rows.{Rows}
@@ -56,6 +59,22 @@ domains_in _ = []
 abbrev pub domains : List Answer → List DomainLine
 domains [] = []
 domains (a ∷ more) = domains_in a.rows
+
+abbrev pub sets_in : Rows → List SetLine
+sets_in (rows.Sets lines) = lines
+sets_in _ = []
+
+abbrev pub sets : List Answer → List SetLine
+sets [] = []
+sets (a ∷ more) = sets_in a.rows
+
+abbrev pub classes_in : Rows → List ClassLine
+classes_in (rows.Classes lines) = lines
+classes_in _ = []
+
+abbrev pub classes : List Answer → List ClassLine
+classes [] = []
+classes (a ∷ more) = classes_in a.rows
 
 abbrev pub groups_in : Rows → List GroupLine
 groups_in (rows.Groups lines) = lines
@@ -115,6 +134,20 @@ first (line ∷ more) = Some line
 abbrev pub domain_named : List ℕ → List Answer → Option DomainLine
 domain_named name answers = find (λ l. is_same_name l.name name) (domains answers)
 
+abbrev pub set_named : List ℕ → List Answer → Option SetLine
+set_named name answers = find (λ l. is_same_name l.set name) (sets answers)
+
+abbrev pub class_named : List ℕ → List Answer → Option ClassLine
+class_named name answers = find (λ l. is_same_name l.class name) (classes answers)
+
+abbrev pub archive_at : Option ClassLine → Option ArchiveRule
+archive_at None = None
+archive_at (Some l) = l.archive
+
+-- the rule of the archive copy group of the class
+abbrev pub archive_of : List ℕ → List Answer → Option ArchiveRule
+archive_of class answers = archive_at (class_named class answers)
+
 -- the backup copy group of the class
 abbrev pub group_of : List ℕ → List Answer → Option GroupLine
 group_of class answers = find (λ l. is_same_name l.class class) (groups answers)
@@ -148,3 +181,8 @@ the_volume answers = first (volumes answers)
 abbrev pub next_found : Option (List ℕ) → List Answer → Option (Option ℕ)
 next_found None answers = Some None
 next_found (Some name) answers = option_map Some (number_found answers)
+
+-- the number of the pool with this name among all, where one is named, or else none
+abbrev pub next_among : Option (List ℕ) → List Answer → Option (Option ℕ)
+next_among None answers = Some None
+next_among (Some name) answers = option_map (λ p. Some p.number) (pool_named name answers)

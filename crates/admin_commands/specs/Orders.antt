@@ -1,5 +1,5 @@
 -- What each command asks for: a line for each, first the look-ups that have to be answered, and then the work by their answers.
-use Rattle.std.specs.Prelude.{ℕ, List, [], ◌∷◌, Option, Some, None, Result, Ok, if◌then◌else◌}
+use Rattle.std.specs.Prelude.{ℕ, List, [], ◌∷◌, Option, Some, None, is_some, Result, Ok, Err, if◌then◌else◌}
 use Rattle.kinds.specs.declared.change.DefineOrDelete.TheVariants as two
 use Rattle.kinds.specs.declared.change.ObjectChange.{ObjectChange}
 use Rattle.kinds.specs.declared.change.ObjectChange.TheVariants as client
@@ -9,6 +9,7 @@ use Rattle.kinds.specs.declared.change.PoolChange.{PoolChange}
 use Rattle.kinds.specs.declared.change.PoolChange.TheVariants as store
 use Rattle.kinds.specs.declared.change.Verb.TheVariants as verb
 use Rattle.kinds.specs.declared.refusal.Refusal.{Refusal}
+use Rattle.kinds.specs.declared.refusal.Refusal.TheVariants.{NoDefaultClass}
 use Rattle.entries.specs.declared.change.Change.TheVariants as change
 use Rattle.inventory_rows.specs.version_groups.Entries.{if_found}
 use Rattle.inventory_work.specs.declared.search.Named.TheVariants as named
@@ -22,21 +23,21 @@ use Rattle.admin_words.specs.declared.pools.PoolUpdate.{PoolUpdate}
 use Rattle.admin_words.specs.declared.command.PolicyCommand.{PolicyCommand}
 use Rattle.admin_words.specs.declared.command.PolicyCommand.TheVariants.{ActivateSet, DefineDomain, DefineSet, DeleteDomain, DeleteSet, QueryDomain, QuerySet, UpdateDomain, ValidateSet}
 use Rattle.admin_words.specs.declared.command.ClassCommand.{ClassCommand}
-use Rattle.admin_words.specs.declared.command.ClassCommand.TheVariants.{AssignClass, DefineClass, DefineGroup, DeleteClass, DeleteGroup, QueryClass, QueryGroup, UpdateGroup}
+use Rattle.admin_words.specs.declared.command.ClassCommand.TheVariants.{AssignClass, DefineArchiveGroup, DefineClass, DefineGroup, DeleteArchiveGroup, DeleteClass, DeleteGroup, QueryClass, QueryGroup, UpdateArchiveGroup, UpdateGroup}
 use Rattle.admin_words.specs.declared.command.NodeCommand.{NodeCommand}
-use Rattle.admin_words.specs.declared.command.NodeCommand.TheVariants.{DeleteFilespace, QueryBackup, QueryFilespace, QueryNode, RegisterNode, RemoveNode}
+use Rattle.admin_words.specs.declared.command.NodeCommand.TheVariants.{DeleteFilespace, QueryArchive, QueryBackup, QueryFilespace, QueryNode, RegisterNode, RemoveNode}
 use Rattle.admin_words.specs.declared.command.PoolCommand.{PoolCommand}
 use Rattle.admin_words.specs.declared.command.PoolCommand.TheVariants.{BackupPool, DefineDevClass, DefinePool, DeleteDevClass, DeletePool, MigrateAll, MigratePool, QueryDevClass, QueryPool, ReclaimPool, RestorePool, UpdatePool}
 use Rattle.admin_words.specs.declared.command.VolumeCommand.{VolumeCommand}
 use Rattle.admin_words.specs.declared.command.VolumeCommand.TheVariants.{AuditVolume, DefineVolume, DeleteVolume, MoveData, QueryContent, QueryVolume, RestoreVolume, ReuseVolumes, UpdateVolume}
 use Rattle.admin_words.specs.declared.command.FileCommand.{FileCommand}
-use Rattle.admin_words.specs.declared.command.FileCommand.TheVariants.{Erase, Get, Incremental, Put, RestoreFiles, Write}
+use Rattle.admin_words.specs.declared.command.FileCommand.TheVariants.{ArchiveFiles, Erase, Get, Incremental, Put, RestoreFiles, RetrieveFiles, Write}
 use Rattle.admin_words.specs.declared.command.DatabaseCommand.{DatabaseCommand}
 use Rattle.admin_words.specs.declared.command.DatabaseCommand.TheVariants.{BackupDatabase, Checkpoint, Day, DeleteHistory, ExpireInventory, QueryHistory}
 use Rattle.admin_commands.specs.declared.work.Work.{Work}
 use Rattle.admin_commands.specs.declared.work.Work.TheVariants as work
-use Rattle.admin_commands.specs.Found.{number_found, device_found, domain_named, node_named, filespace_named}
-use Rattle.admin_commands.specs.Policy.{define_group, update_group, delete_group}
+use Rattle.admin_commands.specs.Found.{number_found, device_found, domain_named, set_named, node_named, filespace_named}
+use Rattle.admin_commands.specs.Policy.{define_group, update_group, delete_group, define_archive, update_archive, delete_archive}
 use Rattle.admin_commands.specs.Stores.{is_definition, is_ordered, delete_dev_class, define_pool, update_pool, delete_pool, migrate, reclaim, back_up_pool, define_volume, update_volume, move_data}
 
 -- ---- look-ups
@@ -66,10 +67,11 @@ abbrev pub if_given : (List ℕ → Query) → Option (List ℕ) → List Query
 if_given look_up None = []
 if_given look_up (Some name) = look_up name ∷ []
 
--- the next pool of an update, where one is given and isn't taken away
+-- the pools, where an update names a next one
 abbrev pub if_next : Option (Option (List ℕ)) → List Query
 if_next None = []
-if_next (Some name) = if_given pool name
+if_next (Some None) = []
+if_next (Some (Some name)) = query.Pools None ∷ []
 
 -- a volume whose data moves; with the pools, where one is named
 abbrev pub for_move : List ℕ → Option (List ℕ) → List Query
@@ -93,20 +95,24 @@ policy_needs (DeleteSet s) = []
 policy_needs QueryDomain = []
 policy_needs (QuerySet d) = []
 policy_needs (UpdateDomain d) = []
-policy_needs (ValidateSet s) = []
+policy_needs (ValidateSet s) = query.Sets s.domain ∷ []
 
 abbrev pub class_needs : ClassCommand → List Query
 class_needs (AssignClass c) = []
+class_needs (DefineArchiveGroup g) = pool g.destination ∷ []
 class_needs (DefineClass c) = []
 class_needs (DefineGroup g) = pool g.destination ∷ []
+class_needs (DeleteArchiveGroup c) = query.Classes c.domain c.set ∷ []
 class_needs (DeleteClass c) = []
 class_needs (DeleteGroup c) = query.Groups c.domain c.set ∷ []
 class_needs (QueryClass s) = []
 class_needs (QueryGroup s) = []
+class_needs (UpdateArchiveGroup g) = query.Classes g.domain g.set ∷ if_given pool g.destination
 class_needs (UpdateGroup g) = query.Groups g.domain g.set ∷ if_given pool g.destination
 
 abbrev pub node_needs : NodeCommand → List Query
 node_needs (DeleteFilespace f) = query.Filespaces (Some f.node) ∷ []
+node_needs (QueryArchive f) = query.Filespaces (Some f.node) ∷ []
 node_needs (QueryBackup f) = []
 node_needs (QueryFilespace q) = []
 node_needs QueryNode = []
@@ -139,11 +145,13 @@ volume_needs ReuseVolumes = []
 volume_needs (UpdateVolume u) = volume_row u.volume ∷ query.Pools None ∷ []
 
 abbrev pub file_needs : FileCommand → List Query
+file_needs (ArchiveFiles a) = node a.node ∷ []
 file_needs (Erase e) = []
 file_needs (Get g) = []
 file_needs (Incremental i) = node i.node ∷ []
 file_needs (Put p) = node p.node ∷ []
 file_needs (RestoreFiles r) = query.Filespaces (Some r.node) ∷ []
+file_needs (RetrieveFiles r) = query.Filespaces (Some r.node) ∷ []
 file_needs (Write w) = []
 
 abbrev pub database_needs : DatabaseCommand → List Query
@@ -191,6 +199,18 @@ run_found answers = if_found (number_found answers) (λ number. run (number ∷ 
 abbrev pub run_filespace : List ℕ → List Answer → Result Work Refusal
 run_filespace name answers = if_found (filespace_named name answers) (λ f. run (f.number ∷ []))
 
+-- over nothing; the policy set that is named has to be there
+abbrev pub run_set : List ℕ → List Answer → Result Work Refusal
+run_set name answers = if_found (set_named name answers) (λ set. run [])
+
+-- what VALIDATE POLICYSET comes to: the set has to be there, and to have a default class
+abbrev pub validated : List ℕ → List Answer → Result (Unit {0}) Refusal
+validated name answers = if_found (set_named name answers) (λ set. if is_some set.default_class then Ok tt else Err NoDefaultClass)
+
+-- the objects that are held in the filespace with this name
+abbrev pub show_held : List ℕ → List Answer → Result Work Refusal
+show_held name answers = if_found (filespace_named name answers) (λ f. show (query.Held f.number))
+
 -- over nothing; a device class that is named has to be there
 abbrev pub run_in : Option (List ℕ) → List Answer → Result Work Refusal
 run_in None answers = run []
@@ -212,20 +232,24 @@ policy_work (DeleteSet s) answers = policies (policy.Set two.Delete s.domain s.s
 policy_work QueryDomain answers = show query.Domains
 policy_work (QuerySet d) answers = show (query.Sets d.domain)
 policy_work (UpdateDomain d) answers = policies (policy.Domain verb.Update d.domain d.back_retention)
-policy_work (ValidateSet s) answers = run []
+policy_work (ValidateSet s) answers = run_set s.set answers
 
 abbrev pub class_work : ClassCommand → List Answer → Result Work Refusal
 class_work (AssignClass c) answers = policies (policy.Assign c.domain c.set c.class)
+class_work (DefineArchiveGroup g) answers = define_archive g answers
 class_work (DefineClass c) answers = policies (policy.Class two.Define c.domain c.set c.class)
 class_work (DefineGroup g) answers = define_group g answers
+class_work (DeleteArchiveGroup c) answers = delete_archive c answers
 class_work (DeleteClass c) answers = policies (policy.Class two.Delete c.domain c.set c.class)
 class_work (DeleteGroup c) answers = delete_group c answers
 class_work (QueryClass s) answers = show (query.Classes s.domain s.set)
 class_work (QueryGroup s) answers = show (query.Groups s.domain s.set)
+class_work (UpdateArchiveGroup g) answers = update_archive g answers
 class_work (UpdateGroup g) answers = update_group g answers
 
 abbrev pub node_work : NodeCommand → List Answer → Result Work Refusal
 node_work (DeleteFilespace f) answers = run_filespace f.filespace answers
+node_work (QueryArchive f) answers = show_held f.filespace answers
 node_work (QueryBackup f) answers = show (query.Versions f.node f.filespace)
 node_work (QueryFilespace q) answers = show (query.Filespaces q.node)
 node_work QueryNode answers = show query.Nodes
@@ -258,11 +282,13 @@ volume_work ReuseVolumes answers = run []
 volume_work (UpdateVolume u) answers = update_volume u answers
 
 abbrev pub file_work : FileCommand → List Answer → Result Work Refusal
+file_work (ArchiveFiles a) answers = run_found answers
 file_work (Erase e) answers = run []
 file_work (Get g) answers = run []
 file_work (Incremental i) answers = run_found answers
 file_work (Put p) answers = run_found answers
 file_work (RestoreFiles r) answers = run_filespace r.filespace answers
+file_work (RetrieveFiles r) answers = run_filespace r.filespace answers
 file_work (Write w) answers = run []
 
 abbrev pub database_work : DatabaseCommand → List Answer → Result Work Refusal

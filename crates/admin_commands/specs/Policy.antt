@@ -1,14 +1,17 @@
--- Changes of copy groups.
+-- Changes of copy groups, and of archive copy groups.
 use Rattle.std.specs.Prelude.{ℕ, Bool, true, false, List, Option, Some, None, unwrap_or, Result, Ok, Err, if◌then◌else◌}
 use Rattle.kinds.specs.Refusals.{bad_value}
-use Rattle.kinds.specs.Rules.{is_rule}
+use Rattle.kinds.specs.Rules.{is_archive_rule, is_rule}
 use Rattle.kinds.specs.declared.change.PolicyChange.TheVariants as policy
 use Rattle.kinds.specs.declared.change.Verb.{Verb}
 use Rattle.kinds.specs.declared.change.Verb.TheVariants as verb
 use Rattle.kinds.specs.declared.refusal.Refusal.{Refusal}
+use Rattle.kinds.specs.declared.rule.ArchiveRule.{ArchiveRule}
 use Rattle.kinds.specs.declared.rule.BackupRule.{BackupRule}
 use Rattle.entries.specs.declared.change.Change.TheVariants as change
 use Rattle.inventory_rows.specs.version_groups.Entries.{if_found}
+use Rattle.admin_words.specs.declared.policy.ArchiveDefinition.{ArchiveDefinition}
+use Rattle.admin_words.specs.declared.policy.ArchiveUpdate.{ArchiveUpdate}
 use Rattle.admin_words.specs.declared.policy.GroupDefinition.{GroupDefinition}
 use Rattle.admin_words.specs.declared.policy.GroupUpdate.{GroupUpdate}
 use Rattle.admin_words.specs.declared.policy.NamedClass.{NamedClass}
@@ -17,7 +20,7 @@ use Rattle.admin_words.specs.declared.words.Mode.TheVariants.{Modified, Absolute
 use Rattle.inventory_answers.specs.declared.reply.Answer.{Answer}
 use Rattle.admin_commands.specs.declared.work.Work.{Work}
 use Rattle.admin_commands.specs.declared.work.Work.TheVariants as work
-use Rattle.admin_commands.specs.Found.{behind, number_found, group_of}
+use Rattle.admin_commands.specs.Found.{archive_of, behind, number_found, group_of}
 
 abbrev pub is_absolute : Mode → Bool
 is_absolute Modified = false
@@ -79,3 +82,35 @@ update_group g answers = if_found (group_of g.class answers) (λ old. update_rul
 -- DELETE COPYGROUP: the change has the rule that stands there
 abbrev pub delete_group : NamedClass → List Answer → Result Work Refusal
 delete_group c answers = if_found (group_of c.class answers) (λ old. group_changed verb.Delete c.domain c.set c.class old.rule)
+
+-- ---- archive copy groups
+
+-- a change of an archive copy group; a value outside its range is `BadValue`
+abbrev pub archive_changed : Verb → List ℕ → List ℕ → List ℕ → ArchiveRule → Result Work Refusal
+archive_changed v domain set class rule =
+    if is_archive_rule rule then Ok (work.Commit (change.Policy (policy.ArchiveGroup v domain set class rule))) else Err bad_value
+
+-- the rule of an archive copy group that is defined, and of one that is updated, where what isn't given stays
+abbrev pub new_archive : ArchiveDefinition → ℕ → ArchiveRule
+new_archive g destination = record { destination = destination; ret_ver = g.ret_ver }
+
+abbrev pub other_archive : ArchiveUpdate → ArchiveRule → ℕ → ArchiveRule
+other_archive g old destination = record { destination = destination; ret_ver = unwrap_or g.ret_ver old.ret_ver }
+
+-- DEFINE COPYGROUP with TYPE=ARCHIVE
+abbrev pub define_archive : ArchiveDefinition → List Answer → Result Work Refusal
+define_archive g answers =
+    if_found (number_found answers) (λ destination. archive_changed verb.Define g.domain g.set g.class (new_archive g destination))
+
+-- what is given of an update replaces what stands there
+abbrev pub update_archive_rule : ArchiveUpdate → ArchiveRule → List Answer → Result Work Refusal
+update_archive_rule g old answers =
+    if_found (destination_for g.destination old.destination answers) (λ destination. archive_changed verb.Update g.domain g.set g.class (other_archive g old destination))
+
+-- UPDATE COPYGROUP with TYPE=ARCHIVE, of a class that has an archive copy group
+abbrev pub update_archive : ArchiveUpdate → List Answer → Result Work Refusal
+update_archive g answers = if_found (archive_of g.class answers) (λ old. update_archive_rule g old (behind answers))
+
+-- DELETE COPYGROUP with TYPE=ARCHIVE: the change has the rule that stands there
+abbrev pub delete_archive : NamedClass → List Answer → Result Work Refusal
+delete_archive c answers = if_found (archive_of c.class answers) (λ old. archive_changed verb.Delete c.domain c.set c.class old)

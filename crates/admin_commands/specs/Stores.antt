@@ -1,5 +1,6 @@
 -- Changes of storage pools and volumes, and what is done with their contents.
-use Rattle.std.specs.Prelude.{ℕ, ◌*◌, ◌==◌, Bool, true, ◌&&◌, ◌||◌, nat_le, false, is_some, List, [], ◌∷◌, Option, Some, None, unwrap_or, Result, Ok, Err, if◌then◌else◌}
+use Rattle.std.specs.Prelude.{ℕ, ◌*◌, ◌==◌, Bool, true, ◌&&◌, ◌||◌, nat_le, false, not, is_some, List, [], ◌∷◌, codes, Option, Some, None, unwrap_or, Result, Ok, Err, if◌then◌else◌}
+use Rattle.kinds.specs.Names.{is_same_name}
 use Rattle.kinds.specs.Pools.{is_capacity, is_pool}
 use Rattle.kinds.specs.Refusals.{bad_value}
 use Rattle.kinds.specs.declared.change.DefineOrDelete.TheVariants as two
@@ -25,7 +26,7 @@ use Rattle.inventory_answers.specs.declared.lines.VolumeLine.{VolumeLine}
 use Rattle.inventory_answers.specs.declared.reply.Answer.{Answer}
 use Rattle.admin_commands.specs.declared.work.Work.{Work}
 use Rattle.admin_commands.specs.declared.work.Work.TheVariants as work
-use Rattle.admin_commands.specs.Found.{behind, number_found, device_found, next_found, device_named, pool_named, pool_called, the_pool, the_volume}
+use Rattle.admin_commands.specs.Found.{behind, number_found, device_found, next_found, next_among, device_named, pool_named, pool_called, the_pool, the_volume}
 
 -- ---- device classes
 
@@ -54,12 +55,16 @@ new_settings d next = record {
   reclaim = d.reclaim;
   reuse_delay = d.reuse_delay;
   max_scratch = d.max_scratch;
-  collocate = false;
+  collocate = d.collocate;
 }
 
--- the values of a definition go together, whatever its names lead to
+-- the volumes of this device class are of random access, and no client's objects are kept together on them
+abbrev pub is_disk : List ℕ → Bool
+is_disk class = is_same_name class (codes "DISK")
+
+-- the values of a definition go together, whatever its other names lead to: COLLOCATE=NODE isn't for pools of the device class DISK
 abbrev pub is_definition : PoolDefinition → Bool
-is_definition d = is_pool (new_settings d None)
+is_definition d = is_pool (new_settings d None) && not (d.collocate && is_disk d.class)
 
 -- the settings of a pool that is updated: what isn't given stays
 abbrev pub other_settings : PoolUpdate → PoolRule → Option ℕ → PoolRule
@@ -71,7 +76,7 @@ other_settings u old next = record {
   reclaim = unwrap_or u.reclaim old.reclaim;
   reuse_delay = unwrap_or u.reuse_delay old.reuse_delay;
   max_scratch = unwrap_or u.max_scratch old.max_scratch;
-  collocate = old.collocate;
+  collocate = unwrap_or u.collocate old.collocate;
 }
 
 -- LOWMIG is at most HIGHMIG, where both are given
@@ -80,10 +85,10 @@ is_ordered (Some low) (Some high) = nat_le low high
 is_ordered (Some low) None = true
 is_ordered None high = true
 
--- the next pool: the one that stands there, none, or the one that was looked up
+-- the next pool: the one that stands there, none, or the one with this name among all
 abbrev pub next_for : Option (Option (List ℕ)) → Option ℕ → List Answer → Option (Option ℕ)
 next_for None old answers = Some old
-next_for (Some name) old answers = next_found name answers
+next_for (Some name) old answers = next_among name answers
 
 -- DEFINE STGPOOL
 abbrev pub define_pool : PoolDefinition → List Answer → Result Work Refusal
@@ -95,10 +100,18 @@ abbrev pub update_settings : PoolUpdate → PoolLine → List Answer → Result 
 update_settings u old answers =
     if_found (next_for u.next old.settings.next answers) (λ next. pool_changed verb.Update u.pool old.class old.kind (other_settings u old.settings next))
 
+-- COLLOCATE=NODE is asked for a pool of the device class DISK
+abbrev pub collocates_disk : PoolUpdate → PoolLine → Bool
+collocates_disk u old = unwrap_or u.collocate false && is_disk old.class
+
+-- a pool that is there; that is refused whatever pool is to be the next
+abbrev pub update_found : PoolUpdate → PoolLine → List Answer → Result Work Refusal
+update_found u old answers = if collocates_disk u old then Err bad_value else update_settings u old answers
+
 -- UPDATE STGPOOL
 abbrev pub update_pool : PoolUpdate → List Answer → Result Work Refusal
 update_pool u answers =
-    if is_ordered u.low u.high then if_found (the_pool answers) (λ old. update_settings u old (behind answers)) else Err bad_value
+    if is_ordered u.low u.high then if_found (the_pool answers) (λ old. update_found u old (behind answers)) else Err bad_value
 
 -- DELETE STGPOOL
 abbrev pub delete_pool : List ℕ → List Answer → Result Work Refusal

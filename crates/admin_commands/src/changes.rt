@@ -8,8 +8,8 @@ ghost use Rattle.admin_commands.specs.Orders.{policies, clients, stores};
 use crate::work::Work;
 use entries::Change;
 use kinds::{
-    Capacity, CopyGroup, Days, DefineOrDelete, Name, NodeName, ObjectChange, PolicyChange,
-    PoolChange, Refusal, Verb,
+    ArchiveGroup, Capacity, CopyGroup, Days, DefineOrDelete, Name, NodeName, ObjectChange,
+    PolicyChange, PoolChange, Refusal, Verb,
 };
 
 pub(crate) fn domain(verb: Verb, domain: &Name, days: Days) -> Result<Work, Refusal>
@@ -78,6 +78,25 @@ pub(crate) fn group(
 {
     let (domain, set, class) = copies(domain, set, class)?;
     Ok(Work::Commit(Change::Policy(PolicyChange::Group {
+        verb,
+        domain,
+        set,
+        class,
+        group,
+    })))
+}
+
+pub(crate) fn archive_group(
+    verb: Verb,
+    domain: &Name,
+    set: &Name,
+    class: &Name,
+    group: ArchiveGroup,
+) -> Result<Work, Refusal>
+    ensures { Answers result (policies (policy.ArchiveGroup verb domain.now set.now class.now group)) }
+{
+    let (domain, set, class) = copies(domain, set, class)?;
+    Ok(Work::Commit(Change::Policy(PolicyChange::ArchiveGroup {
         verb,
         domain,
         set,

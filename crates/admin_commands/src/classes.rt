@@ -3,17 +3,22 @@ ghost use Rattle.std.specs.Prelude.{◌≡◌};
 ghost use Rattle.kinds.specs.Answers.{Answers, AnswersBy};
 ghost use Rattle.inventory_answers.specs.declared.query.Query.TheVariants as query;
 ghost use Rattle.admin_commands.specs.Orders.{class_needs, class_work, show};
-ghost use Rattle.admin_commands.specs.Policy.{is_absolute, absolute_or, group_changed, new_rule, other_rule, destination_for, define_group, update_rule, update_group, delete_group};
+ghost use Rattle.admin_commands.specs.Policy.{is_absolute, absolute_or, group_changed, new_rule, other_rule, destination_for, define_group, update_rule, update_group, delete_group, archive_changed, new_archive, other_archive, define_archive, update_archive_rule, update_archive, delete_archive};
 
-use crate::changes::{assign, class, group};
-use crate::found::{behind, group_of, number_found};
-use crate::looks::{groups, one, pool, with_pool_if};
+use crate::changes::{archive_group, assign, class, group};
+use crate::found::{archive_of, behind, group_of, number_found};
+use crate::looks::{classes, groups, one, pool, with_pool_if};
 use crate::work::Work;
 use admin_words::command::ClassCommand;
-use admin_words::policy::{GroupDefinition, GroupUpdate, NamedClass, NamedSet};
+use admin_words::policy::{
+    ArchiveDefinition, ArchiveUpdate, GroupDefinition, GroupUpdate, NamedClass, NamedSet,
+};
 use admin_words::words::Mode;
 use inventory_answers::{Answer, Query};
-use kinds::{BackupRule, CopyGroup, DefineOrDelete, Name, Refusal, Verb, bad_value};
+use kinds::{
+    ArchiveGroup, ArchiveRule, BackupRule, CopyGroup, DefineOrDelete, Name, Refusal, Verb,
+    bad_value,
+};
 use std::alloc::Global;
 
 pub(crate) fn class_needs(alloc: Global, command: &ClassCommand) -> Result<Vec<Query>, Refusal>
@@ -21,12 +26,17 @@ pub(crate) fn class_needs(alloc: Global, command: &ClassCommand) -> Result<Vec<Q
 {
     match command {
         ClassCommand::AssignClass(_) => Ok(Vec::new(alloc)),
+        ClassCommand::DefineArchiveGroup(it) => one(alloc, pool(&it.destination)?),
         ClassCommand::DefineClass(_) => Ok(Vec::new(alloc)),
         ClassCommand::DefineGroup(it) => one(alloc, pool(&it.destination)?),
+        ClassCommand::DeleteArchiveGroup(it) => one(alloc, classes(&it.domain, &it.set)?),
         ClassCommand::DeleteClass(_) => Ok(Vec::new(alloc)),
         ClassCommand::DeleteGroup(it) => one(alloc, groups(&it.domain, &it.set)?),
         ClassCommand::QueryClass(_) => Ok(Vec::new(alloc)),
         ClassCommand::QueryGroup(_) => Ok(Vec::new(alloc)),
+        ClassCommand::UpdateArchiveGroup(it) => {
+            with_pool_if(alloc, classes(&it.domain, &it.set)?, &it.destination)
+        }
         ClassCommand::UpdateGroup(it) => {
             with_pool_if(alloc, groups(&it.domain, &it.set)?, &it.destination)
         }
@@ -154,13 +164,96 @@ fn delete_group(it: &NamedClass, answers: &[Answer]) -> Result<Work, Refusal>
     }
 }
 
+fn archive_changed(
+    verb: Verb,
+    domain: &Name,
+    set: &Name,
+    class: &Name,
+    rule: ArchiveRule,
+) -> Result<Work, Refusal>
+    ensures { Answers result (archive_changed verb domain.now set.now class.now rule) }
+{
+    match ArchiveGroup::new(rule) {
+        None => Err(bad_value()),
+        Some(group) => archive_group(verb, domain, set, class, group),
+    }
+}
+
+fn new_archive(it: &ArchiveDefinition, destination: u32) -> ArchiveRule
+    ensures { result ≡ new_archive it.now destination }
+{
+    ArchiveRule {
+        destination,
+        ret_ver: it.ret_ver,
+    }
+}
+
+fn other_archive(it: &ArchiveUpdate, old: ArchiveRule, destination: u32) -> ArchiveRule
+    ensures { result ≡ other_archive it.now old destination }
+{
+    ArchiveRule {
+        destination,
+        ret_ver: it.ret_ver.unwrap_or(old.ret_ver),
+    }
+}
+
+fn define_archive(it: &ArchiveDefinition, answers: &[Answer]) -> Result<Work, Refusal>
+    ensures { Answers result (define_archive it.now answers.now) }
+{
+    match number_found(answers) {
+        None => Err(Refusal::NotFound),
+        Some(destination) => archive_changed(
+            Verb::Define,
+            &it.domain,
+            &it.set,
+            &it.class,
+            new_archive(it, destination),
+        ),
+    }
+}
+
+/// The archive copy group of the class gets what is given of the update.
+fn update_archive_rule(
+    it: &ArchiveUpdate,
+    old: ArchiveRule,
+    answers: &[Answer],
+) -> Result<Work, Refusal>
+    ensures { Answers result (update_archive_rule it.now old answers.now) }
+{
+    match destination_for(&it.destination, old.destination, answers) {
+        None => Err(Refusal::NotFound),
+        Some(destination) => archive_changed(
+            Verb::Update,
+            &it.domain,
+            &it.set,
+            &it.class,
+            other_archive(it, old, destination),
+        ),
+    }
+}
+
+fn update_archive(it: &ArchiveUpdate, answers: &[Answer]) -> Result<Work, Refusal>
+    ensures { Answers result (update_archive it.now answers.now) }
+{
+    match archive_of(answers, &it.class) {
+        None => Err(Refusal::NotFound),
+        Some(old) => update_archive_rule(it, old, behind(answers)),
+    }
+}
+
+fn delete_archive(it: &NamedClass, answers: &[Answer]) -> Result<Work, Refusal>
+    ensures { Answers result (delete_archive it.now answers.now) }
+{
+    match archive_of(answers, &it.class) {
+        None => Err(Refusal::NotFound),
+        Some(old) => archive_changed(Verb::Delete, &it.domain, &it.set, &it.class, old),
+    }
+}
+
 fn show_classes(it: &NamedSet) -> Result<Work, Refusal>
     ensures { Answers result (show (query.Classes it.now.domain it.now.set)) }
 {
-    Ok(Work::Show(Query::Classes {
-        domain: it.domain.clone()?,
-        set: it.set.clone()?,
-    }))
+    Ok(Work::Show(classes(&it.domain, &it.set)?))
 }
 
 fn show_groups(it: &NamedSet) -> Result<Work, Refusal>
@@ -174,16 +267,19 @@ pub(crate) fn class_work(command: &ClassCommand, answers: &[Answer]) -> Result<W
 {
     match command {
         ClassCommand::AssignClass(it) => assign(&it.domain, &it.set, &it.class),
+        ClassCommand::DefineArchiveGroup(it) => define_archive(it, answers),
         ClassCommand::DefineClass(it) => {
             class(DefineOrDelete::Define, &it.domain, &it.set, &it.class)
         }
         ClassCommand::DefineGroup(it) => define_group(it, answers),
+        ClassCommand::DeleteArchiveGroup(it) => delete_archive(it, answers),
         ClassCommand::DeleteClass(it) => {
             class(DefineOrDelete::Delete, &it.domain, &it.set, &it.class)
         }
         ClassCommand::DeleteGroup(it) => delete_group(it, answers),
         ClassCommand::QueryClass(it) => show_classes(it),
         ClassCommand::QueryGroup(it) => show_groups(it),
+        ClassCommand::UpdateArchiveGroup(it) => update_archive(it, answers),
         ClassCommand::UpdateGroup(it) => update_group(it, answers),
     }
 }

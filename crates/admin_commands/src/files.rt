@@ -15,11 +15,13 @@ pub(crate) fn file_needs(alloc: Global, command: &FileCommand) -> Result<Vec<Que
     ensures { AnswersBy (λ v. v.items) result (file_needs command.now) }
 {
     match command {
+        FileCommand::ArchiveFiles(it) => one(alloc, node(&it.node)?),
         FileCommand::Erase(_) => Ok(Vec::new(alloc)),
         FileCommand::Get(_) => Ok(Vec::new(alloc)),
         FileCommand::Incremental(it) => one(alloc, node(&it.node)?),
         FileCommand::Put(it) => one(alloc, node(&it.node)?),
         FileCommand::RestoreFiles(it) => one(alloc, filespaces(&it.node)?),
+        FileCommand::RetrieveFiles(it) => one(alloc, filespaces(&it.node)?),
         FileCommand::Write(_) => Ok(Vec::new(alloc)),
     }
 }
@@ -32,11 +34,13 @@ pub(crate) fn file_work(
     ensures { Answers result (file_work command.now answers.now) }
 {
     match command {
+        FileCommand::ArchiveFiles(_) => run_found(alloc, answers),
         FileCommand::Erase(_) => Ok(run(alloc)),
         FileCommand::Get(_) => Ok(run(alloc)),
         FileCommand::Incremental(_) => run_found(alloc, answers),
         FileCommand::Put(_) => run_found(alloc, answers),
         FileCommand::RestoreFiles(it) => run_filespace(alloc, &it.filespace, answers),
+        FileCommand::RetrieveFiles(it) => run_filespace(alloc, &it.filespace, answers),
         FileCommand::Write(_) => Ok(run(alloc)),
     }
 }

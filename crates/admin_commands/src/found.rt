@@ -1,13 +1,14 @@
 // What the answers to a command's look-ups say, taken in the order of the look-ups.
 ghost use Rattle.std.specs.Prelude.{◌≡◌};
 ghost use Rattle.std.specs.Option.{option_copied};
-ghost use Rattle.admin_commands.specs.Found.{behind, number_at, number_in, number_found, device_at, device_in, device_found, domains_in, domains, groups_in, groups, nodes_in, nodes, filespaces_in, filespaces, devices_in, devices, pools_in, pools, volumes_in, volumes, domain_named, group_of, node_named, filespace_named, device_named, pool_named, pool_called, the_pool, the_volume, next_found};
+ghost use Rattle.admin_commands.specs.Found.{behind, number_at, number_in, number_found, device_at, device_in, device_found, domains_in, domains, sets_in, sets, classes_in, classes, groups_in, groups, nodes_in, nodes, filespaces_in, filespaces, devices_in, devices, pools_in, pools, volumes_in, volumes, domain_named, set_named, class_named, archive_of, group_of, node_named, filespace_named, device_named, pool_named, pool_called, the_pool, the_volume, next_found, next_among};
 
 use inventory_answers::{
-    Answer, DeviceLine, DomainLine, FilespaceLine, GroupLine, NodeLine, PoolLine, Rows, VolumeLine,
+    Answer, ClassLine, DeviceLine, DomainLine, FilespaceLine, GroupLine, NodeLine, PoolLine, Rows,
+    SetLine, VolumeLine,
 };
 use inventory_work::Found;
-use kinds::{Capacity, FilespaceName, Name, NodeName};
+use kinds::{ArchiveRule, Capacity, FilespaceName, Name, NodeName};
 
 /// The answers behind the first.
 pub(crate) fn behind(answers: &[Answer]) -> &[Answer]
@@ -90,6 +91,42 @@ fn domains(answers: &[Answer]) -> &[DomainLine]
     match answers {
         [] => &[],
         [answer, ..] => domains_in(&answer.rows),
+    }
+}
+
+fn sets_in(rows: &Rows) -> &[SetLine]
+    ensures { result.now ≡ sets_in rows.now }
+{
+    match rows {
+        Rows::Sets(lines) => lines.as_slice(),
+        _ => &[],
+    }
+}
+
+fn sets(answers: &[Answer]) -> &[SetLine]
+    ensures { result.now ≡ sets answers.now }
+{
+    match answers {
+        [] => &[],
+        [answer, ..] => sets_in(&answer.rows),
+    }
+}
+
+fn classes_in(rows: &Rows) -> &[ClassLine]
+    ensures { result.now ≡ classes_in rows.now }
+{
+    match rows {
+        Rows::Classes(lines) => lines.as_slice(),
+        _ => &[],
+    }
+}
+
+fn classes(answers: &[Answer]) -> &[ClassLine]
+    ensures { result.now ≡ classes answers.now }
+{
+    match answers {
+        [] => &[],
+        [answer, ..] => classes_in(&answer.rows),
     }
 }
 
@@ -208,6 +245,30 @@ pub(crate) fn domain_named<'a>(answers: &'a [Answer], name: &Name) -> Option<&'a
     domains(answers).iter().find(|line| line.name == *name)
 }
 
+/// The policy set with this name.
+pub(crate) fn set_named<'a>(answers: &'a [Answer], name: &Name) -> Option<&'a SetLine>
+    ensures { option_copied result ≡ set_named name.now answers.now }
+{
+    sets(answers).iter().find(|line| line.set == *name)
+}
+
+/// The management class with this name.
+fn class_named<'a>(answers: &'a [Answer], name: &Name) -> Option<&'a ClassLine>
+    ensures { option_copied result ≡ class_named name.now answers.now }
+{
+    classes(answers).iter().find(|line| line.class == *name)
+}
+
+/// The rule of the archive copy group of this class.
+pub(crate) fn archive_of(answers: &[Answer], name: &Name) -> Option<ArchiveRule>
+    ensures { result ≡ archive_of name.now answers.now }
+{
+    match class_named(answers, name) {
+        None => None,
+        Some(line) => line.archive,
+    }
+}
+
 /// The backup copy group of this class.
 pub(crate) fn group_of<'a>(answers: &'a [Answer], name: &Name) -> Option<&'a GroupLine>
     ensures { option_copied result ≡ group_of name.now answers.now }
@@ -285,6 +346,19 @@ pub(crate) fn next_found(answers: &[Answer], name: &Option<Name>) -> Option<Opti
         Some(_) => match number_found(answers) {
             None => None,
             Some(number) => Some(Some(number)),
+        },
+    }
+}
+
+/// The number of the pool with this name among all, where one is named, or else none.
+pub(crate) fn next_among(answers: &[Answer], name: &Option<Name>) -> Option<Option<u32>>
+    ensures { result ≡ next_among name.now answers.now }
+{
+    match name {
+        None => Some(None),
+        Some(name) => match pool_named(answers, name) {
+            None => None,
+            Some(line) => Some(Some(line.number)),
         },
     }
 }

@@ -16,4 +16,5 @@ mod volumes;
 mod work;
 
 pub use orders::{needs, work_of};
+pub use policy::validate;
 pub use work::Work;

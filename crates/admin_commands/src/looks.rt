@@ -87,6 +87,25 @@ pub(crate) fn filespaces(name: &NodeName) -> Result<Query, Refusal>
     })
 }
 
+/// The policy sets of a domain.
+pub(crate) fn sets(domain: &Name) -> Result<Query, Refusal>
+    ensures { AnswersBy (λ q. q) result (query.Sets domain.now) }
+{
+    Ok(Query::Sets {
+        domain: domain.clone()?,
+    })
+}
+
+/// The management classes of a set.
+pub(crate) fn classes(domain: &Name, set: &Name) -> Result<Query, Refusal>
+    ensures { AnswersBy (λ q. q) result (query.Classes domain.now set.now) }
+{
+    Ok(Query::Classes {
+        domain: domain.clone()?,
+        set: set.clone()?,
+    })
+}
+
 /// The backup copy groups of a set.
 pub(crate) fn groups(domain: &Name, set: &Name) -> Result<Query, Refusal>
     ensures { AnswersBy (λ q. q) result (query.Groups domain.now set.now) }
@@ -131,8 +150,8 @@ pub(crate) fn with_pool_if(
     }
 }
 
-/// This look-up, and the next pool's number where one is given.
-pub(crate) fn with_next_if(
+/// This look-up, and the pools where a next one is named.
+pub(crate) fn with_pools_if(
     alloc: Global,
     first: Query,
     next: &Option<Option<Name>>,
@@ -141,7 +160,8 @@ pub(crate) fn with_next_if(
 {
     match next {
         None => one(alloc, first),
-        Some(name) => with_pool_if(alloc, first, name),
+        Some(None) => one(alloc, first),
+        Some(Some(_)) => two(alloc, first, Query::Pools { pool: None }),
     }
 }
 

@@ -2,7 +2,7 @@
 ghost use Rattle.std.specs.Prelude.{◌≡◌};
 ghost use Rattle.kinds.specs.Answers.{Answers, AnswersBy};
 ghost use Rattle.inventory_answers.specs.declared.query.Query.TheVariants as query;
-ghost use Rattle.admin_commands.specs.Orders.{node_needs, node_work, remove_node, run_filespace, show};
+ghost use Rattle.admin_commands.specs.Orders.{node_needs, node_work, remove_node, run_filespace, show, show_held};
 
 use crate::changes::node;
 use crate::found::{filespace_named, node_named};
@@ -19,6 +19,7 @@ pub(crate) fn node_needs(alloc: Global, command: &NodeCommand) -> Result<Vec<Que
 {
     match command {
         NodeCommand::DeleteFilespace(it) => one(alloc, filespaces(&it.node)?),
+        NodeCommand::QueryArchive(it) => one(alloc, filespaces(&it.node)?),
         NodeCommand::QueryBackup(_) => Ok(Vec::new(alloc)),
         NodeCommand::QueryFilespace(_) => Ok(Vec::new(alloc)),
         NodeCommand::QueryNode => Ok(Vec::new(alloc)),
@@ -50,6 +51,18 @@ fn remove_node(name: &NodeName, answers: &[Answer]) -> Result<Work, Refusal>
     }
 }
 
+/// The objects that are held in the filespace with this name.
+fn show_held(name: &FilespaceName, answers: &[Answer]) -> Result<Work, Refusal>
+    ensures { Answers result (show_held name.now answers.now) }
+{
+    match filespace_named(answers, name) {
+        None => Err(Refusal::NotFound),
+        Some(line) => Ok(Work::Show(Query::Held {
+            filespace: line.number,
+        })),
+    }
+}
+
 fn show_versions(it: &NodeFilespace) -> Result<Work, Refusal>
     ensures { Answers result (show (query.Versions it.now.node it.now.filespace)) }
 {
@@ -77,6 +90,7 @@ pub(crate) fn node_work(
 {
     match command {
         NodeCommand::DeleteFilespace(it) => run_filespace(alloc, &it.filespace, answers),
+        NodeCommand::QueryArchive(it) => show_held(&it.filespace, answers),
         NodeCommand::QueryBackup(it) => show_versions(it),
         NodeCommand::QueryFilespace(it) => show_filespaces(it),
         NodeCommand::QueryNode => Ok(Work::Show(Query::Nodes)),

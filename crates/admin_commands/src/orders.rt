@@ -1,8 +1,9 @@
 // What every command asks for.
 ghost use Rattle.kinds.specs.Answers.{Answers, AnswersBy};
-ghost use Rattle.kinds.specs.declared.refusal.Refusal.TheVariants.{BadHierarchy};
+ghost use Rattle.kinds.specs.declared.refusal.Refusal.TheVariants.{NotFound, BadHierarchy};
+ghost use Rattle.kinds.specs.Refusals.{bad_value};
 ghost use Rattle.admin_commands.specs.Orders.{needs, work_of};
-ghost use Rattle.admin_commands.specs.Own.{IsClosed, Comes, breaks_hierarchy};
+ghost use Rattle.admin_commands.specs.Own.{IsClosed, Comes, lacks, misfits, breaks_hierarchy};
 
 use crate::classes::{class_needs, class_work};
 use crate::database::{database_needs, database_work};
@@ -56,8 +57,14 @@ fn work_by_family(alloc: Global, command: &Command, answers: &[Answer]) -> Resul
 pub fn work_of(alloc: Global, command: &Command, answers: &[Answer]) -> Result<Work, Refusal>
     ensures value { Answers result (work_of command.now answers.now) }
 
-    // There is no other refusal than these three and want of memory.
+    // A change leaves the objects, and there is no other refusal than these three and want of memory.
     ensures closed { IsClosed result }
+
+    // Something that the command names isn't in the answers.
+    ensures lacking { Comes result NotFound (lacks command.now answers.now) }
+
+    // The values of the command don't go together, or don't go with what stands there.
+    ensures misfitting { Comes result bad_value (misfits command.now answers.now) }
 
     // A pool is to be migrated that has no next one, or data would move between two pools of which one is a copy pool.
     ensures hierarchy { Comes result BadHierarchy (breaks_hierarchy command.now answers.now) }

@@ -1,14 +1,15 @@
 // Commands of policy domains and policy sets.
+ghost use Rattle.std.specs.Prelude.{◌≡◌};
 ghost use Rattle.kinds.specs.Answers.{Answers, AnswersBy};
 ghost use Rattle.inventory_answers.specs.declared.query.Query.TheVariants as query;
-ghost use Rattle.admin_commands.specs.Orders.{policy_needs, policy_work, delete_domain, show};
+ghost use Rattle.admin_commands.specs.Orders.{policy_needs, policy_work, delete_domain, run_set, validated, show};
 
 use crate::changes::{activate, domain, set};
-use crate::found::domain_named;
-use crate::looks::one;
+use crate::found::{domain_named, set_named};
+use crate::looks::{one, sets};
 use crate::work::{Work, run};
 use admin_words::command::PolicyCommand;
-use admin_words::policy::NamedDomain;
+use admin_words::policy::{NamedDomain, NamedSet};
 use inventory_answers::{Answer, Query};
 use kinds::{DefineOrDelete, Name, Refusal, Verb};
 use std::alloc::Global;
@@ -25,7 +26,7 @@ pub(crate) fn policy_needs(alloc: Global, command: &PolicyCommand) -> Result<Vec
         PolicyCommand::QueryDomain => Ok(Vec::new(alloc)),
         PolicyCommand::QuerySet(_) => Ok(Vec::new(alloc)),
         PolicyCommand::UpdateDomain(_) => Ok(Vec::new(alloc)),
-        PolicyCommand::ValidateSet(_) => Ok(Vec::new(alloc)),
+        PolicyCommand::ValidateSet(it) => one(alloc, sets(&it.domain)?),
     }
 }
 
@@ -38,12 +39,37 @@ fn delete_domain(name: &Name, answers: &[Answer]) -> Result<Work, Refusal>
     }
 }
 
+/// Work over nothing; the policy set that is named has to be there.
+fn run_set(alloc: Global, name: &Name, answers: &[Answer]) -> Result<Work, Refusal>
+    ensures { Answers result (run_set name.now answers.now) }
+{
+    match set_named(answers, name) {
+        None => Err(Refusal::NotFound),
+        Some(_) => Ok(run(alloc)),
+    }
+}
+
+/// What VALIDATE POLICYSET comes to, by the answers to its look-ups: `NotFound` where the set isn't there, `NoDefaultClass` where it has no default
+/// class. It takes no memory.
+pub fn validate(command: &NamedSet, answers: &[Answer]) -> Result<(), Refusal>
+    ensures { result ≡ validated command.now.set answers.now }
+{
+    match set_named(answers, &command.set) {
+        None => Err(Refusal::NotFound),
+        Some(line) => {
+            if line.default_class.is_some() {
+                Ok(())
+            } else {
+                Err(Refusal::NoDefaultClass)
+            }
+        }
+    }
+}
+
 fn show_sets(command: &NamedDomain) -> Result<Work, Refusal>
     ensures { Answers result (show (query.Sets command.now.domain)) }
 {
-    Ok(Work::Show(Query::Sets {
-        domain: command.domain.clone()?,
-    }))
+    Ok(Work::Show(sets(&command.domain)?))
 }
 
 pub(crate) fn policy_work(
@@ -62,6 +88,6 @@ pub(crate) fn policy_work(
         PolicyCommand::QueryDomain => Ok(Work::Show(Query::Domains)),
         PolicyCommand::QuerySet(it) => show_sets(it),
         PolicyCommand::UpdateDomain(it) => domain(Verb::Update, &it.domain, it.back_retention),
-        PolicyCommand::ValidateSet(_) => Ok(run(alloc)),
+        PolicyCommand::ValidateSet(it) => run_set(alloc, &it.set, answers),
     }
 }

@@ -3,12 +3,12 @@ ghost use Rattle.std.specs.Prelude.{◌≡◌};
 ghost use Rattle.kinds.specs.Answers.{Answers, AnswersBy};
 ghost use Rattle.inventory_answers.specs.declared.query.Query.TheVariants as query;
 ghost use Rattle.admin_commands.specs.Orders.{define_needs, update_needs, pool_needs, pool_work, show, run_found};
-ghost use Rattle.admin_commands.specs.Stores.{delete_dev_class, pool_changed, new_settings, is_definition, other_settings, is_ordered, next_for, define_pool, update_settings, update_pool, delete_pool, migrate, reclaim, back_up_pool};
+ghost use Rattle.admin_commands.specs.Stores.{delete_dev_class, pool_changed, new_settings, is_disk, is_definition, other_settings, is_ordered, next_for, define_pool, update_settings, collocates_disk, update_found, update_pool, delete_pool, migrate, reclaim, back_up_pool};
 
 use crate::changes::dev_class;
-use crate::found::{behind, device_found, next_found, number_found, the_pool};
+use crate::found::{behind, device_found, next_among, next_found, number_found, the_pool};
 use crate::looks;
-use crate::looks::{one, pool, pool_if, pool_row, two, with_next_if};
+use crate::looks::{one, pool, pool_if, pool_row, two, with_pools_if};
 use crate::work::{Work, run, run_one, run_two};
 use admin_words::command::PoolCommand;
 use admin_words::pools::{Migration, PoolDefinition, PoolQuery, PoolUpdate, Reclamation};
@@ -30,15 +30,22 @@ fn new_settings(it: &PoolDefinition, next: Option<u32>) -> PoolRule
         reclaim: it.reclaim,
         reuse_delay: it.reuse_delay,
         max_scratch: it.max_scratch,
-        collocate: false,
+        collocate: it.collocate,
     }
 }
 
-/// Whether the values of a definition go together, whatever its names lead to.
+/// Whether the volumes of this device class are of random access: it is DISK.
+fn is_disk(class: &Name) -> bool
+    ensures { result ≡ is_disk class.now }
+{
+    class.as_bytes() == b"DISK".as_slice()
+}
+
+/// Whether the values of a definition go together, whatever its other names lead to.
 fn is_definition(it: &PoolDefinition) -> bool
     ensures { result ≡ is_definition it.now }
 {
-    PoolSettings::new(new_settings(it, None)).is_some()
+    PoolSettings::new(new_settings(it, None)).is_some() && !(it.collocate && is_disk(&it.class))
 }
 
 fn other_settings(it: &PoolUpdate, old: &PoolRule, next: Option<u32>) -> PoolRule
@@ -52,7 +59,7 @@ fn other_settings(it: &PoolUpdate, old: &PoolRule, next: Option<u32>) -> PoolRul
         reclaim: it.reclaim.unwrap_or(old.reclaim),
         reuse_delay: it.reuse_delay.unwrap_or(old.reuse_delay),
         max_scratch: it.max_scratch.unwrap_or(old.max_scratch),
-        collocate: old.collocate,
+        collocate: it.collocate.unwrap_or(old.collocate),
     }
 }
 
@@ -81,7 +88,7 @@ fn update_needs(alloc: Global, it: &PoolUpdate) -> Result<Vec<Query>, Refusal>
     ensures { AnswersBy (λ v. v.items) result (update_needs it.now) }
 {
     if is_ordered(it.low, it.high) {
-        with_next_if(alloc, pool_row(&it.pool)?, &it.next)
+        with_pools_if(alloc, pool_row(&it.pool)?, &it.next)
     } else {
         Ok(Vec::new(alloc))
     }
@@ -168,7 +175,7 @@ fn next_for(
 {
     match name {
         None => Some(old),
-        Some(name) => next_found(answers, name),
+        Some(name) => next_among(answers, name),
     }
 }
 
@@ -188,6 +195,23 @@ fn update_settings(it: &PoolUpdate, old: &PoolLine, answers: &[Answer]) -> Resul
     }
 }
 
+/// Whether COLLOCATE=NODE is asked for a pool of the device class DISK.
+fn collocates_disk(it: &PoolUpdate, old: &PoolLine) -> bool
+    ensures { result ≡ collocates_disk it.now old.now }
+{
+    it.collocate.unwrap_or(false) && is_disk(&old.class)
+}
+
+/// The pool that is to be updated is there.
+fn update_found(it: &PoolUpdate, old: &PoolLine, answers: &[Answer]) -> Result<Work, Refusal>
+    ensures { Answers result (update_found it.now old.now answers.now) }
+{
+    if collocates_disk(it, old) {
+        return Err(bad_value());
+    }
+    update_settings(it, old, answers)
+}
+
 fn update_pool(it: &PoolUpdate, answers: &[Answer]) -> Result<Work, Refusal>
     ensures { Answers result (update_pool it.now answers.now) }
 {
@@ -196,7 +220,7 @@ fn update_pool(it: &PoolUpdate, answers: &[Answer]) -> Result<Work, Refusal>
     }
     match the_pool(answers) {
         None => Err(Refusal::NotFound),
-        Some(old) => update_settings(it, old, behind(answers)),
+        Some(old) => update_found(it, old, behind(answers)),
     }
 }
 

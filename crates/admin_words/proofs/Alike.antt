@@ -11,7 +11,7 @@ use Rattle.command_words.specs.Rows.{Place, Slot, Given, equals_at, is_for_place
 use Rattle.command_words.specs.Values.{unquoted, has_words, fits, one_of, valued}
 use Rattle.command_words.specs.Words.{Word, words, torn_at}
 use Rattle.admin_words.specs.Command.{command_of}
-use Rattle.admin_words.specs.Line.{row_found, row_named, row_among, verb_found, row_of, row_command, command_by, command}
+use Rattle.admin_words.specs.Line.{row_found, row_named, row_among, verb_found, row_of, row_meant, row_for, row_command, command_by, command}
 use Rattle.admin_words.specs.Rows.{Row, Verb, verbs, is_bare}
 use Rattle.admin_words.specs.Spelling.{accepted, SameKeyAt, SameKeys, SameForPlace, SameBehind, SameRow, SameWords}
 
@@ -173,6 +173,11 @@ row_of_same c d verbs (w ∷ ws) =
     let read : Result ℕ Refusal = choose w.column w.text (map (λ (v : Verb). v.word) verbs) in
     bind_same read read (λ at. verb_found c (slice_get verbs at) ws) (λ at. verb_found d (slice_get verbs at) ws) refl (λ at. verb_same c d (slice_get verbs at) ws)
 
+-- nor does the row that is meant
+row_for_same : (c d : ℕ) (verbs : List Verb) (ws : List Word) → accepted (row_for c verbs ws) ≡ accepted (row_for d verbs ws)
+row_for_same c d verbs ws =
+    bind_same {B = Row × List Word} (row_of c verbs ws) (row_of d verbs ws) (λ r. Ok (row_meant r.0 r.1, r.1)) (λ r. Ok (row_meant r.0 r.1, r.1)) (row_of_same c d verbs ws) (λ _. refl)
+
 behind_same : (c d : ℕ) (r s : Result (Row × List Word) Refusal) → SameRow r s → accepted (r >>= row_command c) ≡ accepted (s >>= row_command d)
 behind_same c d (Ok (r, ws)) (Ok (s, vs)) h =
     subst (λ z. accepted (row_command c (r, ws)) ≡ accepted (row_command d (z, vs))) h.0 (row_same c d r ws vs h.1)
@@ -180,13 +185,13 @@ behind_same c d (Err x) (Err y) h = refl
 behind_same c d (Ok a) (Err y) h = absurd h
 behind_same c d (Err x) (Ok b) h = absurd h
 
-untorn_same : (c d : ℕ) (verbs : List Verb) (ws vs : List Word) → SameRow (row_of 0 verbs ws) (row_of 0 verbs vs) → accepted (row_of c verbs ws >>= row_command c) ≡ accepted (row_of d verbs vs >>= row_command d)
+untorn_same : (c d : ℕ) (verbs : List Verb) (ws vs : List Word) → SameRow (row_for 0 verbs ws) (row_for 0 verbs vs) → accepted (row_for c verbs ws >>= row_command c) ≡ accepted (row_for d verbs vs >>= row_command d)
 untorn_same c d verbs ws vs h =
-    bind_same (row_of c verbs ws) (row_of 0 verbs ws) (row_command c) (row_command c) (row_of_same c 0 verbs ws) (λ _. refl)
-    ∙ behind_same c d (row_of 0 verbs ws) (row_of 0 verbs vs) h
-    ∙ bind_same (row_of 0 verbs vs) (row_of d verbs vs) (row_command d) (row_command d) (row_of_same 0 d verbs vs) (λ _. refl)
+    bind_same (row_for c verbs ws) (row_for 0 verbs ws) (row_command c) (row_command c) (row_for_same c 0 verbs ws) (λ _. refl)
+    ∙ behind_same c d (row_for 0 verbs ws) (row_for 0 verbs vs) h
+    ∙ bind_same (row_for 0 verbs vs) (row_for d verbs vs) (row_command d) (row_command d) (row_for_same 0 d verbs vs) (λ _. refl)
 
-torn_same : (c d : ℕ) (verbs : List Verb) (ws vs : List Word) (t u : Option ℕ) → is_some t ≡ is_some u → SameRow (row_of 0 verbs ws) (row_of 0 verbs vs) → accepted (command_by verbs ws c t) ≡ accepted (command_by verbs vs d u)
+torn_same : (c d : ℕ) (verbs : List Verb) (ws vs : List Word) (t u : Option ℕ) → is_some t ≡ is_some u → SameRow (row_for 0 verbs ws) (row_for 0 verbs vs) → accepted (command_by verbs ws c t) ≡ accepted (command_by verbs vs d u)
 torn_same c d verbs ws vs (Some x) (Some y) e h = refl
 torn_same c d verbs ws vs None None e h = untorn_same c d verbs ws vs h
 torn_same c d verbs ws vs (Some x) None e h = cc

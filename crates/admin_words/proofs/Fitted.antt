@@ -5,7 +5,7 @@ use Rattle.kinds.specs.declared.refusal.Refusal.{Refusal}
 use Rattle.command_words.specs.Rows.{Given, row_values}
 use Rattle.command_words.specs.Words.{Word, words}
 use Rattle.admin_words.specs.declared.command.Command.{Command}
-use Rattle.admin_words.specs.Line.{row_of}
+use Rattle.admin_words.specs.Line.{row_for}
 use Rattle.admin_words.specs.Rows.{Row, verbs}
 use Rattle.admin_words.specs.Legible.{IsFit, IsRead, LineIsRead}
 
@@ -23,6 +23,6 @@ pub row_fits : (r : Result Command Refusal) (end : ℕ) (row : Row) (ws : List W
 row_fits r end row ws given e h = on_ok r (if_ok (λ given. IsFit row given) (row_values row.places row.slots end ws) given e h)
 
 -- a line that names this row
-pub line_fits : (r : Result Command Refusal) (in_block : Bool) (line : List ℕ) (row : Row × List Word) → row_of (length line + 1) (verbs in_block) (words line) ≡ Ok row → OnOk r (IsRead (length line + 1) row) → OnOk r (LineIsRead in_block line)
-line_fits (Ok x) in_block line row e h = if_ok (λ row. IsRead (length line + 1) row) (row_of (length line + 1) (verbs in_block) (words line)) row e h
+pub line_fits : (r : Result Command Refusal) (in_block : Bool) (line : List ℕ) (row : Row × List Word) → row_for (length line + 1) (verbs in_block) (words line) ≡ Ok row → OnOk r (IsRead (length line + 1) row) → OnOk r (LineIsRead in_block line)
+line_fits (Ok x) in_block line row e h = if_ok (λ row. IsRead (length line + 1) row) (row_for (length line + 1) (verbs in_block) (words line)) row e h
 line_fits (Err d) in_block line row e h = tt

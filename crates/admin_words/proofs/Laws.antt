@@ -1,8 +1,12 @@
 -- The laws of the table, by computing them.
-use Rattle.std.proofs.Common.{◌≡◌, Bool, true, false, map, refl}
+use Rattle.std.proofs.Common.{◌≡◌, Bool, true, false, [], ◌∷◌, map, refl}
+use Rattle.std.specs.Prelude.{IfSome, IsTrue}
+use Rattle.admin_words.specs.declared.table.ClassForm.TheVariants.{AssignClass, DefineArchiveGroup, DefineClass, DefineGroup, DeleteArchiveGroup, DeleteClass, DeleteGroup, QueryClass, QueryGroup, UpdateArchiveGroup, UpdateGroup}
+use Rattle.admin_words.specs.declared.table.Form.{Form}
+use Rattle.admin_words.specs.declared.table.Form.TheVariants as forms
 use Rattle.admin_words.specs.declared.table.FirstWord.{FirstWord}
 use Rattle.admin_words.specs.declared.table.FirstWord.TheVariants.{Activate, And, Assign, Audit, Backup, Checkpoint, Day, Define, Delete, Dsmc, End, Erase, Expire, Get, Migrate, Move, Parallel, Put, Query, Reclaim, Register, Remove, Restore, Reuse, Update, Validate, Write}
-use Rattle.admin_words.specs.Rows.{Verb, rows_of, verbs}
+use Rattle.admin_words.specs.Rows.{Verb, archive_row, rows_of, verbs}
 use Rattle.admin_words.specs.Table.{are_options, are_sound_rows, are_legible, without, block_alone, main_alone}
 
 pub sound_rows : (first : FirstWord) → are_sound_rows (rows_of first) ≡ true
@@ -64,6 +68,48 @@ legible_rows Reuse = refl
 legible_rows Update = refl
 legible_rows Validate = refl
 legible_rows Write = refl
+
+pub sound_archive : (form : Form) → IfSome (archive_row form) (λ r. IsTrue (are_sound_rows (r ∷ [])))
+unfolding archive_row
+sound_archive (forms.Class DefineGroup) = refl
+sound_archive (forms.Class DeleteGroup) = refl
+sound_archive (forms.Class UpdateGroup) = refl
+sound_archive (forms.Class AssignClass) = tt
+sound_archive (forms.Class DefineArchiveGroup) = tt
+sound_archive (forms.Class DefineClass) = tt
+sound_archive (forms.Class DeleteArchiveGroup) = tt
+sound_archive (forms.Class DeleteClass) = tt
+sound_archive (forms.Class QueryClass) = tt
+sound_archive (forms.Class QueryGroup) = tt
+sound_archive (forms.Class UpdateArchiveGroup) = tt
+sound_archive (forms.Policy form) = tt
+sound_archive (forms.Node form) = tt
+sound_archive (forms.Pool form) = tt
+sound_archive (forms.Volume form) = tt
+sound_archive (forms.File form) = tt
+sound_archive (forms.Database form) = tt
+sound_archive (forms.Block form) = tt
+
+pub legible_archive : (form : Form) → IfSome (archive_row form) (λ r. IsTrue (are_legible (r ∷ [])))
+unfolding archive_row
+legible_archive (forms.Class DefineGroup) = refl
+legible_archive (forms.Class DeleteGroup) = refl
+legible_archive (forms.Class UpdateGroup) = refl
+legible_archive (forms.Class AssignClass) = tt
+legible_archive (forms.Class DefineArchiveGroup) = tt
+legible_archive (forms.Class DefineClass) = tt
+legible_archive (forms.Class DeleteArchiveGroup) = tt
+legible_archive (forms.Class DeleteClass) = tt
+legible_archive (forms.Class QueryClass) = tt
+legible_archive (forms.Class QueryGroup) = tt
+legible_archive (forms.Class UpdateArchiveGroup) = tt
+legible_archive (forms.Policy form) = tt
+legible_archive (forms.Node form) = tt
+legible_archive (forms.Pool form) = tt
+legible_archive (forms.Volume form) = tt
+legible_archive (forms.File form) = tt
+legible_archive (forms.Database form) = tt
+legible_archive (forms.Block form) = tt
 
 pub sound_words : (in_block : Bool) → are_options (map (λ (v : Verb). v.word) (verbs in_block)) ≡ true
 unfolding verbs

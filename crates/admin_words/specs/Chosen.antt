@@ -7,9 +7,11 @@ use Rattle.kinds.specs.declared.pool.Access.TheVariants.{ReadWrite, ReadOnly, Un
 use Rattle.kinds.specs.declared.pool.PoolKind.{PoolKind}
 use Rattle.kinds.specs.declared.pool.PoolKind.TheVariants.{Primary, Copy}
 use Rattle.command_words.specs.Fields.{word_of, name_if}
+use Rattle.admin_words.specs.declared.words.BackupType.{BackupType}
+use Rattle.admin_words.specs.declared.words.BackupType.TheVariants.{Full, Incremental}
 use Rattle.admin_words.specs.declared.words.Mode.{Mode}
 use Rattle.admin_words.specs.declared.words.Mode.TheVariants.{Modified, Absolute}
-use Rattle.admin_words.specs.Grammar.{access_words, mode_words, pool_type_words, serialization_words, yes_words}
+use Rattle.admin_words.specs.Grammar.{access_words, backup_type_words, collocate_words, mode_words, pool_type_words, serialization_words, yes_words}
 
 -- MODE: MODIFIED or ABSOLUTE
 abbrev pub mode_at : ℕ → Mode
@@ -21,6 +23,17 @@ mode_when (Some at) = Some (mode_at at)
 
 abbrev pub mode_of : Option (List ℕ) → Option Mode
 mode_of text = mode_when (word_of mode_words text)
+
+-- TYPE of a database backup: FULL or INCREMENTAL
+abbrev pub backup_type_at : ℕ → BackupType
+backup_type_at at = if at == 1 then Incremental else Full
+
+abbrev pub backup_type_when : Option ℕ → Option BackupType
+backup_type_when None = None
+backup_type_when (Some at) = Some (backup_type_at at)
+
+abbrev pub backup_type_of : Option (List ℕ) → Option BackupType
+backup_type_of text = backup_type_when (word_of backup_type_words text)
 
 -- SERIALIZATION: SHRSTATIC or STATIC
 abbrev pub still_at : ℕ → Still
@@ -55,6 +68,14 @@ pool_kind_when (Some at) = Some (pool_kind_at at)
 
 abbrev pub pool_kind_of : Option (List ℕ) → Option PoolKind
 pool_kind_of text = pool_kind_when (word_of pool_type_words text)
+
+-- COLLOCATE: NO or NODE
+abbrev pub collocate_when : Option ℕ → Option Bool
+collocate_when None = None
+collocate_when (Some at) = Some (at == 1)
+
+abbrev pub collocate_of : Option (List ℕ) → Option Bool
+collocate_of text = collocate_when (word_of collocate_words text)
 
 -- NO or YES
 abbrev pub yes_at : Option ℕ → Bool

@@ -6,15 +6,15 @@ use Rattle.admin_words.specs.declared.table.Form.TheVariants as forms
 use Rattle.admin_words.specs.declared.table.PolicyForm.{PolicyForm}
 use Rattle.admin_words.specs.declared.table.PolicyForm.TheVariants.{ActivateSet, DefineDomain, DefineSet, DeleteDomain, DeleteSet, QueryDomain, QuerySet, UpdateDomain, ValidateSet}
 use Rattle.admin_words.specs.declared.table.ClassForm.{ClassForm}
-use Rattle.admin_words.specs.declared.table.ClassForm.TheVariants.{AssignClass, DefineClass, DefineGroup, DeleteClass, DeleteGroup, QueryClass, QueryGroup, UpdateGroup}
+use Rattle.admin_words.specs.declared.table.ClassForm.TheVariants.{AssignClass, DefineArchiveGroup, DefineClass, DefineGroup, DeleteArchiveGroup, DeleteClass, DeleteGroup, QueryClass, QueryGroup, UpdateArchiveGroup, UpdateGroup}
 use Rattle.admin_words.specs.declared.table.NodeForm.{NodeForm}
-use Rattle.admin_words.specs.declared.table.NodeForm.TheVariants.{DeleteFilespace, QueryBackup, QueryFilespace, QueryNode, RegisterNode, RemoveNode}
+use Rattle.admin_words.specs.declared.table.NodeForm.TheVariants.{DeleteFilespace, QueryArchive, QueryBackup, QueryFilespace, QueryNode, RegisterNode, RemoveNode}
 use Rattle.admin_words.specs.declared.table.PoolForm.{PoolForm}
 use Rattle.admin_words.specs.declared.table.PoolForm.TheVariants.{BackupPool, DefineDevClass, DefinePool, DeleteDevClass, DeletePool, MigrateAll, MigratePool, QueryDevClass, QueryPool, ReclaimPool, RestorePool, UpdatePool}
 use Rattle.admin_words.specs.declared.table.VolumeForm.{VolumeForm}
 use Rattle.admin_words.specs.declared.table.VolumeForm.TheVariants.{AuditVolume, DefineVolume, DeleteVolume, MoveData, QueryContent, QueryVolume, RestoreVolume, ReuseVolumes, UpdateVolume}
 use Rattle.admin_words.specs.declared.table.FileForm.{FileForm}
-use Rattle.admin_words.specs.declared.table.FileForm.TheVariants.{Erase, Get, Incremental, Put, RestoreFiles, Write}
+use Rattle.admin_words.specs.declared.table.FileForm.TheVariants.{ArchiveFiles, Erase, Get, Incremental, Put, RestoreFiles, RetrieveFiles, Write}
 use Rattle.admin_words.specs.declared.table.DatabaseForm.{DatabaseForm}
 use Rattle.admin_words.specs.declared.table.DatabaseForm.TheVariants.{BackupDatabase, Checkpoint, Day, DeleteHistory, ExpireInventory, QueryHistory}
 use Rattle.admin_words.specs.declared.command.Command.{Command}
@@ -34,9 +34,9 @@ use Rattle.admin_words.specs.declared.command.FileCommand.TheVariants as file_co
 use Rattle.admin_words.specs.declared.command.DatabaseCommand.{DatabaseCommand}
 use Rattle.admin_words.specs.declared.command.DatabaseCommand.TheVariants as database_commands
 use Rattle.admin_words.specs.Database.{database_backup, day_change, history_deletion}
-use Rattle.admin_words.specs.Files.{file_erase, file_get, file_put, file_write, files_restore, incremental_backup}
+use Rattle.admin_words.specs.Files.{file_erase, file_get, file_put, file_write, files_archive, files_restore, files_retrieve, incremental_backup}
 use Rattle.admin_words.specs.Nodes.{filespace_query, named_node, node_filespace, node_registration}
-use Rattle.admin_words.specs.Policy.{domain_definition, domain_update, group_definition, group_update, named_class, named_domain, named_set}
+use Rattle.admin_words.specs.Policy.{archive_definition, archive_update, domain_definition, domain_update, group_definition, group_update, named_class, named_domain, named_set}
 use Rattle.admin_words.specs.Pools.{dev_class_definition, migration, named_dev_class, named_pool, pool_backup, pool_definition, pool_query, pool_update, reclamation}
 use Rattle.admin_words.specs.Volumes.{data_move, named_volume, volume_audit, volume_definition, volume_deletion, volume_query, volume_update}
 
@@ -55,17 +55,21 @@ policy_command ValidateSet places keys = policy_commands.ValidateSet (named_set 
 -- the command of management classes and copy groups that has this form, by what was given for its places and its keywords
 abbrev pub class_command : ClassForm → List Given → List Given → ClassCommand
 class_command AssignClass places keys = class_commands.AssignClass (named_class places keys)
+class_command DefineArchiveGroup places keys = class_commands.DefineArchiveGroup (archive_definition places keys)
 class_command DefineClass places keys = class_commands.DefineClass (named_class places keys)
 class_command DefineGroup places keys = class_commands.DefineGroup (group_definition places keys)
+class_command DeleteArchiveGroup places keys = class_commands.DeleteArchiveGroup (named_class places keys)
 class_command DeleteClass places keys = class_commands.DeleteClass (named_class places keys)
 class_command DeleteGroup places keys = class_commands.DeleteGroup (named_class places keys)
 class_command QueryClass places keys = class_commands.QueryClass (named_set places keys)
 class_command QueryGroup places keys = class_commands.QueryGroup (named_set places keys)
+class_command UpdateArchiveGroup places keys = class_commands.UpdateArchiveGroup (archive_update places keys)
 class_command UpdateGroup places keys = class_commands.UpdateGroup (group_update places keys)
 
 -- the command of nodes and filespaces that has this form, by what was given for its places and its keywords
 abbrev pub node_command : NodeForm → List Given → List Given → NodeCommand
 node_command DeleteFilespace places keys = node_commands.DeleteFilespace (node_filespace places keys)
+node_command QueryArchive places keys = node_commands.QueryArchive (node_filespace places keys)
 node_command QueryBackup places keys = node_commands.QueryBackup (node_filespace places keys)
 node_command QueryFilespace places keys = node_commands.QueryFilespace (filespace_query places keys)
 node_command QueryNode places keys = node_commands.QueryNode
@@ -101,11 +105,13 @@ volume_command UpdateVolume places keys = volume_commands.UpdateVolume (volume_u
 
 -- the command of files that has this form, by what was given for its places and its keywords
 abbrev pub file_command : FileForm → List Given → List Given → FileCommand
+file_command ArchiveFiles places keys = file_commands.ArchiveFiles (files_archive places keys)
 file_command Erase places keys = file_commands.Erase (file_erase places keys)
 file_command Get places keys = file_commands.Get (file_get places keys)
 file_command Incremental places keys = file_commands.Incremental (incremental_backup places keys)
 file_command Put places keys = file_commands.Put (file_put places keys)
 file_command RestoreFiles places keys = file_commands.RestoreFiles (files_restore places keys)
+file_command RetrieveFiles places keys = file_commands.RetrieveFiles (files_retrieve places keys)
 file_command Write places keys = file_commands.Write (file_write places keys)
 
 -- the command of the database, its history and the day that has this form, by what was given for its places and its keywords

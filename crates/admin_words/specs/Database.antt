@@ -5,15 +5,18 @@ use Rattle.admin_words.specs.declared.database.HistoryDeletion.{HistoryDeletion}
 use Rattle.admin_words.specs.declared.database.DayChange.{DayChange}
 use Rattle.admin_words.specs.declared.table.Form.TheVariants.{Database}
 use Rattle.admin_words.specs.declared.table.DatabaseForm.TheVariants.{BackupDatabase, DeleteHistory}
+use Rattle.admin_words.specs.declared.words.BackupType.TheVariants.{Incremental}
+use Rattle.admin_words.specs.Chosen.{backup_type_of}
 use Rattle.admin_words.specs.Grammar.{given_for}
 use Rattle.command_words.specs.Rows.{Given, text_at}
 use Rattle.command_words.specs.Fields.{name_if, number_of}
 
--- BACKUP DB with TYPE=FULL.
+-- BACKUP DB. TYPE is INCREMENTAL where it is not given.
 abbrev pub database_backup : List Given → List Given → DatabaseBackup
 database_backup places keys =
     record {
       dev_class = name_if 30 (given_for (Database BackupDatabase) (codes "DEVCLASS") keys);
+      backup_type = unwrap_or (backup_type_of (given_for (Database BackupDatabase) (codes "TYPE") keys)) Incremental;
     }
 
 -- DELETE VOLHISTORY with TYPE=DBBACKUP: what was taken on or before this day.

@@ -10,11 +10,14 @@ use Rattle.admin_words.specs.declared.files.FilePut.{FilePut}
 use Rattle.admin_words.specs.declared.files.FileGet.{FileGet}
 use Rattle.admin_words.specs.declared.files.IncrementalBackup.{IncrementalBackup}
 use Rattle.admin_words.specs.declared.files.FilesRestore.{FilesRestore}
+use Rattle.admin_words.specs.declared.files.FilesArchive.{FilesArchive}
+use Rattle.admin_words.specs.declared.files.FilesRetrieve.{FilesRetrieve}
 use Rattle.admin_words.specs.declared.table.Form.TheVariants.{File}
-use Rattle.admin_words.specs.declared.table.FileForm.TheVariants.{Put, RestoreFiles, Write}
+use Rattle.admin_words.specs.declared.table.FileForm.TheVariants.{ArchiveFiles, Put, RestoreFiles, RetrieveFiles, Write}
+use Rattle.admin_words.specs.Chosen.{is_yes}
 use Rattle.admin_words.specs.Grammar.{given_for}
 use Rattle.command_words.specs.Rows.{Given, text_at}
-use Rattle.command_words.specs.Fields.{name_of, number_of, path_of, size_of, text_of}
+use Rattle.command_words.specs.Fields.{description_if, description_of, name_if, name_of, number_of, path_of, size_of, text_of}
 
 -- What a file is written with, by TEXT, or else by SIZE and FILL.
 abbrev pub contents : Option (List ℕ) → Option (List ℕ) → Option (List ℕ) → Contents
@@ -87,4 +90,28 @@ files_restore places keys =
       filespace = path_of 64 (text_at 1 places);
       tree = unwrap_or (number_of 9999999999 (text_at 2 places)) 0;
       wanted = wanted (given_for (File RestoreFiles) (codes "PATTERN") keys) (given_for (File RestoreFiles) (codes "PITDATE") keys) (given_for (File RestoreFiles) (codes "OBJECT") keys);
+    }
+
+-- DSMC ARCHIVE: files of a tree are archived. A description that is not given is empty.
+abbrev pub files_archive : List Given → List Given → FilesArchive
+files_archive places keys =
+    record {
+      node = name_of 64 (text_at 0 places);
+      filespace = path_of 64 (text_at 1 places);
+      tree = unwrap_or (number_of 9999999999 (text_at 2 places)) 0;
+      pattern = given_for (File ArchiveFiles) (codes "PATTERN") keys;
+      class = name_if 30 (given_for (File ArchiveFiles) (codes "ARCHMC") keys);
+      description = description_of (given_for (File ArchiveFiles) (codes "DESCRIPTION") keys);
+      delete_files = is_yes (given_for (File ArchiveFiles) (codes "DELETEFILES") keys);
+    }
+
+-- DSMC RETRIEVE: what was archived of a filespace, into a tree.
+abbrev pub files_retrieve : List Given → List Given → FilesRetrieve
+files_retrieve places keys =
+    record {
+      node = name_of 64 (text_at 0 places);
+      filespace = path_of 64 (text_at 1 places);
+      tree = unwrap_or (number_of 9999999999 (text_at 2 places)) 0;
+      pattern = given_for (File RetrieveFiles) (codes "PATTERN") keys;
+      description = description_if (given_for (File RetrieveFiles) (codes "DESCRIPTION") keys);
     }

@@ -2,7 +2,7 @@
 -- word from the left; a keyword and its value stand behind the places, in any order.
 use Rattle.std.specs.Prelude.{ℕ, suc, true, false, List, [], ◌∷◌, codes, if◌then◌else◌, Option}
 use Rattle.command_words.specs.declared.value.Kind.{Kind}
-use Rattle.command_words.specs.declared.value.Kind.TheVariants.{Name, NodeName, NameOrNone, Path, FilespaceName, Pattern, Number, Size, Limit, SizeLimit, Text, OneOf}
+use Rattle.command_words.specs.declared.value.Kind.TheVariants.{Name, NodeName, NameOrNone, Path, FilespaceName, Pattern, Number, Size, Limit, SizeLimit, Text, Description, OneOf}
 use Rattle.command_words.specs.declared.row.Need.{Need}
 use Rattle.command_words.specs.declared.row.Need.TheVariants.{Optional, Required, OneSide, AnySide}
 use Rattle.command_words.specs.Choice.{is_whole}
@@ -12,15 +12,15 @@ use Rattle.admin_words.specs.declared.table.Form.TheVariants as forms
 use Rattle.admin_words.specs.declared.table.PolicyForm.{PolicyForm}
 use Rattle.admin_words.specs.declared.table.PolicyForm.TheVariants.{ActivateSet, DefineDomain, DefineSet, DeleteDomain, DeleteSet, QueryDomain, QuerySet, UpdateDomain, ValidateSet}
 use Rattle.admin_words.specs.declared.table.ClassForm.{ClassForm}
-use Rattle.admin_words.specs.declared.table.ClassForm.TheVariants.{AssignClass, DefineClass, DefineGroup, DeleteClass, DeleteGroup, QueryClass, QueryGroup, UpdateGroup}
+use Rattle.admin_words.specs.declared.table.ClassForm.TheVariants.{AssignClass, DefineArchiveGroup, DefineClass, DefineGroup, DeleteArchiveGroup, DeleteClass, DeleteGroup, QueryClass, QueryGroup, UpdateArchiveGroup, UpdateGroup}
 use Rattle.admin_words.specs.declared.table.NodeForm.{NodeForm}
-use Rattle.admin_words.specs.declared.table.NodeForm.TheVariants.{DeleteFilespace, QueryBackup, QueryFilespace, QueryNode, RegisterNode, RemoveNode}
+use Rattle.admin_words.specs.declared.table.NodeForm.TheVariants.{DeleteFilespace, QueryArchive, QueryBackup, QueryFilespace, QueryNode, RegisterNode, RemoveNode}
 use Rattle.admin_words.specs.declared.table.PoolForm.{PoolForm}
 use Rattle.admin_words.specs.declared.table.PoolForm.TheVariants.{BackupPool, DefineDevClass, DefinePool, DeleteDevClass, DeletePool, MigrateAll, MigratePool, QueryDevClass, QueryPool, ReclaimPool, RestorePool, UpdatePool}
 use Rattle.admin_words.specs.declared.table.VolumeForm.{VolumeForm}
 use Rattle.admin_words.specs.declared.table.VolumeForm.TheVariants.{AuditVolume, DefineVolume, DeleteVolume, MoveData, QueryContent, QueryVolume, RestoreVolume, ReuseVolumes, UpdateVolume}
 use Rattle.admin_words.specs.declared.table.FileForm.{FileForm}
-use Rattle.admin_words.specs.declared.table.FileForm.TheVariants.{Erase, Get, Incremental, Put, RestoreFiles, Write}
+use Rattle.admin_words.specs.declared.table.FileForm.TheVariants.{ArchiveFiles, Erase, Get, Incremental, Put, RestoreFiles, RetrieveFiles, Write}
 use Rattle.admin_words.specs.declared.table.DatabaseForm.{DatabaseForm}
 use Rattle.admin_words.specs.declared.table.DatabaseForm.TheVariants.{BackupDatabase, Checkpoint, Day, DeleteHistory, ExpireInventory, QueryHistory}
 
@@ -33,6 +33,12 @@ access_words = codes "READWRITE" ∷ codes "READONLY" ∷ codes "UNAVAILABLE" �
 
 abbrev pub pool_type_words : List (List ℕ)
 pool_type_words = codes "PRIMARY" ∷ codes "COPY" ∷ []
+
+abbrev pub collocate_words : List (List ℕ)
+collocate_words = codes "NO" ∷ codes "NODE" ∷ []
+
+abbrev pub backup_type_words : List (List ℕ)
+backup_type_words = codes "FULL" ∷ codes "INCREMENTAL" ∷ []
 
 abbrev pub mode_words : List (List ℕ)
 mode_words = codes "MODIFIED" ∷ codes "ABSOLUTE" ∷ []
@@ -85,7 +91,13 @@ pool_if = slot (codes "STGPOOL") Name Optional
 abbrev pub low : Slot
 low = slot (codes "LOWMIG") (Number 0 99) Optional
 
--- the keywords of a copy group behind TYPE
+abbrev pub pattern_if : Slot
+pattern_if = slot (codes "PATTERN") Pattern Optional
+
+abbrev pub archive_description : Slot
+archive_description = slot (codes "DESCRIPTION") Description Optional
+
+-- the keywords of a backup copy group
 abbrev pub group_slots : Need → List Slot
 group_slots need =
     slot_among (codes "TYPE") (codes "BACKUP" ∷ []) Optional
@@ -99,6 +111,13 @@ group_slots need =
     ∷ slot_among (codes "SERIALIZATION") serialization_words Optional
     ∷ []
 
+-- TYPE of an archive copy group, and its keywords; RETVER is in days
+abbrev pub type_archive : Slot
+type_archive = slot_among (codes "TYPE") (codes "ARCHIVE" ∷ []) Required
+
+abbrev pub archive_slots : Need → List Slot
+archive_slots need = type_archive ∷ slot (codes "DESTINATION") Name need ∷ slot (codes "RETVER") (Limit 0 30000) Optional ∷ []
+
 -- the keywords of a storage pool that may be changed, in bytes, percent, days and volumes
 abbrev pub pool_slots : List Slot
 pool_slots =
@@ -109,6 +128,7 @@ pool_slots =
     ∷ slot (codes "RECLAIM") (Number 1 100) Optional
     ∷ slot (codes "REUSEDELAY") count Optional
     ∷ slot (codes "MAXSCRATCH") count Optional
+    ∷ slot_among (codes "COLLOCATE") collocate_words Optional
     ∷ description
     ∷ []
 
@@ -136,17 +156,21 @@ policy_shape ValidateSet = names_alone (place Name ∷ place Name ∷ [])
 
 abbrev pub class_shape : ClassForm → Shape
 class_shape AssignClass = names_alone (place Name ∷ place Name ∷ place Name ∷ [])
+class_shape DefineArchiveGroup = (place Name ∷ place Name ∷ place Name ∷ standard_if ∷ [], archive_slots Required)
 class_shape DefineClass = (place Name ∷ place Name ∷ place Name ∷ [], description ∷ [])
 class_shape DefineGroup = (place Name ∷ place Name ∷ place Name ∷ standard_if ∷ [], group_slots Required)
+class_shape DeleteArchiveGroup = (place Name ∷ place Name ∷ place Name ∷ standard_if ∷ [], type_archive ∷ [])
 class_shape DeleteClass = names_alone (place Name ∷ place Name ∷ place Name ∷ [])
 class_shape DeleteGroup = (place Name ∷ place Name ∷ place Name ∷ standard_if ∷ [], slot_among (codes "TYPE") (codes "BACKUP" ∷ []) Optional ∷ [])
 class_shape QueryClass = names_alone (place Name ∷ place Name ∷ [])
 class_shape QueryGroup = names_alone (place Name ∷ place Name ∷ [])
+class_shape UpdateArchiveGroup = (place Name ∷ place Name ∷ place Name ∷ standard_if ∷ [], archive_slots Optional)
 class_shape UpdateGroup = (place Name ∷ place Name ∷ place Name ∷ standard_if ∷ [], group_slots Optional)
 
 -- a node and its filespace; a node's password
 abbrev pub node_shape : NodeForm → Shape
 node_shape DeleteFilespace = names_alone (place NodeName ∷ place FilespaceName ∷ [])
+node_shape QueryArchive = names_alone (place NodeName ∷ place FilespaceName ∷ [])
 node_shape QueryBackup = names_alone (place NodeName ∷ place FilespaceName ∷ [])
 node_shape QueryFilespace = names_alone (place_if NodeName ∷ [])
 node_shape QueryNode = no_words
@@ -183,6 +207,10 @@ volume_shape UpdateVolume = (place Name ∷ [], slot_among (codes "ACCESS") acce
 
 -- a node, its filespace, and a path or a tree; a tree and a path; PUT and WRITE have the file's time behind the path
 abbrev pub file_shape : FileForm → Shape
+file_shape ArchiveFiles = (
+  place NodeName ∷ place FilespaceName ∷ place number ∷ [],
+  pattern_if ∷ slot (codes "ARCHMC") Name Optional ∷ archive_description ∷ slot_among (codes "DELETEFILES") yes_words Optional ∷ [],
+)
 file_shape Erase = names_alone (place number ∷ place Path ∷ [])
 file_shape Get = names_alone (place NodeName ∷ place FilespaceName ∷ place Path ∷ [])
 file_shape Incremental = names_alone (place NodeName ∷ place FilespaceName ∷ place number ∷ [])
@@ -191,6 +219,7 @@ file_shape RestoreFiles = (
   place NodeName ∷ place FilespaceName ∷ place number ∷ [],
   slot (codes "PATTERN") Pattern (AnySide 0) ∷ slot (codes "PITDATE") day (AnySide 1) ∷ slot (codes "OBJECT") number (AnySide 2) ∷ [],
 )
+file_shape RetrieveFiles = (place NodeName ∷ place FilespaceName ∷ place number ∷ [], pattern_if ∷ archive_description ∷ [])
 file_shape Write = (
   place number ∷ place Path ∷ place number ∷ [],
   slot (codes "TEXT") (Text 0 4294967295) (OneSide 0)
@@ -201,7 +230,7 @@ file_shape Write = (
 
 abbrev pub database_shape : DatabaseForm → Shape
 database_shape BackupDatabase =
-    ([], slot (codes "DEVCLASS") Name Optional ∷ slot_among (codes "TYPE") (codes "FULL" ∷ []) Required ∷ wait ∷ [])
+    ([], slot (codes "DEVCLASS") Name Optional ∷ slot_among (codes "TYPE") backup_type_words Optional ∷ wait ∷ [])
 database_shape Checkpoint = no_words
 database_shape Day = names_alone (place day ∷ [])
 database_shape DeleteHistory =

@@ -3,7 +3,7 @@ use Rattle.std.specs.Prelude.{ℕ, ◌+◌, Bool, List, length, IfOk, IsTrue}
 use Rattle.command_words.specs.Fit.{PlacesFit, KeywordsFit, SidesApart}
 use Rattle.command_words.specs.Rows.{Given, is_complete, row_values}
 use Rattle.command_words.specs.Words.{Word, words}
-use Rattle.admin_words.specs.Line.{row_of}
+use Rattle.admin_words.specs.Line.{row_for}
 use Rattle.admin_words.specs.Rows.{Row, verbs}
 
 -- what was given for a row: each value is one of its kind, what must be there was given, and of the sides of a row all of one
@@ -21,4 +21,4 @@ IsRead end r = IfOk (row_values r.0.places r.0.slots end r.1) (λ given. IsFit r
 -- what a line gives for the row that it names fits it
 abbrev pub LineIsRead : Bool → List ℕ → Type 0
 LineIsRead in_block line =
-    IfOk (row_of (length line + 1) (verbs in_block) (words line)) (λ r. IsRead (length line + 1) r)
+    IfOk (row_for (length line + 1) (verbs in_block) (words line)) (λ r. IsRead (length line + 1) r)

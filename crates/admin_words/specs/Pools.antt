@@ -1,5 +1,5 @@
 -- Commands of device classes and storage pools.
-use Rattle.std.specs.Prelude.{List, codes, unwrap_or}
+use Rattle.std.specs.Prelude.{false, List, codes, unwrap_or}
 use Rattle.admin_words.specs.declared.pools.NamedDevClass.{NamedDevClass}
 use Rattle.admin_words.specs.declared.pools.DevClassDefinition.{DevClassDefinition}
 use Rattle.admin_words.specs.declared.pools.PoolDefinition.{PoolDefinition}
@@ -16,7 +16,7 @@ use Rattle.admin_words.specs.declared.table.PoolForm.TheVariants.{DefineDevClass
 use Rattle.admin_words.specs.Grammar.{given_for}
 use Rattle.command_words.specs.Rows.{Given, text_at}
 use Rattle.command_words.specs.Fields.{capacity_of, name_if, name_of, number_of, size_limit_of}
-use Rattle.admin_words.specs.Chosen.{pool_kind_of, usual_reclaim, next_of}
+use Rattle.admin_words.specs.Chosen.{collocate_of, pool_kind_of, usual_reclaim, next_of}
 
 -- A device class by its name.
 abbrev pub named_dev_class : List Given → List Given → NamedDevClass
@@ -47,6 +47,7 @@ pool_definition places keys =
       reclaim = unwrap_or (number_of 100 (given_for (Pool DefinePool) (codes "RECLAIM") keys)) (usual_reclaim (unwrap_or (pool_kind_of (given_for (Pool DefinePool) (codes "POOLTYPE") keys)) Primary));
       reuse_delay = unwrap_or (number_of 9999 (given_for (Pool DefinePool) (codes "REUSEDELAY") keys)) 0;
       max_scratch = unwrap_or (number_of 9999 (given_for (Pool DefinePool) (codes "MAXSCRATCH") keys)) 0;
+      collocate = unwrap_or (collocate_of (given_for (Pool DefinePool) (codes "COLLOCATE") keys)) false;
     }
 
 -- UPDATE STGPOOL: what is not given stays. An empty NEXTSTGPOOL takes the next pool away.
@@ -61,6 +62,7 @@ pool_update places keys =
       reclaim = number_of 100 (given_for (Pool UpdatePool) (codes "RECLAIM") keys);
       reuse_delay = number_of 9999 (given_for (Pool UpdatePool) (codes "REUSEDELAY") keys);
       max_scratch = number_of 9999 (given_for (Pool UpdatePool) (codes "MAXSCRATCH") keys);
+      collocate = collocate_of (given_for (Pool UpdatePool) (codes "COLLOCATE") keys);
     }
 
 -- A storage pool by its name.

@@ -1,5 +1,5 @@
 -- The table of the commands: the first words, and the rows that begin with each.
-use Rattle.std.specs.Prelude.{ℕ, Bool, true, false, ◌==◌, List, [], ◌∷◌, map, length, codes}
+use Rattle.std.specs.Prelude.{ℕ, Bool, true, false, ◌==◌, List, [], ◌∷◌, map, length, codes, Option, Some, None}
 use Rattle.std.specs.Borrow.{Bor}
 use Rattle.command_words.specs.declared.value.Kind.{Kind}
 use Rattle.command_words.specs.declared.row.Need.{Need}
@@ -66,8 +66,10 @@ rows_of Delete =
     ∷ row (codes "VOLUME") (forms.Volume volumes.DeleteVolume)
     ∷ []
 rows_of Dsmc =
-    row (codes "INCREMENTAL") (forms.File files.Incremental)
+    row (codes "ARCHIVE") (forms.File files.ArchiveFiles)
+    ∷ row (codes "INCREMENTAL") (forms.File files.Incremental)
     ∷ row (codes "RESTORE") (forms.File files.RestoreFiles)
+    ∷ row (codes "RETRIEVE") (forms.File files.RetrieveFiles)
     ∷ []
 rows_of End = row [] (forms.Block blocks.End) ∷ []
 rows_of Erase = row [] (forms.File files.Erase) ∷ []
@@ -81,7 +83,8 @@ rows_of Move = row (codes "DATA") (forms.Volume volumes.MoveData) ∷ []
 rows_of Parallel = row [] (forms.Block blocks.Parallel) ∷ []
 rows_of Put = row [] (forms.File files.Put) ∷ []
 rows_of Query =
-    row (codes "BACKUP") (forms.Node nodes.QueryBackup)
+    row (codes "ARCHIVE") (forms.Node nodes.QueryArchive)
+    ∷ row (codes "BACKUP") (forms.Node nodes.QueryBackup)
     ∷ row (codes "CONTENT") (forms.Volume volumes.QueryContent)
     ∷ row (codes "COPYGROUP") (forms.Class classes.QueryGroup)
     ∷ row (codes "DEVCLASS") (forms.Pool pools.QueryDevClass)
@@ -111,6 +114,13 @@ rows_of Update =
 rows_of Validate = row (codes "POLICYSET") (forms.Policy policies.ValidateSet) ∷ []
 rows_of Write = row [] (forms.File files.Write) ∷ []
 
+-- the row that stands in the place of a command's where TYPE is ARCHIVE: that of the archive copy group, for a command of copy groups
+unfoldable pub archive_row : Form → Option Row
+archive_row (forms.Class classes.DefineGroup) = Some (row (codes "COPYGROUP") (forms.Class classes.DefineArchiveGroup))
+archive_row (forms.Class classes.DeleteGroup) = Some (row (codes "COPYGROUP") (forms.Class classes.DeleteArchiveGroup))
+archive_row (forms.Class classes.UpdateGroup) = Some (row (codes "COPYGROUP") (forms.Class classes.UpdateArchiveGroup))
+archive_row form = None
+
 -- a first word, and the rows that begin with it
 pub record Verb : Type 0 where
   pub word : List ℕ
@@ -131,6 +141,7 @@ verbs true =
     ∷ verb (codes "ASSIGN") Assign
     ∷ verb (codes "AUDIT") Audit
     ∷ verb (codes "BACKUP") Backup
+    ∷ verb (codes "CHECKPOINT") Checkpoint
     ∷ verb (codes "DEFINE") Define
     ∷ verb (codes "DELETE") Delete
     ∷ verb (codes "DSMC") Dsmc

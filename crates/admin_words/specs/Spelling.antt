@@ -8,7 +8,7 @@ use Rattle.command_words.specs.Values.{unquoted}
 use Rattle.command_words.specs.declared.words.Spot.{Spot}
 use Rattle.command_words.specs.declared.words.Spot.TheVariants.{Between}
 use Rattle.command_words.specs.Words.{Word, spot_after, is_between, torn_at}
-use Rattle.admin_words.specs.Line.{row_of}
+use Rattle.admin_words.specs.Line.{row_for}
 use Rattle.admin_words.specs.Rows.{Row, Verb}
 
 -- what was read; nothing where it was refused
@@ -58,7 +58,7 @@ SameRow (Err d) (Ok b) = ⊥
 
 -- two lines' words say the same
 abbrev pub SameWords : List Verb → List Word → List Word → Type 0
-SameWords verbs ws vs = (is_some (torn_at ws) ≡ is_some (torn_at vs)) × SameRow (row_of 0 verbs ws) (row_of 0 verbs vs)
+SameWords verbs ws vs = (is_some (torn_at ws) ≡ is_some (torn_at vs)) × SameRow (row_for 0 verbs ws) (row_for 0 verbs vs)
 
 -- the same words with the same quotes, wherever they stand in their lines
 abbrev pub SameTexts : List Word → List Word → Type 0

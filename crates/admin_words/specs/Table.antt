@@ -13,15 +13,15 @@ use Rattle.admin_words.specs.declared.table.Form.TheVariants as forms
 use Rattle.admin_words.specs.declared.table.PolicyForm.{PolicyForm}
 use Rattle.admin_words.specs.declared.table.PolicyForm.TheVariants.{ActivateSet, DefineDomain, DefineSet, DeleteDomain, DeleteSet, QuerySet, UpdateDomain, ValidateSet}
 use Rattle.admin_words.specs.declared.table.ClassForm.{ClassForm}
-use Rattle.admin_words.specs.declared.table.ClassForm.TheVariants.{AssignClass, DefineClass, DefineGroup, DeleteClass, DeleteGroup, QueryClass, QueryGroup, UpdateGroup}
+use Rattle.admin_words.specs.declared.table.ClassForm.TheVariants.{AssignClass, DefineArchiveGroup, DefineClass, DefineGroup, DeleteArchiveGroup, DeleteClass, DeleteGroup, QueryClass, QueryGroup, UpdateArchiveGroup, UpdateGroup}
 use Rattle.admin_words.specs.declared.table.NodeForm.{NodeForm}
-use Rattle.admin_words.specs.declared.table.NodeForm.TheVariants.{DeleteFilespace, QueryBackup, RegisterNode, RemoveNode}
+use Rattle.admin_words.specs.declared.table.NodeForm.TheVariants.{DeleteFilespace, QueryArchive, QueryBackup, RegisterNode, RemoveNode}
 use Rattle.admin_words.specs.declared.table.PoolForm.{PoolForm}
 use Rattle.admin_words.specs.declared.table.PoolForm.TheVariants.{BackupPool, DefineDevClass, DefinePool, DeleteDevClass, DeletePool, MigratePool, ReclaimPool, RestorePool, UpdatePool}
 use Rattle.admin_words.specs.declared.table.VolumeForm.{VolumeForm}
 use Rattle.admin_words.specs.declared.table.VolumeForm.TheVariants.{AuditVolume, DefineVolume, DeleteVolume, MoveData, QueryContent, RestoreVolume, UpdateVolume}
 use Rattle.admin_words.specs.declared.table.FileForm.{FileForm}
-use Rattle.admin_words.specs.declared.table.FileForm.TheVariants.{Erase, Get, Incremental, Put, RestoreFiles, Write}
+use Rattle.admin_words.specs.declared.table.FileForm.TheVariants.{ArchiveFiles, Erase, Get, Incremental, Put, RestoreFiles, RetrieveFiles, Write}
 use Rattle.admin_words.specs.declared.table.DatabaseForm.{DatabaseForm}
 use Rattle.admin_words.specs.declared.table.DatabaseForm.TheVariants.{Day}
 use Rattle.admin_words.specs.Grammar.{number, day}
@@ -79,7 +79,7 @@ abbrev pub block_alone : List (List ℕ)
 block_alone = codes "AND" ∷ codes "END" ∷ []
 
 abbrev pub main_alone : List (List ℕ)
-main_alone = codes "CHECKPOINT" ∷ codes "DAY" ∷ codes "PARALLEL" ∷ []
+main_alone = codes "DAY" ∷ codes "PARALLEL" ∷ []
 
 -- the others
 abbrev pub without : List (List ℕ) → List Verb → List Verb
@@ -99,16 +99,20 @@ policy_places form = []
 
 abbrev pub class_places : ClassForm → List Kind
 class_places AssignClass = Name ∷ Name ∷ Name ∷ []
+class_places DefineArchiveGroup = Name ∷ Name ∷ Name ∷ []
 class_places DefineClass = Name ∷ Name ∷ Name ∷ []
 class_places DefineGroup = Name ∷ Name ∷ Name ∷ []
+class_places DeleteArchiveGroup = Name ∷ Name ∷ Name ∷ []
 class_places DeleteClass = Name ∷ Name ∷ Name ∷ []
 class_places DeleteGroup = Name ∷ Name ∷ Name ∷ []
 class_places QueryClass = Name ∷ Name ∷ []
 class_places QueryGroup = Name ∷ Name ∷ []
+class_places UpdateArchiveGroup = Name ∷ Name ∷ Name ∷ []
 class_places UpdateGroup = Name ∷ Name ∷ Name ∷ []
 
 abbrev pub node_places : NodeForm → List Kind
 node_places DeleteFilespace = NodeName ∷ FilespaceName ∷ []
+node_places QueryArchive = NodeName ∷ FilespaceName ∷ []
 node_places QueryBackup = NodeName ∷ FilespaceName ∷ []
 node_places RegisterNode = NodeName ∷ []
 node_places RemoveNode = NodeName ∷ []
@@ -137,11 +141,13 @@ volume_places UpdateVolume = Name ∷ []
 volume_places form = []
 
 abbrev pub file_places : FileForm → List Kind
+file_places ArchiveFiles = NodeName ∷ FilespaceName ∷ number ∷ []
 file_places Erase = number ∷ Path ∷ []
 file_places Get = NodeName ∷ FilespaceName ∷ Path ∷ []
 file_places Incremental = NodeName ∷ FilespaceName ∷ number ∷ []
 file_places Put = NodeName ∷ FilespaceName ∷ Path ∷ number ∷ []
 file_places RestoreFiles = NodeName ∷ FilespaceName ∷ number ∷ []
+file_places RetrieveFiles = NodeName ∷ FilespaceName ∷ number ∷ []
 file_places Write = number ∷ Path ∷ number ∷ []
 
 abbrev pub database_places : DatabaseForm → List Kind

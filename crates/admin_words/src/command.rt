@@ -8,16 +8,18 @@ use crate::database::{
     read_history_deletion,
 };
 use crate::files::{
-    FileErase, FileGet, FilePut, FileWrite, FilesRestore, IncrementalBackup, read_file_erase,
-    read_file_get, read_file_put, read_file_write, read_files_restore, read_incremental_backup,
+    FileErase, FileGet, FilePut, FileWrite, FilesArchive, FilesRestore, FilesRetrieve,
+    IncrementalBackup, read_file_erase, read_file_get, read_file_put, read_file_write,
+    read_files_archive, read_files_restore, read_files_retrieve, read_incremental_backup,
 };
 use crate::nodes::{
     FilespaceQuery, NamedNode, NodeFilespace, NodeRegistration, read_filespace_query,
     read_named_node, read_node_filespace, read_node_registration,
 };
 use crate::policy::{
-    DomainDefinition, DomainUpdate, GroupDefinition, GroupUpdate, NamedClass, NamedDomain,
-    NamedSet, read_domain_definition, read_domain_update, read_group_definition, read_group_update,
+    ArchiveDefinition, ArchiveUpdate, DomainDefinition, DomainUpdate, GroupDefinition, GroupUpdate,
+    NamedClass, NamedDomain, NamedSet, read_archive_definition, read_archive_update,
+    read_domain_definition, read_domain_update, read_group_definition, read_group_update,
     read_named_class, read_named_domain, read_named_set,
 };
 use crate::pools::{
@@ -67,10 +69,14 @@ pub enum PolicyCommand {
 pub enum ClassCommand {
     /// ASSIGN DEFMGMTCLASS.
     AssignClass(NamedClass),
+    /// DEFINE COPYGROUP with TYPE=ARCHIVE.
+    DefineArchiveGroup(ArchiveDefinition),
     /// DEFINE MGMTCLASS.
     DefineClass(NamedClass),
     /// DEFINE COPYGROUP.
     DefineGroup(GroupDefinition),
+    /// DELETE COPYGROUP with TYPE=ARCHIVE.
+    DeleteArchiveGroup(NamedClass),
     /// DELETE MGMTCLASS.
     DeleteClass(NamedClass),
     /// DELETE COPYGROUP.
@@ -79,6 +85,8 @@ pub enum ClassCommand {
     QueryClass(NamedSet),
     /// QUERY COPYGROUP.
     QueryGroup(NamedSet),
+    /// UPDATE COPYGROUP with TYPE=ARCHIVE.
+    UpdateArchiveGroup(ArchiveUpdate),
     /// UPDATE COPYGROUP.
     UpdateGroup(GroupUpdate),
 }
@@ -88,6 +96,8 @@ pub enum ClassCommand {
 pub enum NodeCommand {
     /// DELETE FILESPACE.
     DeleteFilespace(NodeFilespace),
+    /// QUERY ARCHIVE.
+    QueryArchive(NodeFilespace),
     /// QUERY BACKUP.
     QueryBackup(NodeFilespace),
     /// QUERY FILESPACE.
@@ -155,6 +165,8 @@ pub enum VolumeCommand {
 /// A command of files, with what its words give.
 #[derive(Debug, Drop)]
 pub enum FileCommand {
+    /// DSMC ARCHIVE.
+    ArchiveFiles(FilesArchive),
     /// ERASE.
     Erase(FileErase),
     /// GET.
@@ -165,6 +177,8 @@ pub enum FileCommand {
     Put(FilePut),
     /// DSMC RESTORE.
     RestoreFiles(FilesRestore),
+    /// DSMC RETRIEVE.
+    RetrieveFiles(FilesRetrieve),
     /// WRITE.
     Write(FileWrite),
 }
@@ -270,10 +284,16 @@ fn class_command(
         ClassForm::AssignClass => Ok(ClassCommand::AssignClass(read_named_class(
             alloc, places, keys,
         )?)),
+        ClassForm::DefineArchiveGroup => Ok(ClassCommand::DefineArchiveGroup(
+            read_archive_definition(alloc, places, keys)?,
+        )),
         ClassForm::DefineClass => Ok(ClassCommand::DefineClass(read_named_class(
             alloc, places, keys,
         )?)),
         ClassForm::DefineGroup => Ok(ClassCommand::DefineGroup(read_group_definition(
+            alloc, places, keys,
+        )?)),
+        ClassForm::DeleteArchiveGroup => Ok(ClassCommand::DeleteArchiveGroup(read_named_class(
             alloc, places, keys,
         )?)),
         ClassForm::DeleteClass => Ok(ClassCommand::DeleteClass(read_named_class(
@@ -284,6 +304,9 @@ fn class_command(
         )?)),
         ClassForm::QueryClass => Ok(ClassCommand::QueryClass(read_named_set(alloc, places, keys)?)),
         ClassForm::QueryGroup => Ok(ClassCommand::QueryGroup(read_named_set(alloc, places, keys)?)),
+        ClassForm::UpdateArchiveGroup => Ok(ClassCommand::UpdateArchiveGroup(read_archive_update(
+            alloc, places, keys,
+        )?)),
         ClassForm::UpdateGroup => Ok(ClassCommand::UpdateGroup(read_group_update(
             alloc, places, keys,
         )?)),
@@ -301,6 +324,9 @@ fn node_command(
 {
     match form {
         NodeForm::DeleteFilespace => Ok(NodeCommand::DeleteFilespace(read_node_filespace(
+            alloc, places, keys,
+        )?)),
+        NodeForm::QueryArchive => Ok(NodeCommand::QueryArchive(read_node_filespace(
             alloc, places, keys,
         )?)),
         NodeForm::QueryBackup => Ok(NodeCommand::QueryBackup(read_node_filespace(
@@ -398,6 +424,9 @@ fn file_command(
     ensures { AnswersBy (λ c. c) result (file_command form (map given_view places.now) (map given_view keys.now)) }
 {
     match form {
+        FileForm::ArchiveFiles => Ok(FileCommand::ArchiveFiles(read_files_archive(
+            alloc, places, keys,
+        )?)),
         FileForm::Erase => Ok(FileCommand::Erase(read_file_erase(alloc, places, keys)?)),
         FileForm::Get => Ok(FileCommand::Get(read_file_get(alloc, places, keys)?)),
         FileForm::Incremental => Ok(FileCommand::Incremental(read_incremental_backup(
@@ -405,6 +434,9 @@ fn file_command(
         )?)),
         FileForm::Put => Ok(FileCommand::Put(read_file_put(alloc, places, keys)?)),
         FileForm::RestoreFiles => Ok(FileCommand::RestoreFiles(read_files_restore(
+            alloc, places, keys,
+        )?)),
+        FileForm::RetrieveFiles => Ok(FileCommand::RetrieveFiles(read_files_retrieve(
             alloc, places, keys,
         )?)),
         FileForm::Write => Ok(FileCommand::Write(read_file_write(alloc, places, keys)?)),

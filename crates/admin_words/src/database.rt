@@ -3,15 +3,16 @@ ghost use Rattle.kinds.specs.Answers.{AnswersBy};
 ghost use Rattle.command_words.specs.Rows.{given_view};
 ghost use Rattle.admin_words.specs.Database.{database_backup, history_deletion, day_change};
 
-use crate::words::day_or_first;
+use crate::words::{BackupType, day_or_first, read_backup_type};
 use command_words::{Given, field, text_at};
 use kinds::{Day, Name, Refusal};
 use std::alloc::Global;
 
-/// BACKUP DB with TYPE=FULL.
+/// BACKUP DB. TYPE is INCREMENTAL where it is not given.
 #[derive(Debug, Drop)]
 pub struct DatabaseBackup {
     pub dev_class: Option<Name>,
+    pub backup_type: BackupType,
 }
 
 /// What the values that were given for the row say.
@@ -23,7 +24,10 @@ pub fn read_database_backup(
     ensures { AnswersBy (λ x. x) result (database_backup (map given_view places.now) (map given_view keys.now)) }
 {
     let dev_class = field::name_if(alloc, text_at(keys, 0))?;
-    Ok(DatabaseBackup { dev_class })
+    Ok(DatabaseBackup {
+        dev_class,
+        backup_type: read_backup_type(text_at(keys, 1)).unwrap_or(BackupType::Incremental),
+    })
 }
 
 /// DELETE VOLHISTORY with TYPE=DBBACKUP: what was taken on or before this day.

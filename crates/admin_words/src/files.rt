@@ -1,13 +1,14 @@
 ghost use Rattle.std.specs.Prelude.{◌≡◌, map};
 ghost use Rattle.std.specs.Option.{option_copied};
 ghost use Rattle.kinds.specs.Answers.{AnswersBy};
+ghost use Rattle.command_words.specs.Fields.{description_of, name_if};
 ghost use Rattle.command_words.specs.Rows.{given_view};
-ghost use Rattle.admin_words.specs.Files.{contents, file_write, file_erase, file_put, file_get, incremental_backup, wanted_on, wanted, files_restore};
+ghost use Rattle.admin_words.specs.Files.{contents, file_write, file_erase, file_put, file_get, incremental_backup, wanted_on, wanted, files_restore, files_archive, files_retrieve};
 
 use crate::nodes::{NodeFilespace, read_node_filespace};
-use crate::words::first_byte;
+use crate::words::{first_byte, is_yes};
 use command_words::{Given, Text, field, text_at};
-use kinds::{Day, FilespaceName, NodeName, Path, Refusal};
+use kinds::{Day, FilespaceName, Name, NodeName, Path, Refusal};
 use std::alloc::Global;
 
 /// What a file of a tree is written with.
@@ -224,5 +225,83 @@ pub fn read_files_restore(
         filespace,
         tree: field::number(text_at(places, 2), 9999999999).unwrap_or(0),
         wanted,
+    })
+}
+
+/// DSMC ARCHIVE: the files of a tree, or those whose paths match a pattern, are archived under the class that is named, or under the default
+/// class, with a description, which is empty where none is given; and then taken out of the tree, where that is asked.
+#[derive(Debug, Drop)]
+pub struct FilesArchive {
+    pub node: NodeName,
+    pub filespace: FilespaceName,
+    pub tree: u64,
+    pub pattern: Option<Text>,
+    pub class: Option<Name>,
+    pub description: kinds::Text,
+    pub delete_files: bool,
+}
+
+/// The class and the description under which files are archived, by ARCHMC and DESCRIPTION.
+fn read_marks(
+    alloc: Global,
+    class: Option<&[u8]>,
+    description: Option<&[u8]>,
+) -> Result<(Option<Name>, kinds::Text), Refusal>
+    ensures { AnswersBy (λ marks. marks) result (name_if 30 (option_copied class.entry), description_of (option_copied description.entry)) }
+{
+    let class = field::name_if(alloc, class)?;
+    let description = field::description(alloc, description)?;
+    Ok((class, description))
+}
+
+/// What the values that were given for the row say.
+pub fn read_files_archive(
+    alloc: Global,
+    places: &[Given],
+    keys: &[Given],
+) -> Result<FilesArchive, Refusal>
+    ensures { AnswersBy (λ x. x) result (files_archive (map given_view places.now) (map given_view keys.now)) }
+{
+    let pattern = field::text_if(alloc, text_at(keys, 0))?;
+    let (class, description) = read_marks(alloc, text_at(keys, 1), text_at(keys, 2))?;
+    let NodeFilespace { node, filespace } = read_node_filespace(alloc, places, keys)?;
+    Ok(FilesArchive {
+        node,
+        filespace,
+        tree: field::number(text_at(places, 2), 9999999999).unwrap_or(0),
+        pattern,
+        class,
+        description,
+        delete_files: is_yes(text_at(keys, 3)),
+    })
+}
+
+/// DSMC RETRIEVE: what was archived of a filespace, into a tree; all of it, or what matches a pattern of paths and has a description.
+#[derive(Debug, Drop)]
+pub struct FilesRetrieve {
+    pub node: NodeName,
+    pub filespace: FilespaceName,
+    pub tree: u64,
+    pub pattern: Option<Text>,
+    pub description: Option<kinds::Text>,
+}
+
+/// What the values that were given for the row say.
+pub fn read_files_retrieve(
+    alloc: Global,
+    places: &[Given],
+    keys: &[Given],
+) -> Result<FilesRetrieve, Refusal>
+    ensures { AnswersBy (λ x. x) result (files_retrieve (map given_view places.now) (map given_view keys.now)) }
+{
+    let pattern = field::text_if(alloc, text_at(keys, 0))?;
+    let description = field::description_if(alloc, text_at(keys, 1))?;
+    let NodeFilespace { node, filespace } = read_node_filespace(alloc, places, keys)?;
+    Ok(FilesRetrieve {
+        node,
+        filespace,
+        tree: field::number(text_at(places, 2), 9999999999).unwrap_or(0),
+        pattern,
+        description,
     })
 }

@@ -5,11 +5,11 @@ ghost use Rattle.command_words.specs.Words.{word_view, words};
 ghost use Rattle.admin_words.specs.Rows.{noun_view, verb_view, verbs, is_bare};
 ghost use Rattle.admin_words.specs.Legible.{IsRead, LineIsRead};
 ghost use Rattle.admin_words.specs.Spelling.{accepted, SameWords, single_spaced};
-ghost use Rattle.admin_words.specs.Line.{row_named, row_among, row_of, row_command, command};
+ghost use Rattle.admin_words.specs.Line.{row_named, row_among, row_of, asks_archive, row_meant, row_for, row_command, command};
 
 use crate::command::{Command, command_of};
-use crate::table::{Noun, Verb, nouns_of, verbs_of};
-use command_words::{Word, choose, row_values, torn_at, words_of};
+use crate::table::{Noun, Verb, archive_row, nouns_of, verbs_of};
+use command_words::{Word, choose, first_value, is_front, row_values, torn_at, words_of};
 use kinds::Refusal;
 use std::alloc::Global;
 
@@ -66,6 +66,37 @@ fn row_of(end: u32, verbs: &'static [Verb], words: &[Word]) -> Result<(Noun, usi
     }
 }
 
+/// Whether TYPE is ARCHIVE among the words behind a command's own, by its first value.
+fn asks_archive(words: &[Word]) -> bool
+    ensures { result ≡ asks_archive (map word_view words.now) }
+{
+    match first_value(b"TYPE", words) {
+        Some(value) => is_front(b"ARCHIVE", value),
+        None => false,
+    }
+}
+
+/// The row that is meant where this one is named, and these words stand behind.
+fn row_meant(noun: Noun, words: &[Word]) -> Noun
+    ensures { noun_view result ≡ row_meant (noun_view noun.entry) (map word_view words.now) }
+{
+    match archive_row(noun.1) {
+        Some(archive) => { if asks_archive(words) { archive } else { noun } }
+        None => noun,
+    }
+}
+
+/// The row that a line means, by its first words and by TYPE, and how many the first words are.
+fn row_for(end: u32, verbs: &'static [Verb], words: &[Word]) -> Result<(Noun, usize), Refusal>
+    ensures value { Says (λ r. (noun_view r.0, map word_view (drop r.1 words.now))) result (row_for end (map verb_view verbs.now) (map word_view words.now)) }
+    ensures within { IfOk result (λ r. r.1 ≤ length words.now) }
+{
+    match row_of(end, verbs, words) {
+        Err(refusal) => Err(refusal),
+        Ok((noun, used)) => Ok((row_meant(noun, &words[used..]), used)),
+    }
+}
+
 /// The command of a row, with what the words behind its own give.
 fn row_command(alloc: Global, end: u32, noun: Noun, words: &[Word]) -> Result<Command, Refusal>
     ensures value { Answers result (row_command end (noun_view noun.entry, map word_view words.now)) }
@@ -98,7 +129,7 @@ pub fn read_line(alloc: Global, line: &[u8], in_block: bool) -> Result<Command, 
         return Err(Refusal::Syntax(column));
     }
     let end = line.len() as u32 + 1;
-    match row_of(end, verbs_of(in_block), words.as_slice()) {
+    match row_for(end, verbs_of(in_block), words.as_slice()) {
         Err(refusal) => Err(refusal),
         Ok((noun, used)) => row_command(alloc, end, noun, &words[used..]),
     }

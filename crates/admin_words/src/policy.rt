@@ -1,7 +1,7 @@
 ghost use Rattle.std.specs.Prelude.{map};
 ghost use Rattle.kinds.specs.Answers.{AnswersBy};
 ghost use Rattle.command_words.specs.Rows.{given_view};
-ghost use Rattle.admin_words.specs.Policy.{named_domain, domain_definition, domain_update, named_set, named_class, group_definition, group_update};
+ghost use Rattle.admin_words.specs.Policy.{named_domain, domain_definition, domain_update, named_set, named_class, group_definition, group_update, archive_definition, archive_update};
 
 use crate::words::{Mode, read_mode, read_still};
 use command_words::{Given, field, text_at};
@@ -139,10 +139,10 @@ pub fn read_group_definition(
         class,
         destination,
         frequency: field::count(text_at(keys, 2)).unwrap_or(0),
-        ver_exists: field::limit(text_at(keys, 3)).unwrap_or(Limit::At(2)),
-        ver_deleted: field::limit(text_at(keys, 4)).unwrap_or(Limit::At(1)),
-        ret_extra: field::limit(text_at(keys, 5)).unwrap_or(Limit::At(30)),
-        ret_only: field::limit(text_at(keys, 6)).unwrap_or(Limit::At(60)),
+        ver_exists: field::limit(text_at(keys, 3), 9999).unwrap_or(Limit::At(2)),
+        ver_deleted: field::limit(text_at(keys, 4), 9999).unwrap_or(Limit::At(1)),
+        ret_extra: field::limit(text_at(keys, 5), 9999).unwrap_or(Limit::At(30)),
+        ret_only: field::limit(text_at(keys, 6), 9999).unwrap_or(Limit::At(60)),
         mode: read_mode(text_at(keys, 7)).unwrap_or(Mode::Modified),
         still: read_still(text_at(keys, 8)).unwrap_or(Still::ShrStatic),
     })
@@ -180,11 +180,69 @@ pub fn read_group_update(
         class,
         destination,
         frequency: field::count(text_at(keys, 2)),
-        ver_exists: field::limit(text_at(keys, 3)),
-        ver_deleted: field::limit(text_at(keys, 4)),
-        ret_extra: field::limit(text_at(keys, 5)),
-        ret_only: field::limit(text_at(keys, 6)),
+        ver_exists: field::limit(text_at(keys, 3), 9999),
+        ver_deleted: field::limit(text_at(keys, 4), 9999),
+        ret_extra: field::limit(text_at(keys, 5), 9999),
+        ret_only: field::limit(text_at(keys, 6), 9999),
         mode: read_mode(text_at(keys, 7)),
         still: read_still(text_at(keys, 8)),
+    })
+}
+
+/// DEFINE COPYGROUP with TYPE=ARCHIVE: the archive copy group of a class. RETVER is 365 days where it is not given.
+#[derive(Debug, Drop)]
+pub struct ArchiveDefinition {
+    pub domain: Name,
+    pub set: Name,
+    pub class: Name,
+    pub destination: Name,
+    pub ret_ver: Limit,
+}
+
+/// What the values that were given for the row say.
+pub fn read_archive_definition(
+    alloc: Global,
+    places: &[Given],
+    keys: &[Given],
+) -> Result<ArchiveDefinition, Refusal>
+    ensures { AnswersBy (λ x. x) result (archive_definition (map given_view places.now) (map given_view keys.now)) }
+{
+    let destination = field::name(alloc, text_at(keys, 1))?;
+    let NamedClass { domain, set, class } = read_named_class(alloc, places, keys)?;
+    Ok(ArchiveDefinition {
+        domain,
+        set,
+        class,
+        destination,
+        ret_ver: field::limit(text_at(keys, 2), 30000).unwrap_or(Limit::At(365)),
+    })
+}
+
+/// UPDATE COPYGROUP with TYPE=ARCHIVE: what is not given stays.
+#[derive(Debug, Drop)]
+pub struct ArchiveUpdate {
+    pub domain: Name,
+    pub set: Name,
+    pub class: Name,
+    pub destination: Option<Name>,
+    pub ret_ver: Option<Limit>,
+}
+
+/// What the values that were given for the row say.
+pub fn read_archive_update(
+    alloc: Global,
+    places: &[Given],
+    keys: &[Given],
+) -> Result<ArchiveUpdate, Refusal>
+    ensures { AnswersBy (λ x. x) result (archive_update (map given_view places.now) (map given_view keys.now)) }
+{
+    let destination = field::name_if(alloc, text_at(keys, 1))?;
+    let NamedClass { domain, set, class } = read_named_class(alloc, places, keys)?;
+    Ok(ArchiveUpdate {
+        domain,
+        set,
+        class,
+        destination,
+        ret_ver: field::limit(text_at(keys, 2), 30000),
     })
 }

@@ -3,7 +3,7 @@ ghost use Rattle.kinds.specs.Answers.{AnswersBy};
 ghost use Rattle.command_words.specs.Rows.{given_view};
 ghost use Rattle.admin_words.specs.Pools.{named_dev_class, dev_class_definition, pool_definition, pool_update, named_pool, migration, reclamation, pool_backup, pool_query};
 
-use crate::words::{capacity_or_usual, next_pool, read_pool_kind, usual_reclaim};
+use crate::words::{capacity_or_usual, next_pool, read_collocate, read_pool_kind, usual_reclaim};
 use command_words::{Given, field, text_at};
 use kinds::{Capacity, Days, Name, PoolKind, Refusal, SizeLimit};
 use std::alloc::Global;
@@ -61,6 +61,7 @@ pub struct PoolDefinition {
     pub reclaim: u8,
     pub reuse_delay: Days,
     pub max_scratch: u16,
+    pub collocate: bool,
 }
 
 /// What the values that were given for the row say.
@@ -86,6 +87,7 @@ pub fn read_pool_definition(
         reclaim: field::percent(text_at(keys, 5)).unwrap_or(usual_reclaim(kind)),
         reuse_delay: field::days_or(text_at(keys, 6), 0),
         max_scratch: field::count(text_at(keys, 7)).unwrap_or(0),
+        collocate: read_collocate(text_at(keys, 8)).unwrap_or(false),
     })
 }
 
@@ -100,6 +102,7 @@ pub struct PoolUpdate {
     pub reclaim: Option<u8>,
     pub reuse_delay: Option<Days>,
     pub max_scratch: Option<u16>,
+    pub collocate: Option<bool>,
 }
 
 /// What the values that were given for the row say.
@@ -121,6 +124,7 @@ pub fn read_pool_update(
         reclaim: field::percent(text_at(keys, 4)),
         reuse_delay: field::days(text_at(keys, 5)),
         max_scratch: field::count(text_at(keys, 6)),
+        collocate: read_collocate(text_at(keys, 7)),
     })
 }
 

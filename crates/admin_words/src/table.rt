@@ -1,5 +1,6 @@
-ghost use Rattle.std.specs.Prelude.{◌≡◌, map, IsTrue, true, false};
-ghost use Rattle.admin_words.specs.Rows.{noun_view, rows_of, verb_view, verbs};
+ghost use Rattle.std.specs.Prelude.{◌≡◌, ◌∷◌, [], map, IfSome, IsTrue, true, false};
+ghost use Rattle.std.specs.Option.{option_map};
+ghost use Rattle.admin_words.specs.Rows.{archive_row, noun_view, rows_of, verb_view, verbs};
 ghost use Rattle.admin_words.specs.Table.{are_options, are_sound_rows, are_legible, without, block_alone, main_alone};
 
 use command_words::{Kind, Need, Place, Slot, Words};
@@ -22,12 +23,15 @@ pub enum PolicyForm {
 #[derive(Clone, Copy)]
 pub enum ClassForm {
     AssignClass,
+    DefineArchiveGroup,
     DefineClass,
     DefineGroup,
+    DeleteArchiveGroup,
     DeleteClass,
     DeleteGroup,
     QueryClass,
     QueryGroup,
+    UpdateArchiveGroup,
     UpdateGroup,
 }
 
@@ -35,6 +39,7 @@ pub enum ClassForm {
 #[derive(Clone, Copy)]
 pub enum NodeForm {
     DeleteFilespace,
+    QueryArchive,
     QueryBackup,
     QueryFilespace,
     QueryNode,
@@ -76,11 +81,13 @@ pub enum VolumeForm {
 /// The commands of files.
 #[derive(Clone, Copy)]
 pub enum FileForm {
+    ArchiveFiles,
     Erase,
     Get,
     Incremental,
     Put,
     RestoreFiles,
+    RetrieveFiles,
     Write,
 }
 
@@ -173,11 +180,17 @@ pub const ACCESSES: Words = &[
 /// The values of POOLTYPE.
 pub const POOL_TYPES: Words = &["PRIMARY", "COPY"];
 
+/// The values of COLLOCATE.
+pub const COLLOCATIONS: Words = &["NO", "NODE"];
+
 /// The values of MODE.
 pub const MODES: Words = &["MODIFIED", "ABSOLUTE"];
 
 /// The values of SERIALIZATION.
 pub const SERIALIZATIONS: Words = &["SHRSTATIC", "STATIC"];
+
+/// The values of TYPE of a database backup.
+pub const BACKUP_TYPES: Words = &["FULL", "INCREMENTAL"];
 
 const NAME: Place = (Kind::Name, &[], true);
 
@@ -249,6 +262,18 @@ const DESTINATION: Slot = ("DESTINATION", Kind::Name, &[], Need::Required);
 const NEW_DESTINATION: Slot = ("DESTINATION", Kind::Name, &[], Need::Optional);
 
 const TYPE_BACKUP: Slot = ("TYPE", Kind::OneOf, &["BACKUP"], Need::Optional);
+
+const TYPE_ARCHIVE: Slot = ("TYPE", Kind::OneOf, &["ARCHIVE"], Need::Required);
+
+const RETVER: Slot = (
+    "RETVER",
+    Kind::Limit {
+        least: 0,
+        most: 30000,
+    },
+    &[],
+    Need::Optional,
+);
 
 const FREQUENCY: Slot = ("FREQUENCY", DAYS, &[], Need::Optional);
 
@@ -331,6 +356,8 @@ const REUSEDELAY: Slot = ("REUSEDELAY", DAYS, &[], Need::Optional);
 
 const MAXSCRATCH: Slot = ("MAXSCRATCH", DAYS, &[], Need::Optional);
 
+const COLLOCATE: Slot = ("COLLOCATE", Kind::OneOf, COLLOCATIONS, Need::Optional);
+
 const FORMATSIZE: Slot = (
     "FORMATSIZE",
     Kind::Number {
@@ -361,7 +388,7 @@ const STGPOOL: Slot = ("STGPOOL", Kind::Name, &[], Need::Optional);
 
 const DEVCLASS: Slot = ("DEVCLASS", Kind::Name, &[], Need::Optional);
 
-const TYPE_FULL: Slot = ("TYPE", Kind::OneOf, &["FULL"], Need::Required);
+const TYPE_OF_BACKUP: Slot = ("TYPE", Kind::OneOf, BACKUP_TYPES, Need::Optional);
 
 const TYPE_DBBACKUP: Slot = ("TYPE", Kind::OneOf, &["DBBACKUP"], Need::Required);
 
@@ -421,6 +448,38 @@ const OBJECT: Slot = (
     Need::AnySide(2),
 );
 
+const PATTERN_IF: Slot = ("PATTERN", Kind::Pattern, &[], Need::Optional);
+
+const ARCHMC: Slot = ("ARCHMC", Kind::Name, &[], Need::Optional);
+
+const ARCHIVE_DESCRIPTION: Slot = ("DESCRIPTION", Kind::Description, &[], Need::Optional);
+
+const DELETEFILES: Slot = ("DELETEFILES", Kind::OneOf, NO_YES, Need::Optional);
+
+/// The row of DEFINE COPYGROUP with TYPE=ARCHIVE.
+pub const DEFINE_ARCHIVE: Noun = (
+    "COPYGROUP",
+    Form::Class(ClassForm::DefineArchiveGroup),
+    &[NAME, NAME, NAME, STANDARD_IF],
+    &[TYPE_ARCHIVE, DESTINATION, RETVER],
+);
+
+/// The row of DELETE COPYGROUP with TYPE=ARCHIVE.
+pub const DELETE_ARCHIVE: Noun = (
+    "COPYGROUP",
+    Form::Class(ClassForm::DeleteArchiveGroup),
+    &[NAME, NAME, NAME, STANDARD_IF],
+    &[TYPE_ARCHIVE],
+);
+
+/// The row of UPDATE COPYGROUP with TYPE=ARCHIVE.
+pub const UPDATE_ARCHIVE: Noun = (
+    "COPYGROUP",
+    Form::Class(ClassForm::UpdateArchiveGroup),
+    &[NAME, NAME, NAME, STANDARD_IF],
+    &[TYPE_ARCHIVE, NEW_DESTINATION, RETVER],
+);
+
 /// The rows that begin with ACTIVATE.
 pub const ACTIVATE_NOUNS: &[Noun] = &[(
     "POLICYSET",
@@ -451,7 +510,7 @@ pub const BACKUP_NOUNS: &[Noun] = &[
         "DB",
         Form::Database(DatabaseForm::BackupDatabase),
         &[],
-        &[DEVCLASS, TYPE_FULL, WAIT],
+        &[DEVCLASS, TYPE_OF_BACKUP, WAIT],
     ),
     (
         "STGPOOL",
@@ -516,6 +575,7 @@ pub const DEFINE_NOUNS: &[Noun] = &[
             RECLAIM,
             REUSEDELAY,
             MAXSCRATCH,
+            COLLOCATE,
             DESCRIPTION,
         ],
     ),
@@ -583,6 +643,12 @@ pub const DELETE_NOUNS: &[Noun] = &[
 /// The rows that begin with DSMC.
 pub const DSMC_NOUNS: &[Noun] = &[
     (
+        "ARCHIVE",
+        Form::File(FileForm::ArchiveFiles),
+        &[NODE, FILESPACE, NUMBER],
+        &[PATTERN_IF, ARCHMC, ARCHIVE_DESCRIPTION, DELETEFILES],
+    ),
+    (
         "INCREMENTAL",
         Form::File(FileForm::Incremental),
         &[NODE, FILESPACE, NUMBER],
@@ -593,6 +659,12 @@ pub const DSMC_NOUNS: &[Noun] = &[
         Form::File(FileForm::RestoreFiles),
         &[NODE, FILESPACE, NUMBER],
         &[PATTERN, PITDATE, OBJECT],
+    ),
+    (
+        "RETRIEVE",
+        Form::File(FileForm::RetrieveFiles),
+        &[NODE, FILESPACE, NUMBER],
+        &[PATTERN_IF, ARCHIVE_DESCRIPTION],
     ),
 ];
 
@@ -625,6 +697,12 @@ pub const MOVE_NOUNS: &[Noun] = &[(
 
 /// The rows that begin with QUERY.
 pub const QUERY_NOUNS: &[Noun] = &[
+    (
+        "ARCHIVE",
+        Form::Node(NodeForm::QueryArchive),
+        &[NODE, FILESPACE],
+        &[],
+    ),
     (
         "BACKUP",
         Form::Node(NodeForm::QueryBackup),
@@ -753,6 +831,7 @@ pub const UPDATE_NOUNS: &[Noun] = &[
             RECLAIM,
             REUSEDELAY,
             MAXSCRATCH,
+            COLLOCATE,
             DESCRIPTION,
         ],
     ),
@@ -845,6 +924,7 @@ pub const BLOCK: &[Verb] = &[
     ("ASSIGN", FirstWord::Assign),
     ("AUDIT", FirstWord::Audit),
     ("BACKUP", FirstWord::Backup),
+    ("CHECKPOINT", FirstWord::Checkpoint),
     ("DEFINE", FirstWord::Define),
     ("DELETE", FirstWord::Delete),
     ("DSMC", FirstWord::Dsmc),
@@ -874,7 +954,7 @@ pub fn verbs_of(in_block: bool) -> &'static [Verb]
     // The words are in upper case and distinct, and each is meant by itself.
     ensures sound { IsTrue (are_options (map (λ v. v.word) (verbs in_block))) }
 
-    // But for AND and END the commands of a block are those outside, but for CHECKPOINT, DAY and PARALLEL.
+    // But for AND and END the commands of a block are those outside, but for DAY and PARALLEL.
     ensures block { without block_alone (verbs true) ≡ without main_alone (verbs false) }
 {
     if in_block { BLOCK } else { MAIN }
@@ -913,6 +993,26 @@ fn rows_behind(first: FirstWord) -> &'static [Noun]
         FirstWord::Update => UPDATE_NOUNS,
         FirstWord::Validate => VALIDATE_NOUNS,
         FirstWord::Write => WRITE_NOUNS,
+    }
+}
+
+/// The row that stands in the place of this command's where TYPE is ARCHIVE: that of the archive copy group, for a command of copy groups.
+#[tactic(auto, using(crate::proofs::Laws::sound_archive, crate::proofs::Laws::legible_archive), unfolding(crate::specs::Rows::archive_row))]
+pub fn archive_row(form: Form) -> Option<Noun>
+    // It is that of the grammar.
+    ensures value { option_map noun_view result ≡ archive_row form }
+
+    // Its keywords and the words that are values are in upper case and distinct, and each is meant by itself.
+    ensures sound { IfSome (archive_row form) (λ r. IsTrue (are_sound_rows (r ∷ []))) }
+
+    // The places that its command's reader takes as names must be there, and hold these.
+    ensures legible { IfSome (archive_row form) (λ r. IsTrue (are_legible (r ∷ []))) }
+{
+    match form {
+        Form::Class(ClassForm::DefineGroup) => Some(DEFINE_ARCHIVE),
+        Form::Class(ClassForm::DeleteGroup) => Some(DELETE_ARCHIVE),
+        Form::Class(ClassForm::UpdateGroup) => Some(UPDATE_ARCHIVE),
+        _ => None,
     }
 }
 

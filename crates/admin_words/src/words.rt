@@ -2,9 +2,11 @@ ghost use Rattle.std.specs.Prelude.{◌≡◌, unwrap_or};
 ghost use Rattle.std.specs.Option.{option_copied};
 ghost use Rattle.kinds.specs.Answers.{AnswersBy};
 ghost use Rattle.command_words.specs.Fields.{number_of, capacity_of};
-ghost use Rattle.admin_words.specs.Chosen.{mode_at, mode_of, still_at, still_of, yes_at, is_yes, access_at, access_of, pool_kind_at, pool_kind_of, usual_reclaim, next_of};
+ghost use Rattle.admin_words.specs.Chosen.{mode_at, mode_of, backup_type_at, backup_type_of, collocate_of, still_at, still_of, yes_at, is_yes, access_at, access_of, pool_kind_at, pool_kind_of, usual_reclaim, next_of};
 
-use crate::table::{ACCESSES, MODES, NO_YES, POOL_TYPES, SERIALIZATIONS};
+use crate::table::{
+    ACCESSES, BACKUP_TYPES, COLLOCATIONS, MODES, NO_YES, POOL_TYPES, SERIALIZATIONS,
+};
 use command_words::field;
 use kinds::{Access, Capacity, Day, Name, PoolKind, Refusal, Still};
 use std::alloc::Global;
@@ -32,6 +34,33 @@ pub fn read_mode(text: Option<&[u8]>) -> Option<Mode>
 {
     match field::word(text, MODES) {
         Some(at) => Some(mode_at(at)),
+        None => None,
+    }
+}
+
+/// What a database backup holds: the whole database, or what came since the newest one that is done.
+#[derive(Clone, Copy, Debug)]
+pub enum BackupType {
+    Full,
+    Incremental,
+}
+
+fn backup_type_at(at: usize) -> BackupType
+    ensures { result ≡ backup_type_at at }
+{
+    if at == 1 {
+        BackupType::Incremental
+    } else {
+        BackupType::Full
+    }
+}
+
+/// The value of the keyword, where it is given.
+pub fn read_backup_type(text: Option<&[u8]>) -> Option<BackupType>
+    ensures { result ≡ backup_type_of (option_copied text.entry) }
+{
+    match field::word(text, BACKUP_TYPES) {
+        Some(at) => Some(backup_type_at(at)),
         None => None,
     }
 }
@@ -109,6 +138,16 @@ pub fn is_yes(text: Option<&[u8]>) -> bool
     match field::word(text, NO_YES) {
         Some(at) => at == 1,
         None => false,
+    }
+}
+
+/// Whether NODE was given, where the keyword is.
+pub fn read_collocate(text: Option<&[u8]>) -> Option<bool>
+    ensures { result ≡ collocate_of (option_copied text.entry) }
+{
+    match field::word(text, COLLOCATIONS) {
+        Some(at) => Some(at == 1),
+        None => None,
     }
 }
 

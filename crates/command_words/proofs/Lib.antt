@@ -3,6 +3,7 @@ pub mod Untested
 pub mod Numbers
 pub mod Keys
 pub mod Slash
+pub mod Undescribed
 pub mod Cases
 pub mod Fitting
 pub mod Keyed

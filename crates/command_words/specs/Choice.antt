@@ -1,5 +1,5 @@
 -- Which of the words that are possible at a place is meant.
-use Rattle.std.specs.Prelude.{ℕ, Bool, true, false, ◌==◌, ◌&&◌, List, [], ◌∷◌, length, codes, count_by, if◌then◌else◌, Option, Some, None, Result, Ok, Err}
+use Rattle.std.specs.Prelude.{ℕ, Bool, true, false, ◌==◌, ◌&&◌, nat_lt, List, [], ◌∷◌, length, codes, count_by, if◌then◌else◌, Option, Some, None, Result, Ok, Err}
 use Rattle.std.specs.Char.{to_ascii_uppercase}
 use Rattle.std.specs.List.{position_from}
 use Rattle.kinds.specs.declared.refusal.Refusal.{Refusal}
@@ -14,6 +14,10 @@ begins (o ∷ os) (b ∷ bs) = o == to_ascii_uppercase b && begins os bs
 -- the word is the whole option
 abbrev pub is_whole : List ℕ → List ℕ → Bool
 is_whole option word = length option == length word && begins option word
+
+-- the word is the option, or a front of it with at least one letter
+abbrev pub is_front : List ℕ → List ℕ → Bool
+is_front option word = nat_lt 0 (length word) && begins option word
 
 -- VOL stands for VOLUME
 abbrev pub spelled : List ℕ → List ℕ

@@ -1,5 +1,5 @@
 -- What the text of a value means, and what stands where no value was given.
-use Rattle.std.specs.Prelude.{◌≡◌, ℕ, IsSome, nat_le, List, [], codes, if◌then◌else◌, Option, Some, None, Result, Ok, Err}
+use Rattle.std.specs.Prelude.{◌≡◌, ℕ, IsSome, nat_le, List, [], codes, unwrap_or, if◌then◌else◌, Option, Some, None, Result, Ok, Err}
 use Rattle.std.specs.Str.{str_to_ascii_uppercase}
 use Rattle.kinds.specs.declared.refusal.Refusal.{Refusal}
 use Rattle.kinds.specs.declared.rule.Limit.{Limit}
@@ -9,6 +9,7 @@ use Rattle.kinds.specs.declared.pool.SizeLimit.TheVariants as sizes
 use Rattle.kinds.specs.Names.{is_name}
 use Rattle.kinds.specs.Pools.{is_capacity}
 use Rattle.kinds.specs.Paths.{is_path}
+use Rattle.kinds.specs.Texts.{is_text}
 use Rattle.command_words.specs.Choice.{choose}
 use Rattle.command_words.specs.Values.{decimal, size, is_no_limit}
 
@@ -35,6 +36,15 @@ path_of most (Some text) = if is_path most text then text else codes "/"
 abbrev pub text_of : Option (List ℕ) → List ℕ
 text_of None = []
 text_of (Some text) = text
+
+-- a description that may be missing
+abbrev pub description_if : Option (List ℕ) → Option (List ℕ)
+description_if None = None
+description_if (Some text) = if is_text text then Some text else None
+
+-- a description; empty where none was given
+abbrev pub description_of : Option (List ℕ) → List ℕ
+description_of text = unwrap_or (description_if text) []
 
 -- a number that is at most `most`
 abbrev pub at_most : ℕ → Option ℕ → Option ℕ
@@ -68,10 +78,10 @@ limit_at (Some n) = Some (At n)
 abbrev pub limit_spelled : List ℕ → Option Limit
 limit_spelled text = if is_no_limit text then Some NoLimit else limit_at (decimal 10 text)
 
--- the limit of versions or days that a value is, where it is one of at most 9,999
-abbrev pub limit_of : Option (List ℕ) → Option Limit
-limit_of None = None
-limit_of (Some text) = if is_no_limit text then Some NoLimit else limit_at (at_most 9999 (decimal 10 text))
+-- the limit of versions or days that a value is, where it is one of at most `most`
+abbrev pub limit_of : ℕ → Option (List ℕ) → Option Limit
+limit_of most None = None
+limit_of most (Some text) = if is_no_limit text then Some NoLimit else limit_at (at_most most (decimal 10 text))
 
 abbrev pub size_limit_at : Option ℕ → Option SizeLimit
 size_limit_at None = None

@@ -1,13 +1,14 @@
 -- A row of the table of commands, and the values that the words of a line give for it.
 use Rattle.std.specs.Prelude.{ℕ, ◌+◌, Bool, true, false, not, ◌==◌, ◌&&◌, ◌||◌, List, [], ◌∷◌, ◌++◌, map, length, take, drop, slice_index, slice_get, if◌then◌else◌, Option, Some, None, is_some, is_none, Result, Ok, Err}
 use Rattle.std.specs.Borrow.{Bor}
+use Rattle.std.specs.Option.{option_or}
 use Rattle.std.specs.List.{position_from}
 use Rattle.kinds.specs.declared.refusal.Refusal.{Refusal}
 use Rattle.kinds.specs.declared.refusal.Refusal.TheVariants.{Syntax}
 use Rattle.command_words.specs.declared.value.Kind.{Kind}
 use Rattle.command_words.specs.declared.row.Need.{Need}
 use Rattle.command_words.specs.declared.row.Need.TheVariants.{Required, OneSide, AnySide}
-use Rattle.command_words.specs.Choice.{choose}
+use Rattle.command_words.specs.Choice.{is_front, choose}
 use Rattle.command_words.specs.Reading.{◌>>=◌}
 use Rattle.command_words.specs.Values.{unquoted, valued}
 use Rattle.command_words.specs.Words.{Word, is_quote, is_equals}
@@ -48,6 +49,16 @@ text_at at (g ∷ gs) = if g.0 == at then Some g.1 else text_at at gs
 -- where the equals sign stands that makes a word a keyword and its value; a word in quotes is none
 abbrev pub equals_at : List ℕ → Option ℕ
 equals_at text = if is_quote (slice_index text 0) then None else position_from is_equals 0 text
+
+-- the value of the keyword `key`, where a word with its equals sign at this place gives that keyword, whole or by a front of it
+abbrev pub value_for : List ℕ → List ℕ → Option ℕ → Option (List ℕ)
+value_for key text None = None
+value_for key text (Some at) = if is_front key (take at text) then Some (unquoted (drop (at + 1) text)) else None
+
+-- the same of the first of these words that gives it
+abbrev pub first_value : List ℕ → List Word → Option (List ℕ)
+first_value key [] = None
+first_value key (w ∷ ws) = option_or (value_for key w.text (equals_at w.text)) (first_value key ws)
 
 -- a word is taken for a place that must be there, and for any place where it is no keyword
 abbrev pub is_for_place : Place → List ℕ → Bool

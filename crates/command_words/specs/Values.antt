@@ -6,9 +6,10 @@ use Rattle.kinds.specs.declared.refusal.Refusal.{Refusal}
 use Rattle.kinds.specs.declared.refusal.Refusal.TheVariants.{BadValue}
 use Rattle.kinds.specs.Names.{is_within, is_name}
 use Rattle.kinds.specs.Paths.{is_rooted, is_path}
+use Rattle.kinds.specs.Texts.{is_text}
 use Rattle.command_words.specs.declared.value.Kind.{Kind}
-use Rattle.command_words.specs.declared.value.Kind.TheVariants.{Name, NodeName, NameOrNone, Path, FilespaceName, Pattern, Number, Size, Limit, SizeLimit, Text, OneOf}
-use Rattle.command_words.specs.Choice.{begins, choose}
+use Rattle.command_words.specs.declared.value.Kind.TheVariants.{Name, NodeName, NameOrNone, Path, FilespaceName, Pattern, Number, Size, Limit, SizeLimit, Text, Description, OneOf}
+use Rattle.command_words.specs.Choice.{is_front, choose}
 use Rattle.command_words.specs.Reading.{◌>>=◌}
 use Rattle.command_words.specs.Words.{is_quote}
 
@@ -50,7 +51,7 @@ is_between least most (Some n) = nat_le least n && nat_le n most
 
 -- the text is NOLIMIT, or begins it
 abbrev pub is_no_limit : List ℕ → Bool
-is_no_limit text = nat_lt 0 (length text) && begins (codes "NOLIMIT") text
+is_no_limit text = is_front (codes "NOLIMIT") text
 
 -- the text is a value of its kind, for the kinds that have no words
 abbrev pub fits : Kind → List ℕ → Bool
@@ -65,6 +66,7 @@ fits (Size least most) text = is_between least most (size text)
 fits (Limit least most) text = is_no_limit text || is_between least most (decimal 10 text)
 fits (SizeLimit least most) text = is_no_limit text || is_between least most (size text)
 fits (Text least most) text = nat_le least (length text) && nat_le (length text) most
+fits Description text = is_text text
 fits OneOf text = false
 
 -- the kind is that of words

@@ -1,7 +1,7 @@
 ghost use Rattle.std.specs.Prelude.{◌≡◌, ◌<◌, ℕ, List, length, map, count_by, IfOk, IfSome};
 ghost use Rattle.std.specs.List.{position_from};
 ghost use Rattle.std.specs.Str.{str_to_ascii_uppercase};
-ghost use Rattle.command_words.specs.Choice.{begins, is_whole, spelled, choose};
+ghost use Rattle.command_words.specs.Choice.{begins, is_whole, is_front, spelled, choose};
 
 use kinds::Refusal;
 
@@ -57,6 +57,13 @@ fn is_whole(option: &[u8], word: &[u8]) -> bool
     ensures { result ≡ is_whole option.now word.now }
 {
     option.len() == word.len() && begins(option, word)
+}
+
+/// Whether the word is the option, which is in upper case, or a front of it with at least one letter, in whatever case.
+pub fn is_front(option: &[u8], word: &[u8]) -> bool
+    ensures { result ≡ is_front option.now word.now }
+{
+    !word.is_empty() && begins(option, word)
 }
 
 /// The word itself, or VOLUME for VOL.

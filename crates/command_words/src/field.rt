@@ -1,8 +1,8 @@
-ghost use Rattle.std.specs.Prelude.{◌≡◌, ◌<◌, ◌≤◌, ◌==◌, ◌^◌, ℕ, map, length, unwrap_or, if◌then◌else◌, Some, None, IfSome, IsSome, IsTrue};
+ghost use Rattle.std.specs.Prelude.{◌≡◌, ◌<◌, ◌≤◌, ◌==◌, ◌^◌, ℕ, map, length, unwrap_or, if◌then◌else◌, [], Some, None, IfSome, IsSome, IsTrue};
 ghost use Rattle.std.specs.Str.{str_to_ascii_uppercase};
 ghost use Rattle.std.specs.Option.{ForSome, option_copied};
 ghost use Rattle.kinds.specs.Answers.{AnswersBy};
-ghost use Rattle.command_words.specs.Fields.{name_of, name_if, path_of, text_of, at_most, number_of, size_of, IsSpelled, limit_at, limit_spelled, limit_of, size_limit_at, size_limit_spelled, size_limit_of, capacity_of, word_of};
+ghost use Rattle.command_words.specs.Fields.{name_of, name_if, path_of, text_of, description_if, description_of, at_most, number_of, size_of, IsSpelled, limit_at, limit_spelled, limit_of, size_limit_at, size_limit_spelled, size_limit_of, capacity_of, word_of};
 ghost use Rattle.command_words.specs.Values.{decimal, size, fits};
 ghost use Rattle.command_words.specs.Fit.{is_one_of};
 
@@ -155,6 +155,41 @@ pub fn text_if(alloc: Global, text: Option<&[u8]>) -> Result<Option<Text>, Refus
     }
 }
 
+/// A description that may be missing.
+pub fn description_if(alloc: Global, text: Option<&[u8]>) -> Result<Option<kinds::Text>, Refusal>
+    ensures value { AnswersBy (λ t. t) result (description_if (option_copied text.entry)) }
+
+    // A text that is a description is read as it stands.
+    ensures fitting { ForSome (option_copied text.entry) (λ t. IsTrue (fits Kind.Description t) → AnswersBy (λ d. d) result (Some t)) }
+{
+    match text {
+        Some(text) => {
+            let bytes = Vec::from_slice(alloc, text)?;
+            Ok(kinds::Text::from_bytes(bytes))
+        }
+        None => Ok(None),
+    }
+}
+
+fn no_description(alloc: Global) -> kinds::Text
+    ensures { result ≡ [] }
+{
+    kinds::Text::from_bytes(Vec::new(alloc)).unwrap()
+}
+
+/// A description; empty where none was given.
+pub fn description(alloc: Global, text: Option<&[u8]>) -> Result<kinds::Text, Refusal>
+    ensures value { AnswersBy (λ t. t) result (description_of (option_copied text.entry)) }
+
+    // A text that is a description is read as it stands.
+    ensures fitting { ForSome (option_copied text.entry) (λ t. IsTrue (fits Kind.Description t) → AnswersBy (λ d. d) result t) }
+{
+    match description_if(alloc, text)? {
+        Some(text) => Ok(text),
+        None => Ok(no_description(alloc)),
+    }
+}
+
 fn at_most(number: Option<u64>, most: u64) -> Option<u64>
     ensures value { result ≡ at_most most number }
     ensures within { IfSome result (λ n. n ≤ most) }
@@ -259,8 +294,8 @@ pub fn day(text: Option<&[u8]>) -> Option<Day>
     }
 }
 
-fn limit_at(number: Option<u64>) -> Option<Limit>
-    requires { ForSome number (λ n. n ≤ 9999) }
+fn limit_at(number: Option<u64>, most: u32) -> Option<Limit>
+    requires { ForSome number (λ n. n ≤ most) }
     ensures { result ≡ limit_at number }
 {
     match number {
@@ -269,19 +304,19 @@ fn limit_at(number: Option<u64>) -> Option<Limit>
     }
 }
 
-/// A limit of versions or of days.
-pub fn limit(text: Option<&[u8]>) -> Option<Limit>
-    ensures value { result ≡ limit_of (option_copied text.entry) }
+/// A limit of versions or of days, of at most `most`.
+pub fn limit(text: Option<&[u8]>, most: u32) -> Option<Limit>
+    ensures value { result ≡ limit_of most (option_copied text.entry) }
 
     // A text that is a limit of at most so many is read as the limit that it spells.
-    ensures fitting { (least limit : ℕ) → limit ≤ 9999 → ForSome (option_copied text.entry) (λ t. IsTrue (fits (Kind.Limit least limit) t) → IsSpelled result (limit_spelled t)) }
+    ensures fitting { (least limit : ℕ) → limit ≤ most → ForSome (option_copied text.entry) (λ t. IsTrue (fits (Kind.Limit least limit) t) → IsSpelled result (limit_spelled t)) }
 {
     match text {
         Some(text) => {
             if is_no_limit(text) {
                 Some(Limit::NoLimit)
             } else {
-                limit_at(at_most(decimal(text, 10), 9999))
+                limit_at(at_most(decimal(text, 10), u64::from(most)), most)
             }
         }
         None => None,

@@ -10,9 +10,9 @@ mod text;
 mod value;
 mod words;
 
-pub use choice::{Titled, begins, choose};
+pub use choice::{Titled, begins, choose, is_front};
 pub use comments::is_comment;
-pub use row::{Given, Need, Place, Slot, row_values, text_at};
+pub use row::{Given, Need, Place, Slot, first_value, row_values, text_at};
 pub use text::Text;
 pub use value::{Kind, Words, decimal, is_no_limit, size, unquoted, valued};
 pub use words::{EQUALS, QUOTE, Word, is_blank, torn_at, words_behind, words_of};

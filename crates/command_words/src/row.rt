@@ -3,10 +3,10 @@ ghost use Rattle.std.specs.List.{position_from};
 ghost use Rattle.std.specs.Option.{option_copied};
 ghost use Rattle.command_words.specs.Reading.{Says, Reads};
 ghost use Rattle.command_words.specs.Words.{word_view, is_quote, is_equals};
-ghost use Rattle.command_words.specs.Rows.{place_view, slot_view, given_view, text_at, equals_at, is_for_place, place_taken, places_from, side_of, are_apart, are_opposed, settles, is_settled, is_needed, is_complete, slot_value, key_value, keyword, keywords_from, row_values};
+ghost use Rattle.command_words.specs.Rows.{place_view, slot_view, given_view, text_at, equals_at, value_for, first_value, is_for_place, place_taken, places_from, side_of, are_apart, are_opposed, settles, is_settled, is_needed, is_complete, slot_value, key_value, keyword, keywords_from, row_values};
 ghost use Rattle.command_words.specs.Fit.{PlacesFit, KeywordsFit, SidesApart};
 
-use crate::choice::choose;
+use crate::choice::{choose, is_front};
 use crate::value::{Kind, Words, unquoted, valued};
 use crate::words::{EQUALS, QUOTE, Word};
 use kinds::Refusal;
@@ -68,6 +68,36 @@ fn equals_at(text: &[u8]) -> Option<usize>
     } else {
         first_equals(text)
     }
+}
+
+/// The value that a word gives for this keyword, whole or by a front of it.
+fn value_for<'a>(key: &[u8], text: &'a [u8]) -> Option<&'a [u8]>
+    ensures { option_copied result ≡ value_for key.now text.now (equals_at text.now) }
+{
+    match equals_at(text) {
+        None => None,
+        Some(at) => {
+            if is_front(key, &text[..at]) {
+                Some(unquoted(&text[at + 1..]))
+            } else {
+                None
+            }
+        }
+    }
+}
+
+/// The value that the first word which gives this keyword, whole or by a front of it, has; whatever else the words are. The keyword is in upper
+/// case. It takes no memory.
+pub fn first_value<'a>(key: &[u8], words: &[Word<'a>]) -> Option<&'a [u8]>
+    ensures { option_copied result ≡ first_value key.now (map word_view words.now) }
+{
+    'words: for word in words {
+        match value_for(key, word.1) {
+            Some(value) => return Some(value),
+            None => {}
+        }
+    }
+    None
 }
 
 fn is_keyword(text: &[u8]) -> bool

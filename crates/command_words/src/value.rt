@@ -3,10 +3,11 @@ ghost use Rattle.std.specs.Str.{str_to_ascii_uppercase, is_utf8};
 ghost use Rattle.std.specs.List.{list_all};
 ghost use Rattle.kinds.specs.Names.{is_within, is_name_byte, is_name};
 ghost use Rattle.kinds.specs.Paths.{is_rooted, has_no_zero, is_path};
+ghost use Rattle.kinds.specs.Texts.{is_text};
 ghost use Rattle.command_words.specs.Reading.{Says};
 ghost use Rattle.command_words.specs.Values.{unquoted, decimal, unit_of, last_unit, times, size, is_between, is_no_limit, fits, has_words, one_of, valued};
 
-use crate::choice::{begins, choose};
+use crate::choice::{choose, is_front};
 use crate::words::QUOTE;
 use kinds::Refusal;
 use std::str;
@@ -39,6 +40,8 @@ pub enum Kind {
     SizeLimit { least: u64, most: u64 },
     /// Any text of so many bytes.
     Text { least: u32, most: u32 },
+    /// What a client says of an object that it archives: at most 255 bytes of UTF-8.
+    Description,
     /// One of the words that are listed beside the kind.
     OneOf,
 }
@@ -110,6 +113,12 @@ pub fn is_path(text: &[u8], most: u32) -> bool
     ensures { result ≡ is_path most text.now }
 {
     text.len() <= most as usize && is_rooted(text) && has_no_zero(text) && is_utf8(text)
+}
+
+fn is_description(text: &[u8]) -> bool
+    ensures { result ≡ is_text text.now }
+{
+    text.len() <= 255 && is_utf8(text)
 }
 
 /// The number that 1 to `most` decimal digits write; none where the text is something else.
@@ -195,7 +204,7 @@ fn is_between(number: Option<u64>, least: u64, most: u64) -> bool
 pub fn is_no_limit(text: &[u8]) -> bool
     ensures { result ≡ is_no_limit text.now }
 {
-    !text.is_empty() && begins(b"NOLIMIT", text)
+    is_front(b"NOLIMIT", text)
 }
 
 fn fits(kind: Kind, text: &[u8]) -> bool
@@ -215,6 +224,7 @@ fn fits(kind: Kind, text: &[u8]) -> bool
         }
         Kind::SizeLimit { least, most } => is_no_limit(text) || is_between(size(text), least, most),
         Kind::Text { least, most } => least as usize <= text.len() && text.len() <= most as usize,
+        Kind::Description => is_description(text),
         Kind::OneOf => false,
     }
 }

@@ -33,6 +33,8 @@ pub enum Holder {
     Ticket(u64),
     /// An image is being written, by the actor with this number.
     Image(u32),
+    /// This transaction, which isn't forced yet, frees the space.
+    Unforced(u64),
 }
 
 /// Why the server refuses what it was asked.
@@ -65,7 +67,7 @@ pub enum Refusal {
     NoArchiveGroup,
     /// 20: no pool of the hierarchy that begins at this destination pool has room.
     NoSpace(u32),
-    /// 21: there would be room if this ticket were given back, or an image is being written.
+    /// 21: there would be room if this ticket were given back or this transaction forced, or an image is being written.
     Busy(Holder),
     /// 22: this transaction changed or removed the copy or the version that the caller named.
     Stale(u64),

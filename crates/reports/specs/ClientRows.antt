@@ -41,7 +41,12 @@ row_of_version v =
     ++ codes " owed=" ++ yes_or_no v.owed
     ++ codes " sha256=" ++ digits v.digest
 
--- ARCHIVE path object=n size=n mtime=n stored=n until=n|- owed=YES|NO sha256=h
+-- the day from which on an archived object is no longer kept, or NOLIMIT
+abbrev pub until_text : Option ℕ → List ℕ
+until_text None = codes "NOLIMIT"
+until_text (Some day) = decimal day
+
+-- ARCHIVE path object=n size=n mtime=n stored=n until=n|NOLIMIT owed=YES|NO sha256=h
 abbrev pub row_of_archive : HeldLine → List ℕ
 row_of_archive h =
     codes "ARCHIVE " ++ escaped h.path
@@ -49,6 +54,6 @@ row_of_archive h =
     ++ codes " size=" ++ decimal h.size
     ++ codes " mtime=" ++ decimal h.mtime
     ++ codes " stored=" ++ decimal h.stored
-    ++ codes " until=" ++ number_or_dash h.until
+    ++ codes " until=" ++ until_text h.until
     ++ codes " owed=" ++ yes_or_no h.owed
     ++ codes " sha256=" ++ digits h.digest

@@ -2,6 +2,8 @@
 use Rattle.std.specs.Prelude.{ℕ, List, ◌++◌, codes, decimal}
 use Rattle.hex.specs.Hex.{encode_lower}
 use Rattle.kinds.specs.declared.refusal.Refusal.{Refusal}
+use Rattle.reports.specs.declared.shown.Notice.{Notice}
+use Rattle.reports.specs.declared.shown.Notice.TheVariants.{Lost, Restored, Refused, NotABackup, Differs}
 use Rattle.reports.specs.declared.shown.Shown.{Shown}
 use Rattle.reports.specs.declared.shown.Shown.TheVariants.{Done, Reused, Stored, Data, Read, Sent, File, Failed, RestoredFiles, Archived, Retrieved, Moved, Copied, RestoredCopies, Expired, DiscardedFilespace, DeletedVolume, Damaged, Audited, BackedUp, DeletedHistory, Rows}
 use Rattle.reports.specs.Pieces.{numbered, escaped, digits}
@@ -41,3 +43,15 @@ shown_line line shown = numbered line (shown_text shown)
 -- the line of a refused command
 abbrev pub refused_line : ℕ → Refusal → List ℕ
 refused_line line refusal = numbered line (codes "REFUSED" ++ refusal_text refusal)
+
+-- the text of a line that no line of the script causes, without LF
+abbrev pub notice_text : Notice → List ℕ
+notice_text (Lost node filespace path object) = codes "LOST " ++ node ++ codes " " ++ escaped filespace ++ codes " " ++ escaped path ++ codes " object=" ++ decimal object
+notice_text (Restored versions copies lost) = codes "RESTORED versions=" ++ decimal versions ++ codes " copies=" ++ decimal copies ++ codes " lost=" ++ decimal lost
+notice_text (Refused refusal) = codes "REFUSED" ++ refusal_text refusal
+notice_text (NotABackup file) = codes "NOT A BACKUP " ++ decimal file
+notice_text (Differs kept found) = codes "DIFFERS " ++ decimal kept ++ codes " " ++ decimal found
+
+-- such a line
+abbrev pub notice_line : Notice → List ℕ
+notice_line notice = notice_text notice ++ codes "\n"

@@ -63,6 +63,7 @@ by_field Destination = codes " DESTINATION"
 abbrev pub holder_field : Holder → List ℕ
 holder_field (holders.Ticket number) = codes " TICKET " ++ decimal number
 holder_field (holders.Image number) = codes " IMAGE " ++ decimal number
+holder_field (holders.Unforced number) = codes " UNFORCED " ++ decimal number
 
 -- the fields of a refusal; a digest is in hexadecimal digits
 abbrev pub fields_of : Refusal → List ℕ

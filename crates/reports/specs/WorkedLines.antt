@@ -6,11 +6,12 @@ use Rattle.kinds.specs.declared.pool.Access.TheVariants.{ReadWrite}
 use Rattle.kinds.specs.declared.pool.PoolKind.TheVariants.{Primary}
 use Rattle.kinds.specs.declared.pool.SizeLimit.TheVariants as sizes
 use Rattle.kinds.specs.declared.refusal.By.TheVariants.{Object}
-use Rattle.kinds.specs.declared.refusal.Refusal.TheVariants.{DayBack, InUse, NoSpace, NotFound}
+use Rattle.kinds.specs.declared.refusal.Refusal.TheVariants.{DayBack, Exists, InUse, NoSpace, NotFound}
 use Rattle.inventory_rows.specs.volume_rows.declared.status.Status.TheVariants.{Filling}
 use Rattle.inventory_answers.specs.declared.reply.Rows.TheVariants as rows
+use Rattle.reports.specs.declared.shown.Notice.TheVariants.{Lost, Restored, Refused, NotABackup, Differs}
 use Rattle.reports.specs.declared.shown.Shown.TheVariants.{Reused, Read, Sent, Failed, Moved}
-use Rattle.reports.specs.Lines.{shown_line, refused_line}
+use Rattle.reports.specs.Lines.{shown_line, refused_line, notice_line}
 use Rattle.reports.specs.Printed.{printed_rows}
 
 domain : printed_rows 1 (rows.Domains (record { name = codes "STANDARD"; back_retention = 30; active = true } ∷ [])) ≡ codes "1 DOMAIN STANDARD backretention=30 active=YES\n"
@@ -75,3 +76,23 @@ in_use = refl
 not_found : refused_line 9 NotFound ≡ codes "9 REFUSED 10 NotFound\n"
 unfolding digits
 not_found = refl
+
+lost : notice_line (Lost (codes "ANNA") (codes "/home") (codes "/b c") 2) ≡ codes "LOST ANNA /home /b%20c object=2\n"
+unfolding digits encode_with
+lost = refl
+
+restored : notice_line (Restored 1 2 0) ≡ codes "RESTORED versions=1 copies=2 lost=0\n"
+unfolding digits
+restored = refl
+
+no_backup : notice_line (NotABackup 5) ≡ codes "NOT A BACKUP 5\n"
+unfolding digits
+no_backup = refl
+
+differs : notice_line (Differs 1 0) ≡ codes "DIFFERS 1 0\n"
+unfolding digits
+differs = refl
+
+format_refused : notice_line (Refused Exists) ≡ codes "REFUSED 11 Exists\n"
+unfolding digits
+format_refused = refl

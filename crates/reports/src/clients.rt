@@ -1,7 +1,7 @@
 // The rows of client nodes, filespaces, versions and archived objects.
 ghost use Rattle.std.specs.Prelude.{◌≡◌, ◌++◌, codes, decimal};
 ghost use Rattle.inventory_work.specs.Lists.{Writes};
-ghost use Rattle.reports.specs.ClientRows.{state_text, row_of_node, row_of_filespace, row_of_version, row_of_archive};
+ghost use Rattle.reports.specs.ClientRows.{state_text, until_text, row_of_node, row_of_filespace, row_of_version, row_of_archive};
 
 use crate::pieces::{
     put_digest, put_number, put_number_or_dash, put_or_dash, put_path, put_word, yes_or_no,
@@ -28,12 +28,12 @@ fn day_number(day: Option<Day>) -> Option<u64>
     }
 }
 
-fn wider(n: Option<u32>) -> Option<u64>
-    ensures { result ≡ n }
+fn put_until(text: &mut Vec<u8>, words: &[u8], day: Option<u32>) -> Result<(), Refusal>
+    ensures { Writes result text.old.items text.new.items (words.now ++ until_text day) }
 {
-    match n {
-        None => None,
-        Some(n) => Some(u64::from(n)),
+    match day {
+        None => put_word(text, words, b"NOLIMIT"),
+        Some(day) => put_number(text, words, u64::from(day)),
     }
 }
 
@@ -99,7 +99,7 @@ impl Row for HeldLine {
     fn write(&self, text: &mut Vec<u8>) -> Result<(), Refusal> {
         put_path(text, b"ARCHIVE ", self.path.as_bytes())?;
         put_file(text, self.object, self.size, self.mtime, self.stored)?;
-        put_number_or_dash(text, b" until=", wider(self.until))?;
+        put_until(text, b" until=", self.until)?;
         put_word(text, b" owed=", yes_or_no(self.owed))?;
         put_digest(text, b" sha256=", &self.digest)?;
         Ok(())

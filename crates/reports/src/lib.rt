@@ -11,6 +11,6 @@ mod rows;
 mod shown;
 mod stores;
 
-pub use lines::{print_line, print_refused};
+pub use lines::{print_line, print_notice, print_refused};
 pub use printed::{print_rows, row_count};
-pub use shown::Shown;
+pub use shown::{Notice, Shown};

@@ -5,15 +5,15 @@ ghost use Rattle.kinds.specs.Answers.{AnswersBy};
 ghost use Rattle.inventory_work.specs.Lists.{Writes};
 ghost use Rattle.reports.specs.Pieces.{escaped, digits};
 ghost use Rattle.reports.specs.Refusals.{refusal_text};
-ghost use Rattle.reports.specs.Lines.{shown_text, shown_line, refused_line};
+ghost use Rattle.reports.specs.Lines.{shown_text, shown_line, refused_line, notice_text, notice_line};
 
 use crate::pieces::{
     put_digest, put_number, put_path, put_three_numbers, put_two_digests, put_two_numbers,
     put_word, put_words,
 };
 use crate::refusals::put_refusal;
-use crate::shown::Shown;
-use kinds::{Digest, ObjectSize, Path, Refusal};
+use crate::shown::{Notice, Shown};
+use kinds::{Digest, FilespaceName, NodeName, ObjectSize, Path, Refusal};
 use std::alloc::Global;
 
 fn put_data(text: &mut Vec<u8>, bytes: &[u8]) -> Result<(), Refusal>
@@ -188,6 +188,71 @@ fn put_shown(text: &mut Vec<u8>, shown: &Shown) -> Result<(), Refusal>
         Shown::DeletedHistory { deleted } => put_number(text, b"OK deleted=", *deleted),
         Shown::Rows { rows } => put_number(text, b"OK rows=", *rows),
     }
+}
+
+fn put_lost(
+    text: &mut Vec<u8>,
+    node: &NodeName,
+    filespace: &FilespaceName,
+    path: &Path,
+    object: u64,
+) -> Result<(), Refusal>
+    ensures { Writes result text.old.items text.new.items (codes "LOST " ++ node.now ++ codes " " ++ escaped filespace.now ++ codes " " ++ escaped path.now ++ codes " object=" ++ decimal object) }
+{
+    put_word(text, b"LOST ", node.as_bytes())?;
+    put_path(text, b" ", filespace.as_bytes())?;
+    put_path(text, b" ", path.as_bytes())?;
+    put_number(text, b" object=", object)?;
+    Ok(())
+}
+
+fn put_refused(text: &mut Vec<u8>, refusal: &Refusal) -> Result<(), Refusal>
+    ensures { Writes result text.old.items text.new.items (codes "REFUSED" ++ refusal_text refusal.now) }
+{
+    put_words(text, b"REFUSED")?;
+    put_refusal(text, refusal)?;
+    Ok(())
+}
+
+fn put_notice(text: &mut Vec<u8>, notice: &Notice) -> Result<(), Refusal>
+    ensures { Writes result text.old.items text.new.items (notice_text notice.now) }
+{
+    match notice {
+        Notice::Lost {
+            node,
+            filespace,
+            path,
+            object,
+        } => put_lost(text, node, filespace, path, *object),
+        Notice::Restored {
+            versions,
+            copies,
+            lost,
+        } => put_three_numbers(
+            text,
+            b"RESTORED versions=",
+            *versions,
+            b" copies=",
+            *copies,
+            b" lost=",
+            *lost,
+        ),
+        Notice::Refused { refusal } => put_refused(text, refusal),
+        Notice::NotABackup { file } => put_number(text, b"NOT A BACKUP ", u64::from(*file)),
+        Notice::Differs { kept, found } => {
+            put_two_numbers(text, b"DIFFERS ", *kept, b" ", *found)
+        }
+    }
+}
+
+/// A line that no line of the script causes, with LF. Its one refusal is want of memory.
+pub fn print_notice(alloc: Global, notice: &Notice) -> Result<Vec<u8>, Refusal>
+    ensures { AnswersBy (λ text. text.items) result (notice_line notice.now) }
+{
+    let mut text = Vec::new(alloc);
+    put_notice(&mut text, notice)?;
+    put_words(&mut text, b"\n")?;
+    Ok(text)
 }
 
 /// A line of an answered command, with the number of the script's line that gave it and with LF. Its one refusal is want of memory.

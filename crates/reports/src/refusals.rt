@@ -64,6 +64,7 @@ fn put_holder(text: &mut Vec<u8>, holder: Holder) -> Result<(), Refusal>
     match holder {
         Holder::Ticket(n) => put_number(text, b" TICKET ", n),
         Holder::Image(n) => put_number(text, b" IMAGE ", u64::from(n)),
+        Holder::Unforced(n) => put_number(text, b" UNFORCED ", n),
     }
 }
 

@@ -1,4 +1,4 @@
-use kinds::{Digest, ObjectSize, Path, Refusal};
+use kinds::{Digest, FilespaceName, NodeName, ObjectSize, Path, Refusal};
 
 /// A printed line of a command that isn't refused, its fields in the order in which they are printed.
 #[derive(Drop)]
@@ -114,5 +114,36 @@ pub enum Shown {
     /// The last line of a query.
     Rows {
         rows: u64,
+    },
+}
+
+/// A printed line that no line of the script causes, its fields in the order in which they are printed.
+#[derive(Drop)]
+pub enum Notice {
+    /// An object that a restored database no longer has, since no copy of it was left.
+    Lost {
+        node: NodeName,
+        filespace: FilespaceName,
+        path: Path,
+        object: u64,
+    },
+    /// The last line of `restoredb`: how many versions and archived objects the restored database has, how many copies of them, and how many were lost.
+    Restored {
+        versions: u64,
+        copies: u64,
+        lost: u64,
+    },
+    /// `format` or `restoredb` is refused.
+    Refused {
+        refusal: Refusal,
+    },
+    /// The file with this number is no database backup, or is none that the one behind it follows.
+    NotABackup {
+        file: u32,
+    },
+    /// What was kept twice differs: the first numbers that do, as they were kept and as they were found.
+    Differs {
+        kept: u64,
+        found: u64,
     },
 }

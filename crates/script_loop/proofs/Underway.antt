@@ -12,7 +12,7 @@ use Rattle.script_loop.specs.declared.ends.Halt.TheVariants.{Memory}
 use Rattle.script_loop.specs.declared.ends.End.{End}
 use Rattle.script_loop.specs.declared.ends.End.TheVariants.{Done, SourceFault, SinkFault, Halted, TooLong}
 use Rattle.script_loop.specs.Tally.{no_tally, added}
-use Rattle.script_loop.specs.Reply.{Answer, printed}
+use Rattle.script_loop.specs.Reply.{Answer}
 use Rattle.script_loop.specs.Ends.{last_line, PutsLast}
 use Rattle.script_loop.specs.Limit.{first_excess, excess_from}
 use Rattle.script_loop.specs.Reading.{TakesLine, IsTooLong}
@@ -94,18 +94,18 @@ take-nil count = let none : List ℕ = [] in take_all count none (omega arith)
 pub put_front : (text whole : List ℕ) (before after : Option (List ℕ)) → text ≡ whole → ((count : ℕ) × (count ≤ length text) × Appends before after (take count text)) → (front : List ℕ) × IsFront front whole × Appends before after front
 put_front text whole before after same (count, within, put) = (take count text, (drop count text, sym same ∙ sym (take-append-drop count text)), put)
 
-module _ {S : Type 0} (serves : S → List ℕ → Answer → S → Type 0) where
+module _ {S : Type 0} (serves : S → ℕ → List ℕ → Answer → S → Type 0) where
   -- a run goes on by one line
-  pub run_more : (n m : ℕ) (old mid new : S) (taken : List (List ℕ)) (line text : List ℕ) (tally : Tally) (reply : Answer) → m ≡ n + length taken → Runs serves n old taken text tally mid → serves mid line reply new
-      → Runs serves n old (taken ++ line ∷ []) (text ++ printed m reply.lines) (added tally reply.tally) new
+  pub run_more : (n m : ℕ) (old mid new : S) (taken : List (List ℕ)) (line text : List ℕ) (tally : Tally) (reply : Answer) → m ≡ n + length taken → Runs serves n old taken text tally mid → serves mid m line reply new
+      → Runs serves n old (taken ++ line ∷ []) (text ++ reply.text) (added tally reply.tally) new
   run_more n m old mid new [] line text tally reply place (none, zero_tally, same) served =
       let here : m ≡ n = omega arith in (
         reply,
         new,
         [],
         no_tally,
-        subst (λ s. serves s line reply new) same served,
-        ap (λ l. l ++ printed m reply.lines) none ∙ ap (λ k. printed k reply.lines) here ∙ sym (append-nil (printed n reply.lines)),
+        subst (λ k. serves old k line reply new) here (subst (λ s. serves s m line reply new) same served),
+        ap (λ l. l ++ reply.text) none ∙ sym (append-nil reply.text),
         ap (λ t. added t reply.tally) zero_tally ∙ added_comm no_tally reply.tally,
         (refl, refl, refl),
       )
@@ -113,10 +113,10 @@ module _ {S : Type 0} (serves : S → List ℕ → Answer → S → Type 0) wher
       let next : m ≡ n + 1 + length more = omega arith in (
         answer,
         state,
-        rest ++ printed m reply.lines,
+        rest ++ reply.text,
         added others reply.tally,
         answered,
-        ap (λ l. l ++ printed m reply.lines) text_is ∙ append_assoc (printed n answer.lines) rest (printed m reply.lines),
+        ap (λ l. l ++ reply.text) text_is ∙ append_assoc answer.text rest reply.text,
         ap (λ t. added t reply.tally) tally_is ∙ added_assoc answer.tally others reply.tally,
         run_more (n + 1) m state mid new more line rest others reply next run served,
       )
@@ -126,30 +126,29 @@ module _ {S : Type 0} (serves : S → List ℕ → Answer → S → Type 0) wher
   begins start script contents =
       record { taken = []; text = []; many = refl; ran = (refl, refl, refl); read = nothing_taken script; printed_so_far = Appends-nil contents }
 
-module _ {S : Type 0} (serves : S → List ℕ → Answer → S → Type 0) (halts : S → List ℕ → Halt → S → Type 0) where
+module _ {S : Type 0} (serves : S → ℕ → List ℕ → Answer → S → Type 0) (halts : S → ℕ → List ℕ → Halt → S → Type 0) where
   -- a line was taken and answered
   pub goes_on : (start old new : S) (script contents come left before after : Option (List ℕ)) (n : ℕ) (tally sum : Tally) → n ≤ 2 ^ 20 → Underway serves start script contents n tally old come before
       → TakesOne serves halts n tally old new come left (Ok sum) before after → Underway serves start script contents (n + 1) sum new left after
   goes_on start old new script contents come left before after n tally sum within so_far (line, takes, (reply, served, (sum_is, put))) =
       record {
         taken = so_far.taken ++ line ∷ [];
-        text = so_far.text ++ printed n reply.lines;
+        text = so_far.text ++ reply.text;
         many = ap (λ m. m + 1) (length_more so_far.taken line ∙ so_far.many);
-        ran = subst (λ t. Runs serves 1 start (so_far.taken ++ line ∷ []) (so_far.text ++ printed n reply.lines) t new) (sym sum_is) (run_more serves 1 n start old new so_far.taken line so_far.text tally reply (omega (arith, so_far.many)) so_far.ran served);
+        ran = subst (λ t. Runs serves 1 start (so_far.taken ++ line ∷ []) (so_far.text ++ reply.text) t new) (sym sum_is) (run_more serves 1 n start old new so_far.taken line so_far.text tally reply (omega (arith, so_far.many)) so_far.ran served);
         read = one_more script come left so_far.taken line n so_far.many within so_far.read takes;
-        printed_so_far = Appends-trans contents before after so_far.text (printed n reply.lines) so_far.printed_so_far put;
+        printed_so_far = Appends-trans contents before after so_far.text reply.text so_far.printed_so_far put;
       }
 
-  -- a line was taken and answered, and its reply couldn't be printed whole
+  -- a line was taken and answered: had the sink not failed, the source might have
   unprinted : (start old new : S) (script contents come left before : Option (List ℕ)) (n : ℕ) (tally : Tally) (line : List ℕ) (reply : Answer) → n ≤ 2 ^ 20 → (so_far : Underway serves start script contents n tally old come before)
-      → TakesLine come left line → serves old line reply new → Answers serves halts start script (Halted Memory) (so_far.text ++ printed n reply.lines) new
+      → TakesLine come left line → serves old n line reply new → Answers serves halts start script SourceFault (so_far.text ++ reply.text) new
   unprinted start old new script contents come left before n tally line reply within so_far takes served =
       let read = one_more script come left so_far.taken line n so_far.many within so_far.read takes in (
         so_far.taken ++ line ∷ [],
         added tally reply.tally,
-        new,
         run_more serves 1 n start old new so_far.taken line so_far.text tally reply (omega (arith, so_far.many)) so_far.ran served,
-        inr (inl (refl, are_first script left (so_far.taken ++ line ∷ []) read, refl)),
+        are_first script left (so_far.taken ++ line ∷ []) read,
       )
 
   -- where the run ended at line n
@@ -170,38 +169,31 @@ module _ {S : Type 0} (serves : S → List ℕ → Answer → S → Type 0) (hal
     Appends-kept contents before after so_far.text so_far.printed_so_far quiet,
     (so_far.taken, tally, subst (Runs serves 1 start so_far.taken so_far.text tally) (sym kept) so_far.ran, subst (Exceeds script so_far.taken) (sym same) (line_exceeds script come so_far.taken n so_far.many within so_far.read long)),
   )
-  stops start old new script contents come left before after n tally (Halted halt) within so_far (line, takes, inl (halted, quiet)) =
+  stops start old new script contents come left before after n tally (Halted halt) within so_far (line, takes, (halted, quiet)) =
       let read = one_more script come left so_far.taken line n so_far.many within so_far.read takes in (
         so_far.text,
         Appends-kept contents before after so_far.text so_far.printed_so_far quiet,
-        (so_far.taken, tally, old, so_far.ran, inl (line, are_first script left (so_far.taken ++ line ∷ []) read, halted)),
-      )
-  stops start old new script contents come left before after n tally (Halted halt) within so_far (line, takes, inr (reply, served, (memory, quiet))) =
-      let read = one_more script come left so_far.taken line n so_far.many within so_far.read takes in (
-        so_far.text,
-        Appends-kept contents before after so_far.text so_far.printed_so_far quiet,
-        (so_far.taken, tally, old, so_far.ran, inr (inr (memory, line, reply, are_first script left (so_far.taken ++ line ∷ []) read, served))),
+        (so_far.taken, tally, old, so_far.ran, inl (line, are_first script left (so_far.taken ++ line ∷ []) read, subst (λ k. halts old k line halt new) (sym so_far.many) halted)),
       )
   stops start old new script contents come left before after n tally SinkFault within so_far (line, takes, (reply, served, (front, (rest, whole), put))) =
       let answers = unprinted start old new script contents come left before n tally line reply within so_far takes served in
-      let all = so_far.text ++ printed n reply.lines in (
+      let all = so_far.text ++ reply.text in (
         so_far.text ++ front,
         Appends-trans contents before after so_far.text front so_far.printed_so_far put,
         (
-          Halted Memory,
-          all ++ last_line (Halted Memory),
+          SourceFault,
+          all ++ last_line SourceFault,
           (all, refl, answers),
           (
-            rest ++ last_line (Halted Memory),
-            ap (λ l. (so_far.text ++ l) ++ last_line (Halted Memory)) whole ∙ ap (λ l. l ++ last_line (Halted Memory)) (sym (append_assoc so_far.text front rest)) ∙ append_assoc (so_far.text ++ front) rest (last_line (Halted Memory)),
+            rest ++ last_line SourceFault,
+            ap (λ l. (so_far.text ++ l) ++ last_line SourceFault) whole ∙ ap (λ l. l ++ last_line SourceFault) (sym (append_assoc so_far.text front rest)) ∙ append_assoc (so_far.text ++ front) rest (last_line SourceFault),
           ),
         ),
       )
 
   -- where memory was wanted before the first line
   pub no_reader : (start : S) (script contents : Option (List ℕ)) → Stops serves halts start start script contents contents (Halted Memory)
-  no_reader start script contents =
-      ([], Appends-nil contents, ([], no_tally, start, (refl, refl, refl), inr (inl (refl, are_first script script [] (nothing_taken script), refl))))
+  no_reader start script contents = ([], Appends-nil contents, ([], no_tally, start, (refl, refl, refl), inr (refl, refl, refl)))
 
   -- where line 2^20 was answered
   pub full : (start state : S) (script contents come put : Option (List ℕ)) (n : ℕ) (tally : Tally) → n ≡ 2 ^ 20 + 1 → Underway serves start script contents n tally state come put → Stops serves halts start state script contents put (TooLong (2 ^ 20))

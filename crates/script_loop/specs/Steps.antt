@@ -1,42 +1,39 @@
 -- What one line does in a run, and how far a run has come.
-use Rattle.std.specs.Prelude.{◌≡◌, ◌⊎◌, ℕ, ◌+◌, ◌^◌, ◌≤◌, ◌==◌, if◌then◌else◌, List, ◌++◌, length, Option, None, Some, Result, Ok, Err}
+use Rattle.std.specs.Prelude.{◌≡◌, ℕ, ◌+◌, ◌^◌, ◌≤◌, ◌==◌, if◌then◌else◌, List, ◌++◌, length, Option, None, Some, Result, Ok, Err}
 use Rattle.std.specs.Str.Lines.{lines}
 use Rattle.std.specs.Io.KnownBytes.{Appends, Keeps, IsAtEnd}
 use Rattle.script_loop.specs.declared.tally.Tally.{Tally}
 use Rattle.script_loop.specs.declared.ends.Halt.{Halt}
-use Rattle.script_loop.specs.declared.ends.Halt.TheVariants.{Memory}
 use Rattle.script_loop.specs.declared.ends.End.{End}
 use Rattle.script_loop.specs.declared.ends.End.TheVariants.{Done, SourceFault, SinkFault, Halted, TooLong}
 use Rattle.script_loop.specs.Tally.{added}
-use Rattle.script_loop.specs.Reply.{Answer, printed}
+use Rattle.script_loop.specs.Reply.{Answer}
 use Rattle.script_loop.specs.Ends.{DoneAtEnd, SourceCause, SinkCause}
 use Rattle.script_loop.specs.Limit.{first_excess, excess_from}
 use Rattle.script_loop.specs.Reading.{TakesLine, IsTooLong}
 use Rattle.script_loop.specs.Runs.{Runs, IsFront, Answers, Prints}
 
--- The reply to line n was put into the sink and counted; or there was no memory for its text, and nothing was put; or the
--- sink failed, and a front of it was put.
-abbrev pub PutsReply : ℕ → Tally → Answer → Result Tally End → Option (List ℕ) → Option (List ℕ) → Type 0
-PutsReply n tally reply (Ok sum) before after = (sum ≡ added tally reply.tally) × Appends before after (printed n reply.lines)
-PutsReply n tally reply (Err (Halted halt)) before after = (halt ≡ Memory) × Keeps before after
-PutsReply n tally reply (Err SinkFault) before after = (front : List ℕ) × IsFront front (printed n reply.lines) × Appends before after front
-PutsReply n tally reply (Err (Done other)) before after = ⊥
-PutsReply n tally reply (Err SourceFault) before after = ⊥
-PutsReply n tally reply (Err (TooLong m)) before after = ⊥
+-- The reply to a line was put into the sink and counted; or the sink failed, and a front of it was put.
+abbrev pub PutsReply : Tally → Answer → Result Tally End → Option (List ℕ) → Option (List ℕ) → Type 0
+PutsReply tally reply (Ok sum) before after = (sum ≡ added tally reply.tally) × Appends before after reply.text
+PutsReply tally reply (Err SinkFault) before after = (front : List ℕ) × IsFront front reply.text × Appends before after front
+PutsReply tally reply (Err (Done other)) before after = ⊥
+PutsReply tally reply (Err SourceFault) before after = ⊥
+PutsReply tally reply (Err (Halted halt)) before after = ⊥
+PutsReply tally reply (Err (TooLong m)) before after = ⊥
 
--- Line n was answered from the state `old`, and its reply put; or it ended the run, and nothing was put; or its reply couldn't be put.
-abbrev pub AnswersLine : {S : Type 0} → (S → List ℕ → Answer → S → Type 0) → (S → List ℕ → Halt → S → Type 0) → ℕ → List ℕ → Tally → S → S → Result Tally End → Option (List ℕ) → Option (List ℕ) → Type 0
-AnswersLine serves halts n line tally old new (Ok sum) before after = (reply : Answer) × serves old line reply new × PutsReply n tally reply (Ok sum) before after
-AnswersLine serves halts n line tally old new (Err (Halted halt)) before after =
-    (halts old line halt new × Keeps before after) ⊎ ((reply : Answer) × serves old line reply new × PutsReply n tally reply (Err (Halted halt)) before after)
-AnswersLine serves halts n line tally old new (Err SinkFault) before after = (reply : Answer) × serves old line reply new × PutsReply n tally reply (Err SinkFault) before after
+-- Line n was answered from the state `old`, and its reply put; or it ended the run, and nothing was put; or the sink failed at its reply.
+abbrev pub AnswersLine : {S : Type 0} → (S → ℕ → List ℕ → Answer → S → Type 0) → (S → ℕ → List ℕ → Halt → S → Type 0) → ℕ → List ℕ → Tally → S → S → Result Tally End → Option (List ℕ) → Option (List ℕ) → Type 0
+AnswersLine serves halts n line tally old new (Ok sum) before after = (reply : Answer) × serves old n line reply new × PutsReply tally reply (Ok sum) before after
+AnswersLine serves halts n line tally old new (Err (Halted halt)) before after = halts old n line halt new × Keeps before after
+AnswersLine serves halts n line tally old new (Err SinkFault) before after = (reply : Answer) × serves old n line reply new × PutsReply tally reply (Err SinkFault) before after
 AnswersLine serves halts n line tally old new (Err (Done other)) before after = ⊥
 AnswersLine serves halts n line tally old new (Err SourceFault) before after = ⊥
 AnswersLine serves halts n line tally old new (Err (TooLong m)) before after = ⊥
 
 -- Line n was read and answered; or there is none, and the run is done; or it couldn't be read. `come` and `left` are what
 -- was to come of the script before and what is to come after.
-abbrev pub TakesOne : {S : Type 0} → (S → List ℕ → Answer → S → Type 0) → (S → List ℕ → Halt → S → Type 0) → ℕ → Tally → S → S → Option (List ℕ) → Option (List ℕ) → Result Tally End → Option (List ℕ) → Option (List ℕ) → Type 0
+abbrev pub TakesOne : {S : Type 0} → (S → ℕ → List ℕ → Answer → S → Type 0) → (S → ℕ → List ℕ → Halt → S → Type 0) → ℕ → Tally → S → S → Option (List ℕ) → Option (List ℕ) → Result Tally End → Option (List ℕ) → Option (List ℕ) → Type 0
 TakesOne serves halts n tally old new come left (Ok sum) before after = (line : List ℕ) × TakesLine come left line × AnswersLine serves halts n line tally old new (Ok sum) before after
 TakesOne serves halts n tally old new come left (Err (Halted halt)) before after = (line : List ℕ) × TakesLine come left line × AnswersLine serves halts n line tally old new (Err (Halted halt)) before after
 TakesOne serves halts n tally old new come left (Err SinkFault) before after = (line : List ℕ) × TakesLine come left line × AnswersLine serves halts n line tally old new (Err SinkFault) before after
@@ -56,7 +53,7 @@ Progress (Some all) taken None = ⊥
 Progress (Some all) taken (Some rest) = HasTaken all taken rest
 
 -- How far a run has come before line n: some lines were taken and answered from its first state, and what was printed so far is their text.
-pub record Underway {S : Type 0} (serves : S → List ℕ → Answer → S → Type 0) (start : S) (script contents : Option (List ℕ)) (n : ℕ) (tally : Tally) (state : S) (come put : Option (List ℕ)) : Type 0 where
+pub record Underway {S : Type 0} (serves : S → ℕ → List ℕ → Answer → S → Type 0) (start : S) (script contents : Option (List ℕ)) (n : ℕ) (tally : Tally) (state : S) (come put : Option (List ℕ)) : Type 0 where
   pub taken : List (List ℕ)
   pub text : List ℕ
   pub many : length taken + 1 ≡ n
@@ -65,7 +62,7 @@ pub record Underway {S : Type 0} (serves : S → List ℕ → Answer → S → T
   pub printed_so_far : Appends contents put text
 
 -- What a run that ended so has put before its last line, and the state that it leaves.
-abbrev pub HasPut : {S : Type 0} → (S → List ℕ → Answer → S → Type 0) → (S → List ℕ → Halt → S → Type 0) → S → Option (List ℕ) → End → List ℕ → S → Type 0
+abbrev pub HasPut : {S : Type 0} → (S → ℕ → List ℕ → Answer → S → Type 0) → (S → ℕ → List ℕ → Halt → S → Type 0) → S → Option (List ℕ) → End → List ℕ → S → Type 0
 HasPut serves halts old script (Done tally) put new = Answers serves halts old script (Done tally) put new
 HasPut serves halts old script SourceFault put new = Answers serves halts old script SourceFault put new
 HasPut serves halts old script SinkFault put new = Prints serves halts old script SinkFault put new
@@ -73,7 +70,7 @@ HasPut serves halts old script (Halted halt) put new = Answers serves halts old 
 HasPut serves halts old script (TooLong n) put new = Answers serves halts old script (TooLong n) put new
 
 -- the same, by what the sink contained before and contains now
-abbrev pub Stops : {S : Type 0} → (S → List ℕ → Answer → S → Type 0) → (S → List ℕ → Halt → S → Type 0) → S → S → Option (List ℕ) → Option (List ℕ) → Option (List ℕ) → End → Type 0
+abbrev pub Stops : {S : Type 0} → (S → ℕ → List ℕ → Answer → S → Type 0) → (S → ℕ → List ℕ → Halt → S → Type 0) → S → S → Option (List ℕ) → Option (List ℕ) → Option (List ℕ) → End → Type 0
 Stops serves halts old new script before after end = (put : List ℕ) × Appends before after put × HasPut serves halts old script end put new
 
 -- where a line ended the run as done, nothing is left of the script

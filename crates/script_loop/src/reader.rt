@@ -1,5 +1,5 @@
 // A reader of lines over a source.
-ghost use Rattle.std.specs.Prelude.{◌≡◌, ◌≢◌, ◌<◌, ◌≤◌, ◌+◌, ℕ, [], length, take, slice_index, IfOk};
+ghost use Rattle.std.specs.Prelude.{◌≡◌, ◌≢◌, ◌<◌, ◌≤◌, ◌+◌, ◌-◌, ◌^◌, ℕ, [], length, take, slice_index, IfOk};
 ghost use Rattle.std.specs.Io.KnownBytes.{prepend_known};
 ghost use Rattle.std.specs.Str.Lines.{strip_carriage_return};
 ghost use Rattle.tree_api.specs.Cause.{HasCause};
@@ -120,7 +120,8 @@ impl LineReader {
 
     /// The line that was given last, without LF and the CR before it.
     pub fn line(&self) -> &[u8]
-        ensures { result.now ≡ self.now.line }
+        ensures line { result.now ≡ self.now.line }
+        ensures short { length result.now < 2 ^ 32 - 1 }
     {
         &self.buffer[self.line_from..self.line_to]
     }

@@ -1,58 +1,24 @@
 // The run over a script.
-ghost use Rattle.std.specs.Prelude.{◌≡◌, ℕ, ◌+◌, ◌-◌, ◌^◌, ◌≤◌, ◌++◌, [], map, IfOk, OnOk};
+ghost use Rattle.std.specs.Prelude.{◌≡◌, ℕ, ◌+◌, ◌-◌, ◌^◌, ◌<◌, ◌≤◌, [], length, OnOk};
 ghost use Rattle.std.specs.Io.KnownBytes.{prepend_known};
-ghost use Rattle.script_loop.specs.Reply.{numbered, printed};
 ghost use Rattle.script_loop.specs.Ends.{SourceCause, SinkCause, DoneAtEnd};
 ghost use Rattle.script_loop.specs.Runs.{Says};
 ghost use Rattle.script_loop.specs.Steps.{PutsReply, AnswersLine, TakesOne, Stops, StepAtEnd, StepSource, StepSink};
 
 use crate::{Answerer, End, Halt, LineReader, Next, Reply, Tally, put_last};
-use itoa::Buffer;
-use std::alloc::{AllocError, Global};
+use std::alloc::Global;
 use tree_api::{Sink, Source, put_all};
 
 // The number of the last line that is taken.
 const LAST_LINE: u32 = 1048576;
 
-// Adds a printed line to a text.
-fn add_line(text: &mut Vec<u8>, number: u32, words: &[u8]) -> Result<(), AllocError>
-    ensures { OnOk result (text.new.items ≡ text.old.items ++ numbered number words.now) }
-{
-    let mut digits = Buffer::new();
-    text.extend_from_slice(digits.format(number).as_bytes())?;
-    text.push(b' ')?;
-    text.extend_from_slice(words)?;
-    text.push(b'\n')?;
-    Ok(())
-}
-
-// The printed lines that a line of the script causes.
-fn printed_text(alloc: Global, number: u32, lines: &[Vec<u8>]) -> Result<Vec<u8>, AllocError>
-    ensures { IfOk result (λ text. text.items ≡ printed number (map (λ words. words.items) lines.now)) }
-{
-    let mut text = Vec::new(alloc);
-    'lines: for words in lines {
-        add_line(&mut text, number, words)?;
-    }
-    Ok(text)
-}
-
 // Prints the reply to a line, and adds what it counts.
-fn put_reply<O: Sink>(
-    alloc: Global,
-    out: &mut O,
-    number: u32,
-    reply: &Reply,
-    tally: Tally,
-) -> Result<Tally, End>
-    ensures put { PutsReply number tally reply.now result (O.contents out.old) (O.contents out.new) }
+fn put_reply<O: Sink>(out: &mut O, reply: &Reply, tally: Tally) -> Result<Tally, End>
+    ensures put { PutsReply tally reply.now result (O.contents out.old) (O.contents out.new) }
     ensures cause { StepSink result (O.fault_count out.old) (O.fault_count out.new) }
 {
-    let Ok(text) = printed_text(alloc, number, reply.lines()) else {
-        return Err(End::Halted(Halt::Memory));
-    };
-    match put_all(out, &text) {
-        Ok(()) => Ok(tally.and(reply.tally())),
+    match put_all(out, &reply.text) {
+        Ok(()) => Ok(tally.and(reply.tally)),
         Err(_) => Err(End::SinkFault),
     }
 }
@@ -66,14 +32,15 @@ fn answer_line<A: Answerer, O: Sink>(
     number: u32,
     tally: Tally,
 ) -> Result<Tally, End>
+    requires short { length line.now < 2 ^ 32 - 1 }
     requires within { number ≤ 2 ^ 20 }
     requires room { (m : ℕ) → m + number ≡ 2 ^ 20 + 1 → A.can_take server.old m }
     ensures answers { AnswersLine A.serves A.halts number line.now tally server.old server.new result (O.contents out.old) (O.contents out.new) }
     ensures room { OnOk result ((m : ℕ) → m + number ≡ 2 ^ 20 → A.can_take server.new m) }
     ensures cause { StepSink result (O.fault_count out.old) (O.fault_count out.new) }
 {
-    match server.answer(alloc, line, LAST_LINE - number) {
-        Ok(reply) => put_reply(alloc, out, number, &reply, tally),
+    match server.answer(alloc, number, line, LAST_LINE - number) {
+        Ok(reply) => put_reply(out, &reply, tally),
         Err(halt) => Err(End::Halted(halt)),
     }
 }

@@ -42,6 +42,7 @@ fn parts<S: Store + Drop>(alloc: Global, ended: Ended<S>, unread: usize) -> (S, 
         store,
         journal,
         stamps,
+        notes,
         base,
         generation,
         opened: _,
@@ -56,6 +57,7 @@ fn parts<S: Store + Drop>(alloc: Global, ended: Ended<S>, unread: usize) -> (S, 
         unread,
     };
     drop(journal);
+    drop(notes);
     drop(base);
     (store, said)
 }

@@ -10,37 +10,51 @@ use tree_api::{MemSink, MemSource, Sink};
 struct Echo;
 
 impl Answerer for Echo {
-    ghost serves = { λ _ _ _ _. Unit {0} };
+    ghost serves = { λ _ _ _ _ _. Unit {0} };
 
-    ghost halts = { λ _ _ _ _. Unit {0} };
+    ghost halts = { λ _ _ _ _ _. Unit {0} };
 
     ghost can_take = { λ _ _. Unit {0} };
 
-    fn answer(&mut self, alloc: Global, line: &[u8], _left: u32) -> Result<Reply, Halt> {
+    fn answer(
+        &mut self,
+        alloc: Global,
+        number: u32,
+        line: &[u8],
+        _left: u32,
+    ) -> Result<Reply, Halt> {
         if line == b"full".as_slice() {
             return Err(Halt::RunFull);
         }
-        match echoed(alloc, line) {
+        match echoed(alloc, number, line) {
             Ok(reply) => Ok(reply),
             Err(_) => Err(Halt::Memory),
         }
     }
 }
 
-fn echoed(alloc: Global, line: &[u8]) -> Result<Reply, AllocError> {
+/// A printed line that the script's line with this number causes.
+fn numbered(alloc: Global, number: u32, words: &[u8]) -> Result<Vec<u8>, AllocError> {
+    let mut text = format!(in alloc; "{number} ")?.into_bytes();
+    text.extend_from_slice(words)?;
+    text.push(b'\n')?;
+    Ok(text)
+}
+
+fn echoed(alloc: Global, number: u32, line: &[u8]) -> Result<Reply, AllocError> {
     if line.is_empty() {
         return Ok(Reply::nothing(alloc));
     }
+    let mut text = numbered(alloc, number, line)?;
     if line == b"no".as_slice() {
-        return Reply::refused(alloc, line.to_vec(alloc)?);
+        return Ok(Reply::refused(text));
     }
-    let mut reply = Reply::command(alloc);
-    reply.say(line.to_vec(alloc)?)?;
     if line == b"two".as_slice() {
-        reply.say(b"more".to_vec(alloc)?)?;
+        text.extend_from_slice(&numbered(alloc, number, b"more")?)?;
     }
+    let mut reply = Reply::command(text);
     if line == b"bad".as_slice() {
-        reply.count_failed(1);
+        reply.tally.failed = 1;
     }
     Ok(reply)
 }

@@ -1,8 +1,9 @@
 -- A run that a fault of an image or a log halted: the count of that file's faults rose.
-use Rattle.std.proofs.Common.{◌≡◌, ⊎_elim, inl, inr, ℕ, ◌+◌, ◌<◌, ◌≤◌, Bool, true, false, if◌then◌else◌, Option, None, Some, List, [], ◌∷◌, length, Result, Ok, Err, sym, ◌∙◌, subst, arith}
+use Rattle.std.proofs.Common.{◌≡◌, ⊎_elim, inl, inr, ℕ, ◌+◌, ◌<◌, Bool, true, false, if◌then◌else◌, Option, None, Some, List, [], ◌∷◌, length, slice_get, Result, Ok, Err, sym, ◌∙◌, subst, arith}
 use Rattle.store_api.specs.Cause.{Rose, NoneFell}
 use Rattle.store_api.specs.Disk.{History}
-use Rattle.kinds.specs.declared.refusal.OpenRefused.TheVariants as refused
+use Rattle.kinds.specs.declared.refusal.OpenRefused.TheVariants as opening
+use Rattle.kinds.specs.declared.refusal.Refusal.{Refusal}
 use Rattle.kinds.specs.declared.rule.BackupRule.{BackupRule}
 use Rattle.kinds.specs.declared.segment.Segment.{Segment}
 use Rattle.kinds.specs.Sizes.{is_size}
@@ -13,7 +14,12 @@ use Rattle.inventory_rows.specs.State.{Inv}
 use Rattle.inventory_rules.specs.Transactions.{effect}
 use Rattle.entries.specs.declared.entry.Entry.{Entry}
 use Rattle.placing.specs.Placing.{segments_for, default_rule, active_version}
-use Rattle.line_forms.specs.Line.{Request, day, put, get, register, define_volume, checkpoint, asked}
+use Rattle.inventory_rows.specs.pool_tables.Rows.{row_at}
+use Rattle.inventory_rows.specs.volume_rows.declared.volume.Volume.{Volume}
+use Rattle.inventory_answers.specs.Answered.{answered}
+use Rattle.admin_words.specs.declared.command.Command.{Command as Ordered}
+use Rattle.admin_commands.specs.declared.work.Work.{Work}
+use Rattle.admin_commands.specs.declared.work.Work.TheVariants.{Commit, Show, Run}
 use Rattle.script_loop.specs.Ends.{status_of}
 use Rattle.script_loop.specs.Runs.{Runs, Prints, Halts}
 use Rattle.script_loop.specs.declared.tally.Tally.{Tally}
@@ -23,10 +29,12 @@ use Rattle.script_loop.specs.declared.ends.End.TheVariants.{Done, SourceFault, S
 use Rattle.server.specs.declared.get.Shown.{Shown}
 use Rattle.server.specs.declared.stop.Stop.{Stop}
 use Rattle.server.specs.declared.stop.Stop.TheVariants.{Refused, LogFault, RunFull, Memory}
-use Rattle.server.specs.Requests.{File, RoseOfVault, Commits, BeginsNot, volume_defined, DefinesVolumeIn, filespace_defined, StoresIn, DefinesAndStores, PutsUnder, PutsBy, PutsOf, PutsSized, ShowsFound, GetsUnder, GetsOf, backed_up, item_of}
+use Rattle.server.specs.Requests.{File, RoseOfVault, Commits, BeginsNot, filespace_defined, StoresIn, DefinesAndStores, PutsUnder, PutsBy, PutsOf, PutsSized, ShowsFound, GetsUnder, GetsOf, backed_up, item_of}
 use Rattle.server.specs.World.{Kept, database_after, contents_after}
-use Rattle.tsm_top.specs.Answers.{lines_of, Halted as HaltedSo}
-use Rattle.tsm_top.specs.Asking.{Asks, EndsAt, file_put}
+use Rattle.tsm_top.specs.declared.note.Note.{Note}
+use Rattle.tsm_top.specs.Answers.{lines_of, refused_or, Halted as HaltedSo}
+use Rattle.tsm_top.specs.Asking.{work_over, validated, drawn, Own, validate, delete_volume, put, get, checkpoint, none_yet, own_of, file_put, volume_deleted, DeletesRow, DeletesAt, DoesOwn, AsksBy, EndsAt}
+use Rattle.tsm_top.specs.Lines.{Line, comment, refused, asks, line_of}
 use Rattle.tsm_top.specs.Machine.{Site, RoseFrom, IsLate, StoodAt, RepliesAt, StopsAt}
 use Rattle.tsm_top.specs.Serve.{Command, Closing, no_command, formatted, exists, refused_opening, closing_status, Shuts, RanScript}
 
@@ -34,12 +42,17 @@ use Rattle.tsm_top.specs.Serve.{Command, Closing, no_command, formatted, exists,
 abbrev pub Some_rose : (rose : ℕ → Type 0) → Type 0
 Some_rose rose = (file : ℕ) × RoseOfVault rose file
 
-lines_fault : {T : Type 0} (lines : T → List (List ℕ)) (made : Result T Stop) (said : Result (List (List ℕ)) Stop) (file : ℕ) → said ≡ Err (LogFault file) → said ≡ lines_of lines made → made ≡ Err (LogFault file)
+lines_fault : {T : Type 0} (lines : T → List ℕ) (made : Result T Stop) (said : Result (List ℕ) Stop) (file : ℕ) → said ≡ Err (LogFault file) → said ≡ lines_of lines made → made ≡ Err (LogFault file)
 lines_fault lines (Ok done) said file is by = absurd cc
 lines_fault lines (Err why) said file is by = cc
 
-said_fault : (said : Result (List (List ℕ)) Stop) (file : ℕ) → HaltedSo said (halt.LogFault file) → said ≡ Err (LogFault file)
-said_fault (Ok texts) file is = absurd cc
+-- a refusal is no fault
+refused_no_fault : {T : Type 0} (lines : T → List ℕ) (made : Result T Refusal) (said : Result (List ℕ) Stop) (file : ℕ) → said ≡ Err (LogFault file) → said ≡ lines_of lines (refused_or made) → ⊥
+refused_no_fault lines (Ok done) said file is by = absurd cc
+refused_no_fault lines (Err why) said file is by = absurd cc
+
+said_fault : (said : Result (List ℕ) Stop) (file : ℕ) → HaltedSo said (halt.LogFault file) → said ≡ Err (LogFault file)
+said_fault (Ok text) file is = absurd cc
 said_fault (Err (Refused why)) file is = absurd cc
 said_fault (Err (LogFault other)) file is = cc
 said_fault (Err RunFull) file is = absurd cc
@@ -48,10 +61,6 @@ said_fault (Err Memory) file is = absurd cc
 module _ (rose : ℕ → Type 0) (full sure : Type 0) (file : ℕ) where
   commits_rose : {T : Type 0} (c : Change) (text : List ℕ) (v : Inv) (made : Result T Stop) (added : List Kept) → made ≡ Err (LogFault file) → Commits rose full c text v made added → RoseOfVault rose file
   commits_rose c text v made added is commits = (rw is at commits).0
-
-  volume_rose : {T : Type 0} (pool : Option ℕ) (name : List ℕ) (mebibytes : ℕ) (v : Inv) (made : Result T Stop) (added : List Kept) → made ≡ Err (LogFault file) → DefinesVolumeIn rose full pool name mebibytes v made added → RoseOfVault rose file
-  volume_rose None name mebibytes v made added is defines = absurd (cc (is, defines.0))
-  volume_rose (Some pool) name mebibytes v made added is defines = commits_rose (volume_defined name pool mebibytes v) [] v made added is defines
 
   stores_rose : (segments : Option (List Segment)) (f : File) (filespace : ℕ) (class : List ℕ) (pool : ℕ) (v : Inv) (made : Result ℕ Stop) (added : List Kept) → made ≡ Err (LogFault file) → StoresIn rose full segments f filespace class pool v made added → RoseOfVault rose file
   stores_rose None f filespace class pool v made added is stores = absurd (cc (is, stores.0))
@@ -97,47 +106,60 @@ module _ (rose : ℕ → Type 0) (full sure : Type 0) (file : ℕ) where
     gets_rose None filespace path made is gets = absurd (cc (is, gets))
     gets_rose (Some node) filespace path made is gets = shows_rose (filespace_named node filespace v.clients.filespaces) path made is gets
 
-    asks_rose : (generation : ℕ) (request : Request) (said : Result (List (List ℕ)) Stop) (added : List Kept) (next : ℕ) → said ≡ Err (LogFault file) → Asks rose full sure contents stands v generation request said added next → RoseOfVault rose file
-    asks_rose generation (day number) said added next is (made, commits, lines, same) = commits_rose _ [] v made added (lines_fault _ made said file is lines) commits
-    asks_rose generation (put node filespace path mtime text) said added next is (made, puts, lines, same) =
+    row_rose : (n number : ℕ) (row : Option Volume) (said : Result (List ℕ) Stop) (added : List Kept) → said ≡ Err (LogFault file) → DeletesRow rose full n v number row said added → RoseOfVault rose file
+    row_rose n number None said added is deletes = absurd (cc (is, deletes.0))
+    row_rose n number (Some volume) said added is (made, commits, lines) = commits_rose (volume_deleted number volume) [] v made added (lines_fault _ made said file is lines) commits
+
+    deletes_rose : (n : ℕ) (number : Option ℕ) (said : Result (List ℕ) Stop) (added : List Kept) → said ≡ Err (LogFault file) → DeletesAt rose full n v number said added → RoseOfVault rose file
+    deletes_rose n None said added is deletes = absurd (cc (is, deletes.0))
+    deletes_rose n (Some number) said added is deletes = row_rose n number (row_at number v.stores.volumes) said added is deletes
+
+    own_rose : (n generation : ℕ) (own : Own) (numbers : List ℕ) (said : Result (List ℕ) Stop) (added : List Kept) (next : ℕ) → said ≡ Err (LogFault file) → DoesOwn rose full sure contents stands n v generation own numbers said added next → RoseOfVault rose file
+    own_rose n generation (validate set) numbers said added next is does = absurd (refused_no_fault _ (validated set v) said file is does.0)
+    own_rose n generation delete_volume numbers said added next is does = deletes_rose n (slice_get numbers 0) said added is does.0
+    own_rose n generation (put wanted) numbers said added next is (made, puts, lines, same) =
         let fault = lines_fault _ made said file is lines in
-        ⊎_elim (λ none. absurd (not_begun made added fault none)) (λ done. sized_rose (is_size (length text)) (file_put node filespace path mtime text) v made added fault done) puts
-    asks_rose generation (get node filespace path) said added next is (made, gets, lines, none, same) =
+        ⊎_elim (λ none. absurd (not_begun made added fault none)) (λ done. sized_rose (is_size (length wanted.text)) (file_put wanted) v made added fault done) puts
+    own_rose n generation (get wanted) numbers said added next is (made, gets, lines, none, same) =
         let fault = lines_fault _ made said file is lines in
-        ⊎_elim (λ run_full. absurd (cc (fault, run_full.0))) (λ done. gets_rose (node_named node v.clients.nodes) filespace path made fault done) gets
-    asks_rose generation (register node) said added next is (made, commits, lines, same) = commits_rose _ [] v made added (lines_fault _ made said file is lines) commits
-    asks_rose generation (define_volume name mebibytes) said added next is (made, defines, lines, same) =
-        let fault = lines_fault _ made said file is lines in
-        ⊎_elim (λ none. absurd (not_begun made added fault none)) (λ done. volume_rose _ name mebibytes v made added fault done) defines
-    asks_rose generation checkpoint said added next is (made, checkpoints, lines, none) =
+        ⊎_elim (λ run_full. absurd (cc (fault, run_full.0))) (λ done. gets_rose (node_named wanted.node v.clients.nodes) wanted.filespace wanted.path made fault done) gets
+    own_rose n generation checkpoint numbers said added next is (made, checkpoints, lines, none) =
         let fault = lines_fault _ made said file is lines in
         (rw fault at checkpoints).0
+    own_rose n generation none_yet numbers said added next is does = absurd (cc (is, does.0))
 
-    ends_rose : (late : Type 0) (generation : ℕ) (request : Option Request) (added : List Kept) (next : ℕ) → EndsAt rose late full sure contents stands v generation request (halt.LogFault file) added next → Some_rose rose
-    ends_rose late generation None added next (inl memory, none, same) = absurd (cc (memory))
-    ends_rose late generation None added next (inr (other, is, there), none, same) = (other, there)
-    ends_rose late generation (Some request) added next (inl ends) = absurd (cc (ends.0))
-    ends_rose late generation (Some request) added next (inr (said, asks, full_said, inl halted)) = (file, asks_rose generation request said added next (said_fault said file halted) asks)
-    ends_rose late generation (Some request) added next (inr (said, asks, full_said, inr (answer, answered, (other, is, there)))) = (other, there)
+    asks_rose : (n generation : ℕ) (c : Ordered) (work : Result Work Refusal) (said : Result (List ℕ) Stop) (added : List Kept) (next : ℕ) → said ≡ Err (LogFault file) → AsksBy rose full sure contents stands n v generation c work said added next → RoseOfVault rose file
+    asks_rose n generation c work said added next is (inl (none, same)) = absurd (not_begun said added is none)
+    asks_rose n generation c (Err why) said added next is (inr does) = absurd (cc (is, does.0))
+    asks_rose n generation c (Ok (Commit what)) said added next is (inr (made, commits, lines, same)) = commits_rose (drawn what v) [] v made added (lines_fault _ made said file is lines) commits
+    asks_rose n generation c (Ok (Show query)) said added next is (inr does) = absurd (refused_no_fault _ (answered query v) said file is does.0)
+    asks_rose n generation c (Ok (Run numbers)) said added next is (inr does) = own_rose n generation (own_of c) numbers said added next is does
+
+    ends_rose : (late : Type 0) (n generation : ℕ) (line : Line) (added : List Kept) (next : ℕ) → EndsAt rose late full sure contents stands n v generation line (halt.LogFault file) added next → Some_rose rose
+    ends_rose late n generation comment added next (inl memory, none, same) = absurd (cc (memory))
+    ends_rose late n generation comment added next (inr (other, is, there), none, same) = (other, there)
+    ends_rose late n generation (refused given) added next (inl memory, none, same) = absurd (cc (memory))
+    ends_rose late n generation (refused given) added next (inr (other, is, there), none, same) = (other, there)
+    ends_rose late n generation (asks command) added next (said, is, full_said, inl halted) = (file, asks_rose n generation command (work_over command v) said added next (said_fault said file halted) is)
+    ends_rose late n generation (asks command) added next (said, is, full_said, inr (answer, answered, (other, by, there))) = (other, there)
 
 module _ (sure : Type 0) (told : Option History) (base : Inv) (first : ℕ → List ℕ) where
   -- counts don't fall in a line, nor over lines
   runs_counts : (lines : List (List ℕ)) (n : ℕ) (old new : Site) (text : List ℕ) (tally : Tally) → Runs (RepliesAt sure told base first) n old lines text tally new → NoneFell old.faults new.faults
   runs_counts [] n old new text tally run = subst (λ (s : Site). NoneFell old.faults s.faults) (sym run.2) (λ file. omega arith)
   runs_counts (line ∷ more) n old new text tally (answer, mid, rest, others, is, text_is, tally_is, run) =
-      let here : NoneFell old.faults mid.faults = is.2.counts in
+      let here : NoneFell old.faults mid.faults = is.3.counts in
       let after = runs_counts more (n + 1) mid new rest others run in
       λ file. omega (arith, here file, after file)
 
   module _ (file : ℕ) where
-    stops_rose : (old : Site) (line : List ℕ) (new : Site) → StopsAt sure told base first old line (halt.LogFault file) new → Some_rose (RoseFrom old new)
-    stops_rose old line new (added, stops, grows, stamped, there) =
-        ends_rose (RoseFrom old new) (IsLate new) sure file (contents_after first old.kept) (StoodAt told old.moment) (database_after base old.kept) (IsLate old) old.generation (asked line) added new.generation stops
+    stops_rose : (old : Site) (n : ℕ) (line : List ℕ) (new : Site) → StopsAt sure told base first old n line (halt.LogFault file) new → Some_rose (RoseFrom old new)
+    stops_rose old n line new (added, stops, grows, stamped, there, notes) =
+        ends_rose (RoseFrom old new) (IsLate new) sure file (contents_after first old.kept) (StoodAt told old.moment) (database_after base old.kept) (IsLate old) n old.generation (line_of line) added new.generation stops
 
-    halts_rose : (script : Option (List ℕ)) (taken : List (List ℕ)) (mid new : Site) → Halts (RepliesAt sure told base first) (StopsAt sure told base first) script taken mid (halt.LogFault file) new → Some_rose (RoseFrom mid new)
-    halts_rose script taken mid new (inl (line, front, stops)) = stops_rose mid line new stops
-    halts_rose script taken mid new (inr (inl memory)) = absurd (cc (memory.0))
-    halts_rose script taken mid new (inr (inr memory)) = absurd (cc (memory.0))
+    halts_rose : (script : Option (List ℕ)) (taken : List (List ℕ)) (mid new : Site) → Halts (StopsAt sure told base first) script taken mid (halt.LogFault file) new → Some_rose (RoseFrom mid new)
+    halts_rose script taken mid new (inl (line, front, stops)) = stops_rose mid (length taken + 1) line new stops
+    halts_rose script taken mid new (inr memory) = absurd (cc (memory.0))
 
     pub prints_rose : (old new : Site) (script : Option (List ℕ)) (put : List ℕ) → Prints (RepliesAt sure told base first) (StopsAt sure told base first) old script (Halted (halt.LogFault file)) put new → Some_rose (RoseFrom old new)
     prints_rose old new script printed (text, whole, (taken, tally, mid, run, halts)) =
@@ -160,9 +182,9 @@ status_fault sure told base first old new script (Halted halt.Memory) printed is
 status_fault sure told base first old new script (TooLong n) printed is run = absurd (omega (arith, is))
 
 -- a script's run that ended with that status had a fault since the call began
-pub ran_fault : (command : Command) (told left_told : Option History) (before mid after : ℕ → ℕ) (opened last : ℕ) (end : End) (status : ℕ) (journal : List Entry) (stamps : List ℕ) (base : Option Inv) (generation : ℕ) (script left was is : Option (List ℕ)) → NoneFell before mid →
-    RanScript command told left_told mid after opened last end status journal stamps base generation script left was is → status ≡ 6 → (file : ℕ) × (file < 4) × Rose (before file) (after file)
-ran_fault command told left_told before mid after opened last end status journal stamps base generation script left was is none ran six =
+pub ran_fault : (command : Command) (told left_told : Option History) (before mid after : ℕ → ℕ) (opened last : ℕ) (end : End) (status : ℕ) (journal : List Entry) (stamps : List ℕ) (notes : List Note) (base : Option Inv) (generation : ℕ) (script left was is : Option (List ℕ)) → NoneFell before mid →
+    RanScript command told left_told mid after opened last end status journal stamps notes base generation script left was is → status ≡ 6 → (file : ℕ) × (file < 4) × Rose (before file) (after file)
+ran_fault command told left_told before mid after opened last end status journal stamps notes base generation script left was is none ran six =
     let over = ran.runs (λ number. []) in
     let rose = status_fault _ left_told ran.database (λ number. []) _ _ script end over.says.0 (sym ran.code ∙ six) over.says.2 in
     (rose.0, rose.1.0, omega (arith, none rose.0, rose.1.1))
@@ -171,13 +193,13 @@ not_six : (why : Closing) → closing_status why ≡ 6 → ⊥
 not_six no_command is = absurd (omega (arith, is))
 not_six formatted is = absurd (omega (arith, is))
 not_six exists is = absurd (omega (arith, is))
-not_six (refused_opening (refused.ReadFault file)) is = absurd (omega (arith, is))
-not_six (refused_opening (refused.Damaged file at)) is = absurd (omega (arith, is))
-not_six (refused_opening refused.NotFormatted) is = absurd (omega (arith, is))
-not_six (refused_opening refused.RunFull) is = absurd (omega (arith, is))
-not_six (refused_opening refused.Memory) is = absurd (omega (arith, is))
+not_six (refused_opening (opening.ReadFault file)) is = absurd (omega (arith, is))
+not_six (refused_opening (opening.Damaged file at)) is = absurd (omega (arith, is))
+not_six (refused_opening opening.NotFormatted) is = absurd (omega (arith, is))
+not_six (refused_opening opening.RunFull) is = absurd (omega (arith, is))
+not_six (refused_opening opening.Memory) is = absurd (omega (arith, is))
 
 -- a call that ran no script has another status
-pub shut_other : (why : Closing) (before after : Option (List ℕ)) (sink_rose : Type 0) (status : ℕ) (journal : List Entry) (stamps : List ℕ) (base : Option Inv) (generation opened last : ℕ) → Shuts why before after sink_rose status journal stamps base generation opened last → status ≡ 6 → ⊥
-shut_other why before after sink_rose status journal stamps base generation opened last shut six =
+pub shut_other : (why : Closing) (before after : Option (List ℕ)) (sink_rose : Type 0) (status : ℕ) (journal : List Entry) (stamps : List ℕ) (notes : List Note) (base : Option Inv) (generation opened last : ℕ) → Shuts why before after sink_rose status journal stamps notes base generation opened last → status ≡ 6 → ⊥
+shut_other why before after sink_rose status journal stamps notes base generation opened last shut six =
     ⊎_elim (λ own. not_six why (sym own.0 ∙ six)) (λ sink. absurd (omega (arith, sink.0, six))) shut.line

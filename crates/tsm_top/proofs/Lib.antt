@@ -1,5 +1,9 @@
 mod Answering
 mod Causes
+mod Clauses
+mod Completeness
+mod Headline
+mod Looking
 mod Machines
 mod Making
 mod Opening

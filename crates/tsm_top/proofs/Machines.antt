@@ -1,11 +1,11 @@
 -- A run of the server is a run of the machine over what it keeps.
-use Rattle.std.proofs.Common.{◌≡◌, ◌⊎◌, ⊎_elim, inl, inr, ℕ, ◌+◌, ◌-◌, ◌≤◌, ◌^◌, Option, None, Some, IfSome, List, [], ◌∷◌, ◌++◌, length, refl, sym, ◌∙◌, ap, subst, arith, append-nil, length-append}
-use Rattle.store_api.specs.Cause.{Rose}
+use Rattle.std.proofs.Common.{◌≡◌, ⊎_elim, inl, inr, ℕ, ◌+◌, Option, None, Some, IfSome, List, [], ◌∷◌, ◌++◌, length, refl, sym, ◌∙◌, ap, subst, arith, append-nil, length-append}
 use Rattle.store_api.specs.Disk.{History, now, back, ImageAt}
-use Rattle.store_api.specs.Runs.{GoesOn, with_calls}
+use Rattle.store_api.specs.Runs.{GoesOn}
 use Rattle.store_api.specs.Told.{Told}
 use Rattle.store_api.proofs.Runs.{told_map, told_then, back_calls, back_now, goes_image_before, goes_none, goes_then}
 use Rattle.fields.specs.Editions.{second_form}
+use Rattle.kinds.specs.declared.refusal.Refusal.{Refusal}
 use Rattle.kinds.specs.declared.segment.Segment.{Segment}
 use Rattle.inventory.specs.Meant.{meaning}
 use Rattle.inventory_rows.specs.State.{Inv}
@@ -31,7 +31,10 @@ use Rattle.server.proofs.Left.{ended_first}
 use Rattle.tsm_top.specs.declared.session.Session.{Session}
 use Rattle.tsm_top.specs.Asking.{Replies, Stops}
 use Rattle.tsm_top.specs.Machine.{Site, HaltStamps, HaltThere, AllStamped, Grows, IsThere, RoseFrom, IsLate, StoodAt, RepliesAt, StopsAt, AllSafe}
+use Rattle.tsm_top.specs.Lines.{Line, line_of}
+use Rattle.tsm_top.specs.Notes.{note_of, with_note}
 use Rattle.tsm_top.specs.Session.{ServesLine, HaltsLine, LeavesHalted}
+use Rattle.tsm_top.specs.declared.note.Note.{Note}
 use Rattle.server.proofs.Joining.{does_then, breaks_then}
 use Rattle.server.proofs.Stepping.{stepped_none}
 use Rattle.tsm_top.proofs.Weaker.{replies, stops}
@@ -79,6 +82,11 @@ nothing_made : (later earlier : List Kept) → [] ≡ later ++ earlier → earli
 nothing_made [] earlier parts = sym parts
 nothing_made (newest ∷ later) earlier parts = absurd cc
 
+-- a note by the same numbers
+noted : (line : Line) (n : ℕ) (why : Option Refusal) (notes : List Note) (f g : ℕ) (v x w y : Inv) → f ≡ g → v ≡ x → w ≡ y → with_note line (note_of n f v.number w.number why) notes ≡ with_note line (note_of n g x.number y.number why) notes
+noted line n why notes f g v x w y first before after =
+    ap (λ (k : ℕ). with_note line (note_of n k v.number w.number why) notes) first ∙ ap (λ (d : Inv). with_note line (note_of n g d.number w.number why) notes) before ∙ ap (λ (d : Inv). with_note line (note_of n g x.number d.number why) notes) after
+
 -- each image of a moment at which the server was good gives back the site
 there_then : (base : Inv) (first : ℕ → List ℕ) (site : Site) (state : State Inv) (x y : Option History) → state.database ≡ database_after base site.kept → state.generation ≡ site.generation → state.end ≡ site.log → IfSome x (λ h. now h ≡ site.moment) → Onward x y → IsSure (contents_after first site.kept) state x → IsThere y base first site
 there_then base first site state None y database generation end at goes good = absurd good
@@ -98,20 +106,24 @@ there_then base first site state (Some a) (Some b) database generation end at go
     }
 
 module _ {S : Type 0} (told : S → Option History) (moment : S → ℕ) (faults : S → ℕ → ℕ) (clock : (s : S) → IfSome (told s) (λ h. now h ≡ moment s)) (start : Running S) (none : start.stamps ≡ []) where
-  -- the site of a server that made these transactions
-  abbrev pub site_of : List Kept → Running S → Site
-  site_of kept server = record { kept = kept; stamps = server.stamps; generation = server.vault.generation; log = server.vault.end; moment = moment server.store; faults = faults server.store }
+  -- the site of a server that made these transactions, and noted this of its lines
+  abbrev pub site_of : List Kept → List Note → Running S → Site
+  site_of kept notes server = record { kept = kept; stamps = server.stamps; notes = notes; generation = server.vault.generation; log = server.vault.end; moment = moment server.store; faults = faults server.store }
 
   -- what the server has done since the start
   pub record Sim (server : Running S) (kept : List Kept) : Type 0 where
     pub fresh : List ℕ
     pub does : Does told moment faults kept fresh start server
 
-  abbrev pub Serves : Session S → List ℕ → Answer → Session S → Type 0
-  Serves old line answer new = ServesLine told moment faults old.server line answer new.server
+  abbrev pub Serves : Session S → ℕ → List ℕ → Answer → Session S → Type 0
+  Serves old n line answer new = ServesLine told moment faults old n line answer new
 
-  abbrev pub Stopped : Session S → List ℕ → Halt → Session S → Type 0
-  Stopped old line how new = HaltsLine told moment faults old.server line how new.server
+  abbrev pub Stopped : Session S → ℕ → List ℕ → Halt → Session S → Type 0
+  Stopped old n line how new = HaltsLine told moment faults old n line how new
+
+  -- the transactions of a session's run are counted from those of the start
+  abbrev pub IsOf : Session S → Type 0
+  IsOf session = session.first ≡ start.vault.database.number
 
   does_goes : (old new : Running S) (added : List Kept) (fresh : List ℕ) → Does told moment faults added fresh old new → Onward (told old.store) (told new.store)
   does_goes old new added fresh does = told_map (told old.store) (told new.store) (Stepped old.vault new.vault added fresh) (GoesOn (λ f. Unit {0})) (λ a b step. step.went.goes) does.files
@@ -119,11 +131,11 @@ module _ {S : Type 0} (told : S → Option History) (moment : S → ℕ) (faults
   sim_then : (old new : Running S) (kept added : List Kept) (fresh : List ℕ) → Sim old kept → Does told moment faults added fresh old new → Sim new (added ++ kept)
   sim_then old new kept added fresh sim does = record { fresh = fresh ++ sim.fresh; does = does_then told moment faults clock start old new kept added sim.fresh fresh sim.does does }
 
-  all_stamped : (server : Running S) (kept : List Kept) → Sim server kept → AllStamped (site_of kept server)
-  all_stamped server kept sim = ap length (sim.does.adds.stamps ∙ ap (λ (l : List ℕ). sim.fresh ++ l) none ∙ append-nil sim.fresh) ∙ sim.does.stamped
+  all_stamped : (server : Running S) (kept : List Kept) → Sim server kept → (notes : List Note) → AllStamped (site_of kept notes server)
+  all_stamped server kept sim notes = ap length (sim.does.adds.stamps ∙ ap (λ (l : List ℕ). sim.fresh ++ l) none ∙ append-nil sim.fresh) ∙ sim.does.stamped
 
-  grows : (old new : Running S) (kept added : List Kept) (fresh : List ℕ) → Adds moment added fresh old new → Later moment faults old.store new.store → Grows added (site_of kept old) (site_of (added ++ kept) new)
-  grows old new kept added fresh adds later = record { kept = refl; fresh = fresh; stamps = adds.stamps; timely = adds.timely; counts = later.counts }
+  grows : (old new : Running S) (kept added : List Kept) (fresh : List ℕ) (was notes : List Note) → Adds moment added fresh old new → Later moment faults old.store new.store → Grows added (site_of kept was old) (site_of (added ++ kept) notes new)
+  grows old new kept added fresh was notes adds later = record { kept = refl; fresh = fresh; stamps = adds.stamps; timely = adds.timely; counts = later.counts }
 
   abbrev pub Known : (ℕ → List ℕ) → Type 0
   Known first = IsSure first start.vault (told start.store)
@@ -131,24 +143,24 @@ module _ {S : Type 0} (told : S → Option History) (moment : S → ℕ) (faults
   good_now : (first : ℕ → List ℕ) (server : Running S) (kept : List Kept) → Sim server kept → Known first → IsSure (contents_after first kept) server.vault (told server.store)
   good_now first server kept sim known = sure_after first start.vault server.vault kept sim.fresh (told start.store) (told server.store) sim.does.files known
 
-  pub there : (first : ℕ → List ℕ) (server : Running S) (kept : List Kept) (last : S) → Sim server kept → Onward (told server.store) (told last) → Known first → IsThere (told last) start.vault.database first (site_of kept server)
-  there first server kept last sim goes known = there_then start.vault.database first (site_of kept server) server.vault (told server.store) (told last) sim.does.adds.database refl refl (clock server.store) goes (good_now first server kept sim known)
+  pub there : (first : ℕ → List ℕ) (server : Running S) (kept : List Kept) (notes : List Note) (last : S) → Sim server kept → Onward (told server.store) (told last) → Known first → IsThere (told last) start.vault.database first (site_of kept notes server)
+  there first server kept notes last sim goes known = there_then start.vault.database first (site_of kept notes server) server.vault (told server.store) (told last) sim.does.adds.database refl refl (clock server.store) goes (good_now first server kept sim known)
 
-  halt_stamps : (how : Halt) (old new : Running S) (kept : List Kept) → Sim old kept → (added : List Kept) (fresh : List ℕ) → LeavesHalted told moment faults how added fresh old new → HaltStamps how added (site_of (added ++ kept) new)
-  halt_stamps (LogFault file) old new kept sim [] fresh breaks =
+  halt_stamps : (how : Halt) (old new : Running S) (kept : List Kept) → Sim old kept → (added : List Kept) (fresh : List ℕ) → LeavesHalted told moment faults how added fresh old new → (notes : List Note) → HaltStamps how added (site_of (added ++ kept) notes new)
+  halt_stamps (LogFault file) old new kept sim [] fresh breaks notes =
       let all : length new.stamps ≡ length fresh + length old.stamps = ap length breaks.adds.stamps ∙ length-append fresh old.stamps in
-      ⊎_elim (λ is. omega (arith, is, all, all_stamped old kept sim)) (λ fewer. absurd (omega (arith, fewer))) breaks.stamped
-  halt_stamps (LogFault file) old new kept sim (newest ∷ earlier) fresh breaks =
+      ⊎_elim (λ is. omega (arith, is, all, all_stamped old kept sim notes)) (λ fewer. absurd (omega (arith, fewer))) breaks.stamped
+  halt_stamps (LogFault file) old new kept sim (newest ∷ earlier) fresh breaks notes =
       let all : length new.stamps ≡ length fresh + length old.stamps = ap length breaks.adds.stamps ∙ length-append fresh old.stamps in
       let whole : length ((newest ∷ earlier) ++ kept) ≡ length (newest ∷ earlier) + length kept = length-append (newest ∷ earlier) kept in
-      ⊎_elim (λ is. inl (omega (arith, is, all, whole, all_stamped old kept sim))) (λ is. inr (omega (arith, is, all, whole, all_stamped old kept sim))) breaks.stamped
-  halt_stamps RunFull old new kept sim added fresh does = all_stamped new (added ++ kept) (sim_then old new kept added fresh sim does)
-  halt_stamps Memory old new kept sim added fresh does = all_stamped new (added ++ kept) (sim_then old new kept added fresh sim does)
+      ⊎_elim (λ is. inl (omega (arith, is, all, whole, all_stamped old kept sim notes))) (λ is. inr (omega (arith, is, all, whole, all_stamped old kept sim notes))) breaks.stamped
+  halt_stamps RunFull old new kept sim added fresh does notes = all_stamped new (added ++ kept) (sim_then old new kept added fresh sim does) notes
+  halt_stamps Memory old new kept sim added fresh does notes = all_stamped new (added ++ kept) (sim_then old new kept added fresh sim does) notes
 
-  halt_there : (how : Halt) (first : ℕ → List ℕ) (old new : Running S) (kept : List Kept) → Sim old kept → (added : List Kept) (fresh : List ℕ) → LeavesHalted told moment faults how added fresh old new → Known first → HaltThere how (told new.store) start.vault.database first (site_of (added ++ kept) new)
-  halt_there (LogFault file) first old new kept sim added fresh breaks known = tt
-  halt_there RunFull first old new kept sim added fresh does known = there first new (added ++ kept) new.store (sim_then old new kept added fresh sim does) (onward_here (told new.store)) known
-  halt_there Memory first old new kept sim added fresh does known = there first new (added ++ kept) new.store (sim_then old new kept added fresh sim does) (onward_here (told new.store)) known
+  halt_there : (how : Halt) (first : ℕ → List ℕ) (old new : Running S) (kept : List Kept) → Sim old kept → (added : List Kept) (fresh : List ℕ) → LeavesHalted told moment faults how added fresh old new → (notes : List Note) → Known first → HaltThere how (told new.store) start.vault.database first (site_of (added ++ kept) notes new)
+  halt_there (LogFault file) first old new kept sim added fresh breaks notes known = tt
+  halt_there RunFull first old new kept sim added fresh does notes known = there first new (added ++ kept) notes new.store (sim_then old new kept added fresh sim does) (onward_here (told new.store)) known
+  halt_there Memory first old new kept sim added fresh does notes known = there first new (added ++ kept) notes new.store (sim_then old new kept added fresh sim does) (onward_here (told new.store)) known
 
   halt_adds : (how : Halt) (old new : Running S) (added : List Kept) (fresh : List ℕ) → LeavesHalted told moment faults how added fresh old new → Adds moment added fresh old new
   halt_adds (LogFault file) old new added fresh breaks = breaks.adds
@@ -166,64 +178,71 @@ module _ {S : Type 0} (told : S → Option History) (moment : S → ℕ) (faults
   halt_goes Memory old new added fresh does = does_goes old new added fresh does
 
   module _ (last : S) where
-    abbrev pub Machine : (ℕ → List ℕ) → Site → List ℕ → Answer → Site → Type 0
+    abbrev pub Machine : (ℕ → List ℕ) → Site → ℕ → List ℕ → Answer → Site → Type 0
     Machine first = RepliesAt (Known first) (told last) start.vault.database first
 
-    abbrev pub Ending : (ℕ → List ℕ) → Site → List ℕ → Halt → Site → Type 0
+    abbrev pub Ending : (ℕ → List ℕ) → Site → ℕ → List ℕ → Halt → Site → Type 0
     Ending first = StopsAt (Known first) (told last) start.vault.database first
 
     stood : (old : Running S) → Onward (told old.store) (told last) → (object : ℕ) (segments : List Segment) (bytes : List ℕ) → StoodAt (told last) (moment old.store) object segments bytes → StandIn (told old.store) object segments bytes
     stood old goes object segments bytes is = stood_then (told old.store) (told last) (moment old.store) object segments bytes (clock old.store) goes is
 
-    step : (first : ℕ → List ℕ) (old new : Running S) (line : List ℕ) (answer : Answer) (kept : List Kept) → Sim old kept → Onward (told new.store) (told last) → (serves : ServesLine told moment faults old line answer new) → Machine first (site_of kept old) line answer (site_of (serves.0 ++ kept) new)
-    step first old new line answer kept sim after (added, fresh, does, says) =
-        let begun : Site = site_of kept old in
-        let left : Site = site_of (added ++ kept) new in
-        let goes = onward_then (told old.store) (told new.store) (told last) (does_goes old new added fresh does) after in
-        let is = replies (RoseFrom begun left) (RoseFrom begun left) (IsLate left) (IsLate left) (IsSure (contents_after first kept) old.vault (told old.store)) (Known first) (StandIn (told old.store)) (StoodAt (told last) (moment old.store)) (λ file rose. rose) (λ full. full) (good_now first old kept sim) (stood old goes) (contents_after first kept) old.vault.database (IsLate begun) old.vault.generation old.vault.end line answer added new.vault.generation new.vault.end (says (contents_after first kept)) in
-        let sim_new = sim_then old new kept added fresh sim does in (
+    step : (first : ℕ → List ℕ) (old new : Session S) (n : ℕ) (line : List ℕ) (answer : Answer) (kept : List Kept) → Sim old.server kept → IsOf old → Onward (told new.server.store) (told last) → (serves : Serves old n line answer new) → Machine first (site_of kept old.notes.items old.server) n line answer (site_of (serves.1.0 ++ kept) new.notes.items new.server)
+    step first old new n line answer kept sim of after (why, (added, fresh, does, says), same, notes) =
+        let begun : Site = site_of kept old.notes.items old.server in
+        let left : Site = site_of (added ++ kept) new.notes.items new.server in
+        let goes = onward_then (told old.server.store) (told new.server.store) (told last) (does_goes old.server new.server added fresh does) after in
+        let is = replies (RoseFrom begun left) (RoseFrom begun left) (IsLate left) (IsLate left) (IsSure (contents_after first kept) old.server.vault (told old.server.store)) (Known first) (StandIn (told old.server.store)) (StoodAt (told last) (moment old.server.store)) (λ file rose. rose) (λ full. full) (good_now first old.server kept sim) (stood old.server goes) (contents_after first kept) old.server.vault.database (IsLate begun) n old.server.vault.generation old.server.vault.end line answer why added new.server.vault.generation new.server.vault.end (says (contents_after first kept)) in
+        let sim_new = sim_then old.server new.server kept added fresh sim does in (
           added,
-          subst (λ (v : Inv). Replies (RoseFrom begun left) (IsLate begun) (IsLate left) (Known first) (contents_after first kept) (StoodAt (told last) (moment old.store)) v old.vault.generation old.vault.end line answer added new.vault.generation new.vault.end) sim.does.adds.database is,
-          grows old new kept added fresh does.adds does.later,
-          all_stamped new (added ++ kept) sim_new,
-          λ known. there first new (added ++ kept) last sim_new after known,
+          why,
+          subst (λ (v : Inv). Replies (RoseFrom begun left) (IsLate begun) (IsLate left) (Known first) (contents_after first kept) (StoodAt (told last) (moment old.server.store)) n v old.server.vault.generation old.server.vault.end line answer why added new.server.vault.generation new.server.vault.end) sim.does.adds.database is,
+          grows old.server new.server kept added fresh old.notes.items new.notes.items does.adds does.later,
+          all_stamped new.server (added ++ kept) sim_new new.notes.items,
+          (λ known. there first new.server (added ++ kept) new.notes.items last sim_new after known),
+          notes ∙ noted (line_of line) n why old.notes.items old.first start.vault.database.number old.server.vault.database (database_after start.vault.database kept) new.server.vault.database (database_after start.vault.database (added ++ kept)) of sim.does.adds.database sim_new.does.adds.database,
         )
 
   -- the last line that halted the run
-  halt : (first : ℕ → List ℕ) (old new : Running S) (line : List ℕ) (how : Halt) (kept : List Kept) → Sim old kept → (halts : HaltsLine told moment faults old line how new) → Ending new.store first (site_of kept old) line how (site_of (halts.0 ++ kept) new)
-  halt first old new line how kept sim (added, fresh, leaves, says) =
-      let begun : Site = site_of kept old in
-      let left : Site = site_of (added ++ kept) new in
-      let goes = halt_goes how old new added fresh leaves in
-      let is = stops (RoseFrom begun left) (RoseFrom begun left) (IsLate left) (IsLate left) (IsSure (contents_after first kept) old.vault (told old.store)) (Known first) (StandIn (told old.store)) (StoodAt (told new.store) (moment old.store)) (λ file rose. rose) (λ full. full) (good_now first old kept sim) (stood new.store old goes) (contents_after first kept) old.vault.database (IsLate begun) old.vault.generation line how added new.vault.generation (says (contents_after first kept)) in (
+  halt : (first : ℕ → List ℕ) (old new : Session S) (n : ℕ) (line : List ℕ) (how : Halt) (kept : List Kept) → Sim old.server kept → (halts : Stopped old n line how new) → Ending new.server.store first (site_of kept old.notes.items old.server) n line how (site_of (halts.0.0 ++ kept) new.notes.items new.server)
+  halt first old new n line how kept sim ((added, fresh, leaves, says), same, notes) =
+      let begun : Site = site_of kept old.notes.items old.server in
+      let left : Site = site_of (added ++ kept) new.notes.items new.server in
+      let goes = halt_goes how old.server new.server added fresh leaves in
+      let is = stops (RoseFrom begun left) (RoseFrom begun left) (IsLate left) (IsLate left) (IsSure (contents_after first kept) old.server.vault (told old.server.store)) (Known first) (StandIn (told old.server.store)) (StoodAt (told new.server.store) (moment old.server.store)) (λ file rose. rose) (λ full. full) (good_now first old.server kept sim) (stood new.server.store old.server goes) (contents_after first kept) old.server.vault.database (IsLate begun) n old.server.vault.generation line how added new.server.vault.generation (says (contents_after first kept)) in (
         added,
-        subst (λ (v : Inv). Stops (RoseFrom begun left) (IsLate begun) (IsLate left) (Known first) (contents_after first kept) (StoodAt (told new.store) (moment old.store)) v old.vault.generation line how added new.vault.generation) sim.does.adds.database is,
-        grows old new kept added fresh (halt_adds how old new added fresh leaves) (halt_later how old new added fresh leaves),
-        halt_stamps how old new kept sim added fresh leaves,
-        λ known. halt_there how first old new kept sim added fresh leaves known,
+        subst (λ (v : Inv). Stops (RoseFrom begun left) (IsLate begun) (IsLate left) (Known first) (contents_after first kept) (StoodAt (told new.server.store) (moment old.server.store)) n v old.server.vault.generation line how added new.server.vault.generation) sim.does.adds.database is,
+        grows old.server new.server kept added fresh old.notes.items new.notes.items (halt_adds how old.server new.server added fresh leaves) (halt_later how old.server new.server added fresh leaves),
+        halt_stamps how old.server new.server kept sim added fresh leaves new.notes.items,
+        (λ known. halt_there how first old.server new.server kept sim added fresh leaves new.notes.items known),
+        notes,
       )
 
   -- some lines were run
   pub record Ran (n : ℕ) (old new : Session S) (lines : List (List ℕ)) (text : List ℕ) (tally : Tally) (kept : List Kept) : Type 0 where
     pub after : List Kept
     pub sim : Sim new.server after
+    pub of : IsOf new
     pub goes : Onward (told old.server.store) (told new.server.store)
-    pub run : (last : S) → Onward (told new.server.store) (told last) → (first : ℕ → List ℕ) → Runs (Machine last first) n (site_of kept old.server) lines text tally (site_of after new.server)
+    pub run : (last : S) → Onward (told new.server.store) (told last) → (first : ℕ → List ℕ) → Runs (Machine last first) n (site_of kept old.notes.items old.server) lines text tally (site_of after new.notes.items new.server)
 
-  runs : (lines : List (List ℕ)) (n : ℕ) (old new : Session S) (text : List ℕ) (tally : Tally) (kept : List Kept) → Sim old.server kept → Runs Serves n old lines text tally new → Ran n old new lines text tally kept
-  runs [] n old new text tally kept sim run = record {
+  runs : (lines : List (List ℕ)) (n : ℕ) (old new : Session S) (text : List ℕ) (tally : Tally) (kept : List Kept) → Sim old.server kept → IsOf old → Runs Serves n old lines text tally new → Ran n old new lines text tally kept
+  runs [] n old new text tally kept sim of run = record {
     after = kept;
     sim = subst (λ (s : Session S). Sim s.server kept) (sym run.2) sim;
+    of = subst (λ (s : Session S). IsOf s) (sym run.2) of;
     goes = subst (λ (s : Session S). Onward (told old.server.store) (told s.server.store)) (sym run.2) (onward_here (told old.server.store));
-    run = λ last goes first. (run.0, run.1, ap (λ (s : Session S). site_of kept s.server) run.2);
+    run = λ last goes first. (run.0, run.1, ap (λ (s : Session S). site_of kept s.notes.items s.server) run.2);
   }
-  runs (line ∷ more) n old new text tally kept sim (answer, mid, rest, others, serves, is, counts, run) =
-      let next = runs more (n + 1) mid new rest others (serves.0 ++ kept) (sim_then old.server mid.server kept serves.0 serves.1 sim serves.2) run in
+  runs (line ∷ more) n old new text tally kept sim of (answer, mid, rest, others, serves, is, counts, run) =
+      let done = serves.1 in
+      let next = runs more (n + 1) mid new rest others (done.0 ++ kept) (sim_then old.server mid.server kept done.0 done.1 sim done.2) (serves.2 ∙ of) run in
       record {
         after = next.after;
         sim = next.sim;
-        goes = onward_then (told old.server.store) (told mid.server.store) (told new.server.store) (does_goes old.server mid.server serves.0 serves.1 serves.2) next.goes;
-        run = λ last goes first. (answer, site_of (serves.0 ++ kept) mid.server, rest, others, step last first old.server mid.server line answer kept sim (onward_then (told mid.server.store) (told new.server.store) (told last) next.goes goes) serves, is, counts, next.run last goes first);
+        of = next.of;
+        goes = onward_then (told old.server.store) (told mid.server.store) (told new.server.store) (does_goes old.server mid.server done.0 done.1 done.2) next.goes;
+        run = λ last goes first. (answer, site_of (done.0 ++ kept) mid.notes.items mid.server, rest, others, step last first old mid n line answer kept sim of (onward_then (told mid.server.store) (told new.server.store) (told last) next.goes goes) serves, is, counts, next.run last goes first);
       }
 
   -- what is left of the server
@@ -248,69 +267,63 @@ module _ {S : Type 0} (told : S → Option History) (moment : S → ℕ) (faults
   pub record Ended (new : Session S) (P : (ℕ → List ℕ) → Site → Type 0) : Type 0 where
     pub after : List Kept
     pub left : Left new.server after
-    pub run : (first : ℕ → List ℕ) → P first (site_of after new.server)
+    pub run : (first : ℕ → List ℕ) → P first (site_of after new.notes.items new.server)
 
-  abbrev pub M : Session S → (ℕ → List ℕ) → Site → List ℕ → Answer → Site → Type 0
+  abbrev pub M : Session S → (ℕ → List ℕ) → Site → ℕ → List ℕ → Answer → Site → Type 0
   M new first = Machine new.server.store first
 
-  abbrev pub E : Session S → (ℕ → List ℕ) → Site → List ℕ → Halt → Site → Type 0
+  abbrev pub E : Session S → (ℕ → List ℕ) → Site → ℕ → List ℕ → Halt → Site → Type 0
   E new first = Ending new.server.store first
 
   goes_here : (new : Session S) → Onward (told new.server.store) (told new.server.store)
   goes_here new = onward_here (told new.server.store)
 
-  halts : (script : Option (List ℕ)) (taken : List (List ℕ)) (tally : Tally) (text : List ℕ) (old mid new : Session S) (how : Halt) (kept : List Kept) → Ran 1 old mid taken text tally kept → Halts Serves Stopped script taken mid how new → Ended new (λ first after. Answers (M new first) (E new first) (site_of kept old.server) script (Halted how) text after)
+  halts : (script : Option (List ℕ)) (taken : List (List ℕ)) (tally : Tally) (text : List ℕ) (old mid new : Session S) (how : Halt) (kept : List Kept) → Ran 1 old mid taken text tally kept → Halts Stopped script taken mid how new → Ended new (λ first after. Answers (M new first) (E new first) (site_of kept old.notes.items old.server) script (Halted how) text after)
   halts script taken tally text old mid new how kept ran (inl (line, front, stopped)) =
-      let goes = halt_goes how mid.server new.server stopped.0 stopped.1 stopped.2 in
+      let done = stopped.0 in
+      let goes = halt_goes how mid.server new.server done.0 done.1 done.2 in
       record {
-        after = stopped.0 ++ ran.after;
-        left = halted how mid.server new.server ran.after stopped.0 stopped.1 ran.sim stopped.2;
-        run = λ first. (taken, tally, site_of ran.after mid.server, ran.run new.server.store goes first, inl (line, front, halt first mid.server new.server line how ran.after ran.sim stopped));
+        after = done.0 ++ ran.after;
+        left = halted how mid.server new.server ran.after done.0 done.1 ran.sim done.2;
+        run = λ first. (taken, tally, site_of ran.after mid.notes.items mid.server, ran.run new.server.store goes first, inl (line, front, halt first mid new (length taken + 1) line how ran.after ran.sim stopped));
       }
-  halts script taken tally text old mid new how kept ran (inr (inl (is, front, same))) = record {
+  halts script taken tally text old mid new how kept ran (inr (is, none, same)) = record {
     after = ran.after;
     left = subst (λ (s : Session S). Left s.server ran.after) (sym same) (left_does mid.server ran.after ran.sim);
-    run = λ first. (taken, tally, site_of ran.after mid.server, ran.run new.server.store (subst (λ (s : Session S). Onward (told mid.server.store) (told s.server.store)) (sym same) (goes_here mid)) first, inr (inl (is, front, ap (λ (s : Session S). site_of ran.after s.server) same)));
+    run = λ first. (taken, tally, site_of ran.after mid.notes.items mid.server, ran.run new.server.store (subst (λ (s : Session S). Onward (told mid.server.store) (told s.server.store)) (sym same) (goes_here mid)) first, inr (is, none, ap (λ (s : Session S). site_of ran.after s.notes.items s.server) same));
   }
-  halts script taken tally text old mid new how kept ran (inr (inr (is, line, answer, front, serves))) =
-      let goes = does_goes mid.server new.server serves.0 serves.1 serves.2 in
-      record {
-        after = serves.0 ++ ran.after;
-        left = left_does new.server (serves.0 ++ ran.after) (sim_then mid.server new.server ran.after serves.0 serves.1 ran.sim serves.2);
-        run = λ first. (taken, tally, site_of ran.after mid.server, ran.run new.server.store goes first, inr (inr (is, line, answer, front, step new.server.store first mid.server new.server line answer ran.after ran.sim (goes_here new) serves)));
-      }
 
-  answers : (end : End) (script : Option (List ℕ)) (text : List ℕ) (old new : Session S) (kept : List Kept) → Sim old.server kept → Answers Serves Stopped old script end text new → Ended new (λ first after. Answers (M new first) (E new first) (site_of kept old.server) script end text after)
-  answers (Done tally) script text old new kept sim (taken, run, whole) =
-      let ran = runs taken 1 old new text tally kept sim run in
+  answers : (end : End) (script : Option (List ℕ)) (text : List ℕ) (old new : Session S) (kept : List Kept) → Sim old.server kept → IsOf old → Answers Serves Stopped old script end text new → Ended new (λ first after. Answers (M new first) (E new first) (site_of kept old.notes.items old.server) script end text after)
+  answers (Done tally) script text old new kept sim of (taken, run, whole) =
+      let ran = runs taken 1 old new text tally kept sim of run in
       record { after = ran.after; left = left_does new.server ran.after ran.sim; run = λ first. (taken, ran.run new.server.store (goes_here new) first, whole) }
-  answers SourceFault script text old new kept sim (taken, tally, run, front) =
-      let ran = runs taken 1 old new text tally kept sim run in
+  answers SourceFault script text old new kept sim of (taken, tally, run, front) =
+      let ran = runs taken 1 old new text tally kept sim of run in
       record { after = ran.after; left = left_does new.server ran.after ran.sim; run = λ first. (taken, tally, ran.run new.server.store (goes_here new) first, front) }
-  answers SinkFault script text old new kept sim none = absurd none
-  answers (Halted how) script text old new kept sim (taken, tally, mid, run, is) = halts script taken tally text old mid new how kept (runs taken 1 old mid text tally kept sim run) is
-  answers (TooLong n) script text old new kept sim (taken, tally, run, exceeds) =
-      let ran = runs taken 1 old new text tally kept sim run in
+  answers SinkFault script text old new kept sim of none = absurd none
+  answers (Halted how) script text old new kept sim of (taken, tally, mid, run, is) = halts script taken tally text old mid new how kept (runs taken 1 old mid text tally kept sim of run) is
+  answers (TooLong n) script text old new kept sim of (taken, tally, run, exceeds) =
+      let ran = runs taken 1 old new text tally kept sim of run in
       record { after = ran.after; left = left_does new.server ran.after ran.sim; run = λ first. (taken, tally, ran.run new.server.store (goes_here new) first, exceeds) }
 
-  allows : (end : End) (script : Option (List ℕ)) (whole : List ℕ) (old new : Session S) (kept : List Kept) → Sim old.server kept → Allows Serves Stopped old script end whole new → Ended new (λ first after. Allows (M new first) (E new first) (site_of kept old.server) script end whole after)
-  allows end script whole old new kept sim (text, is, run) =
-      let ran = answers end script text old new kept sim run in
+  allows : (end : End) (script : Option (List ℕ)) (whole : List ℕ) (old new : Session S) (kept : List Kept) → Sim old.server kept → IsOf old → Allows Serves Stopped old script end whole new → Ended new (λ first after. Allows (M new first) (E new first) (site_of kept old.notes.items old.server) script end whole after)
+  allows end script whole old new kept sim of (text, is, run) =
+      let ran = answers end script text old new kept sim of run in
       record { after = ran.after; left = ran.left; run = λ first. (text, is, ran.run first) }
 
   -- what the sink has of a run
   abbrev pub Printed : Session S → Site → (script : Option (List ℕ)) → End → (put : List ℕ) → Type 0
   Printed new site script end put = Ended new (λ first after. Prints (M new first) (E new first) site script end put after)
 
-  prints : (end : End) (script : Option (List ℕ)) (put : List ℕ) (old new : Session S) (kept : List Kept) → Sim old.server kept → Prints Serves Stopped old script end put new → Printed new (site_of kept old.server) script end put
-  prints (Done tally) script put old new kept sim run = allows (Done tally) script put old new kept sim run
-  prints SourceFault script put old new kept sim run = allows SourceFault script put old new kept sim run
-  prints SinkFault script put old new kept sim (other, whole, run, front) =
-      let ran = allows other script whole old new kept sim run in
+  prints : (end : End) (script : Option (List ℕ)) (put : List ℕ) (old new : Session S) (kept : List Kept) → Sim old.server kept → IsOf old → Prints Serves Stopped old script end put new → Printed new (site_of kept old.notes.items old.server) script end put
+  prints (Done tally) script put old new kept sim of run = allows (Done tally) script put old new kept sim of run
+  prints SourceFault script put old new kept sim of run = allows SourceFault script put old new kept sim of run
+  prints SinkFault script put old new kept sim of (other, whole, run, front) =
+      let ran = allows other script whole old new kept sim of run in
       record { after = ran.after; left = ran.left; run = λ first. (other, whole, ran.run first, front) }
-  prints (Halted how) script put old new kept sim run = allows (Halted how) script put old new kept sim run
-  prints (TooLong n) script put old new kept sim run = allows (TooLong n) script put old new kept sim run
+  prints (Halted how) script put old new kept sim of run = allows (Halted how) script put old new kept sim of run
+  prints (TooLong n) script put old new kept sim of run = allows (TooLong n) script put old new kept sim of run
 
   -- what the server's run says, the machine's says
-  pub says : (end : End) (script before after : Option (List ℕ)) (old new : Session S) (kept : List Kept) → Sim old.server kept → (said : Says Serves Stopped old new script before after end) → Printed new (site_of kept old.server) script end said.0
-  says end script before after old new kept sim (put, appends, run) = prints end script put old new kept sim run
+  pub says : (end : End) (script before after : Option (List ℕ)) (old new : Session S) (kept : List Kept) → Sim old.server kept → IsOf old → (said : Says Serves Stopped old new script before after end) → Printed new (site_of kept old.notes.items old.server) script end said.0
+  says end script before after old new kept sim of (put, appends, run) = prints end script put old new kept sim of run

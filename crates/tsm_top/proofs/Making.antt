@@ -1,5 +1,5 @@
 -- A new database is made, and perhaps a script is run over it; and how all of a call ended.
-use Rattle.std.proofs.Common.{◌≡◌, ◌⊎◌, ⊎_elim, inl, inr, ℕ, ◌<◌, ◌≤◌, Bool, false, Option, None, Some, is_some, IfSome, List, Result, Ok, refl, sym, ◌∙◌, subst, arith, reverse}
+use Rattle.std.proofs.Common.{◌≡◌, ◌⊎◌, ⊎_elim, inl, inr, ℕ, ◌<◌, ◌≤◌, Bool, false, Option, None, Some, is_some, IfSome, List, Result, Ok, refl, sym, ◌∙◌, subst, arith}
 use Rattle.store_api.specs.Cause.{NoneFell}
 use Rattle.store_api.specs.Disk.{History, now, reads}
 use Rattle.store_api.specs.Told.{Told}
@@ -19,6 +19,7 @@ use Rattle.vault.specs.Recovery.{Recovers, IsBase}
 use Rattle.vault.proofs.Sounding.{ends_log, newest_one, within_recovers}
 use Rattle.vault.proofs.Unique.{one_database, one_form, is_formatted, not_damaged_there}
 use Rattle.server.proofs.Soundness.{new_sound}
+use Rattle.tsm_top.specs.declared.note.Note.{Note}
 use Rattle.tsm_top.specs.Serve.{Command, format, run, fresh_run, Closing, no_command, formatted, exists, refused_opening, HasCause, OpensNot, IsNone, IsNew, HasImage, RunsOver, StartsAt, Sure, Spares, Opens, RanScript, RoseBetween}
 use Rattle.tsm_top.proofs.Saying.{ran_over}
 
@@ -85,9 +86,9 @@ tells_on R None (Some b) t = absurd t
 tells_on R (Some a) None t = absurd t
 
 -- a script that was run over it
-pub new_script : (x y left_told : Option History) (before after : ℕ → ℕ) (opened last : ℕ) (end : End) (status : ℕ) (journal : List Entry) (stamps : List ℕ) (base : Option Inv) (generation : ℕ) (script left was is : Option (List ℕ)) → is_some y ≡ is_some x → HasImage false x → IsNew y →
-    RanScript run y left_told before after opened last end status journal stamps base generation script left was is → RanScript fresh_run x left_told before after opened last end status journal stamps base generation script left was is
-new_script x y left_told before after opened last end status journal stamps base generation script left was is same had new ran = record {
+pub new_script : (x y left_told : Option History) (before after : ℕ → ℕ) (opened last : ℕ) (end : End) (status : ℕ) (journal : List Entry) (stamps : List ℕ) (notes : List Note) (base : Option Inv) (generation : ℕ) (script left was is : Option (List ℕ)) → is_some y ≡ is_some x → HasImage false x → IsNew y →
+    RanScript run y left_told before after opened last end status journal stamps notes base generation script left was is → RanScript fresh_run x left_told before after opened last end status journal stamps notes base generation script left was is
+new_script x y left_told before after opened last end status journal stamps notes base generation script left was is same had new ran = record {
   code = ran.code;
   database = ran.database;
   base_is = ran.base_is;

@@ -1,5 +1,5 @@
 -- A script is run over a vault that was opened, over what the store holds or over a database that was just put there.
-use Rattle.std.proofs.Common.{◌≡◌, ℕ, true, Option, None, Some, IfSome, List, [], ◌++◌, length, Result, Ok, Err, reverse, refl, sym, ◌∙◌, ap, subst, append-nil}
+use Rattle.std.proofs.Common.{◌≡◌, ℕ, true, Option, None, Some, IfSome, List, [], ◌++◌, Result, Ok, Err, reverse, sym, ◌∙◌, ap, subst, append-nil}
 use Rattle.store_api.specs.Disk.{History, now}
 use Rattle.store_api.specs.Told.{Told}
 use Rattle.store_api.specs.Runs.{GoesOn}
@@ -25,7 +25,8 @@ use Rattle.tsm_top.specs.declared.session.Session.{Session}
 use Rattle.tsm_top.specs.Machine.{Site, IsThere, AllSafe}
 use Rattle.tsm_top.specs.Serve.{run, OpensNot, IsOurFile, IsNone, RunsOver, StartsAt, Sure, RanOver, opened_site, RanScript, RanFrom, RoseBetween}
 use Rattle.tsm_top.specs.Session.{ServesLine, HaltsLine}
-use Rattle.tsm_top.proofs.Machines.{Sim, site_of, there, says, safe_after, left_after}
+use Rattle.tsm_top.specs.declared.note.Note.{Note}
+use Rattle.tsm_top.proofs.Machines.{Sim, IsOf, site_of, there, says, safe_after, left_after}
 use Rattle.tsm_top.proofs.Saying.{ran_over}
 use Rattle.server.proofs.Stepping.{does_none}
 
@@ -37,32 +38,32 @@ module _ {S : Type 0} (told : S → Option History) (moment : S → ℕ) (faults
   abbrev site : Site
   site = opened_site start.vault.generation start.vault.end (moment start.store) (faults start.store)
 
-  site_is : (server : Running S) → server ≡ start → site_of told moment faults clock start none [] server ≡ site
-  site_is server is = rw is (ap (λ (l : List ℕ). let s : Site = record { kept = []; stamps = l; generation = start.vault.generation; log = start.vault.end; moment = moment start.store; faults = faults start.store } in s) none)
+  site_is : (server : Running S) (notes : List Note) → server ≡ start → notes ≡ [] → site_of told moment faults clock start none [] notes server ≡ site
+  site_is server notes is unnoted = rw unnoted (rw is (ap (λ (l : List ℕ). let s : Site = record { kept = []; stamps = l; notes = []; generation = start.vault.generation; log = start.vault.end; moment = moment start.store; faults = faults start.store } in s) none))
 
   -- the site at the return, by what `close` gives
-  abbrev site_left : Running S → List Kept → List ℕ → ℕ → Site
-  site_left server kept stamps generation = record { kept = kept; stamps = stamps; generation = generation; log = server.vault.end; moment = moment server.store; faults = faults server.store }
+  abbrev site_left : Running S → List Kept → List ℕ → List Note → ℕ → Site
+  site_left server kept stamps notes generation = record { kept = kept; stamps = stamps; notes = notes; generation = generation; log = server.vault.end; moment = moment server.store; faults = faults server.store }
 
-  left_is : (server : Running S) (kept : List Kept) (stamps : List ℕ) (generation : ℕ) → stamps ≡ server.stamps → generation ≡ server.vault.generation → site_of told moment faults clock start none kept server ≡ site_left server kept stamps generation
-  left_is server kept stamps generation same number = ap (λ (l : List ℕ). site_left server kept l server.vault.generation) (sym same) ∙ ap (λ (n : ℕ). site_left server kept stamps n) (sym number)
+  left_is : (server : Running S) (kept : List Kept) (stamps : List ℕ) (notes : List Note) (generation : ℕ) → stamps ≡ server.stamps → generation ≡ server.vault.generation → site_of told moment faults clock start none kept notes server ≡ site_left server kept stamps notes generation
+  left_is server kept stamps notes generation same number = ap (λ (l : List ℕ). site_left server kept l notes server.vault.generation) (sym same) ∙ ap (λ (n : ℕ). site_left server kept stamps notes n) (sym number)
 
   -- what a run of the server leaves
-  pub record Whole (last : S) (end : End) (status : ℕ) (journal : List Entry) (stamps : List ℕ) (generation : ℕ) (script left before after : Option (List ℕ)) : Type 0 where
-    pub from : RanFrom start.vault (told start.store) (told last) (faults start.store) (faults last) (moment start.store) (moment last) end status journal stamps generation script left before after
+  pub record Whole (last : S) (end : End) (status : ℕ) (journal : List Entry) (stamps : List ℕ) (notes : List Note) (generation : ℕ) (script left before after : Option (List ℕ)) : Type 0 where
+    pub from : RanFrom start.vault (told start.store) (told last) (faults start.store) (faults last) (moment start.store) (moment last) end status journal stamps notes generation script left before after
     pub later : Later moment faults start.store last
     pub goes : Told (told start.store) (told last) (GoesOn (λ file. Unit {0}))
 
-  ran_there : (end : End) (status : ℕ) (journal : List Entry) (stamps : List ℕ) (generation : ℕ) (script left before after : Option (List ℕ)) (old new : Session S) → old.server ≡ start → Says (λ a line answer b. ServesLine told moment faults a.server line answer b.server) (λ a line how b. HaltsLine told moment faults a.server line how b.server) old new script before after end →
-      status ≡ status_of end → journal ≡ new.server.vault.journal → reverse stamps ≡ new.server.stamps → generation ≡ new.server.vault.generation → DoneAtEnd end left → Whole new.server.store end status journal stamps generation script left before after
-  ran_there end status journal stamps generation script left before after old new is said code journal_is stamps_are generation_is rest =
+  ran_there : (end : End) (status : ℕ) (journal : List Entry) (stamps : List ℕ) (notes : List Note) (generation : ℕ) (script left before after : Option (List ℕ)) (old new : Session S) → old.server ≡ start → old.notes.items ≡ [] → IsOf told moment faults clock start none old → Says (λ a n line answer b. ServesLine told moment faults a n line answer b) (λ a n line how b. HaltsLine told moment faults a n line how b) old new script before after end →
+      status ≡ status_of end → journal ≡ new.server.vault.journal → reverse stamps ≡ new.server.stamps → notes ≡ new.notes.items → generation ≡ new.server.vault.generation → DoneAtEnd end left → Whole new.server.store end status journal stamps notes generation script left before after
+  ran_there end status journal stamps notes generation script left before after old new is unnoted of said code journal_is stamps_are notes_are generation_is rest =
       let sim = begins old is in
-      let all = says told moment faults clock start none end script before after old new [] sim said in
+      let all = says told moment faults clock start none end script before after old new [] sim of said in
       let last = all.left in
       let fresh_is : new.server.stamps ≡ last.fresh = last.adds.stamps ∙ ap (λ (l : List ℕ). last.fresh ++ l) none ∙ append-nil last.fresh in
-      let there = left_is new.server all.after (reverse stamps) generation stamps_are generation_is in
-      let final : Site = site_of told moment faults clock start none all.after new.server in
-      let over : (first : ℕ → List ℕ) → RanOver (IsSure first start.vault (told start.store)) first start.vault.database (site_of told moment faults clock start none [] old.server) final (told new.server.store) end script before after = λ first. record {
+      let there = left_is new.server all.after (reverse stamps) new.notes.items generation stamps_are generation_is ∙ ap (λ (l : List Note). site_left new.server all.after (reverse stamps) l generation) (sym notes_are) in
+      let final : Site = site_of told moment faults clock start none all.after new.notes.items new.server in
+      let over : (first : ℕ → List ℕ) → RanOver (IsSure first start.vault (told start.store)) first start.vault.database (site_of told moment faults clock start none [] old.notes.items old.server) final (told new.server.store) end script before after = λ first. record {
         begins = λ known. begins_there first old new is known all.after last.fresh last.files;
         says = (said.0, said.1, all.run first);
         images = λ known. subst (λ (l : List ℕ). IfSome (told new.server.store) (AllSafe start.vault.database first (moment old.server.store) all.after l)) (sym fresh_is) (safe_after first start.vault (moment old.server.store) all.after last.fresh (told start.store) (told new.server.store) (subst (λ (r : Running S). IfSome (told start.store) (λ h. now h ≡ moment r.store)) (sym is) (clock start.store)) last.files known);
@@ -76,22 +77,22 @@ module _ {S : Type 0} (told : S → Option History) (moment : S → ℕ) (faults
           rest = rest;
           timely = subst (λ (l : List ℕ). Timely (moment start.store) (moment new.server.store) l) (sym (stamps_are ∙ fresh_is)) last.adds.timely;
           left_log = new.server.vault.end;
-          runs = λ first. subst (λ (s : Site). RanOver (IsSure first start.vault (told start.store)) first start.vault.database s (site_left new.server all.after (reverse stamps) generation) (told new.server.store) end script before after) (site_is old.server is)
-              (subst (λ (s : Site). RanOver (IsSure first start.vault (told start.store)) first start.vault.database (site_of told moment faults clock start none [] old.server) s (told new.server.store) end script before after) there (over first));
+          runs = λ first. subst (λ (s : Site). RanOver (IsSure first start.vault (told start.store)) first start.vault.database s (site_left new.server all.after (reverse stamps) notes generation) (told new.server.store) end script before after) (site_is old.server old.notes.items is unnoted)
+              (subst (λ (s : Site). RanOver (IsSure first start.vault (told start.store)) first start.vault.database (site_of told moment faults clock start none [] old.notes.items old.server) s (told new.server.store) end script before after) there (over first));
         };
         later = last.later;
         goes = told_map (told start.store) (told new.server.store) (Went start.vault all.after last.fresh) (GoesOn (λ file. Unit {0})) (λ a b went. went.goes) last.files;
       }
     where
-      begins_there : (first : ℕ → List ℕ) (old new : Session S) → old.server ≡ start → IsSure first start.vault (told start.store) → (kept : List Kept) (fresh : List ℕ) → Told (told start.store) (told new.server.store) (Went start.vault kept fresh) → IsThere (told new.server.store) start.vault.database first (site_of told moment faults clock start none [] old.server)
+      begins_there : (first : ℕ → List ℕ) (old new : Session S) → old.server ≡ start → IsSure first start.vault (told start.store) → (kept : List Kept) (fresh : List ℕ) → Told (told start.store) (told new.server.store) (Went start.vault kept fresh) → IsThere (told new.server.store) start.vault.database first (site_of told moment faults clock start none [] old.notes.items old.server)
       begins_there first old new is known kept fresh files =
-          there told moment faults clock start none first old.server [] new.server.store (begins old is)
+          there told moment faults clock start none first old.server [] old.notes.items new.server.store (begins old is)
           (subst (λ (r : Running S). Told (told r.store) (told new.server.store) (GoesOn (λ f. Unit {0}))) (sym is) (told_map (told start.store) (told new.server.store) (Went start.vault kept fresh) (GoesOn (λ f. Unit {0})) (λ a b went. went.goes) files)) known
 
-  pub ran : (end : End) (status : ℕ) (journal : List Entry) (stamps : List ℕ) (generation : ℕ) (script left before after : Option (List ℕ)) (old new : Session S) (last : S) → last ≡ new.server.store → old.server ≡ start → Says (λ a line answer b. ServesLine told moment faults a.server line answer b.server) (λ a line how b. HaltsLine told moment faults a.server line how b.server) old new script before after end →
-      status ≡ status_of end → journal ≡ new.server.vault.journal → reverse stamps ≡ new.server.stamps → generation ≡ new.server.vault.generation → DoneAtEnd end left → Whole last end status journal stamps generation script left before after
-  ran end status journal stamps generation script left before after old new last same is said code journal_is stamps_are generation_is rest =
-      subst (λ (s : S). Whole s end status journal stamps generation script left before after) (sym same) (ran_there end status journal stamps generation script left before after old new is said code journal_is stamps_are generation_is rest)
+  pub ran : (end : End) (status : ℕ) (journal : List Entry) (stamps : List ℕ) (notes : List Note) (generation : ℕ) (script left before after : Option (List ℕ)) (old new : Session S) (last : S) → last ≡ new.server.store → old.server ≡ start → old.notes.items ≡ [] → IsOf told moment faults clock start none old → Says (λ a n line answer b. ServesLine told moment faults a n line answer b) (λ a n line how b. HaltsLine told moment faults a n line how b) old new script before after end →
+      status ≡ status_of end → journal ≡ new.server.vault.journal → reverse stamps ≡ new.server.stamps → notes ≡ new.notes.items → generation ≡ new.server.vault.generation → DoneAtEnd end left → Whole last end status journal stamps notes generation script left before after
+  ran end status journal stamps notes generation script left before after old new last same is unnoted of said code journal_is stamps_are notes_are generation_is rest =
+      subst (λ (s : S). Whole s end status journal stamps notes generation script left before after) (sym same) (ran_there end status journal stamps notes generation script left before after old new is unnoted of said code journal_is stamps_are notes_are generation_is rest)
 
 says_none : (x y : Option History) (refusal : OpenRefused) → (let result : Result (State Inv) OpenRefused = Err refusal in Told x y (Opened meaning result)) → IsNone x refusal
 says_none None y refusal opened = tt
@@ -134,8 +135,8 @@ module _ (x y : Option History) (state : State Inv) (valid : is_valid state.data
   starts_at (Some a) (Some b) is = (state.database, is.opens)
   starts_at (Some a) None is = absurd is
 
-  pub script : (left_told : Option History) (before after : ℕ → ℕ) (first_moment last : ℕ) (end : End) (status : ℕ) (journal : List Entry) (stamps : List ℕ) (base : Option Inv) (generation : ℕ) (text left was is : Option (List ℕ)) → base ≡ Some state.database → RanFrom state y left_told before after first_moment last end status journal stamps generation text left was is → RanScript run x left_told before after first_moment last end status journal stamps base generation text left was is
-  script left_told before after first_moment last end status journal stamps base generation text left was is base_is from = record {
+  pub script : (left_told : Option History) (before after : ℕ → ℕ) (first_moment last : ℕ) (end : End) (status : ℕ) (journal : List Entry) (stamps : List ℕ) (notes : List Note) (base : Option Inv) (generation : ℕ) (text left was is : Option (List ℕ)) → base ≡ Some state.database → RanFrom state y left_told before after first_moment last end status journal stamps notes generation text left was is → RanScript run x left_told before after first_moment last end status journal stamps notes base generation text left was is
+  script left_told before after first_moment last end status journal stamps notes base generation text left was is base_is from = record {
     code = from.code;
     database = state.database;
     base_is = base_is;

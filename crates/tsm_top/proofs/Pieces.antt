@@ -1,10 +1,11 @@
 -- The DATA lines of some bytes, piece by piece.
-use Rattle.std.proofs.Common.{◌≡◌, ℕ, ◌+◌, ◌-◌, ◌*◌, ◌/◌, ◌<◌, ◌≤◌, List, [], ◌∷◌, ◌++◌, map, sym, ◌∙◌, ap, arith, append_assoc, codes}
-use Rattle.std.specs.List.{range_with_len}
+use Rattle.std.proofs.Common.{◌≡◌, ℕ, ◌+◌, ◌-◌, ◌*◌, ◌/◌, ◌<◌, ◌≤◌, List, ◌++◌, map, sym, ◌∙◌, ap, arith, codes}
+use Rattle.std.specs.List.{flat_map, range_with_len}
+use Rattle.std.proofs.lemmas.List.{flat_map_more}
+use Rattle.std.proofs.lemmas.List.Folds.{flat_map-map}
 use Rattle.std.proofs.lemmas.List.FromFn.{map-range_with_len_more}
 use Rattle.hex.specs.Hex.{encode_lower}
-use Rattle.script_loop.specs.Reply.{Answer}
-use Rattle.script_loop.specs.declared.tally.Tally.{Tally}
+use Rattle.reports.specs.Pieces.{numbered}
 use Rattle.tsm_top.specs.Answers.{data_line, piece_of}
 
 -- a piece that is there begins inside the bytes
@@ -15,15 +16,17 @@ piece_begins len most number pos below =
     grind arith
 
 -- one piece more
-lines_more : (front : List (List ℕ)) (most : ℕ) (bytes : List ℕ) (number : ℕ) → (front ++ map (data_line most bytes) (range_with_len 0 number)) ++ data_line most bytes number ∷ [] ≡ front ++ map (data_line most bytes) (range_with_len 0 (number + 1))
-lines_more front most bytes number =
-    append_assoc front (map (data_line most bytes) (range_with_len 0 number)) (data_line most bytes number ∷ [])
-    ∙ ap (λ (l : List (List ℕ)). front ++ l) (sym (map-range_with_len_more (data_line most bytes) 0 number number (omega arith)))
+lines_more : (front : List ℕ) (line most : ℕ) (bytes : List ℕ) (number : ℕ) → (front ++ flat_map (data_line line most bytes) (range_with_len 0 number)) ++ data_line line most bytes number ≡ front ++ flat_map (data_line line most bytes) (range_with_len 0 (number + 1))
+lines_more front line most bytes number =
+    let piece : ℕ → List ℕ = data_line line most bytes in
+    let same : List ℕ → List ℕ = λ (l : List ℕ). l in
+    ap (λ (l : List ℕ). (front ++ l) ++ piece number) (sym (flat_map-map same piece (range_with_len 0 number)))
+    ∙ flat_map_more same front (map piece (range_with_len 0 number)) (piece number)
+    ∙ ap (λ (ls : List (List ℕ)). front ++ flat_map same ls) (sym (map-range_with_len_more piece 0 number number (omega arith)))
+    ∙ ap (λ (l : List ℕ). front ++ l) (flat_map-map same piece (range_with_len 0 (number + 1)))
 
--- what a reply is after one more DATA line
-pub said_more : (front : List (List ℕ)) (tally : Tally) (most : ℕ) (bytes : List ℕ) (number : ℕ) (mid new : Answer) (text : List ℕ) → mid ≡ record { lines = front ++ map (data_line most bytes) (range_with_len 0 number); tally = tally } → text ≡ codes "DATA " ++ encode_lower (piece_of most bytes number) → new ≡ record mid { lines = mid.lines ++ text ∷ [] } → new ≡ record { lines = front ++ map (data_line most bytes) (range_with_len 0 (number + 1)); tally = tally }
+-- what was put after one more DATA line
+pub put_more : (front : List ℕ) (line most : ℕ) (bytes : List ℕ) (number : ℕ) (mid new text : List ℕ) → mid ≡ front ++ flat_map (data_line line most bytes) (range_with_len 0 number) → text ≡ numbered line (codes "DATA " ++ encode_lower (piece_of most bytes number)) → new ≡ mid ++ text → new ≡ front ++ flat_map (data_line line most bytes) (range_with_len 0 (number + 1))
 unfolding data_line
-said_more front tally most bytes number mid new text was is now =
-    let said : Answer → List ℕ → Answer = λ (reply : Answer) (line : List ℕ). record { lines = reply.lines ++ line ∷ []; tally = reply.tally } in
-    now ∙ ap (λ (reply : Answer). said reply text) was ∙ ap (λ (line : List ℕ). said (record { lines = front ++ map (data_line most bytes) (range_with_len 0 number); tally = tally }) line) is
-    ∙ ap (λ (l : List (List ℕ)). let reply : Answer = record { lines = l; tally = tally } in reply) (lines_more front most bytes number)
+put_more front line most bytes number mid new text was is now =
+    now ∙ ap (λ (l : List ℕ). l ++ text) was ∙ ap (λ (l : List ℕ). (front ++ flat_map (data_line line most bytes) (range_with_len 0 number)) ++ l) is ∙ lines_more front line most bytes number

@@ -1,6 +1,7 @@
--- What is said of a request under some premises is said under weaker ones: where more counts rose, the moment is later, or less is known of the bytes.
-use Rattle.std.proofs.Common.{⊎_elim, inl, inr, ℕ, Bool, true, false, Option, None, Some, List, [], ◌∷◌, length, Result, Ok, Err}
+-- What is said of a line under some premises is said under weaker ones: where more counts rose, the moment is later, or less is known of the bytes.
+use Rattle.std.proofs.Common.{⊎_elim, inl, inr, ℕ, Bool, true, false, Option, None, Some, List, [], ◌∷◌, length, slice_get, Result, Ok, Err}
 use Rattle.std.specs.List.{AllByRecursion}
+use Rattle.kinds.specs.declared.refusal.Refusal.{Refusal}
 use Rattle.kinds.specs.declared.rule.BackupRule.{BackupRule}
 use Rattle.kinds.specs.declared.segment.Segment.{Segment}
 use Rattle.kinds.specs.Sizes.{is_size}
@@ -11,15 +12,20 @@ use Rattle.inventory_rows.specs.object_rows.Names.{node_named, filespace_named}
 use Rattle.inventory_rows.specs.State.{Inv}
 use Rattle.inventory_rules.specs.Transactions.{effect}
 use Rattle.placing.specs.Placing.{segments_for, default_rule, active_version}
-use Rattle.line_forms.specs.Line.{Request, day, put, get, register, define_volume, checkpoint, asked}
+use Rattle.inventory_rows.specs.pool_tables.Rows.{row_at}
+use Rattle.inventory_rows.specs.volume_rows.declared.volume.Volume.{Volume}
+use Rattle.admin_words.specs.declared.command.Command.{Command}
+use Rattle.admin_commands.specs.declared.work.Work.{Work}
+use Rattle.admin_commands.specs.declared.work.Work.TheVariants.{Commit, Show, Run}
 use Rattle.script_loop.specs.Reply.{Answer}
 use Rattle.script_loop.specs.declared.ends.Halt.{Halt}
 use Rattle.server.specs.declared.get.Shown.{Shown}
 use Rattle.server.specs.declared.stop.Stop.{Stop}
 use Rattle.server.specs.declared.stop.Stop.TheVariants.{Refused, LogFault, RunFull, Memory}
-use Rattle.server.specs.Requests.{File, Commits, volume_defined, DefinesVolumeIn, filespace_defined, StoresIn, DefinesAndStores, PutsUnder, PutsBy, PutsOf, PutsSized, Puts, BeginsNot, Follows, IsFrom, IsUnread, Shows, ShowsFound, GetsUnder, GetsOf, Checkpoints, backed_up, item_of}
+use Rattle.server.specs.Requests.{File, Commits, filespace_defined, StoresIn, DefinesAndStores, PutsUnder, PutsBy, PutsOf, PutsSized, Puts, BeginsNot, Follows, IsFrom, IsUnread, Shows, ShowsFound, GetsUnder, GetsOf, Checkpoints, backed_up, item_of}
 use Rattle.server.specs.World.{Kept}
-use Rattle.tsm_top.specs.Asking.{Asks, RepliesTo, Replies, EndsAt, Stops, HaltedBy, FaultBehind, file_put}
+use Rattle.tsm_top.specs.Asking.{work_over, drawn, Own, validate, delete_volume, put, get, checkpoint, none_yet, own_of, file_put, volume_deleted, DeletesRow, DeletesAt, DoesOwn, Does, AsksBy, RepliesTo, Replies, EndsAt, Stops, HaltedBy, FaultBehind}
+use Rattle.tsm_top.specs.Lines.{Line, comment, refused, asks, line_of}
 
 module _ (rose more : ℕ → Type 0) (full late sure known : Type 0) (stands there : ℕ → List Segment → List ℕ → Type 0) (rises : (file : ℕ) → rose file → more file) (fills : full → late) (knows : known → sure) (stood : (object : ℕ) (segments : List Segment) (bytes : List ℕ) → there object segments bytes → stands object segments bytes) where
   pub commits : {T : Type 0} (c : Change) (text : List ℕ) (v : Inv) (result : Result T Stop) (added : List Kept) → Commits rose full c text v result added → Commits more late c text v result added
@@ -35,10 +41,6 @@ module _ (rose more : ℕ → Type 0) (full late sure known : Type 0) (stands th
   follows : (generation end next left : ℕ) → Follows full generation end next left → Follows late generation end next left
   follows generation end next left (inl made) = inl made
   follows generation end next left (inr (why, stays, same)) = inr (⊎_elim (λ short. inl short) (λ not. inr (⊎_elim (λ run_full. inl (fills run_full)) (λ last. inr last) not)) why, stays, same)
-
-  defines_in : {T : Type 0} (pool : Option ℕ) (name : List ℕ) (mebibytes : ℕ) (v : Inv) (result : Result T Stop) (added : List Kept) → DefinesVolumeIn rose full pool name mebibytes v result added → DefinesVolumeIn more late pool name mebibytes v result added
-  defines_in None name mebibytes v result added is = is
-  defines_in (Some pool) name mebibytes v result added is = commits (volume_defined name pool mebibytes v) [] v result added is
 
   stores_in : (segments : Option (List Segment)) (f : File) (filespace : ℕ) (class : List ℕ) (pool : ℕ) (v : Inv) (result : Result ℕ Stop) (added : List Kept) → StoresIn rose full segments f filespace class pool v result added → StoresIn more late segments f filespace class pool v result added
   stores_in None f filespace class pool v result added is = is
@@ -110,32 +112,53 @@ module _ (rose more : ℕ → Type 0) (full late sure known : Type 0) (stands th
     checkpoints generation next (Err RunFull) is = (fills is.0, is.1)
     checkpoints generation next (Err Memory) is = is
 
-    pub asks : (generation : ℕ) (request : Request) (said : Result (List (List ℕ)) Stop) (added : List Kept) (next : ℕ) → Asks rose full sure contents stands v generation request said added next → Asks more late known contents there v generation request said added next
-    asks generation (day number) said added next (made, is, lines, same) = (made, commits _ [] v made added is, lines, same)
-    asks generation (put node filespace path mtime text) said added next (made, is, lines, same) = (made, puts (file_put node filespace path mtime text) v made added is, lines, same)
-    asks generation (get node filespace path) said added next (made, is, lines, none, same) = (made, ⊎_elim (λ run_full. inl (run_full.0, fills run_full.1)) (λ done. inr (gets_of (node_named node v.clients.nodes) filespace path made done)) is, lines, none, same)
-    asks generation (register node) said added next (made, is, lines, same) = (made, commits _ [] v made added is, lines, same)
-    asks generation (define_volume name mebibytes) said added next (made, is, lines, same) = (made, ⊎_elim (λ none. inl (begins_not made added none)) (λ done. inr (defines_in _ name mebibytes v made added done)) is, lines, same)
-    asks generation checkpoint said added next (made, is, lines, none) = (made, checkpoints generation next made is, lines, none)
+    deletes_row : (n file : ℕ) (volume : Option Volume) (said : Result (List ℕ) Stop) (added : List Kept) → DeletesRow rose full n v file volume said added → DeletesRow more late n v file volume said added
+    deletes_row n file None said added is = is
+    deletes_row n file (Some volume) said added (made, is, lines) = (made, commits (volume_deleted file volume) [] v made added is, lines)
 
-    replies_to : (begun : Type 0) (generation log : ℕ) (request : Option Request) (answer : Answer) (added : List Kept) (next left : ℕ) → RepliesTo rose begun full sure contents stands v generation log request answer added next left → RepliesTo more begun late known contents there v generation log request answer added next left
-    replies_to begun generation log None answer added next left is = (is.0, is.1, follows generation log next left is.2)
-    replies_to begun generation log (Some request) answer added next left (said, mid, end, is, early, ends, answered, behind) = (said, mid, end, asks generation request said added mid is, early, ends, answered, follows mid end next left behind)
+    deletes_at : (n : ℕ) (file : Option ℕ) (said : Result (List ℕ) Stop) (added : List Kept) → DeletesAt rose full n v file said added → DeletesAt more late n v file said added
+    deletes_at n None said added is = is
+    deletes_at n (Some file) said added is = deletes_row n file (row_at file v.stores.volumes) said added is
 
-    pub replies : (begun : Type 0) (generation log : ℕ) (line : List ℕ) (answer : Answer) (added : List Kept) (next left : ℕ) → Replies rose begun full sure contents stands v generation log line answer added next left → Replies more begun late known contents there v generation log line answer added next left
-    replies begun generation log line answer added next left is = replies_to begun generation log (asked line) answer added next left is
+    does_own : (n generation : ℕ) (own : Own) (numbers : List ℕ) (said : Result (List ℕ) Stop) (added : List Kept) (next : ℕ) → DoesOwn rose full sure contents stands n v generation own numbers said added next → DoesOwn more late known contents there n v generation own numbers said added next
+    does_own n generation (validate set) numbers said added next is = is
+    does_own n generation delete_volume numbers said added next is = (deletes_at n (slice_get numbers 0) said added is.0, is.1)
+    does_own n generation (put file) numbers said added next (made, is, lines, same) = (made, puts (file_put file) v made added is, lines, same)
+    does_own n generation (get file) numbers said added next (made, is, lines, none, same) =
+        (made, ⊎_elim (λ run_full. inl (run_full.0, fills run_full.1)) (λ done. inr (gets_of (node_named file.node v.clients.nodes) file.filespace file.path made done)) is, lines, none, same)
+    does_own n generation checkpoint numbers said added next (made, is, lines, none) = (made, checkpoints generation next made is, lines, none)
+    does_own n generation none_yet numbers said added next is = is
+
+    does : (n generation : ℕ) (c : Command) (work : Result Work Refusal) (said : Result (List ℕ) Stop) (added : List Kept) (next : ℕ) → Does rose full sure contents stands n v generation c work said added next → Does more late known contents there n v generation c work said added next
+    does n generation c (Err why) said added next is = is
+    does n generation c (Ok (Commit what)) said added next (made, is, lines, same) = (made, commits (drawn what v) [] v made added is, lines, same)
+    does n generation c (Ok (Show query)) said added next is = is
+    does n generation c (Ok (Run numbers)) said added next is = does_own n generation (own_of c) numbers said added next is
+
+    pub asks_by : (n generation : ℕ) (c : Command) (work : Result Work Refusal) (said : Result (List ℕ) Stop) (added : List Kept) (next : ℕ) → AsksBy rose full sure contents stands n v generation c work said added next → AsksBy more late known contents there n v generation c work said added next
+    asks_by n generation c work said added next (inl (none, same)) = inl (begins_not said added none, same)
+    asks_by n generation c work said added next (inr is) = inr (does n generation c work said added next is)
+
+    replies_to : (begun : Type 0) (n generation log : ℕ) (line : Line) (answer : Answer) (why : Option Refusal) (added : List Kept) (next left : ℕ) → RepliesTo rose begun full sure contents stands n v generation log line answer why added next left → RepliesTo more begun late known contents there n v generation log line answer why added next left
+    replies_to begun n generation log comment answer why added next left is = (is.0, is.1, is.2, follows generation log next left is.3)
+    replies_to begun n generation log (refused given) answer why added next left is = (is.0, is.1, is.2, follows generation log next left is.3)
+    replies_to begun n generation log (asks command) answer why added next left (said, mid, end, is, early, ends, answered, by, behind) =
+        (said, mid, end, asks_by n generation command (work_over command v) said added mid is, early, ends, answered, by, follows mid end next left behind)
+
+    pub replies : (begun : Type 0) (n generation log : ℕ) (line : List ℕ) (answer : Answer) (why : Option Refusal) (added : List Kept) (next left : ℕ) → Replies rose begun full sure contents stands n v generation log line answer why added next left → Replies more begun late known contents there n v generation log line answer why added next left
+    replies begun n generation log line answer why added next left is = replies_to begun n generation log (line_of line) answer why added next left is
 
     fault_behind : (how : Halt) → FaultBehind rose how → FaultBehind more how
     fault_behind how (file, by, rose_there) = (file, by, (rose_there.0, rises file rose_there.1))
 
-    halted_by : (said : Result (List (List ℕ)) Stop) (how : Halt) → HaltedBy rose said how → HaltedBy more said how
-    halted_by said how (inl is) = inl is
-    halted_by said how (inr (answer, is, behind)) = inr (answer, is, fault_behind how behind)
+    halted_by : (n : ℕ) (said : Result (List ℕ) Stop) (how : Halt) → HaltedBy rose n said how → HaltedBy more n said how
+    halted_by n said how (inl is) = inl is
+    halted_by n said how (inr (answer, is, behind)) = inr (answer, is, fault_behind how behind)
 
-    ends_at : (begun : Type 0) (generation : ℕ) (request : Option Request) (how : Halt) (added : List Kept) (next : ℕ) → EndsAt rose begun full sure contents stands v generation request how added next → EndsAt more begun late known contents there v generation request how added next
-    ends_at begun generation None how added next is = (⊎_elim (λ memory. inl memory) (λ behind. inr (fault_behind how behind)) is.0, is.1, is.2)
-    ends_at begun generation (Some request) how added next (inl is) = inl is
-    ends_at begun generation (Some request) how added next (inr (said, is, early, by)) = inr (said, asks generation request said added next is, early, halted_by said how by)
+    ends_at : (begun : Type 0) (n generation : ℕ) (line : Line) (how : Halt) (added : List Kept) (next : ℕ) → EndsAt rose begun full sure contents stands n v generation line how added next → EndsAt more begun late known contents there n v generation line how added next
+    ends_at begun n generation comment how added next is = (⊎_elim (λ memory. inl memory) (λ behind. inr (fault_behind how behind)) is.0, is.1, is.2)
+    ends_at begun n generation (refused given) how added next is = (⊎_elim (λ memory. inl memory) (λ behind. inr (fault_behind how behind)) is.0, is.1, is.2)
+    ends_at begun n generation (asks command) how added next (said, is, early, by) = (said, asks_by n generation command (work_over command v) said added next is, early, halted_by n said how by)
 
-    pub stops : (begun : Type 0) (generation : ℕ) (line : List ℕ) (how : Halt) (added : List Kept) (next : ℕ) → Stops rose begun full sure contents stands v generation line how added next → Stops more begun late known contents there v generation line how added next
-    stops begun generation line how added next is = ends_at begun generation (asked line) how added next is
+    pub stops : (begun : Type 0) (n generation : ℕ) (line : List ℕ) (how : Halt) (added : List Kept) (next : ℕ) → Stops rose begun full sure contents stands n v generation line how added next → Stops more begun late known contents there n v generation line how added next
+    stops begun n generation line how added next is = ends_at begun n generation (line_of line) how added next is

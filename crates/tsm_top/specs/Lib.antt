@@ -1,6 +1,9 @@
 pub mod Answers
 pub mod Asking
+pub mod Headline
+pub mod Lines
 pub mod Machine
-pub mod Refusals
+pub mod Notes
+pub mod Reading
 pub mod Serve
 pub mod Session

@@ -4,6 +4,7 @@ use Rattle.std.specs.Prelude.{◌≡◌, ◌⊎◌, ℕ, ◌+◌, ◌-◌, ◌^�
 use Rattle.store_api.specs.Cause.{Rose, NoneFell}
 use Rattle.store_api.specs.Disk.{History, back, ImageAt}
 use Rattle.fields.specs.Editions.{second_form}
+use Rattle.kinds.specs.declared.refusal.Refusal.{Refusal}
 use Rattle.kinds.specs.declared.segment.Segment.{Segment}
 use Rattle.inventory_rows.specs.State.{Inv}
 use Rattle.script_loop.specs.Reply.{Answer}
@@ -16,12 +17,16 @@ use Rattle.vault.specs.Recovery.{records_of}
 use Rattle.server.specs.Reads.{StandIn}
 use Rattle.server.specs.World.{Kept, database_after, contents_after, GivesBack}
 use Rattle.tsm_top.specs.Asking.{Replies, Stops}
+use Rattle.tsm_top.specs.Lines.{line_of}
+use Rattle.tsm_top.specs.Notes.{note_of, with_note}
+use Rattle.tsm_top.specs.declared.note.Note.{Note}
 
--- What a run has made so far: its transactions, newest first; the moments at which the oldest ones of them were known to be durable, newest first; the generation of the
+-- What a run has made so far: its transactions, newest first; the moments at which the oldest ones of them were known to be durable, newest first; what was noted of its lines; the generation of the
 -- newest image, and where its log ends; and the store's moment and its counts of faults now.
 pub record Site : Type 0 where
   pub kept : List Kept
   pub stamps : List ℕ
+  pub notes : List Note
   pub generation : ℕ
   pub log : ℕ
   pub moment : ℕ
@@ -79,18 +84,20 @@ StoodAt (Some h) moment object segments bytes = StandIn (Some (back h moment)) o
 
 -- Over a database and the bytes of its objects, where `told` is what the store tells at the return, and `sure` says that the store was sound at the opening.
 module _ (sure : Type 0) (told : Option History) (base : Inv) (first : ℕ → List ℕ) where
-  -- With what was made since: the line may be answered so, which leaves the second. An answer says that each transaction is known to be durable, its own and all before, and each
+  -- With what was made since: line n may be answered so, which leaves the second, with what is noted of it. An answer says that each transaction is known to be durable, its own and all before, and each
   -- image of the moment gives back all of them.
-  abbrev pub RepliesAt : Site → List ℕ → Answer → Site → Type 0
-  RepliesAt old line answer new =
-      (added : List Kept) × Replies (RoseFrom old new) (IsLate old) (IsLate new) sure (contents_after first old.kept) (StoodAt told old.moment) (database_after base old.kept) old.generation old.log line answer added new.generation new.log
+  abbrev pub RepliesAt : Site → (n : ℕ) → List ℕ → Answer → Site → Type 0
+  RepliesAt old n line answer new =
+      (added : List Kept) × (why : Option Refusal)
+      × Replies (RoseFrom old new) (IsLate old) (IsLate new) sure (contents_after first old.kept) (StoodAt told old.moment) n (database_after base old.kept) old.generation old.log line answer why added new.generation new.log
       × Grows added old new × AllStamped new × (sure → IsThere told base first new)
+      × (new.notes ≡ with_note (line_of line) (note_of n base.number (database_after base old.kept).number (database_after base new.kept).number why) old.notes)
 
-  -- the line may end the run so
-  abbrev pub StopsAt : Site → List ℕ → Halt → Site → Type 0
-  StopsAt old line how new =
-      (added : List Kept) × Stops (RoseFrom old new) (IsLate old) (IsLate new) sure (contents_after first old.kept) (StoodAt told old.moment) (database_after base old.kept) old.generation line how added new.generation
-      × Grows added old new × HaltStamps how added new × (sure → HaltThere how told base first new)
+  -- The line may end the run so. Nothing is noted of it, as none of its lines is put.
+  abbrev pub StopsAt : Site → (n : ℕ) → List ℕ → Halt → Site → Type 0
+  StopsAt old n line how new =
+      (added : List Kept) × Stops (RoseFrom old new) (IsLate old) (IsLate new) sure (contents_after first old.kept) (StoodAt told old.moment) n (database_after base old.kept) old.generation line how added new.generation
+      × Grows added old new × HaltStamps how added new × (sure → HaltThere how told base first new) × (new.notes ≡ old.notes)
 
 -- each image of each moment from `opened` to now gives back what was made first, with each transaction that was durable by then
 abbrev pub AllSafe : Inv → (ℕ → List ℕ) → ℕ → List Kept → List ℕ → History → Type 0

@@ -1,5 +1,5 @@
 -- What the top call answers, puts and leaves.
-use Rattle.std.specs.Prelude.{◌≡◌, ◌⊎◌, ℕ, ◌-◌, ◌^◌, ◌<◌, ◌≤◌, Bool, true, false, is_some, Option, None, Some, IfSome, List, [], ◌∷◌, ◌++◌, length, map, reverse, codes, decimal, String, string_bytes}
+use Rattle.std.specs.Prelude.{◌≡◌, ◌⊎◌, ℕ, ◌-◌, ◌^◌, ◌<◌, ◌≤◌, Bool, true, false, is_some, Option, None, Some, IfSome, List, [], ◌∷◌, ◌++◌, map, reverse, codes, decimal, String, string_bytes}
 use Rattle.std.specs.Io.KnownBytes.{Appends}
 use Rattle.std.specs.declared.alloc.Global.{Global}
 use Rattle.store_api.specs.Disk.{History, now, reads}
@@ -15,6 +15,7 @@ use Rattle.inventory_rows.specs.State.{Inv}
 use Rattle.vault.specs.log_file.Cursor.{Looked}
 use Rattle.vault.specs.log_file.Safety.{Timely, acknowledged}
 use Rattle.script_loop.specs.Ends.{told_number, status_of, DoneAtEnd}
+use Rattle.script_loop.specs.Reply.{Answer}
 use Rattle.script_loop.specs.Runs.{Says, IsFront}
 use Rattle.script_loop.specs.declared.ends.End.{End}
 use Rattle.vault.specs.Openings.{Spared, OpenedAs, is_formatted, SaysWhy}
@@ -22,8 +23,10 @@ use Rattle.vault.specs.Recovery.{Recovers, IsBase}
 use Rattle.server.specs.Left.{HasFirst}
 use Rattle.server.specs.Running.{IsSure}
 use Rattle.server.specs.Sound.{IsSound}
+use Rattle.server.specs.Steps.{Later}
 use Rattle.server.specs.World.{Kept, entries_of}
 use Rattle.vault.specs.Vaults.{State}
+use Rattle.tsm_top.specs.declared.note.Note.{Note}
 use Rattle.tsm_top.specs.declared.top.NotMade.{NotMade}
 use Rattle.tsm_top.specs.declared.top.NotMade.TheVariants.{Exists, Refused}
 use Rattle.tsm_top.specs.Machine.{Site, RepliesAt, StopsAt, IsThere, AllSafe}
@@ -143,11 +146,12 @@ HasCause asked (refused_opening why) told left last rose = (command : Command) �
 abbrev pub HasCauseOf : Closing → List (String Global) → (told left : Option History) → (last : ℕ) → (rose : ℕ → Type 0) → Type 0
 HasCauseOf why words told left last rose = HasCause (Asks words) why told left last rose
 
--- No script was run: the one line was put, nothing is in the journal, and no database and no image is told of. `opened` and `last` are both the moment at the return.
-pub record Shuts (why : Closing) (before after : Option (List ℕ)) (sink_rose : Type 0) (status : ℕ) (journal : List Entry) (stamps : List ℕ) (base : Option Inv) (generation opened last : ℕ) : Type 0 where
+-- No script was run: the one line was put, nothing is in the journal or noted, and no database and no image is told of. `opened` and `last` are both the moment at the return.
+pub record Shuts (why : Closing) (before after : Option (List ℕ)) (sink_rose : Type 0) (status : ℕ) (journal : List Entry) (stamps : List ℕ) (notes : List Note) (base : Option Inv) (generation opened last : ℕ) : Type 0 where
   pub line : PutsLine (closing_line why) (closing_status why) status before after sink_rose
   pub journal_is : journal ≡ []
   pub stamps_are : stamps ≡ []
+  pub notes_are : notes ≡ []
   pub base_is : base ≡ None
   pub generation_is : generation ≡ 0
   pub opened_is : opened ≡ last
@@ -204,11 +208,11 @@ pub record RanOver (sure : Type 0) (first : ℕ → List ℕ) (base : Inv) (old 
 
 -- the site at the end of opening: nothing was made yet
 abbrev pub opened_site : (generation log moment : ℕ) → (faults : ℕ → ℕ) → Site
-opened_site generation log moment faults = record { kept = []; stamps = []; generation = generation; log = log; moment = moment; faults = faults }
+opened_site generation log moment faults = record { kept = []; stamps = []; notes = []; generation = generation; log = log; moment = moment; faults = faults }
 
 -- A script was run over a database. `told` is what the store told at the start, and `left_told` what it tells at the return; `opened` and `last` are the moments, and `before` and `after` the counts of faults, at the
 -- end of opening and at the return. As many transactions are known to be durable as have their stamps.
-pub record RanScript (command : Command) (told left_told : Option History) (before after : ℕ → ℕ) (opened last : ℕ) (end : End) (status : ℕ) (journal : List Entry) (stamps : List ℕ) (base : Option Inv) (generation : ℕ) (script left was is : Option (List ℕ)) : Type 0 where
+pub record RanScript (command : Command) (told left_told : Option History) (before after : ℕ → ℕ) (opened last : ℕ) (end : End) (status : ℕ) (journal : List Entry) (stamps : List ℕ) (notes : List Note) (base : Option Inv) (generation : ℕ) (script left was is : Option (List ℕ)) : Type 0 where
   pub code : status ≡ status_of end
   pub database : Inv
   pub base_is : base ≡ Some database
@@ -222,10 +226,10 @@ pub record RanScript (command : Command) (told left_told : Option History) (befo
   pub log : ℕ
   pub left_log : ℕ
   pub runs : (first : ℕ → List ℕ) → RanOver (Sure command first told) first database (opened_site start log opened before)
-      (record { kept = kept; stamps = reverse stamps; generation = generation; log = left_log; moment = last; faults = after }) left_told end script was is
+      (record { kept = kept; stamps = reverse stamps; notes = notes; generation = generation; log = left_log; moment = last; faults = after }) left_told end script was is
 
 -- The same over a vault that was opened.
-pub record RanFrom (vault : State Inv) (told left_told : Option History) (before after : ℕ → ℕ) (opened last : ℕ) (end : End) (status : ℕ) (journal : List Entry) (stamps : List ℕ) (generation : ℕ) (script left was is : Option (List ℕ)) : Type 0 where
+pub record RanFrom (vault : State Inv) (told left_told : Option History) (before after : ℕ → ℕ) (opened last : ℕ) (end : End) (status : ℕ) (journal : List Entry) (stamps : List ℕ) (notes : List Note) (generation : ℕ) (script left was is : Option (List ℕ)) : Type 0 where
   pub code : status ≡ status_of end
   pub kept : List Kept
   pub journal_is : reverse journal ≡ entries_of kept
@@ -233,4 +237,73 @@ pub record RanFrom (vault : State Inv) (told left_told : Option History) (before
   pub timely : Timely opened last (reverse stamps)
   pub left_log : ℕ
   pub runs : (first : ℕ → List ℕ) → RanOver (IsSure first vault told) first vault.database (opened_site vault.generation vault.end opened before)
-      (record { kept = kept; stamps = reverse stamps; generation = generation; log = left_log; moment = last; faults = after }) left_told end script was is
+      (record { kept = kept; stamps = reverse stamps; notes = notes; generation = generation; log = left_log; moment = last; faults = after }) left_told end script was is
+
+-- ---- the headline, clause by clause
+--
+-- Of a call that opened a database and ran a script over it. The database before a line is the one that opening gave and all that was made since.
+--
+-- 1  put       The bytes put are the answers of the lines that were taken, in order, each of which may be answered so, and the last line of the status; or a front of that, where the sink's count of faults
+--              rose. Of a call that ran no script they are the one line of its end. (`HasPut`)
+-- 2  journal   The journal has what the lines made, in order: each of its transactions is of actor 0, the script, and one that its line's command orders over the database before it. Each that an answered line made has its stamp. (`Journal`)
+-- 3  images    At every moment since the opening each image gives back the database after the first so many transactions of the journal, among them each that was durable by then, with every copy of every object in
+--              its frames and with its object's bytes; and what is left is a sound store with all that was durable. (`Images`)
+-- 4  queries   The rows of a query are those over the database before its line, in their order, and OK says how many they are. (`Queries`)
+-- 5  bytes     The DATA lines of a GET show the bytes that the object of the active version of its path had when it was stored, from a copy on volumes that may be read. (`Bytes`)
+-- 6  items     The version that a PUT brings says the length and the SHA-256 of the text in its line. (`Items`)
+-- 7  causes    A line is refused as its words, its look-ups, the database, a file's place or a count of faults that rose give the cause. (`Causes`)
+-- 8  done      A line that ends with OK did what it names. (`DoneLines`)
+--    complete  And a line of the grammar that is legal over the database before it, with room for its file, ends with OK where no count of faults rose and the run goes on. (`Complete`)
+--
+-- In each the lines are all of them, in order, with their answers (`RanEach`), and what is said of one stands in specs/Headline.
+
+-- a line may be answered so, and has this beside
+abbrev pub With : (Site → ℕ → List ℕ → Answer → Site → Type 0) → (Site → ℕ → List ℕ → Answer → Site → Type 0) → Site → ℕ → List ℕ → Answer → Site → Type 0
+With replies clause old n line answer new = replies old n line answer new × clause old n line answer new
+
+-- A script was run over a database, and each line that was answered has what a clause says of lines. The sites are those of `RanScript`.
+pub record RanEach (clause : Type 0 → Option History → Inv → (ℕ → List ℕ) → Site → ℕ → List ℕ → Answer → Site → Type 0) (command : Command) (told left_told : Option History) (before after : ℕ → ℕ) (opened last : ℕ) (end : End) (status : ℕ) (journal : List Entry) (stamps : List ℕ) (notes : List Note) (base : Option Inv) (generation : ℕ) (script was is : Option (List ℕ)) : Type 0 where
+  pub code : status ≡ status_of end
+  pub database : Inv
+  pub base_is : base ≡ Some database
+  pub kept : List Kept
+  pub journal_is : reverse journal ≡ entries_of kept
+  pub start : ℕ
+  pub log : ℕ
+  pub left_log : ℕ
+  pub runs : (first : ℕ → List ℕ) → Says (With (RepliesAt (Sure command first told) left_told database first) (clause (Sure command first told) left_told database first)) (StopsAt (Sure command first told) left_told database first) (opened_site start log opened before)
+      (record { kept = kept; stamps = reverse stamps; notes = notes; generation = generation; log = left_log; moment = last; faults = after }) script was is end
+
+-- At every moment since the opening each image gives back the database after the first so many of the journal's transactions, each whose stamp is at most that moment among them, with every copy of every
+-- object in its frames and with its object's bytes; and what is left is a sound store with every one of them.
+pub record RanSafe (command : Command) (told left_told : Option History) (opened last : ℕ) (journal : List Entry) (stamps : List ℕ) (base : Option Inv) : Type 0 where
+  pub database : Inv
+  pub base_is : base ≡ Some database
+  pub kept : List Kept
+  pub journal_is : reverse journal ≡ entries_of kept
+  pub images : (first : ℕ → List ℕ) → Sure command first told → IfSome left_told (AllSafe database first opened kept (reverse stamps))
+  pub left : (first : ℕ → List ℕ) → Sure command first told → IfSome left_told (HasFirst database first kept (acknowledged last (reverse stamps)))
+
+-- of what is put nothing more is said of a line than how it may be answered
+abbrev pub Put : Type 0 → Option History → Inv → (ℕ → List ℕ) → Site → ℕ → List ℕ → Answer → Site → Type 0
+Put sure told base first old n line answer new = Unit {0}
+
+-- `asked` says which command the words ask.
+module _ {S : Type 0} (asked : Command → Type 0) (told : S → Option History) (moment : S → ℕ) (faults : S → ℕ → ℕ) where
+  -- a script was run, and each line that was answered has what the clause says
+  abbrev pub OverEach : (Type 0 → Option History → Inv → (ℕ → List ℕ) → Site → ℕ → List ℕ → Answer → Site → Type 0) → (store left : S) → (opened : ℕ) → (status : ℕ) → (journal : List Entry) → (stamps : List ℕ) → (notes : List Note) → (base : Option Inv) → (generation : ℕ) → (script was is : Option (List ℕ)) → Type 0
+  OverEach clause store left opened status journal stamps notes base generation script was is =
+      (command : Command) × asked command × (end : End) × (opening : S) × (moment opening ≡ opened) × Later moment faults store opening × Later moment faults opening left
+      × RanEach clause command (told store) (told left) (faults opening) (faults left) opened (moment left) end status journal stamps notes base generation script was is
+
+  -- the one line of the end was put, or a front of it where the sink's count rose; or a script was run, and its lines' answers were put
+  abbrev pub HasPut : (sink_rose : Type 0) → (store left : S) → (opened : ℕ) → (status : ℕ) → (journal : List Entry) → (stamps : List ℕ) → (notes : List Note) → (base : Option Inv) → (generation : ℕ) → (script was is : Option (List ℕ)) → Type 0
+  HasPut sink_rose store left opened status journal stamps notes base generation script was is =
+      ((why : Closing) × PutsLine (closing_line why) (closing_status why) status was is sink_rose) ⊎ OverEach Put store left opened status journal stamps notes base generation script was is
+
+  -- nothing was opened; or a script was run, and each line that was answered has what the clause says
+  abbrev pub EachLine : (Type 0 → Option History → Inv → (ℕ → List ℕ) → Site → ℕ → List ℕ → Answer → Site → Type 0) → (store left : S) → (opened : ℕ) → (status : ℕ) → (journal : List Entry) → (stamps : List ℕ) → (notes : List Note) → (base : Option Inv) → (generation : ℕ) → (script was is : Option (List ℕ)) → Type 0
+  EachLine clause store left opened status journal stamps notes base generation script was is = (base ≡ None) ⊎ OverEach clause store left opened status journal stamps notes base generation script was is
+
+  abbrev pub Images : (store left : S) → (opened : ℕ) → (journal : List Entry) → (stamps : List ℕ) → (base : Option Inv) → Type 0
+  Images store left opened journal stamps base = (base ≡ None) ⊎ ((command : Command) × asked command × RanSafe command (told store) (told left) opened (moment left) journal stamps base)

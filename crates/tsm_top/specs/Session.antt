@@ -2,9 +2,10 @@
 use Rattle.std.specs.Prelude.{◌≡◌, ◌⊎◌, ℕ, ◌+◌, ◌-◌, ◌≤◌, ◌^◌, Option, Some, None, List, Result, Ok, Err}
 use Rattle.store_api.specs.Cause.{Rose}
 use Rattle.store_api.specs.Disk.{History}
-use Rattle.kinds.specs.declared.refusal.Refusal.TheVariants.{UnknownWord}
+use Rattle.kinds.specs.declared.refusal.Refusal.{Refusal}
 use Rattle.inventory_rows.specs.State.{Inv}
-use Rattle.line_forms.specs.Line.{Request, asked}
+use Rattle.admin_words.specs.declared.command.Command.{Command}
+use Rattle.admin_commands.specs.declared.work.Work.{Work}
 use Rattle.script_loop.specs.Reply.{Answer}
 use Rattle.script_loop.specs.declared.ends.Halt.{Halt}
 use Rattle.script_loop.specs.declared.ends.Halt.TheVariants as halt
@@ -15,8 +16,11 @@ use Rattle.server.specs.Reads.{StandIn}
 use Rattle.server.specs.Running.{Running, IsSure}
 use Rattle.server.specs.Steps.{Does, Breaks}
 use Rattle.server.specs.World.{Kept}
-use Rattle.tsm_top.specs.Answers.{refusal, Ends}
-use Rattle.tsm_top.specs.Asking.{Asks, IsFull, RepliesTo, EndsAt}
+use Rattle.tsm_top.specs.Answers.{nothing, refusal, Ends}
+use Rattle.tsm_top.specs.Asking.{work_over, AsksBy, IsFull, RepliesTo, EndsAt}
+use Rattle.tsm_top.specs.Lines.{Line, comment, refused, asks, line_of}
+use Rattle.tsm_top.specs.Notes.{note_of, with_note}
+use Rattle.tsm_top.specs.declared.session.Session.{Session}
 
 -- the newest image stays, or the next one is the newest, whose log is empty
 abbrev pub Turns : State Inv → State Inv → Type 0
@@ -31,27 +35,32 @@ module _ {S : Type 0} (told : S → Option History) (moment : S → ℕ) (faults
   abbrev pub IsLateAt : Running S → Type 0
   IsLateAt server = 2 ^ 62 - 2 ^ 24 ≤ moment server.store
 
-  -- what is asked, and its result, over a server's database and files, whatever bytes the objects had
-  abbrev pub AsksOf : Running S → Running S → Request → Result (List (List ℕ)) Stop → List Kept → ℕ → Type 0
-  AsksOf old new request said added next = (contents : ℕ → List ℕ) → Asks (RoseIn old new) (IsLateAt new) (IsSure contents old.vault (told old.store)) contents (StandIn (told old.store)) old.vault.database old.vault.generation request said added next
+  -- what a command in line n comes to, whose work is this, over a server's database and files, whatever bytes the objects had
+  abbrev pub AsksOf : Running S → Running S → (n : ℕ) → Command → Result Work Refusal → Result (List ℕ) Stop → List Kept → ℕ → Type 0
+  AsksOf old new n command work said added next =
+      (contents : ℕ → List ℕ) → AsksBy (RoseIn old new) (IsLateAt new) (IsSure contents old.vault (told old.store)) contents (StandIn (told old.store)) n old.vault.database old.vault.generation command work said added next
 
-  -- A request was done with this result: its transactions are added, and they and the result are what was asked.
-  abbrev pub Made : Running S → Request → Result (List (List ℕ)) Stop → Running S → Type 0
-  Made old request said new = (added : List Kept) × (fresh : List ℕ) × Leaves told moment faults said added fresh old new × IsFull (IsLateAt old) said × Turns old.vault new.vault × AsksOf old new request said added new.vault.generation
+  -- A command whose work is this was done with this result: its transactions are added, and they and the result are what was asked.
+  abbrev pub Made : Running S → (n : ℕ) → Command → Result Work Refusal → Result (List ℕ) Stop → Running S → Type 0
+  Made old n command work said new =
+      (added : List Kept) × (fresh : List ℕ) × Leaves told moment faults said added fresh old new × IsFull (IsLateAt old) said × Turns old.vault new.vault × AsksOf old new n command work said added new.vault.generation
 
-  -- What a line asks was done and answered, or ended the run; nothing is made behind it yet. A line that asks nothing is refused. Memory may be wanted before anything is done.
-  abbrev pub DoesAsked : Running S → Option Request → Result Answer Halt → Running S → Type 0
-  DoesAsked old None (Ok answer) new = (answer ≡ refusal (UnknownWord 1)) × (new ≡ old)
-  DoesAsked old None (Err how) new = (how ≡ halt.Memory) × (new ≡ old)
-  DoesAsked old (Some request) result new = ((result ≡ Err halt.Memory) × (new ≡ old)) ⊎ ((said : Result (List (List ℕ)) Stop) × Made old request said new × Ends said result)
+  -- A command whose work is this was done and answered, or it ended the run.
+  abbrev pub Works : Running S → (n : ℕ) → Command → Result Work Refusal → Result (Answer × Option Refusal) Halt → Running S → Type 0
+  Works old n command work result new = (said : Result (List ℕ) Stop) × Made old n command work said new × Ends n said result
 
-  -- from the first server what is asked may be answered so, which leaves the second
-  abbrev pub Serves : Running S → Option Request → Answer → Running S → Type 0
-  Serves old request answer new = (added : List Kept) × (fresh : List ℕ) × Does told moment faults added fresh old new
-      × ((contents : ℕ → List ℕ) → RepliesTo (RoseIn old new) (IsLateAt old) (IsLateAt new) (IsSure contents old.vault (told old.store)) contents (StandIn (told old.store)) old.vault.database old.vault.generation old.vault.end request answer added new.vault.generation new.vault.end)
+  -- What a line is was done and answered, or ended the run; nothing is made behind it yet.
+  abbrev pub DoesLine : Running S → (n : ℕ) → Line → Result (Answer × Option Refusal) Halt → Running S → Type 0
+  DoesLine old n comment (Ok answer) new = (answer ≡ (nothing, None)) × (new ≡ old)
+  DoesLine old n comment (Err how) new = (how ≡ halt.Memory) × (new ≡ old)
+  DoesLine old n (refused given) (Ok answer) new = (answer ≡ (refusal n given, Some given)) × (new ≡ old)
+  DoesLine old n (refused given) (Err how) new = (how ≡ halt.Memory) × (new ≡ old)
+  DoesLine old n (asks command) result new = Works old n command (work_over command old.vault.database) result new
 
-  abbrev pub ServesLine : Running S → List ℕ → Answer → Running S → Type 0
-  ServesLine old line answer new = Serves old (asked line) answer new
+  -- from the first server the line may be answered so, and refused so, which leaves the second
+  abbrev pub Serves : Running S → (n : ℕ) → Line → Answer → (why : Option Refusal) → Running S → Type 0
+  Serves old n line answer why new = (added : List Kept) × (fresh : List ℕ) × Does told moment faults added fresh old new
+      × ((contents : ℕ → List ℕ) → RepliesTo (RoseIn old new) (IsLateAt old) (IsLateAt new) (IsSure contents old.vault (told old.store)) contents (StandIn (told old.store)) n old.vault.database old.vault.generation old.vault.end line answer why added new.vault.generation new.vault.end)
 
   -- a halt by a fault leaves the newest transaction in doubt, perhaps
   abbrev pub LeavesHalted : Halt → (added : List Kept) → (fresh : List ℕ) → Running S → Running S → Type 0
@@ -59,10 +68,16 @@ module _ {S : Type 0} (told : S → Option History) (moment : S → ℕ) (faults
   LeavesHalted halt.RunFull added fresh old new = Does told moment faults added fresh old new
   LeavesHalted halt.Memory added fresh old new = Does told moment faults added fresh old new
 
-  -- from the first server what is asked may end the run so, which leaves the second
-  abbrev pub HaltsAt : Running S → Option Request → Halt → Running S → Type 0
-  HaltsAt old request how new = (added : List Kept) × (fresh : List ℕ) × LeavesHalted how added fresh old new
-      × ((contents : ℕ → List ℕ) → EndsAt (RoseIn old new) (IsLateAt old) (IsLateAt new) (IsSure contents old.vault (told old.store)) contents (StandIn (told old.store)) old.vault.database old.vault.generation request how added new.vault.generation)
+  -- from the first server the line may end the run so, which leaves the second
+  abbrev pub HaltsAt : Running S → (n : ℕ) → Line → Halt → Running S → Type 0
+  HaltsAt old n line how new = (added : List Kept) × (fresh : List ℕ) × LeavesHalted how added fresh old new
+      × ((contents : ℕ → List ℕ) → EndsAt (RoseIn old new) (IsLateAt old) (IsLateAt new) (IsSure contents old.vault (told old.store)) contents (StandIn (told old.store)) n old.vault.database old.vault.generation line how added new.vault.generation)
 
-  abbrev pub HaltsLine : Running S → List ℕ → Halt → Running S → Type 0
-  HaltsLine old line how new = HaltsAt old (asked line) how new
+  -- The same of a session: the line with this number may be answered so, and what is noted of it joins the notes.
+  abbrev pub ServesLine : Session S → (n : ℕ) → List ℕ → Answer → Session S → Type 0
+  ServesLine old n line answer new = (why : Option Refusal) × Serves old.server n (line_of line) answer why new.server × (new.first ≡ old.first)
+      × (new.notes.items ≡ with_note (line_of line) (note_of n old.first old.server.vault.database.number new.server.vault.database.number why) old.notes.items)
+
+  -- The line may end the run so; of such a line nothing is noted.
+  abbrev pub HaltsLine : Session S → (n : ℕ) → List ℕ → Halt → Session S → Type 0
+  HaltsLine old n line how new = HaltsAt old.server n (line_of line) how new.server × (new.first ≡ old.first) × (new.notes.items ≡ old.notes.items)

@@ -1,148 +1,126 @@
-// The replies to a line. Each is made of a result of the server; where one can't be made, it is for want of memory.
-ghost use Rattle.std.specs.Prelude.{◌≡◌, ◌++◌, ◌∷◌, [], Err, IfOk, IfErr};
-ghost use Rattle.kinds.specs.declared.refusal.Refusal.TheVariants.{UnknownWord};
-ghost use Rattle.script_loop.specs.declared.ends.Halt.TheVariants.{Memory};
-ghost use Rattle.tsm_top.specs.Answers.{done, refused_with, refusal, lines_of, stored_line, shown_lines, Ends};
+// The replies to a command. Each is made of its result; where one can't be made, it is for want of memory.
+ghost use Rattle.std.specs.Prelude.{◌≡◌, Ok, Err, None};
+ghost use Rattle.reports.specs.Lines.{shown_line};
+ghost use Rattle.reports.specs.declared.shown.Shown.TheVariants.{Stored};
+ghost use Rattle.server.specs.declared.stop.Stop.TheVariants.{Refused};
+ghost use Rattle.tsm_top.specs.Answers.{file_lines, row_lines, lines_of, GivesText, Declines, Ends};
 
-use crate::refusals::refusal_text;
 use crate::text;
+use inventory_answers::Answer;
 use kinds::Refusal;
+use reports::{Shown, print_line, print_refused};
 use script_loop::{Halt, Reply};
-use server::{Shown, Stop};
+use server::{Shown as FileShown, Stop};
 use std::alloc::Global;
 
-// The bytes that a DATA line shows at the most.
-const SHOWN: usize = 64;
+/// The number of the refusal for want of memory.
+const MEMORY: u32 = 50;
 
-// The reply to a command that was done, with one line.
-fn with_line(alloc: Global, line: Vec<u8>) -> Result<Reply, Halt>
-    ensures reply { IfOk result (λ reply. reply ≡ done (line.items ∷ [])) }
-    ensures memory { IfErr result (λ halt. halt ≡ Memory) }
+/// The reply to a command in this line that is refused.
+pub(crate) fn refused(
+    alloc: Global,
+    line: u32,
+    why: Refusal,
+) -> Result<(Reply, Option<Refusal>), Halt>
+    ensures { Ends line (Err (Refused why)) result }
 {
-    let mut reply = Reply::command(alloc);
-    match reply.say(line) {
-        Ok(()) => Ok(reply),
+    match print_refused(alloc, line, &why) {
+        Ok(text) => Ok((Reply::refused(text), Some(why))),
         Err(_) => Err(Halt::Memory),
     }
 }
 
-// The reply to a command that was done, with one line that is always the same.
-fn with_words(alloc: Global, line: &[u8]) -> Result<Reply, Halt>
-    ensures reply { IfOk result (λ reply. reply ≡ done (line.now ∷ [])) }
-    ensures memory { IfErr result (λ halt. halt ≡ Memory) }
+/// How a refusal of a reader is answered: want of memory ends the run.
+pub(crate) fn declined(
+    alloc: Global,
+    line: u32,
+    why: Refusal,
+) -> Result<(Reply, Option<Refusal>), Halt>
+    ensures { Declines line why result }
 {
-    match Vec::from_slice(alloc, line) {
-        Ok(line) => with_line(alloc, line),
-        Err(_) => Err(Halt::Memory),
+    if why.number() == MEMORY {
+        Err(Halt::Memory)
+    } else {
+        refused(alloc, line, why)
     }
 }
 
-fn refused_by(alloc: Global, line: Vec<u8>) -> Result<Reply, Halt>
-    ensures reply { IfOk result (λ reply. reply ≡ refused_with line.items) }
-    ensures memory { IfErr result (λ halt. halt ≡ Memory) }
-{
-    match Reply::refused(alloc, line) {
-        Ok(reply) => Ok(reply),
-        Err(_) => Err(Halt::Memory),
-    }
-}
-
-// The reply to a command that is refused.
-fn refused(alloc: Global, why: Refusal) -> Result<Reply, Halt>
-    ensures reply { IfOk result (λ reply. reply ≡ refusal why) }
-    ensures memory { IfErr result (λ halt. halt ≡ Memory) }
-{
-    match refusal_text(alloc, &why) {
-        Ok(line) => refused_by(alloc, line),
-        Err(_) => Err(Halt::Memory),
-    }
-}
-
-/// The reply to a line that asks nothing.
-pub(crate) fn unknown(alloc: Global) -> Result<Reply, Halt>
-    ensures reply { IfOk result (λ reply. reply ≡ refusal (UnknownWord 1)) }
-    ensures memory { IfErr result (λ halt. halt ≡ Memory) }
-{
-    refused(alloc, Refusal::UnknownWord(1))
-}
-
-// How a call that ended without its result is answered: a refusal is a reply, and all else ends the run.
-fn stopped(alloc: Global, stop: Stop) -> Result<Reply, Halt>
-    ensures { Ends (Err stop) result }
+/// How a call that ended without its result is answered: a refusal is a reply, and all else ends the run.
+pub(crate) fn stopped(
+    alloc: Global,
+    line: u32,
+    stop: Stop,
+) -> Result<(Reply, Option<Refusal>), Halt>
+    ensures { Ends line (Err stop) result }
 {
     match stop {
-        Stop::Refused(why) => refused(alloc, why),
+        Stop::Refused(why) => refused(alloc, line, why),
         Stop::LogFault(file) => Err(Halt::LogFault(file)),
         Stop::RunFull => Err(Halt::RunFull),
         Stop::Memory => Err(Halt::Memory),
     }
 }
 
-/// The reply to a command that is answered by one line that is always the same.
-pub(crate) fn fixed(alloc: Global, line: &[u8], made: Result<(), Stop>) -> Result<Reply, Halt>
-    ensures { Ends (lines_of (λ done. line.now ∷ []) made) result }
+// The reply to a command whose printed lines these are, where there was memory for them.
+fn with_text(text: Result<Vec<u8>, Refusal>) -> Result<(Reply, Option<Refusal>), Halt>
+    ensures { GivesText text result }
 {
-    match made {
-        Ok(()) => with_words(alloc, line),
-        Err(stop) => stopped(alloc, stop),
+    match text {
+        Ok(text) => Ok((Reply::command(text), None)),
+        Err(_) => Err(Halt::Memory),
     }
 }
 
-// The reply to a PUT that stored this object.
-fn stored_as(alloc: Global, object: u64) -> Result<Reply, Halt>
-    ensures reply { IfOk result (λ reply. reply ≡ done (stored_line object)) }
-    ensures memory { IfErr result (λ halt. halt ≡ Memory) }
+/// The reply to a command that is answered by one line.
+pub(crate) fn by_line(
+    alloc: Global,
+    line: u32,
+    shown: Shown,
+    made: Result<(), Stop>,
+) -> Result<(Reply, Option<Refusal>), Halt>
+    ensures { Ends line (lines_of (λ done. shown_line line shown) made) result }
 {
-    match text::stored(alloc, object) {
-        Ok(line) => with_line(alloc, line),
-        Err(_) => Err(Halt::Memory),
+    match made {
+        Ok(()) => with_text(print_line(alloc, line, &shown)),
+        Err(stop) => stopped(alloc, line, stop),
     }
 }
 
 /// The reply to a PUT.
-pub(crate) fn stored(alloc: Global, made: Result<u64, Stop>) -> Result<Reply, Halt>
-    ensures { Ends (lines_of stored_line made) result }
+pub(crate) fn stored(
+    alloc: Global,
+    line: u32,
+    made: Result<u64, Stop>,
+) -> Result<(Reply, Option<Refusal>), Halt>
+    ensures { Ends line (lines_of (λ object. shown_line line (Stored object)) made) result }
 {
     match made {
-        Ok(object) => stored_as(alloc, object),
-        Err(stop) => stopped(alloc, stop),
-    }
-}
-
-fn say_last(reply: Reply, line: Vec<u8>) -> Result<Reply, Halt>
-    ensures reply { IfOk result (λ after. after ≡ record { lines = reply.lines ++ line.items ∷ []; tally = reply.tally }) }
-    ensures memory { IfErr result (λ halt. halt ≡ Memory) }
-{
-    let mut reply = reply;
-    match reply.say(line) {
-        Ok(()) => Ok(reply),
-        Err(_) => Err(Halt::Memory),
-    }
-}
-
-// The reply to a GET that shows a file.
-#[tactic(auto, unfolding(crate::specs::Answers::shown))]
-fn shown_of(alloc: Global, file: &Shown) -> Result<Reply, Halt>
-    ensures reply { IfOk result (λ reply. reply ≡ done (shown_lines file.now)) }
-    ensures memory { IfErr result (λ halt. halt ≡ Memory) }
-{
-    let mut reply = Reply::command(alloc);
-    match text::say_data(alloc, &mut reply, &file.bytes, SHOWN) {
-        Ok(()) => {}
-        Err(_) => return Err(Halt::Memory),
-    }
-    match text::read(alloc, file.object, file.size.bytes()) {
-        Ok(line) => say_last(reply, line),
-        Err(_) => Err(Halt::Memory),
+        Ok(object) => with_text(print_line(alloc, line, &Shown::Stored { object })),
+        Err(stop) => stopped(alloc, line, stop),
     }
 }
 
 /// The reply to a GET.
-pub(crate) fn shown(alloc: Global, made: Result<Shown, Stop>) -> Result<Reply, Halt>
-    ensures { Ends (lines_of shown_lines made) result }
+pub(crate) fn file(
+    alloc: Global,
+    line: u32,
+    made: Result<FileShown, Stop>,
+) -> Result<(Reply, Option<Refusal>), Halt>
+    ensures { Ends line (lines_of (file_lines line) made) result }
 {
     match made {
-        Ok(file) => shown_of(alloc, &file),
-        Err(stop) => stopped(alloc, stop),
+        Ok(file) => with_text(text::file_lines(alloc, line, &file)),
+        Err(stop) => stopped(alloc, line, stop),
     }
+}
+
+/// The reply to a query.
+pub(crate) fn rows(
+    alloc: Global,
+    line: u32,
+    answer: &Answer,
+) -> Result<(Reply, Option<Refusal>), Halt>
+    ensures { Ends line (Ok (row_lines line answer.now)) result }
+{
+    with_text(text::row_lines(alloc, line, answer))
 }

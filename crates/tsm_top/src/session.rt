@@ -1,203 +1,437 @@
 // A session of the server, and how it answers a line.
-ghost use Rattle.std.specs.Prelude.{◌≡◌, ◌*◌, ◌^◌, IfOk, IfErr, ℕ, List, Result, None};
-ghost use Rattle.line_forms.specs.Line.{asked, AskedFits, IsVolumeSize, asked_view, register, define_volume, get};
-ghost use Rattle.server.specs.declared.stop.Stop.{Stop};
-ghost use Rattle.server.specs.declared.stop.Stop.TheVariants.{Memory};
-ghost use Rattle.tsm_top.specs.Answers.{lines_of, ok_line, stored_line, shown_lines, Ends};
-ghost use Rattle.tsm_top.specs.Asking.{standard, backup_pool, put_view};
-ghost use Rattle.tsm_top.specs.Session.{Made, DoesAsked};
+ghost use Rattle.std.specs.Prelude.{◌≡◌, ◌<◌, ◌-◌, ◌^◌, IfOk, IfErr, OnOk, None, Ok, length};
+ghost use Rattle.std.specs.Option.{option_map};
+ghost use Rattle.kinds.specs.Answers.{Answers, AnswersBy};
+ghost use Rattle.inventory_rows.specs.pool_tables.Rows.{row_at};
+ghost use Rattle.command_words.specs.Reading.{Reads};
+ghost use Rattle.admin_commands.specs.Own.{IsOfRows, IsOrdered};
+ghost use Rattle.admin_commands.specs.declared.work.Work.TheVariants.{Commit, Show, Run};
+ghost use Rattle.tsm_top.specs.Asking.{answers_to, work_over, with_file, drawn, last_of, volume_deleted, own_of};
+ghost use Rattle.tsm_top.specs.Asking as own;
+ghost use Rattle.tsm_top.specs.Lines.{line_of};
+ghost use Rattle.tsm_top.specs.Session.{Works, DoesLine, Serves, HaltsAt};
 
-use crate::reply::{fixed, shown, stored, unknown};
-use entries::Change;
-use kinds::{
-    Access, Capacity, DefineOrDelete, Name, NodeName, ObjectChange, PoolChange, Refusal, Verb,
-};
-use line_forms::{Asked, FileNamed, PutAsked, read_line};
+use crate::lines::{Line, line_of};
+use crate::note::{Note, note_of};
+use crate::own::{Own, own_of};
+use crate::reply::{by_line, declined, file, refused, rows, stopped, stored};
+use admin_commands::{Work, needs, work_of};
+use admin_words::Command;
+use admin_words::files::{FileGet, FilePut};
+use admin_words::policy::NamedSet;
+use command_words::is_comment;
+use entries::{Change, Database};
+use inventory::Inventory;
+use inventory_answers::{Answer, Query};
+use kinds::{PoolChange, Refusal, Verb};
+use reports::Shown;
 use script_loop::{Answerer, Halt, Reply};
-use server::{NewFile, Server, Shown, Stop};
+use server::{NewFile, Server, Stop};
 use std::alloc::Global;
 use store_api::Store;
 
-/// A server that answers the lines of a script.
+/// A server that answers the lines of a script, and what was noted of them.
 #[derive(Drop)]
 pub(crate) struct Session<S: Store> {
     pub server: Server<S>,
+    /// What was noted of the lines, in their order.
+    pub notes: Vec<Note>,
+    /// The number of the last transaction before the session.
+    pub first: u64,
 }
 
-// The domain in which nodes are registered.
-fn standard(alloc: Global) -> Result<Name, Stop>
-    ensures name { IfOk result (λ name. name ≡ standard) }
-    ensures memory { IfErr result (λ stop. stop ≡ Memory) }
+/// The answers to look-ups, in their order, or the first refusal.
+fn answers_to(
+    alloc: Global,
+    database: &Inventory,
+    queries: &[Query],
+) -> Result<Vec<Answer>, Refusal>
+    ensures { Reads (λ v. v.items) result (answers_to queries.now database.now) }
 {
-    match Name::read(alloc, b"STANDARD", 30) {
-        Ok(name) => Ok(name),
-        Err(_) => Err(Stop::Memory),
-    }
-}
-
-// The pool of which volumes are defined.
-fn backup_pool(alloc: Global) -> Result<Name, Stop>
-    ensures name { IfOk result (λ name. name ≡ backup_pool) }
-    ensures memory { IfErr result (λ stop. stop ≡ Memory) }
-{
-    match Name::read(alloc, b"BACKUPPOOL", 30) {
-        Ok(name) => Ok(name),
-        Err(_) => Err(Stop::Memory),
-    }
-}
-
-// So many MiB.
-fn capacity(mebibytes: u32) -> Capacity
-    requires { IsVolumeSize mebibytes }
-    ensures { result ≡ mebibytes * 2 ^ 20 }
-{
-    match Capacity::new(u64::from(mebibytes) << 20) {
-        Some(capacity) => capacity,
-        None => unreachable!(),
-    }
-}
-
-impl<S: Store> Session<S> {
-    /// Registers a node.
-    fn register(&mut self, alloc: Global, node: NodeName) -> Result<(), Stop>
-        requires sure { self.old.server.vault.fault ≡ None }
-        ensures made { Made S.told S.moment_of S.faults_of self.old.server (register node) (lines_of (λ done. ok_line) result) self.new.server }
-    {
-        let domain = match standard(alloc) {
-            Ok(domain) => domain,
-            Err(stop) => return Err(stop),
-        };
-        let change = Change::Object(ObjectChange::Node {
-            verb: DefineOrDelete::Define,
-            node,
-            domain,
-        });
-        self.server.change(alloc, change)
-    }
-
-    /// Defines a volume of the backup pool, with the next file number.
-    fn define_volume(&mut self, alloc: Global, volume: Name, mebibytes: u32) -> Result<(), Stop>
-        requires sure { self.old.server.vault.fault ≡ None }
-        requires size { IsVolumeSize mebibytes }
-        ensures made { Made S.told S.moment_of S.faults_of self.old.server (define_volume volume mebibytes) (lines_of (λ done. ok_line) result) self.new.server }
-    {
-        match self.server.ready() {
-            Ok(()) => {}
-            Err(stop) => return Err(stop),
+    let mut answers = Vec::new(alloc);
+    let mut rest = queries;
+    'queries: loop {
+        match rest {
+            [] => return Ok(answers),
+            [query, others @ ..] => {
+                let answer = database.answer(alloc, query)?;
+                answers.push(answer)?;
+                rest = others;
+            }
         }
-        let name = match backup_pool(alloc) {
-            Ok(name) => name,
-            Err(stop) => return Err(stop),
-        };
-        let tables = self.server.database().tables();
-        let file = tables.next_file;
-        let Some(pool) = tables.pools.pool_named(&name) else {
-            return Err(Stop::Refused(Refusal::NotFound));
-        };
-        let change = Change::Pool(PoolChange::Volume {
+    }
+}
+
+/// What a command asks for over a database, or why it is refused.
+fn work_over(alloc: Global, database: &Inventory, command: &Command) -> Result<Work, Refusal>
+    ensures work { Answers result (work_over command.now database.now) }
+    ensures rows { IfOk result IsOrdered }
+{
+    let queries = needs(alloc, command)?;
+    let answers = answers_to(alloc, database, queries.as_slice())?;
+    work_of(alloc, command, answers.as_slice())
+}
+
+/// A change with the file number that is drawn next, where it defines a volume.
+fn with_file(change: PoolChange, next: u32) -> PoolChange
+    ensures { result ≡ with_file change next }
+{
+    match change {
+        PoolChange::Volume {
             verb: Verb::Define,
             volume,
             pool,
-            file,
-            capacity: capacity(mebibytes),
-            access: Access::ReadWrite,
-        });
-        self.server.change(alloc, change)
-    }
-
-    /// Stores a file.
-    fn put(&mut self, alloc: Global, wanted: &PutAsked<'_>) -> Result<u64, Stop>
-        requires sure { self.old.server.vault.fault ≡ None }
-        ensures made { Made S.told S.moment_of S.faults_of self.old.server (put_view wanted.now) (lines_of stored_line result) self.new.server }
-    {
-        let file = NewFile {
-            node: &wanted.file.node,
-            filespace: &wanted.file.filespace,
-            path: &wanted.file.path,
-            mtime: wanted.mtime,
-            text: wanted.text,
-        };
-        self.server.put(alloc, file)
-    }
-
-    /// Reads a file.
-    fn get(&mut self, alloc: Global, file: &FileNamed) -> Result<Shown, Stop>
-        requires sure { self.old.server.vault.fault ≡ None }
-        ensures made { Made S.told S.moment_of S.faults_of self.old.server (get file.now.node file.now.filespace file.now.path) (lines_of shown_lines result) self.new.server }
-    {
-        self.server
-            .get(alloc, &file.node, &file.filespace, &file.path)
-    }
-
-    /// Does what a line asks.
-    fn ask(&mut self, alloc: Global, asked: Asked<'_>) -> Result<Reply, Halt>
-        requires sure { self.old.server.vault.fault ≡ None }
-        requires fits { AskedFits asked }
-        ensures made { (said : Result (List (List ℕ)) Stop) × Made S.told S.moment_of S.faults_of self.old.server (asked_view asked.entry) said self.new.server × Ends said result }
-    {
-        match asked {
-            Asked::Day(day) => {
-                let made = self.server.change(alloc, Change::Day { day });
-                fixed(alloc, b"OK reused=0", made)
-            }
-            Asked::Put(wanted) => {
-                let made = self.put(alloc, &wanted);
-                stored(alloc, made)
-            }
-            Asked::Get(file) => {
-                let made = self.get(alloc, &file);
-                shown(alloc, made)
-            }
-            Asked::Register(node) => {
-                let made = self.register(alloc, node);
-                fixed(alloc, b"OK", made)
-            }
-            Asked::DefineVolume { volume, mebibytes } => {
-                let made = self.define_volume(alloc, volume, mebibytes);
-                fixed(alloc, b"OK", made)
-            }
-            Asked::Checkpoint => {
-                let made = self.server.checkpoint(alloc);
-                fixed(alloc, b"OK", made)
-            }
-        }
-    }
-
-    /// Does what a line asks, and answers it. A line that asks nothing is refused.
-    fn answer_asked(&mut self, alloc: Global, line: &[u8]) -> Result<Reply, Halt>
-        requires sure { self.old.server.vault.fault ≡ None }
-        ensures asked { DoesAsked S.told S.moment_of S.faults_of self.old.server (asked line.now) result self.new.server }
-    {
-        match read_line(alloc, line) {
-            Ok(Some(asked)) => self.ask(alloc, asked),
-            Ok(None) => unknown(alloc),
-            Err(_) => Err(Halt::Memory),
-        }
+            file: _,
+            capacity,
+            access,
+        } => PoolChange::Volume {
+            verb: Verb::Define,
+            volume,
+            pool,
+            file: next,
+            capacity,
+            access,
+        },
+        other => other,
     }
 }
 
-/// What a line asks is done and answered; behind it a checkpoint is made where the log is long.
+fn drawn(change: Change, database: &Inventory) -> Change
+    ensures { result ≡ drawn change database.now }
+{
+    match change {
+        Change::Pool(change) => Change::Pool(with_file(change, database.tables().next_file)),
+        other => other,
+    }
+}
+
+/// The last line of a change.
+fn last_of(change: &Change) -> Shown
+    ensures { result ≡ last_of change.now }
+{
+    match change {
+        Change::Day { day: _ } => Shown::Reused { reused: 0 },
+        _ => Shown::Done,
+    }
+}
+
+/// Makes a change.
+fn commit<S: Store>(
+    alloc: Global,
+    server: &mut Server<S>,
+    line: u32,
+    command: &Command,
+    change: Change,
+) -> Result<(Reply, Option<Refusal>), Halt>
+    requires sure { server.old.vault.fault ≡ None }
+    requires rows { IsOfRows change }
+    ensures { Works S.told S.moment_of S.faults_of server.old line command.now (Ok (Commit change)) result server.new }
+{
+    let _command = command;
+    let shown = last_of(&change);
+    let change = drawn(change, server.database());
+    let made = server.change(alloc, change);
+    by_line(alloc, line, shown, made)
+}
+
+/// Shows rows.
+fn show<S: Store>(
+    alloc: Global,
+    server: &mut Server<S>,
+    line: u32,
+    command: &Command,
+    query: &Query,
+) -> Result<(Reply, Option<Refusal>), Halt>
+    requires sure { server.old.vault.fault ≡ None }
+    requires early { S.moment_of server.old.store < 2 ^ 62 - 2 ^ 24 }
+    ensures { Works S.told S.moment_of S.faults_of server.old line command.now (Ok (Show query.now)) result server.new }
+{
+    let _command = command;
+    match server.database().answer(alloc, query) {
+        Ok(answer) => rows(alloc, line, &answer),
+        Err(why) => declined(alloc, line, why),
+    }
+}
+
+/// Says whether a policy set may be activated.
+fn validate<S: Store>(
+    alloc: Global,
+    server: &mut Server<S>,
+    line: u32,
+    command: &Command,
+    set: &NamedSet,
+    numbers: &[u32],
+) -> Result<(Reply, Option<Refusal>), Halt>
+    requires sure { server.old.vault.fault ≡ None }
+    requires early { S.moment_of server.old.store < 2 ^ 62 - 2 ^ 24 }
+    requires asks { own_of command.now ≡ own.validate set.now }
+    ensures { Works S.told S.moment_of S.faults_of server.old line command.now (Ok (Run numbers.now)) result server.new }
+{
+    let _command = command;
+    let _numbers = numbers;
+    let tables = server.database().tables();
+    match tables.domains.validate(&set.domain, &set.set) {
+        Ok(()) => by_line(alloc, line, Shown::Done, Ok(())),
+        Err(why) => refused(alloc, line, why),
+    }
+}
+
+/// The change by which a volume is taken off its pool, with what stands there; none where no volume has this file number.
+fn volume_deleted(database: &Inventory, file: u32) -> Result<Option<Change>, Refusal>
+    ensures { AnswersBy (λ c. c) result (option_map (volume_deleted file) (row_at file database.now.stores.volumes)) }
+{
+    match database.tables().pools.volumes().get(&file) {
+        None => Ok(None),
+        Some(volume) => Ok(Some(Change::Pool(PoolChange::Volume {
+            verb: Verb::Delete,
+            volume: volume.name.clone()?,
+            pool: volume.pool,
+            file,
+            capacity: volume.capacity,
+            access: volume.access,
+        }))),
+    }
+}
+
+/// Takes a volume without copies off its pool.
+fn delete_volume<S: Store>(
+    alloc: Global,
+    server: &mut Server<S>,
+    line: u32,
+    command: &Command,
+    numbers: &[u32],
+) -> Result<(Reply, Option<Refusal>), Halt>
+    requires sure { server.old.vault.fault ≡ None }
+    requires early { S.moment_of server.old.store < 2 ^ 62 - 2 ^ 24 }
+    requires asks { own_of command.now ≡ own.delete_volume }
+    ensures { Works S.told S.moment_of S.faults_of server.old line command.now (Ok (Run numbers.now)) result server.new }
+{
+    let _command = command;
+    let Some(file) = numbers.first() else {
+        return refused(alloc, line, Refusal::NotFound);
+    };
+    match volume_deleted(server.database(), *file) {
+        Ok(Some(change)) => {
+            let made = server.change(alloc, change);
+            let shown = Shown::DeletedVolume {
+                discarded: 0,
+                dropped: 0,
+            };
+            by_line(alloc, line, shown, made)
+        }
+        Ok(None) => refused(alloc, line, Refusal::NotFound),
+        Err(_) => Err(Halt::Memory),
+    }
+}
+
+/// Stores a file.
+fn put<S: Store>(
+    alloc: Global,
+    server: &mut Server<S>,
+    line: u32,
+    command: &Command,
+    wanted: &FilePut,
+    numbers: &[u32],
+) -> Result<(Reply, Option<Refusal>), Halt>
+    requires sure { server.old.vault.fault ≡ None }
+    requires asks { own_of command.now ≡ own.put wanted.now }
+    ensures { Works S.told S.moment_of S.faults_of server.old line command.now (Ok (Run numbers.now)) result server.new }
+{
+    let _command = command;
+    let _numbers = numbers;
+    let file = NewFile {
+        node: &wanted.node,
+        filespace: &wanted.filespace,
+        path: &wanted.path,
+        mtime: wanted.mtime,
+        text: wanted.text.as_bytes(),
+    };
+    let made = server.put(alloc, file);
+    stored(alloc, line, made)
+}
+
+/// Reads a file.
+fn get<S: Store>(
+    alloc: Global,
+    server: &mut Server<S>,
+    line: u32,
+    command: &Command,
+    wanted: &FileGet,
+    numbers: &[u32],
+) -> Result<(Reply, Option<Refusal>), Halt>
+    requires sure { server.old.vault.fault ≡ None }
+    requires asks { own_of command.now ≡ own.get wanted.now }
+    ensures { Works S.told S.moment_of S.faults_of server.old line command.now (Ok (Run numbers.now)) result server.new }
+{
+    let _command = command;
+    let _numbers = numbers;
+    let made = server.get(alloc, &wanted.node, &wanted.filespace, &wanted.path);
+    file(alloc, line, made)
+}
+
+/// Makes a checkpoint.
+fn checkpoint<S: Store>(
+    alloc: Global,
+    server: &mut Server<S>,
+    line: u32,
+    command: &Command,
+    numbers: &[u32],
+) -> Result<(Reply, Option<Refusal>), Halt>
+    requires sure { server.old.vault.fault ≡ None }
+    requires asks { own_of command.now ≡ own.checkpoint }
+    ensures { Works S.told S.moment_of S.faults_of server.old line command.now (Ok (Run numbers.now)) result server.new }
+{
+    let _command = command;
+    let _numbers = numbers;
+    let made = server.checkpoint(alloc);
+    by_line(alloc, line, Shown::Done, made)
+}
+
+/// Does what is no one change and no one query, over the numbers of the things that the command names.
+fn run_own<S: Store>(
+    alloc: Global,
+    server: &mut Server<S>,
+    line: u32,
+    command: &Command,
+    numbers: &[u32],
+) -> Result<(Reply, Option<Refusal>), Halt>
+    requires sure { server.old.vault.fault ≡ None }
+    requires early { S.moment_of server.old.store < 2 ^ 62 - 2 ^ 24 }
+    ensures { Works S.told S.moment_of S.faults_of server.old line command.now (Ok (Run numbers.now)) result server.new }
+{
+    match own_of(command) {
+        Own::Validate(set) => validate(alloc, server, line, command, set, numbers),
+        Own::DeleteVolume => delete_volume(alloc, server, line, command, numbers),
+        Own::Put(wanted) => put(alloc, server, line, command, wanted, numbers),
+        Own::Get(wanted) => get(alloc, server, line, command, wanted, numbers),
+        Own::Checkpoint => checkpoint(alloc, server, line, command, numbers),
+        Own::NoneYet => refused(alloc, line, Refusal::UnknownWord(1)),
+    }
+}
+
+/// Does a command's work.
+fn work_on<S: Store>(
+    alloc: Global,
+    server: &mut Server<S>,
+    line: u32,
+    command: &Command,
+    work: Work,
+) -> Result<(Reply, Option<Refusal>), Halt>
+    requires sure { server.old.vault.fault ≡ None }
+    requires early { S.moment_of server.old.store < 2 ^ 62 - 2 ^ 24 }
+    requires rows { IsOrdered work }
+    ensures { Works S.told S.moment_of S.faults_of server.old line command.now (Ok work) result server.new }
+{
+    match work {
+        Work::Commit(change) => commit(alloc, server, line, command, change),
+        Work::Show(query) => show(alloc, server, line, command, &query),
+        Work::Run(numbers) => run_own(alloc, server, line, command, numbers.as_slice()),
+    }
+}
+
+/// Does a command.
+fn ask<S: Store>(
+    alloc: Global,
+    server: &mut Server<S>,
+    line: u32,
+    command: &Command,
+) -> Result<(Reply, Option<Refusal>), Halt>
+    requires sure { server.old.vault.fault ≡ None }
+    ensures { Works S.told S.moment_of S.faults_of server.old line command.now (work_over command.now server.old.vault.database) result server.new }
+{
+    match server.ready() {
+        Ok(()) => {}
+        Err(stop) => return stopped(alloc, line, stop),
+    }
+    match work_over(alloc, server.database(), command) {
+        Ok(work) => work_on(alloc, server, line, command, work),
+        Err(why) => declined(alloc, line, why),
+    }
+}
+
+/// Does what a line is, and answers it.
+fn answer_line<S: Store>(
+    alloc: Global,
+    server: &mut Server<S>,
+    number: u32,
+    line: &[u8],
+) -> Result<(Reply, Option<Refusal>), Halt>
+    requires sure { server.old.vault.fault ≡ None }
+    requires short { length line.now < 2 ^ 32 - 1 }
+    ensures { DoesLine S.told S.moment_of S.faults_of server.old number (line_of line.now) result server.new }
+{
+    match line_of(alloc, line) {
+        Ok(Line::Comment) => Ok((Reply::nothing(alloc), None)),
+        Ok(Line::Refused(why)) => refused(alloc, number, why),
+        Ok(Line::Asks(command)) => ask(alloc, server, number, &command),
+        Err(_) => Err(Halt::Memory),
+    }
+}
+
+/// Does what a line is, and answers it; behind it a checkpoint is made where the log is long.
+fn answer_behind<S: Store>(
+    alloc: Global,
+    server: &mut Server<S>,
+    number: u32,
+    line: &[u8],
+) -> Result<(Reply, Option<Refusal>), Halt>
+    requires sure { server.old.vault.fault ≡ None }
+    requires short { length line.now < 2 ^ 32 - 1 }
+    ensures served { IfOk result (λ r. Serves S.told S.moment_of S.faults_of server.old number (line_of line.now) r.0 r.1 server.new) }
+    ensures halted { IfErr result (λ halt. HaltsAt S.told S.moment_of S.faults_of server.old number (line_of line.now) halt server.new) }
+    ensures rest { OnOk result (server.new.vault.fault ≡ None) }
+{
+    let replied = match answer_line(alloc, server, number, line) {
+        Ok(replied) => replied,
+        Err(halt) => return Err(halt),
+    };
+    match server.checkpoint_where_long(alloc) {
+        Ok(()) => Ok(replied),
+        Err(Stop::LogFault(file)) => Err(Halt::LogFault(file)),
+        Err(Stop::Memory) => Err(Halt::Memory),
+        Err(Stop::Refused(_)) => unreachable!(),
+        Err(Stop::RunFull) => unreachable!(),
+    }
+}
+
+/// What a line is is done and answered, and noted; behind it a checkpoint is made where the log is long.
 impl<S: Store> Answerer for Session<S> {
     ghost use Rattle.std.specs.Prelude.{◌≡◌, None};
     ghost use Rattle.tsm_top.specs.Session.{ServesLine, HaltsLine};
 
-    ghost serves = { λ old line answer new. ServesLine S.told S.moment_of S.faults_of old.server line answer new.server };
+    ghost serves = { λ old n line answer new. ServesLine S.told S.moment_of S.faults_of old n line answer new };
 
-    ghost halts = { λ old line halt new. HaltsLine S.told S.moment_of S.faults_of old.server line halt new.server };
+    ghost halts = { λ old n line halt new. HaltsLine S.told S.moment_of S.faults_of old n line halt new };
 
     ghost can_take = { λ session lines. session.server.vault.fault ≡ None };
 
-    fn answer(&mut self, alloc: Global, line: &[u8], left: u32) -> Result<Reply, Halt> {
-        let reply = match self.answer_asked(alloc, line) {
-            Ok(reply) => reply,
+    fn answer(
+        &mut self,
+        alloc: Global,
+        number: u32,
+        line: &[u8],
+        left: u32,
+    ) -> Result<Reply, Halt> {
+        let _left = left;
+        // The room for the note is taken before anything is done.
+        if self.notes.reserve(1).is_err() {
+            return Err(Halt::Memory);
+        }
+        let before = self.server.database().number();
+        let (reply, why) = match answer_behind(alloc, &mut self.server, number, line) {
+            Ok(replied) => replied,
             Err(halt) => return Err(halt),
         };
-        match self.server.checkpoint_where_long(alloc) {
+        if is_comment(line) {
+            return Ok(reply);
+        }
+        let after = self.server.database().number();
+        match self
+            .notes
+            .push(note_of(number, self.first, before, after, why))
+        {
             Ok(()) => Ok(reply),
-            Err(Stop::LogFault(file)) => Err(Halt::LogFault(file)),
-            Err(Stop::Memory) => Err(Halt::Memory),
-            Err(Stop::Refused(_)) => unreachable!(),
-            Err(Stop::RunFull) => unreachable!(),
+            Err(_) => unreachable!(),
         }
     }
 }

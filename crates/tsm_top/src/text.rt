@@ -1,38 +1,23 @@
-// The printed lines, without their numbers and LF.
-ghost use Rattle.std.specs.Prelude.{◌≡◌, ◌<◌, ◌≤◌, ◌^◌, ◌*◌, ◌+◌, ◌++◌, ◌∷◌, length, take, codes, decimal, IfOk, OnOk};
+// Printed lines of files and rows.
+ghost use Rattle.std.specs.Prelude.{◌≡◌, ◌<◌, ◌≤◌, ◌^◌, ◌*◌, ◌+◌, ◌++◌, length, take, codes, IfOk, IfErr, OnOk};
 ghost use Rattle.hex.specs.Hex.{encode_lower};
-ghost use Rattle.tsm_top.specs.Answers.{piece_of, data_lines};
+ghost use Rattle.kinds.specs.Answers.{AnswersBy};
+ghost use Rattle.kinds.specs.declared.refusal.Refusal.TheVariants.{Memory};
+ghost use Rattle.reports.specs.Pieces.{numbered};
+ghost use Rattle.tsm_top.specs.Answers.{piece_of, data_line, data_lines, data_width, file_lines, row_lines};
 
-use script_loop::Reply;
-use std::alloc::{AllocError, Global};
+use inventory_answers::Answer;
+use kinds::Refusal;
+use reports::{Shown, print_line, print_rows, row_count};
+use server::Shown as FileShown;
+use std::alloc::Global;
 
-pub(crate) fn stored(alloc: Global, object: u64) -> Result<Vec<u8>, AllocError>
-    ensures { IfOk result (λ text. text.items ≡ codes "OK object=" ++ decimal object) }
-{
-    let text = format!(in alloc; "OK object={object}")?;
-    Ok(text.into_bytes())
-}
-
-pub(crate) fn read(alloc: Global, object: u64, size: u64) -> Result<Vec<u8>, AllocError>
-    ensures { IfOk result (λ text. text.items ≡ codes "OK object=" ++ (decimal object ++ (codes " size=" ++ decimal size))) }
-{
-    let text = format!(in alloc; "OK object={object} size={size}")?;
-    Ok(text.into_bytes())
-}
-
-/// A DATA line of these bytes.
-pub(crate) fn data(alloc: Global, bytes: &[u8]) -> Result<Vec<u8>, AllocError>
-    ensures { IfOk result (λ text. text.items ≡ codes "DATA " ++ encode_lower bytes.now) }
-{
-    let digits = hex::encode(alloc, bytes)?;
-    let mut text = Vec::from_slice(alloc, b"DATA ")?;
-    text.extend_from_slice(digits.as_bytes())?;
-    Ok(text)
-}
+/// The bytes that a DATA line shows at the most.
+const WIDTH: usize = 64;
 
 /// The piece of the bytes that the DATA line with this number shows, counted from 0, where a line shows at most so many bytes.
 #[tactic(auto, unfolding(crate::specs::Answers::piece_of))]
-pub(crate) fn piece(bytes: &[u8], most: usize, number: usize) -> &[u8]
+fn piece(bytes: &[u8], most: usize, number: usize) -> &[u8]
     requires { most * number ≤ length bytes.now }
     ensures { result.now ≡ piece_of most bytes.now number }
 {
@@ -51,22 +36,67 @@ fn front(bytes: &[u8], most: usize) -> &[u8]
     }
 }
 
-/// Adds the DATA lines of some bytes to a reply, each of which shows `most` bytes or the rest.
+// The DATA line of these bytes, which the script's line with this number causes.
+fn data(alloc: Global, line: u32, bytes: &[u8]) -> Result<Vec<u8>, Refusal>
+    ensures { AnswersBy (λ text. text.items) result (numbered line (codes "DATA " ++ encode_lower bytes.now)) }
+{
+    let bytes = Vec::from_slice(alloc, bytes)?;
+    print_line(alloc, line, &Shown::Data { bytes })
+}
+
+// Puts the DATA lines of some bytes, each of which shows `most` bytes or the rest.
 #[tactic(auto, unfolding(crate::specs::Answers::pieces))]
-pub(crate) fn say_data(
+fn put_data(
     alloc: Global,
-    reply: &mut Reply,
+    out: &mut Vec<u8>,
+    line: u32,
     bytes: &[u8],
     most: usize,
-) -> Result<(), AllocError>
+) -> Result<(), Refusal>
     requires some { 0 < most }
     requires fits { length bytes.now + most < 2 ^ 64 }
-    ensures { OnOk result (reply.new ≡ record { lines = reply.old.lines ++ data_lines most bytes.now; tally = reply.old.tally }) }
+    ensures put { OnOk result (out.new.items ≡ out.old.items ++ data_lines line most bytes.now) }
+    ensures memory { IfErr result (λ e. e ≡ Memory) }
 {
     let count = (bytes.len() + (most - 1)) / most;
     'pieces: for number in 0..count {
-        let text = data(alloc, piece(bytes, most, number))?;
-        reply.say(text)?;
+        let text = data(alloc, line, piece(bytes, most, number))?;
+        out.extend_from_slice(text.as_slice())?;
     }
     Ok(())
+}
+
+/// The lines of a file that is shown.
+#[tactic(auto, unfolding(crate::specs::Answers::data_width))]
+pub(crate) fn file_lines(alloc: Global, line: u32, file: &FileShown) -> Result<Vec<u8>, Refusal>
+    ensures { AnswersBy (λ text. text.items) result (file_lines line file.now) }
+{
+    let mut text = Vec::new(alloc);
+    put_data(alloc, &mut text, line, &file.bytes, WIDTH)?;
+    let last = print_line(
+        alloc,
+        line,
+        &Shown::Read {
+            object: file.object,
+            size: file.size,
+        },
+    )?;
+    text.extend_from_slice(&last)?;
+    Ok(text)
+}
+
+/// The lines of a query's rows.
+pub(crate) fn row_lines(alloc: Global, line: u32, answer: &Answer) -> Result<Vec<u8>, Refusal>
+    ensures { AnswersBy (λ text. text.items) result (row_lines line answer.now) }
+{
+    let mut text = print_rows(alloc, line, &answer.rows)?;
+    let last = print_line(
+        alloc,
+        line,
+        &Shown::Rows {
+            rows: row_count(&answer.rows),
+        },
+    )?;
+    text.extend_from_slice(&last)?;
+    Ok(text)
 }

@@ -10,8 +10,10 @@ ghost use Rattle.script_loop.specs.declared.ends.End.{End};
 ghost use Rattle.script_loop.specs.Ends.{SourceCause, SinkCause};
 ghost use Rattle.vault.specs.log_file.Cursor.{Looked};
 ghost use Rattle.server.specs.Steps.{Later};
-ghost use Rattle.tsm_top.specs.Serve.{IsOnly, Asks, Command, format, run, fresh_run, Closing, no_command, formatted, exists, refused_opening, closing_line, closing_status, HasCauseOf, HasCause, Shuts, OpensNot, PutsLine, RoseBetween, IsOurFile, IsOurClosing, closing_of, HasImage, Spares, Opens, IsNew, StillTells, MakesNot, RanScript, RanFrom};
+ghost use Rattle.tsm_top.specs.Serve.{IsOnly, Asks, Command, format, run, fresh_run, Closing, no_command, formatted, exists, refused_opening, closing_line, closing_status, HasCauseOf, HasCause, Shuts, OpensNot, PutsLine, RoseBetween, IsOurFile, IsOurClosing, closing_of, HasImage, Spares, Opens, IsNew, StillTells, MakesNot, RanScript, RanFrom, HasPut, EachLine, Images};
+ghost use Rattle.tsm_top.specs.Headline.{Journal, Queries, Bytes, Items, Causes, DoneLines, Complete};
 
+use crate::note::Note;
 use crate::session::Session;
 use entries::{Database, Entry};
 use inventory::Inventory;
@@ -34,6 +36,8 @@ pub struct Ended<S: Store> {
     pub journal: Vec<Entry>,
     /// The store's moment at which each of the journal's transactions was known to be durable; one in doubt has none.
     pub stamps: Vec<u64>,
+    /// What was noted of the script's command lines whose printed lines were made, in their order.
+    pub notes: Vec<Note>,
     /// The database that opening gave; none where nothing was opened.
     pub base: Option<Inventory>,
     /// The generation of the newest image at the return; 0 where nothing was opened.
@@ -67,8 +71,8 @@ fn is_only(words: &[String], name: &[u8]) -> bool
 /// `run` opens the store's database, answers each line of a script and puts the answers, and `fresh` does the one and then the other.
 /// `alloc` gives the memory.
 ///
-/// A line is `DAY d`, `REGISTER NODE name password`, `DEFINE VOLUME BACKUPPOOL name FORMATSIZE=n`, `PUT node filespace path mtime TEXT=t`,
-/// `GET node filespace path` or `CHECKPOINT`; any other is refused.
+/// A line is a comment or a command of the administrative command language (`admin_words`), outside blocks. Every change of policy, nodes, device classes,
+/// storage pools and volumes is done, every query, VALIDATE, DAY, CHECKPOINT, PUT and GET; any other command is refused with `UnknownWord(1)`.
 pub fn serve<S: Store, I: Source, O: Sink>(
     alloc: Global,
     words: &[String],
@@ -78,9 +82,48 @@ pub fn serve<S: Store, I: Source, O: Sink>(
 ) -> Ended<S>
     // What was put, what is in the journal, and what images of the store give back, by how the call ended.
     ensures outcome { ((why : Closing) × HasCauseOf why words.now (S.told store) (S.told result.store) (S.moment_of result.store) (RoseBetween (S.faults_of store) (S.faults_of result.store))
-        × Shuts why (O.contents out.old) (O.contents out.new) (RoseIn (O.fault_count out.old) (O.fault_count out.new)) result.status result.journal.items result.stamps.items result.base result.generation result.opened (S.moment_of result.store) × (script.new ≡ script.old))
+        × Shuts why (O.contents out.old) (O.contents out.new) (RoseIn (O.fault_count out.old) (O.fault_count out.new)) result.status result.journal.items result.stamps.items result.notes.items result.base result.generation result.opened (S.moment_of result.store) × (script.new ≡ script.old))
         ⊎ ((command : Command) × Asks words.now command × (end : End) × (opening : S) × (S.moment_of opening ≡ result.opened) × Later S.moment_of S.faults_of store opening × Later S.moment_of S.faults_of opening result.store × Opens command (S.told store) (S.told opening) × Told (S.told opening) (S.told result.store) (GoesOn (λ file. Unit {0}))
-        × RanScript command (S.told store) (S.told result.store) (S.faults_of opening) (S.faults_of result.store) result.opened (S.moment_of result.store) end result.status result.journal.items result.stamps.items result.base result.generation (I.left script.old) (I.left script.new) (O.contents out.old) (O.contents out.new)
+        × RanScript command (S.told store) (S.told result.store) (S.faults_of opening) (S.faults_of result.store) result.opened (S.moment_of result.store) end result.status result.journal.items result.stamps.items result.notes.items result.base result.generation (I.left script.old) (I.left script.new) (O.contents out.old) (O.contents out.new)
+        × SourceCause end (I.fault_count script.old) (I.fault_count script.new) × SinkCause end (O.fault_count out.old) (O.fault_count out.new)) }
+
+    // Each status by its cause.
+    ensures source_fault { result.status ≡ 3 → RoseIn (I.fault_count script.old) (I.fault_count script.new) }
+    ensures sink_fault { result.status ≡ 4 → RoseIn (O.fault_count out.old) (O.fault_count out.new) }
+    ensures store_fault { result.status ≡ 5 → (file : ℕ) × (file < 4) × Rose (S.faults_of store file) (S.faults_of result.store file) }
+    ensures log_fault { result.status ≡ 6 → (file : ℕ) × (file < 4) × Rose (S.faults_of store file) (S.faults_of result.store file) }
+    ensures no_command { result.status ≡ 2 → (command : Command) → Asks words.now command → ⊥ }
+    ensures counts { NoneFell (S.faults_of store) (S.faults_of result.store) }
+    ensures opened { (S.moment_of store ≤ result.opened) × (result.opened ≤ S.moment_of result.store) }
+
+    // The headline, clause by clause: what is put, by the status; the transactions, and which lines order them; what each image gives back; the rows that queries show; the bytes that files
+    // are shown with; what each stored version says of its bytes; why lines are refused; what lines did that are answered OK. And which lines aren't refused.
+    ensures put { HasPut (Asks words.now) S.told S.moment_of S.faults_of (RoseIn (O.fault_count out.old) (O.fault_count out.new)) store result.store result.opened result.status result.journal.items result.stamps.items result.notes.items result.base result.generation (I.left script.old) (O.contents out.old) (O.contents out.new) }
+    ensures journal { EachLine (Asks words.now) S.told S.moment_of S.faults_of Journal store result.store result.opened result.status result.journal.items result.stamps.items result.notes.items result.base result.generation (I.left script.old) (O.contents out.old) (O.contents out.new) }
+    ensures images { Images (Asks words.now) S.told S.moment_of S.faults_of store result.store result.opened result.journal.items result.stamps.items result.base }
+    ensures queries { EachLine (Asks words.now) S.told S.moment_of S.faults_of Queries store result.store result.opened result.status result.journal.items result.stamps.items result.notes.items result.base result.generation (I.left script.old) (O.contents out.old) (O.contents out.new) }
+    ensures bytes { EachLine (Asks words.now) S.told S.moment_of S.faults_of Bytes store result.store result.opened result.status result.journal.items result.stamps.items result.notes.items result.base result.generation (I.left script.old) (O.contents out.old) (O.contents out.new) }
+    ensures items { EachLine (Asks words.now) S.told S.moment_of S.faults_of Items store result.store result.opened result.status result.journal.items result.stamps.items result.notes.items result.base result.generation (I.left script.old) (O.contents out.old) (O.contents out.new) }
+    ensures causes { EachLine (Asks words.now) S.told S.moment_of S.faults_of Causes store result.store result.opened result.status result.journal.items result.stamps.items result.notes.items result.base result.generation (I.left script.old) (O.contents out.old) (O.contents out.new) }
+    ensures done { EachLine (Asks words.now) S.told S.moment_of S.faults_of DoneLines store result.store result.opened result.status result.journal.items result.stamps.items result.notes.items result.base result.generation (I.left script.old) (O.contents out.old) (O.contents out.new) }
+    ensures complete { EachLine (Asks words.now) S.told S.moment_of S.faults_of Complete store result.store result.opened result.status result.journal.items result.stamps.items result.notes.items result.base result.generation (I.left script.old) (O.contents out.old) (O.contents out.new) }
+{
+    call(alloc, words, store, script, out)
+}
+
+// Does what the words ask.
+fn call<S: Store, I: Source, O: Sink>(
+    alloc: Global,
+    words: &[String],
+    store: S,
+    script: &mut I,
+    out: &mut O,
+) -> Ended<S>
+    // What was put, what is in the journal, and what images of the store give back, by how the call ended.
+    ensures outcome { ((why : Closing) × HasCauseOf why words.now (S.told store) (S.told result.store) (S.moment_of result.store) (RoseBetween (S.faults_of store) (S.faults_of result.store))
+        × Shuts why (O.contents out.old) (O.contents out.new) (RoseIn (O.fault_count out.old) (O.fault_count out.new)) result.status result.journal.items result.stamps.items result.notes.items result.base result.generation result.opened (S.moment_of result.store) × (script.new ≡ script.old))
+        ⊎ ((command : Command) × Asks words.now command × (end : End) × (opening : S) × (S.moment_of opening ≡ result.opened) × Later S.moment_of S.faults_of store opening × Later S.moment_of S.faults_of opening result.store × Opens command (S.told store) (S.told opening) × Told (S.told opening) (S.told result.store) (GoesOn (λ file. Unit {0}))
+        × RanScript command (S.told store) (S.told result.store) (S.faults_of opening) (S.faults_of result.store) result.opened (S.moment_of result.store) end result.status result.journal.items result.stamps.items result.notes.items result.base result.generation (I.left script.old) (I.left script.new) (O.contents out.old) (O.contents out.new)
         × SourceCause end (I.fault_count script.old) (I.fault_count script.new) × SinkCause end (O.fault_count out.old) (O.fault_count out.new)) }
 
     // Each status by its cause.
@@ -109,6 +152,7 @@ fn unopened<S: Store>(alloc: Global, store: S, status: u8) -> Ended<S>
     ensures status { result.status ≡ status }
     ensures journal { result.journal.items ≡ [] }
     ensures stamps { result.stamps.items ≡ [] }
+    ensures notes { result.notes.items ≡ [] }
     ensures base { result.base ≡ None }
     ensures generation { result.generation ≡ 0 }
     ensures store { result.store ≡ store }
@@ -120,6 +164,7 @@ fn unopened<S: Store>(alloc: Global, store: S, status: u8) -> Ended<S>
         store,
         journal: Vec::new(alloc),
         stamps: Vec::new(alloc),
+        notes: Vec::new(alloc),
         base: None,
         generation: 0,
         opened,
@@ -137,6 +182,7 @@ fn closed<S: Store, O: Sink>(
     ensures line { PutsLine line.now status result.status (O.contents out.old) (O.contents out.new) (RoseIn (O.fault_count out.old) (O.fault_count out.new)) }
     ensures journal { result.journal.items ≡ [] }
     ensures stamps { result.stamps.items ≡ [] }
+    ensures notes { result.notes.items ≡ [] }
     ensures base { result.base ≡ None }
     ensures generation { result.generation ≡ 0 }
     ensures store { result.store ≡ store }
@@ -173,6 +219,7 @@ fn refused_by<S: Store, O: Sink>(
     ensures line { PutsLine (closing_line (refused_opening refusal)) (closing_status (refused_opening refusal)) result.status (O.contents out.old) (O.contents out.new) (RoseIn (O.fault_count out.old) (O.fault_count out.new)) }
     ensures journal { result.journal.items ≡ [] }
     ensures stamps { result.stamps.items ≡ [] }
+    ensures notes { result.notes.items ≡ [] }
     ensures base { result.base ≡ None }
     ensures generation { result.generation ≡ 0 }
     ensures store { result.store ≡ store }
@@ -199,6 +246,7 @@ fn not_made<S: Store, O: Sink>(alloc: Global, store: S, out: &mut O, why: NotMad
     ensures line { PutsLine (closing_line (closing_of why)) (closing_status (closing_of why)) result.status (O.contents out.old) (O.contents out.new) (RoseIn (O.fault_count out.old) (O.fault_count out.new)) }
     ensures journal { result.journal.items ≡ [] }
     ensures stamps { result.stamps.items ≡ [] }
+    ensures notes { result.notes.items ≡ [] }
     ensures base { result.base ≡ None }
     ensures generation { result.generation ≡ 0 }
     ensures store { result.store ≡ store }
@@ -248,7 +296,7 @@ fn make<S: Store>(alloc: Global, store: &mut S) -> Result<(), NotMade>
 
 // Makes a new database, and no more.
 fn format<S: Store, O: Sink>(alloc: Global, store: S, out: &mut O) -> Ended<S>
-    ensures outcome { (why : Closing) × HasCause (λ command. command ≡ format) why (S.told store) (S.told result.store) (S.moment_of result.store) (RoseBetween (S.faults_of store) (S.faults_of result.store)) × Shuts why (O.contents out.old) (O.contents out.new) (RoseIn (O.fault_count out.old) (O.fault_count out.new)) result.status result.journal.items result.stamps.items result.base result.generation result.opened (S.moment_of result.store) }
+    ensures outcome { (why : Closing) × HasCause (λ command. command ≡ format) why (S.told store) (S.told result.store) (S.moment_of result.store) (RoseBetween (S.faults_of store) (S.faults_of result.store)) × Shuts why (O.contents out.old) (O.contents out.new) (RoseIn (O.fault_count out.old) (O.fault_count out.new)) result.status result.journal.items result.stamps.items result.notes.items result.base result.generation result.opened (S.moment_of result.store) }
     ensures later { Later S.moment_of S.faults_of store result.store }
     ensures opened { (S.moment_of store ≤ result.opened) × (result.opened ≤ S.moment_of result.store) }
 {
@@ -266,9 +314,9 @@ fn format_and_run<S: Store, I: Source, O: Sink>(
     script: &mut I,
     out: &mut O,
 ) -> Ended<S>
-    ensures outcome { ((why : Closing) × HasCause (λ command. command ≡ fresh_run) why (S.told store) (S.told result.store) (S.moment_of result.store) (RoseBetween (S.faults_of store) (S.faults_of result.store)) × Shuts why (O.contents out.old) (O.contents out.new) (RoseIn (O.fault_count out.old) (O.fault_count out.new)) result.status result.journal.items result.stamps.items result.base result.generation result.opened (S.moment_of result.store) × (script.new ≡ script.old))
+    ensures outcome { ((why : Closing) × HasCause (λ command. command ≡ fresh_run) why (S.told store) (S.told result.store) (S.moment_of result.store) (RoseBetween (S.faults_of store) (S.faults_of result.store)) × Shuts why (O.contents out.old) (O.contents out.new) (RoseIn (O.fault_count out.old) (O.fault_count out.new)) result.status result.journal.items result.stamps.items result.notes.items result.base result.generation result.opened (S.moment_of result.store) × (script.new ≡ script.old))
         ⊎ ((end : End) × (opening : S) × (S.moment_of opening ≡ result.opened) × Later S.moment_of S.faults_of store opening × Later S.moment_of S.faults_of opening result.store × Opens fresh_run (S.told store) (S.told opening) × Told (S.told opening) (S.told result.store) (GoesOn (λ file. Unit {0}))
-        × RanScript fresh_run (S.told store) (S.told result.store) (S.faults_of opening) (S.faults_of result.store) result.opened (S.moment_of result.store) end result.status result.journal.items result.stamps.items result.base result.generation (I.left script.old) (I.left script.new) (O.contents out.old) (O.contents out.new)
+        × RanScript fresh_run (S.told store) (S.told result.store) (S.faults_of opening) (S.faults_of result.store) result.opened (S.moment_of result.store) end result.status result.journal.items result.stamps.items result.notes.items result.base result.generation (I.left script.old) (I.left script.new) (O.contents out.old) (O.contents out.new)
         × SourceCause end (I.fault_count script.old) (I.fault_count script.new) × SinkCause end (O.fault_count out.old) (O.fault_count out.new)) }
     ensures later { Later S.moment_of S.faults_of store result.store }
     ensures opened { (S.moment_of store ≤ result.opened) × (result.opened ≤ S.moment_of result.store) }
@@ -287,9 +335,9 @@ fn open<S: Store, I: Source, O: Sink>(
     script: &mut I,
     out: &mut O,
 ) -> Ended<S>
-    ensures outcome { ((why : OpenRefused) × OpensNot run (S.told store) (S.moment_of result.store) (RoseBetween (S.faults_of store) (S.faults_of result.store)) why × Spares run (S.told store) (S.told result.store) × Shuts (refused_opening why) (O.contents out.old) (O.contents out.new) (RoseIn (O.fault_count out.old) (O.fault_count out.new)) result.status result.journal.items result.stamps.items result.base result.generation result.opened (S.moment_of result.store) × (script.new ≡ script.old))
+    ensures outcome { ((why : OpenRefused) × OpensNot run (S.told store) (S.moment_of result.store) (RoseBetween (S.faults_of store) (S.faults_of result.store)) why × Spares run (S.told store) (S.told result.store) × Shuts (refused_opening why) (O.contents out.old) (O.contents out.new) (RoseIn (O.fault_count out.old) (O.fault_count out.new)) result.status result.journal.items result.stamps.items result.notes.items result.base result.generation result.opened (S.moment_of result.store) × (script.new ≡ script.old))
         ⊎ ((end : End) × (opening : S) × (S.moment_of opening ≡ result.opened) × Later S.moment_of S.faults_of store opening × Later S.moment_of S.faults_of opening result.store × Opens run (S.told store) (S.told opening) × Told (S.told opening) (S.told result.store) (GoesOn (λ file. Unit {0}))
-        × RanScript run (S.told store) (S.told result.store) (S.faults_of opening) (S.faults_of result.store) result.opened (S.moment_of result.store) end result.status result.journal.items result.stamps.items result.base result.generation (I.left script.old) (I.left script.new) (O.contents out.old) (O.contents out.new)
+        × RanScript run (S.told store) (S.told result.store) (S.faults_of opening) (S.faults_of result.store) result.opened (S.moment_of result.store) end result.status result.journal.items result.stamps.items result.notes.items result.base result.generation (I.left script.old) (I.left script.new) (O.contents out.old) (O.contents out.new)
         × SourceCause end (I.fault_count script.old) (I.fault_count script.new) × SinkCause end (O.fault_count out.old) (O.fault_count out.new)) }
     ensures later { Later S.moment_of S.faults_of store result.store }
     ensures opened { (S.moment_of store ≤ result.opened) × (result.opened ≤ S.moment_of result.store) }
@@ -318,7 +366,7 @@ fn run_script<S: Store, I: Source, O: Sink>(
 ) -> Ended<S>
     requires begun { vault.journal ≡ [] }
     requires sure { vault.fault ≡ None }
-    ensures ran { (end : End) × RanFrom vault (S.told store) (S.told result.store) (S.faults_of store) (S.faults_of result.store) result.opened (S.moment_of result.store) end result.status result.journal.items result.stamps.items result.generation (I.left script.old) (I.left script.new) (O.contents out.old) (O.contents out.new)
+    ensures ran { (end : End) × RanFrom vault (S.told store) (S.told result.store) (S.faults_of store) (S.faults_of result.store) result.opened (S.moment_of result.store) end result.status result.journal.items result.stamps.items result.notes.items result.generation (I.left script.old) (I.left script.new) (O.contents out.old) (O.contents out.new)
         × SourceCause end (I.fault_count script.old) (I.fault_count script.new) × SinkCause end (O.fault_count out.old) (O.fault_count out.new) }
     ensures base { result.base ≡ Some base }
     ensures goes { Told (S.told store) (S.told result.store) (GoesOn (λ file. Unit {0})) }
@@ -326,17 +374,21 @@ fn run_script<S: Store, I: Source, O: Sink>(
     ensures opened { result.opened ≡ S.moment_of store }
 {
     let opened = store.moment();
+    let first = vault.database().number();
     let mut session = Session {
         server: Server::new(alloc, store, vault),
+        notes: Vec::new(alloc),
+        first,
     };
     let end = run(alloc, &mut session, script, out);
-    let Session { server } = session;
+    let Session { server, notes, .. } = session;
     let (store, journal, stamps, generation) = server.close();
     Ended {
         status: end.status(),
         store,
         journal,
         stamps,
+        notes,
         base: Some(base),
         generation,
         opened,

@@ -2,8 +2,6 @@
 //!
 //! - `commands`: a line of the command language, and what it says: its command with its fields, or the refusal with the column
 //!   of the word that it is about. A line that begins with `>` is read as one of a block, without that sign.
-//! - `lines`: a line of the script, and what it asks: its form, its number where it has one, and the names and the text that
-//!   stand in it. A line that has none of the forms asks nothing.
 //! - `table`: no lines; the manual's table of commands is printed.
 //! - `words`: a line, and its words, each behind its column and with a bar behind it, one with wrong quotes with a `!`.
 //! - `choices`: a word at column 7, and which of VOLUME, VOLHISTORY, DOMAIN and NODE it stands for.
@@ -18,7 +16,6 @@
 //! In values and rules `\n` is a line feed, `\r` a carriage return, `\t` a tab, and `\xHH` the byte with these digits.
 #![tactic(auto)]
 
-mod asked;
 mod commands;
 mod paths;
 mod reading;
@@ -33,7 +30,6 @@ use std::io::{BufWriter, Write};
 #[derive(Clone, Copy)]
 enum Section {
     Commands,
-    Lines,
     Table,
     Words,
     Choices,
@@ -47,7 +43,6 @@ enum Section {
 fn section_of(name: &[u8]) -> Option<Section> {
     match name {
         b"commands" => Some(Section::Commands),
-        b"lines" => Some(Section::Lines),
         b"table" => Some(Section::Table),
         b"words" => Some(Section::Words),
         b"choices" => Some(Section::Choices),
@@ -77,7 +72,6 @@ fn answer(
 ) -> Result<Vec<u8>, AllocError> {
     match section {
         Section::Commands => commands::line(alloc, line),
-        Section::Lines => asked::line(alloc, line),
         Section::Table => Vec::from_slice(alloc, line),
         Section::Words => reading::words(alloc, line),
         Section::Choices => reading::choice(alloc, line),

@@ -1,10 +1,10 @@
 //! The reader of a command language that a table gives: words, choices, values, rows and fields.
 //!
 //! Kinds of values are `name`, `node`, `name-or-none`, `path`, `filespace`, `pattern`, `share` (1 to 100), `volume-size` (64K to 1T),
-//! `size` (below 2^64), `versions` (1 to 9999, or no limit), and `option` (one of the four words that are chosen from). The row has a place for
+//! `size` (below 2^64), `versions` (1 to 9999, or no limit), `description`, and `option` (one of the four words that are chosen from). The row has a place for
 //! a name and one for STANDARD, which may be missing, and the keywords TYPE with BACKUP, which must be there, and TEXT of up to 99
 //! bytes on one side or SIZE up to 99999 bytes and FILL up to 250 on the other. Readers of fields are `name`, `path`, `text`,
-//! `percent`, `limit`, `bytes`, and `word`, which reads one of the four words.
+//! `percent`, `limit` (up to 9999), `long-limit` (up to 30000), `bytes`, and `word`, which reads one of the four words.
 use crate::text::{parted, plain, refused, show_number};
 use command_words::{
     Given, Kind, Need, Place, Slot, Word, choose, field, row_values, torn_at, valued, words_of,
@@ -83,6 +83,7 @@ fn kind_of(name: &[u8]) -> Option<Kind> {
             least: 1,
             most: 9999,
         }),
+        b"description" => Some(Kind::Description),
         b"option" => Some(Kind::OneOf),
         _ => None,
     }
@@ -199,7 +200,8 @@ fn text_field(alloc: Global, text: &[u8]) -> Result<Vec<u8>, AllocError> {
 fn number_field(alloc: Global, name: &[u8], text: &[u8]) -> Result<String, AllocError> {
     match name {
         b"percent" => format!(in alloc; "{:?}", field::percent(Some(text))),
-        b"limit" => format!(in alloc; "{:?}", field::limit(Some(text))),
+        b"limit" => format!(in alloc; "{:?}", field::limit(Some(text), 9999)),
+        b"long-limit" => format!(in alloc; "{:?}", field::limit(Some(text), 30000)),
         b"bytes" => format!(in alloc; "{:?}", field::bytes(Some(text))),
         b"word" => format!(in alloc; "{:?}", field::word(Some(text), OPTIONS.as_slice())),
         _ => String::from_str(alloc, "no reader"),

@@ -1,6 +1,6 @@
 //! The table of commands, a line for each: its words, then its places by the kinds of their values, and then its keywords. What
 //! may be missing stands in brackets, and a bar stands between keywords of which only one side is given.
-use admin_words::table::{Noun, nouns_of, verbs_of};
+use admin_words::table::{Form, Noun, archive_row, nouns_of, verbs_of};
 use command_words::{Kind, Need, Place, Slot, Words};
 use std::alloc::{AllocError, Global};
 
@@ -30,6 +30,7 @@ fn value(alloc: Global, kind: Kind, words: Words) -> Result<String, AllocError> 
         Kind::Limit { least, most } => format!(in alloc; "{least}..{most}|NOLIMIT"),
         Kind::SizeLimit { least, most } => format!(in alloc; "size:{least}..{most}|NOLIMIT"),
         Kind::Text { least, most } => format!(in alloc; "text:{least}..{most}"),
+        Kind::Description => String::from_str(alloc, "description"),
         Kind::OneOf => alternatives(alloc, words),
     }
 }
@@ -90,12 +91,27 @@ fn row_text(alloc: Global, verb: &str, noun: &Noun) -> Result<String, AllocError
     Ok(out)
 }
 
+/// Adds a line for the row that stands in the place of this command's where TYPE is ARCHIVE, if there is one.
+fn add_archive_row(
+    alloc: Global,
+    out: &mut String,
+    verb: &str,
+    form: Form,
+) -> Result<(), AllocError> {
+    if let Some(noun) = archive_row(form) {
+        let line = row_text(alloc, verb, &noun)?;
+        write!(out, "\n{line}")?;
+    }
+    Ok(())
+}
+
 /// Adds a line for each row outside blocks.
 fn add_rows(alloc: Global, out: &mut String) -> Result<(), AllocError> {
     for verb in verbs_of(false) {
         for noun in nouns_of(verb.1) {
             let line = row_text(alloc, verb.0, noun)?;
             write!(out, "\n{line}")?;
+            add_archive_row(alloc, out, verb.0, noun.1)?;
         }
     }
     Ok(())

@@ -72,6 +72,7 @@ impl Formed for Capacity {
 impl<E: InEdition> Decoder<ObjectSize> for By<E> {
     ghost form = { size E.edition };
 
+    #[inline(always)]
     fn take(_alloc: Global, reader: &mut Reader<'_>) -> Result<ObjectSize, Fault> {
         let bytes = take_byte_count::<E>(reader)?;
         match ObjectSize::new(bytes) {
@@ -86,10 +87,12 @@ impl<E: InEdition> Decoder<ObjectSize> for By<E> {
 impl Formed for ObjectSize {
     ghost form = { size second_form };
 
+    #[inline(always)]
     fn write_to(&self, out: &mut Vec<u8>) -> Result<(), Memory> {
         put_u64(out, self.bytes())
     }
 
+    #[inline(always)]
     fn read_from(alloc: Global, reader: &mut Reader<'_>) -> Result<Self, Fault> {
         By::<Second>::take(alloc, reader)
     }

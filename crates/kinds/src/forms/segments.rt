@@ -13,10 +13,12 @@ use std::alloc::Global;
 impl Formed for Digest {
     ghost form = { digest };
 
+    #[inline(always)]
     fn write_to(&self, out: &mut Vec<u8>) -> Result<(), Memory> {
         put_digest(out, &self.0)
     }
 
+    #[inline(always)]
     fn read_from(_alloc: Global, reader: &mut Reader<'_>) -> Result<Self, Fault> {
         let bytes = reader.digest()?;
         Ok(Digest(bytes))
@@ -29,6 +31,7 @@ impl Formed for Digest {
 impl<E: InEdition> Decoder<Segment> for By<E> {
     ghost form = { segment E.edition };
 
+    #[inline(always)]
     fn take(_alloc: Global, reader: &mut Reader<'_>) -> Result<Segment, Fault> {
         let file = reader.u32()?;
         let offset = reader.u64()?;
@@ -42,10 +45,12 @@ impl<E: InEdition> Decoder<Segment> for By<E> {
 impl Formed for Segment {
     ghost form = { segment second_form };
 
+    #[inline(always)]
     fn write_to(&self, out: &mut Vec<u8>) -> Result<(), Memory> {
         (self.file, (self.offset, self.len)).write_to(out)
     }
 
+    #[inline(always)]
     fn read_from(alloc: Global, reader: &mut Reader<'_>) -> Result<Self, Fault> {
         By::<Second>::take(alloc, reader)
     }
@@ -57,6 +62,7 @@ impl Formed for Segment {
 impl<E: InEdition> Decoder<Segments> for By<E> {
     ghost form = { segments E.edition };
 
+    #[inline(always)]
     fn take(alloc: Global, reader: &mut Reader<'_>) -> Result<Segments, Fault> {
         let items = take_list::<Segment, By<E>>(alloc, reader, u32::MAX)?;
         Ok(Segments::new(items))
@@ -68,10 +74,12 @@ impl<E: InEdition> Decoder<Segments> for By<E> {
 impl Formed for Segments {
     ghost form = { segments second_form };
 
+    #[inline(always)]
     fn write_to(&self, out: &mut Vec<u8>) -> Result<(), Memory> {
         put_list::<Segment, Own>(out, self.as_slice())
     }
 
+    #[inline(always)]
     fn read_from(alloc: Global, reader: &mut Reader<'_>) -> Result<Self, Fault> {
         By::<Second>::take(alloc, reader)
     }

@@ -1,8 +1,6 @@
-use Rattle.std.proofs.Common.{◌∙◌, ap}
-use Rattle.script_loop.specs.Reply.{printed}
+use Rattle.std.proofs.Common.{rules}
 use Rattle.script_loop.proofs.Underway.{put_front}
 use Rattle.script_loop.proofs.script.put_reply.Goals as goal
 
-pub returns-clause-put : goal.returns-clause-put
-returns-clause-put g c =
-    put_front c.deref.result.now _ _ _ (c.deref.ensures.value ∙ c.in-Ok.ensures ∙ ap (printed c.args.number) c.lines.ensures) c.in-Err.ensures.front
+pub returns-in-Err-clause-put : goal.returns-in-Err-clause-put
+returns-in-Err-clause-put g c = put_front c.deref.result.now c.args.reply.now.text _ _ (search rules) c.in-Err.ensures.front

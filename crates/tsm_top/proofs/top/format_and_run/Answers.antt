@@ -18,7 +18,7 @@ returns-in-Ok-clause-outcome g c =
       ran.4,
       opens_new x y (g.S.Store.told ran.1) c.make.ensures.tells c.in-Ok.ensures.made c.in-Ok.ensures.new ran.5,
       ran.6,
-      new_script x y (g.S.Store.told c.open.result.store) _ _ _ _ _ _ _ _ _ _ _ _ _ _ c.make.ensures.tells c.in-Ok.ensures.made c.in-Ok.ensures.new ran.7,
+      new_script x y (g.S.Store.told c.open.result.store) _ _ _ _ _ _ _ _ _ _ _ _ _ _ _ c.make.ensures.tells c.in-Ok.ensures.made c.in-Ok.ensures.new ran.7,
       ran.8,
       ran.9,
     ))

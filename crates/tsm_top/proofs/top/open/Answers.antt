@@ -17,7 +17,7 @@ returns-in-Err-clause-outcome g c =
       c.in-Err.refusal,
       subst (λ s. OpensNot run (g.S.Store.told c.args.store) (g.S.Store.moment_of s) (RoseBetween (g.S.Store.faults_of c.args.store) (g.S.Store.faults_of s)) c.in-Err.refusal) (sym shut.store) not,
       subst (λ s. Spares run (g.S.Store.told c.args.store) (g.S.Store.told s)) (sym shut.store) spared,
-      record { line = shut.line; journal_is = shut.journal; stamps_are = shut.stamps; base_is = shut.base; generation_is = shut.generation; opened_is = shut.opened ∙ sym (ap (λ s. g.S.Store.moment_of s) shut.store) },
+      record { line = shut.line; journal_is = shut.journal; stamps_are = shut.stamps; notes_are = shut.notes; base_is = shut.base; generation_is = shut.generation; opened_is = shut.opened ∙ sym (ap (λ s. g.S.Store.moment_of s) shut.store) },
       refl {a = c.args.script.now},
     )
 
@@ -29,7 +29,7 @@ returns-in-Err-copy-clause-outcome g c =
       refused.Memory,
       tt,
       subst (λ s. Spares run (g.S.Store.told c.args.store) (g.S.Store.told s)) (sym shut.store) spared,
-      record { line = shut.line; journal_is = shut.journal; stamps_are = shut.stamps; base_is = shut.base; generation_is = shut.generation; opened_is = shut.opened ∙ sym (ap (λ s. g.S.Store.moment_of s) shut.store) },
+      record { line = shut.line; journal_is = shut.journal; stamps_are = shut.stamps; notes_are = shut.notes; base_is = shut.base; generation_is = shut.generation; opened_is = shut.opened ∙ sym (ap (λ s. g.S.Store.moment_of s) shut.store) },
       refl {a = c.args.script.now},
     )
 
@@ -44,7 +44,7 @@ returns-clause-outcome g c =
       c.run_script.ensures.later,
       opened_spared (g.S.Store.told c.args.store) (g.S.Store.told c.open.new.store) (Ok c.in-Ok.vault) c.in-Ok.ensures.told,
       c.run_script.ensures.goes,
-      script (g.S.Store.told c.args.store) (g.S.Store.told c.open.new.store) c.in-Ok.vault (subst (λ v. is_valid v ≡ true) c.database.ensures c.tables.ensures.valid) c.in-Ok.ensures.told _ _ _ _ _ _ _ _ _ _ _ _ _ _ _ (c.run_script.ensures.base ∙ ap Some (c.in-Ok-copy.ensures ∙ c.database-2.ensures)) ran.1,
+      script (g.S.Store.told c.args.store) (g.S.Store.told c.open.new.store) c.in-Ok.vault (subst (λ v. is_valid v ≡ true) c.database.ensures c.tables.ensures.valid) c.in-Ok.ensures.told _ _ _ _ _ _ _ _ _ _ _ _ _ _ _ _ (c.run_script.ensures.base ∙ ap Some (c.in-Ok-copy.ensures ∙ c.database-2.ensures)) ran.1,
       ran.2,
       ran.3,
     )

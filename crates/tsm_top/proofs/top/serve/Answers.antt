@@ -1,23 +1,32 @@
-use Rattle.std.proofs.Common.{⊎_elim, inl, inr, refl}
-use Rattle.tsm_top.specs.Serve.{Asks, run, fresh_run, refused_opening}
-use Rattle.tsm_top.proofs.Causes.{ran_fault, shut_other}
-use Rattle.tsm_top.proofs.Making.{asked_one}
+use Rattle.std.proofs.Common.{⊎_elim, inl, inr}
+use Rattle.tsm_top.specs.Headline.{Journal, Queries, Bytes, Items, Causes, DoneLines, Complete}
+use Rattle.tsm_top.specs.Serve.{Put}
+use Rattle.tsm_top.proofs.Clauses.{each, safe, puts, journals, rows_shown, bytes_shown, items_made, caused, done_lines, not_refused}
 use Rattle.tsm_top.proofs.top.serve.Goals as goal
 
-pub returns-then-is_only-2-clause-outcome : goal.returns-then-is_only-2-clause-outcome
-returns-then-is_only-2-clause-outcome g c =
-    let asks = c.if-is_only-2.ensures.0 refl in
-    ⊎_elim (λ shut. inl (refused_opening shut.0, (run, asks, shut.1, shut.2), shut.3, shut.4)) (λ ran. inr (run, asks, ran.0, ran.1, ran.2, ran.3, ran.4, ran.5, ran.6, ran.7, ran.8, ran.9)) c.open.ensures.outcome
+pub returns-clause-put : goal.returns-clause-put
+returns-clause-put g c = ⊎_elim (λ shut. inl (shut.0, shut.2.line)) (λ ran. inr (ran.0, ran.1, ran.2, ran.3, ran.4, ran.5, ran.6, each _ _ _ _ _ _ _ _ _ _ _ _ _ _ _ _ _ _ ran.9 Put puts)) c.call.ensures.outcome
 
-pub returns-then-is_only-3-clause-outcome : goal.returns-then-is_only-3-clause-outcome
-returns-then-is_only-3-clause-outcome g c =
-    let asks = c.if-is_only-3.ensures.0 refl in
-    ⊎_elim (λ shut. inl (shut.0, asked_one fresh_run (Asks c.args.words.now) asks shut.0 _ _ _ _ shut.1, shut.2, shut.3)) (λ ran. inr (fresh_run, asks, ran.0, ran.1, ran.2, ran.3, ran.4, ran.5, ran.6, ran.7, ran.8, ran.9)) c.format_and_run.ensures.outcome
+pub returns-clause-journal : goal.returns-clause-journal
+returns-clause-journal g c = ⊎_elim (λ shut. inl shut.2.base_is) (λ ran. inr (ran.0, ran.1, ran.2, ran.3, ran.4, ran.5, ran.6, each _ _ _ _ _ _ _ _ _ _ _ _ _ _ _ _ _ _ ran.9 Journal journals)) c.call.ensures.outcome
 
-pub returns-then-is_only-2-clause-log_fault : goal.returns-then-is_only-2-clause-log_fault
-returns-then-is_only-2-clause-log_fault g c =
-    λ six. ⊎_elim (λ shut. absurd (shut_other _ _ _ _ _ _ _ _ _ _ _ shut.3 six)) (λ ran. ran_fault _ _ _ (g.S.Store.faults_of c.args.store) (g.S.Store.faults_of ran.1) (g.S.Store.faults_of c.open.result.store) _ _ _ _ _ _ _ _ _ _ _ _ ran.3.counts ran.7 six) c.open.ensures.outcome
+pub returns-clause-queries : goal.returns-clause-queries
+returns-clause-queries g c = ⊎_elim (λ shut. inl shut.2.base_is) (λ ran. inr (ran.0, ran.1, ran.2, ran.3, ran.4, ran.5, ran.6, each _ _ _ _ _ _ _ _ _ _ _ _ _ _ _ _ _ _ ran.9 Queries rows_shown)) c.call.ensures.outcome
 
-pub returns-then-is_only-3-clause-log_fault : goal.returns-then-is_only-3-clause-log_fault
-returns-then-is_only-3-clause-log_fault g c =
-    λ six. ⊎_elim (λ shut. absurd (shut_other _ _ _ _ _ _ _ _ _ _ _ shut.2 six)) (λ ran. ran_fault _ _ _ (g.S.Store.faults_of c.args.store) (g.S.Store.faults_of ran.1) (g.S.Store.faults_of c.format_and_run.result.store) _ _ _ _ _ _ _ _ _ _ _ _ ran.3.counts ran.7 six) c.format_and_run.ensures.outcome
+pub returns-clause-bytes : goal.returns-clause-bytes
+returns-clause-bytes g c = ⊎_elim (λ shut. inl shut.2.base_is) (λ ran. inr (ran.0, ran.1, ran.2, ran.3, ran.4, ran.5, ran.6, each _ _ _ _ _ _ _ _ _ _ _ _ _ _ _ _ _ _ ran.9 Bytes bytes_shown)) c.call.ensures.outcome
+
+pub returns-clause-items : goal.returns-clause-items
+returns-clause-items g c = ⊎_elim (λ shut. inl shut.2.base_is) (λ ran. inr (ran.0, ran.1, ran.2, ran.3, ran.4, ran.5, ran.6, each _ _ _ _ _ _ _ _ _ _ _ _ _ _ _ _ _ _ ran.9 Items items_made)) c.call.ensures.outcome
+
+pub returns-clause-causes : goal.returns-clause-causes
+returns-clause-causes g c = ⊎_elim (λ shut. inl shut.2.base_is) (λ ran. inr (ran.0, ran.1, ran.2, ran.3, ran.4, ran.5, ran.6, each _ _ _ _ _ _ _ _ _ _ _ _ _ _ _ _ _ _ ran.9 Causes caused)) c.call.ensures.outcome
+
+pub returns-clause-done : goal.returns-clause-done
+returns-clause-done g c = ⊎_elim (λ shut. inl shut.2.base_is) (λ ran. inr (ran.0, ran.1, ran.2, ran.3, ran.4, ran.5, ran.6, each _ _ _ _ _ _ _ _ _ _ _ _ _ _ _ _ _ _ ran.9 DoneLines done_lines)) c.call.ensures.outcome
+
+pub returns-clause-images : goal.returns-clause-images
+returns-clause-images g c = ⊎_elim (λ shut. inl shut.2.base_is) (λ ran. inr (ran.0, ran.1, safe _ _ _ _ _ _ _ _ _ _ _ _ _ _ _ _ _ _ ran.9)) c.call.ensures.outcome
+
+pub returns-clause-complete : goal.returns-clause-complete
+returns-clause-complete g c = ⊎_elim (λ shut. inl shut.2.base_is) (λ ran. inr (ran.0, ran.1, ran.2, ran.3, ran.4, ran.5, ran.6, each _ _ _ _ _ _ _ _ _ _ _ _ _ _ _ _ _ _ ran.9 Complete not_refused)) c.call.ensures.outcome

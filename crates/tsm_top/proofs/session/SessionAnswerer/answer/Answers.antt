@@ -1,24 +1,27 @@
-use Rattle.tsm_top.proofs.Answering.{asked_sure, halted_asked, halted_behind, memory_behind, served_asked}
-use Rattle.line_forms.specs.Line.{asked}
+use Rattle.std.proofs.Common.{◌∙◌, ap, sym, refl, ℕ, List, [], ◌∷◌, ◌++◌}
+use Rattle.inventory_rows.specs.State.{Inv}
+use Rattle.script_loop.specs.declared.ends.Halt.TheVariants as halt
+use Rattle.tsm_top.specs.Lines.{line_of}
+use Rattle.tsm_top.specs.Notes.{note_of}
+use Rattle.tsm_top.specs.declared.note.Note.{Note}
+use Rattle.tsm_top.proofs.Answering.{halted_line, nothing_read, not_noted, line_noted}
 use Rattle.tsm_top.proofs.session.SessionAnswerer.answer.Goals as goal
 
-pub returns-in-Err-clause-halted : goal.returns-in-Err-clause-halted
-returns-in-Err-clause-halted g c = halted_asked g.S.Store.told g.S.Store.moment_of g.S.Store.faults_of c.args.self.now.server c.answer_asked.new.self.server (asked c.args.line.now) c.in-Err.halt c.requires c.in-Err.ensures.asked
+pub returns-then-is_err-clause-halted : goal.returns-then-is_err-clause-halted
+returns-then-is_err-clause-halted g c = (halted_line g.S.Store.told g.S.Store.moment_of g.S.Store.faults_of c.args.self.now.server c.args.self.now.server c.args.number (line_of c.args.line.now) halt.Memory c.requires.room (nothing_read g.S.Store.told g.S.Store.moment_of g.S.Store.faults_of c.args.self.now.server c.args.number (line_of c.args.line.now) c.requires.room), refl, c.reserve.ensures.items)
 
-pub checkpoint_where_long-requires : goal.checkpoint_where_long-requires
-checkpoint_where_long-requires g c = record { sure = asked_sure g.S.Store.told g.S.Store.moment_of g.S.Store.faults_of c.args.self.now.server c.answer_asked.new.self.server (asked c.args.line.now) c.in-Ok.reply c.requires c.in-Ok.ensures.asked }
+pub returns-then-is_comment-clause-served : goal.returns-then-is_comment-clause-served
+returns-then-is_comment-clause-served g c = (c.in-Ok.replied.1, c.in-Ok.ensures.served, refl, c.reserve.ensures.items ∙ sym (not_noted c.args.line.now _ c.args.self.now.notes.items (sym c.is_comment.ensures ∙ c.if-is_comment.true)))
 
-pub returns-in-Ok-checkpoint_where_long-clause-served : goal.returns-in-Ok-checkpoint_where_long-clause-served
-returns-in-Ok-checkpoint_where_long-clause-served g c =
-    served_asked g.S.Store.told g.S.Store.moment_of g.S.Store.faults_of g.met.S.Store.clock c.args.self.now.server c.answer_asked.new.self.server c.checkpoint_where_long.new.self (asked c.args.line.now) c.in-Ok.reply c.in-Ok.ensures.asked c.in-Ok-checkpoint_where_long.ensures.leaves c.in-Ok-checkpoint_where_long.ensures.follows
-
-pub returns-in-Err-LogFault-clause-halted : goal.returns-in-Err-LogFault-clause-halted
-returns-in-Err-LogFault-clause-halted g c =
-    let leaves = rw c.in-Err-LogFault.field-0-is at c.in-Err-LogFault.ensures.leaves in
-    let rose = rw c.in-Err-LogFault.field-0-is at c.in-Err-LogFault.ensures.halts in
-    rw c.in-Err-LogFault.field-0-is (halted_behind g.S.Store.told g.S.Store.moment_of g.S.Store.faults_of g.met.S.Store.clock c.args.self.now.server c.answer_asked.new.self.server c.checkpoint_where_long.new.self (asked c.args.line.now) c.in-Ok.reply c.in-Err-LogFault.file c.in-Ok.ensures.asked leaves rose c.in-Err-LogFault.ensures.stays)
-
-pub returns-in-Err-Memory-clause-halted : goal.returns-in-Err-Memory-clause-halted
-returns-in-Err-Memory-clause-halted g c =
-    let leaves = rw c.in-Err-Memory.field-0-is at c.in-Err-Memory.ensures.leaves in
-    memory_behind g.S.Store.told g.S.Store.moment_of g.S.Store.faults_of g.met.S.Store.clock c.args.self.now.server c.answer_asked.new.self.server c.checkpoint_where_long.new.self (asked c.args.line.now) c.in-Ok.reply c.in-Ok.ensures.asked leaves c.in-Err-Memory.ensures.stays
+pub returns-clause-served : goal.returns-clause-served
+returns-clause-served g c =
+    let before = c.number-before.ensures ∙ ap (λ (v : Inv). v.number) c.database.ensures in
+    let after = c.number-after.ensures ∙ ap (λ (v : Inv). v.number) c.database-2.ensures in
+    let note : Note = note_of c.args.number c.args.self.now.first c.args.self.now.server.vault.database.number c.answer_behind.new.server.vault.database.number c.in-Ok.replied.1 in (
+      c.in-Ok.replied.1,
+      c.in-Ok.ensures.served,
+      refl,
+      c.in-Ok-push.ensures.items ∙ ap (λ (l : List Note). l ++ c.note_of.result ∷ []) c.reserve.ensures.items
+          ∙ ap (λ (x : Note). c.args.self.now.notes.items ++ x ∷ []) (c.note_of.ensures ∙ ap (λ (k : ℕ). note_of c.args.number c.args.self.now.first k c.number-after.result c.in-Ok.replied.1) before ∙ ap (λ (k : ℕ). note_of c.args.number c.args.self.now.first c.args.self.now.server.vault.database.number k c.in-Ok.replied.1) after)
+          ∙ sym (line_noted c.args.line.now note c.args.self.now.notes.items (sym c.is_comment.ensures ∙ c.if-is_comment.false)),
+    )

@@ -1,0 +1,19 @@
+-- What is noted of the lines of a script.
+use Rattle.std.specs.Prelude.{ℕ, ◌==◌, if◌then◌else◌, Option, List, [], ◌∷◌, ◌++◌}
+use Rattle.kinds.specs.declared.refusal.Refusal.{Refusal}
+use Rattle.tsm_top.specs.Lines.{Line, comment, refused, asks}
+use Rattle.tsm_top.specs.declared.note.Note.{Note}
+
+-- the number of the last transaction that this run made, where the first has the number behind `first`; 0 where it made none
+abbrev pub last_made : (first now : ℕ) → ℕ
+last_made first now = if now == first then 0 else now
+
+-- The note of line n: the number of the last transaction before the line, that of the run's last one after it, and why the line was refused.
+abbrev pub note_of : (n first before after : ℕ) → Option Refusal → Note
+note_of n first before after why = record { line = n; actor = 0; n = before; last = last_made first after; refused = why }
+
+-- the notes after a line: a comment adds none
+abbrev pub with_note : Line → Note → List Note → List Note
+with_note comment note notes = notes
+with_note (refused why) note notes = notes ++ note ∷ []
+with_note (asks command) note notes = notes ++ note ∷ []
