@@ -10,9 +10,11 @@
 //! - `name BYTES`, `node BYTES`, `path BYTES`, `filespace BYTES`, `description BYTES`: as what the bytes are read, or the refusal.
 //! - `form KIND BYTES`: whether the bytes are a value's of this kind, of those in forms.rt.
 //! - `read FIELD.. of BYTES`: the fields that are read one after the other, of those in reading.rt, and what is written then.
+//! - `backup BYTES`: what the database backup with this payload holds, as backups.rt says.
 //! - `put BYTES`, `items BYTES`, `list BYTES`, `map BYTES`, `empty`: values with a length in front, as lists.rt says.
 #![tactic(auto)]
 
+mod backups;
 mod digits;
 mod entry;
 mod forms;
@@ -29,8 +31,9 @@ use std::io::{BufWriter, Write};
 /// What a line comes to whose first word says that it is about bytes and nothing else; none where it doesn't.
 fn about_bytes(alloc: Global, word: &str, bytes: &[u8]) -> Result<Option<String>, Refusal> {
     match word {
-        "first" => entry::first(alloc, bytes),
-        "long" => entry::encoded(alloc, bytes),
+        "first" => Ok(Some(entry::first(alloc, bytes)?)),
+        "long" => Ok(Some(entry::encoded(alloc, bytes)?)),
+        "backup" => backups::backup(alloc, bytes),
         "name" => names::name(alloc, bytes),
         "node" => names::node(alloc, bytes),
         "path" => names::path(alloc, bytes),
@@ -52,7 +55,7 @@ fn answer(alloc: Global, line: &str, word: &str, rest: &str) -> Result<Option<St
         "form" => forms::line(alloc, rest),
         "read" => reading::line(alloc, rest),
         _ => match digits::bytes_of(alloc, line) {
-            Some(bytes) => entry::transaction(alloc, bytes.as_slice()),
+            Some(bytes) => Ok(Some(entry::transaction(alloc, bytes.as_slice())?)),
             None => match digits::bytes_of(alloc, rest) {
                 Some(bytes) => about_bytes(alloc, word, bytes.as_slice()),
                 None => Ok(None),

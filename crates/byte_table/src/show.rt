@@ -6,7 +6,7 @@ use entries::change_items::{
     Rebindings, Scratch,
 };
 use entries::{Change, Entry};
-use kinds::{Day, Digest, ObjectChange, PolicyChange, PoolChange, Segments};
+use kinds::{Day, Digest, Name, ObjectChange, PolicyChange, PoolChange, Segments};
 use std::alloc::{AllocError, Global};
 
 /// A space, and a name or path.
@@ -45,6 +45,18 @@ fn show_scratch(out: &mut String, scratch: &Scratch) -> Result<(), AllocError> {
     Ok(())
 }
 
+/// The names of a policy domain and of a set in it.
+fn show_set(out: &mut String, domain: &Name, set: &Name) -> Result<(), AllocError> {
+    show_name(out, domain.as_bytes())?;
+    show_name(out, set.as_bytes())
+}
+
+/// The names of a policy domain, of a set in it and of a class in that.
+fn show_class(out: &mut String, domain: &Name, set: &Name, class: &Name) -> Result<(), AllocError> {
+    show_set(out, domain, set)?;
+    show_name(out, class.as_bytes())
+}
+
 fn show_policy(out: &mut String, policy: &PolicyChange) -> Result<(), AllocError> {
     match policy {
         PolicyChange::Domain {
@@ -59,8 +71,7 @@ fn show_policy(out: &mut String, policy: &PolicyChange) -> Result<(), AllocError
         }
         PolicyChange::Set { verb, domain, set } => {
             write!(out, "{verb:?} set")?;
-            show_name(out, domain.as_bytes())?;
-            show_name(out, set.as_bytes())
+            show_set(out, domain, set)
         }
         PolicyChange::Class {
             verb,
@@ -69,9 +80,7 @@ fn show_policy(out: &mut String, policy: &PolicyChange) -> Result<(), AllocError
             class,
         } => {
             write!(out, "{verb:?} class")?;
-            show_name(out, domain.as_bytes())?;
-            show_name(out, set.as_bytes())?;
-            show_name(out, class.as_bytes())
+            show_class(out, domain, set, class)
         }
         PolicyChange::Group {
             verb,
@@ -82,9 +91,7 @@ fn show_policy(out: &mut String, policy: &PolicyChange) -> Result<(), AllocError
         } => {
             let rule = group.rule();
             write!(out, "{verb:?} group")?;
-            show_name(out, domain.as_bytes())?;
-            show_name(out, set.as_bytes())?;
-            show_name(out, class.as_bytes())?;
+            show_class(out, domain, set, class)?;
             write!(out, " {rule:?}")
         }
         PolicyChange::ArchiveGroup {
@@ -96,21 +103,16 @@ fn show_policy(out: &mut String, policy: &PolicyChange) -> Result<(), AllocError
         } => {
             let rule = group.rule();
             write!(out, "{verb:?} group")?;
-            show_name(out, domain.as_bytes())?;
-            show_name(out, set.as_bytes())?;
-            show_name(out, class.as_bytes())?;
+            show_class(out, domain, set, class)?;
             write!(out, " {rule:?}")
         }
         PolicyChange::Assign { domain, set, class } => {
             out.push_str("assign")?;
-            show_name(out, domain.as_bytes())?;
-            show_name(out, set.as_bytes())?;
-            show_name(out, class.as_bytes())
+            show_class(out, domain, set, class)
         }
         PolicyChange::Activate { domain, set } => {
             out.push_str("activate")?;
-            show_name(out, domain.as_bytes())?;
-            show_name(out, set.as_bytes())
+            show_set(out, domain, set)
         }
     }
 }

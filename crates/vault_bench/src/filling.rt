@@ -19,7 +19,11 @@ fn make<D: Database>(alloc: Global, database: &mut D, entry: &Entry) -> Result<(
 /// Makes the transaction that the bytes spell; `BadValue` where they spell none.
 fn make_spelled<D: Database>(alloc: Global, database: &mut D, bytes: &[u8]) -> Result<(), Refusal> {
     match Entry::decode(alloc, bytes) {
-        Ok(Some(entry)) => make(alloc, database, &entry),
+        Ok(Some(entry)) => {
+            let made = make(alloc, database, &entry);
+            drop(entry);
+            made
+        }
         Ok(None) => Err(Refusal::BadValue(0)),
         Err(refusal) => Err(refusal),
     }
@@ -28,7 +32,10 @@ fn make_spelled<D: Database>(alloc: Global, database: &mut D, bytes: &[u8]) -> R
 /// Whether the bytes spell a transaction.
 fn is_spelling(alloc: Global, bytes: &[u8]) -> Result<bool, Refusal> {
     match Entry::decode(alloc, bytes) {
-        Ok(Some(_entry)) => Ok(true),
+        Ok(Some(entry)) => {
+            drop(entry);
+            Ok(true)
+        }
         Ok(None) => Ok(false),
         Err(refusal) => Err(refusal),
     }

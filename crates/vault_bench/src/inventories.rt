@@ -46,7 +46,10 @@ fn encode_all<D: Database>(alloc: Global, database: &D, times: u32) -> Result<u6
 /// How many bytes are a database's; 0 where they are none's.
 fn decoded<D: Database>(alloc: Global, bytes: &[u8]) -> Result<u64, Refusal> {
     match D::decode_two(alloc, bytes) {
-        Ok(Some(_database)) => Ok(bytes.len() as u64),
+        Ok(Some(database)) => {
+            drop(database);
+            Ok(bytes.len() as u64)
+        }
         Ok(None) => Ok(0),
         Err(refusal) => Err(refusal),
     }
@@ -94,8 +97,14 @@ fn run_all(alloc: Global, count: u32, step: u32, times: u32) -> Result<Totals, R
             bytes: 0,
         });
     }
-    let mut inventory = Inventory::fresh(alloc)?;
-    run(alloc, &mut inventory, count, step, times)
+    match Inventory::fresh(alloc) {
+        Ok(mut inventory) => {
+            let totals = run(alloc, &mut inventory, count, step, times);
+            drop(inventory);
+            totals
+        }
+        Err(refusal) => Err(refusal),
+    }
 }
 
 /// Makes the steps up to this one with so many versions, the last of them so many times.

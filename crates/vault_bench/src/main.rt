@@ -1,16 +1,19 @@
-//! Programs over the whole inventory that are timed, one for bench/inventory and one for bench/vault. The first argument says which, and the others how
+//! Programs over the whole inventory that are timed, one for bench/inventory and two for bench/vault. The first argument says which, and the others how
 //! much it does; with none each does a little.
 //!
 //!     vault_bench inventory [COUNT [STEPS [TIMES]]]
 //!     vault_bench vault [COUNT [STEPS]]
+//!     vault_bench phases [COMMITS [VERSIONS [TIMES]]]
 #![tactic(auto)]
 
 mod filling;
 mod inventories;
+mod phases;
 mod spellings;
 mod vaults;
 
 use std::alloc::Global;
+use std::rt::Files;
 use std::{env, io};
 
 /// The number that an argument spells; the usual one where it spells none.
@@ -33,7 +36,7 @@ fn report_all(rt: &impl Print, alloc: Global) -> io::Result<()> {
 
 /// What the arguments ask.
 fn report(
-    rt: &impl Print,
+    rt: &(impl Print + Files + AllocGlobal),
     alloc: Global,
     name: &str,
     first: Option<&str>,
@@ -54,8 +57,15 @@ fn report(
             number(first, vaults::USUAL_COUNT),
             number(second, vaults::USUAL_STEP),
         ),
+        "phases" => phases::report(
+            rt,
+            alloc,
+            number(first, vaults::USUAL_COUNT),
+            number(second, vaults::USUAL_COUNT),
+            number(third, phases::USUAL_TIMES),
+        ),
         "" => report_all(rt, alloc),
-        _ => println!(rt; "usage: vault_bench [inventory | vault]"),
+        _ => println!(rt; "usage: vault_bench [inventory | vault | phases]"),
     }
 }
 

@@ -20,13 +20,13 @@ pub(crate) const USUAL_COUNT: u32 = 1024;
 pub(crate) const USUAL_STEP: u32 = 3;
 
 /// From this moment on no step is made.
-const LATE: u64 = 1 << 61;
+pub(crate) const LATE: u64 = 1 << 61;
 
 /// From this generation on no checkpoint is made.
-const LAST: u64 = 1 << 61;
+pub(crate) const LAST: u64 = 1 << 61;
 
 /// Why a step isn't made.
-enum Fault {
+pub(crate) enum Fault {
     /// The vault or the database refused it.
     Refused(Refusal),
     /// Formatting, installing or opening was refused.
@@ -59,6 +59,22 @@ fn state_of<D: Database>(vault: &Vault<D>) -> Shown {
     }
 }
 
+/// What the vault has, which is closed.
+fn last_state<D: Database>(vault: Vault<D>) -> Shown {
+    let shown = state_of(&vault);
+    drop(vault);
+    shown
+}
+
+/// What the vault has behind a step, where that was made; the vault is closed.
+fn state_after<D: Database>(made: Result<(), Refusal>, vault: Vault<D>) -> Result<Shown, Fault> {
+    let shown = last_state(vault);
+    match made {
+        Ok(()) => Ok(shown),
+        Err(refusal) => Err(Fault::Refused(refusal)),
+    }
+}
+
 /// Commits a transaction that brings the first day, where the database takes it, and forces it or leaves it waiting.
 fn commit_day<D: Database>(
     alloc: Global,
@@ -66,6 +82,9 @@ fn commit_day<D: Database>(
     store: &mut MemStore,
     forced: bool,
 ) -> Result<u64, Refusal> {
+    if store.moment() >= LATE {
+        return Err(Refusal::RunFull);
+    }
     let entry = Entry {
         actor: 0,
         change: Change::Day {
@@ -73,20 +92,20 @@ fn commit_day<D: Database>(
         },
     };
     match vault.database().legal(&entry) {
-        Ok(()) => {}
-        Err(refusal) => return Err(refusal),
+        Ok(()) if forced => vault.commit_forced(alloc, store, entry),
+        Ok(()) => vault.commit(alloc, store, entry),
+        Err(refusal) => {
+            drop(entry);
+            Err(refusal)
+        }
     }
-    if store.moment() >= LATE {
-        return Err(Refusal::RunFull);
-    }
-    if forced {
-        return vault.commit_forced(alloc, store, entry);
-    }
-    vault.commit(alloc, store, entry)
 }
 
 /// Forces what waits.
-fn force<D: Database>(vault: &mut Vault<D>, store: &mut MemStore) -> Result<(), Refusal> {
+pub(crate) fn force<D: Database>(
+    vault: &mut Vault<D>,
+    store: &mut MemStore,
+) -> Result<(), Refusal> {
     if store.moment() >= LATE {
         return Err(Refusal::RunFull);
     }
@@ -96,8 +115,8 @@ fn force<D: Database>(vault: &mut Vault<D>, store: &mut MemStore) -> Result<(), 
     }
 }
 
-/// Commits so many transactions, each forced by itself or all together.
-fn commit_all<D: Database>(
+/// Commits so many transactions, and forces each of them by itself, or none.
+pub(crate) fn append_all<D: Database>(
     alloc: Global,
     vault: &mut Vault<D>,
     store: &mut MemStore,
@@ -110,13 +129,25 @@ fn commit_all<D: Database>(
             Err(refusal) => return Err(refusal),
         }
     }
+    Ok(())
+}
+
+/// Commits so many transactions, each forced by itself or all together.
+fn commit_all<D: Database>(
+    alloc: Global,
+    vault: &mut Vault<D>,
+    store: &mut MemStore,
+    count: u32,
+    forced: bool,
+) -> Result<(), Refusal> {
+    append_all(alloc, vault, store, count, forced)?;
     force(vault, store)
 }
 
 /// Opens the vault.
 fn open<D: Database>(alloc: Global, store: &mut MemStore) -> Result<Shown, Fault> {
     match Vault::<D>::open(alloc, store) {
-        Ok(vault) => Ok(state_of(&vault)),
+        Ok(vault) => Ok(last_state(vault)),
         Err(refused) => Err(Fault::NotOpened(refused)),
     }
 }
@@ -129,10 +160,9 @@ fn open_and_commit<D: Database>(
     forced: bool,
 ) -> Result<Shown, Fault> {
     match Vault::<D>::open(alloc, store) {
-        Ok(vault) => {
-            let mut vault = vault;
-            commit_all(alloc, &mut vault, store, count, forced)?;
-            Ok(state_of(&vault))
+        Ok(mut vault) => {
+            let made = commit_all(alloc, &mut vault, store, count, forced);
+            state_after(made, vault)
         }
         Err(refused) => Err(Fault::NotOpened(refused)),
     }
@@ -153,10 +183,9 @@ fn write_image<D: Database>(
 /// Opens the vault and writes the next image.
 fn open_and_write<D: Database>(alloc: Global, store: &mut MemStore) -> Result<Shown, Fault> {
     match Vault::<D>::open(alloc, store) {
-        Ok(vault) => {
-            let mut vault = vault;
-            write_image(alloc, &mut vault, store)?;
-            Ok(state_of(&vault))
+        Ok(mut vault) => {
+            let made = write_image(alloc, &mut vault, store);
+            state_after(made, vault)
         }
         Err(refused) => Err(Fault::NotOpened(refused)),
     }
@@ -204,13 +233,30 @@ fn with_image<D: Database>(
     }
 }
 
+/// The steps from a database that was just formatted.
+fn run_from<D: Database>(
+    alloc: Global,
+    store: &mut MemStore,
+    database: &mut D,
+    count: u32,
+    step: u32,
+) -> Result<Shown, Fault> {
+    if step < 4 || step == 8 {
+        with_log(alloc, store, database, count, step)
+    } else {
+        with_image(alloc, store, database, count, step)
+    }
+}
+
 /// The steps.
 fn run(alloc: Global, store: &mut MemStore, count: u32, step: u32) -> Result<Shown, Fault> {
-    let mut inventory = Inventory::fresh(alloc)?;
-    if step < 4 || step == 8 {
-        with_log(alloc, store, &inventory, count, step)
-    } else {
-        with_image(alloc, store, &mut inventory, count, step)
+    match Inventory::fresh(alloc) {
+        Ok(mut inventory) => {
+            let shown = run_from(alloc, store, &mut inventory, count, step);
+            drop(inventory);
+            shown
+        }
+        Err(refusal) => Err(Fault::Refused(refusal)),
     }
 }
 

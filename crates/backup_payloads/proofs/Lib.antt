@@ -1,0 +1,4 @@
+pub mod Reading
+pub mod Wholes
+pub mod Encoding
+pub mod OnePayload

@@ -1,0 +1,4 @@
+pub mod Increments
+pub mod Holding
+pub mod Payloads
+pub mod WorkedBytes
