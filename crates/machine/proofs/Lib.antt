@@ -1,0 +1,11 @@
+pub mod Answering
+pub mod Cases
+pub mod Elsewhere
+pub mod Fitting
+pub mod Histories
+pub mod Legality
+pub mod Mild
+pub mod Moves
+pub mod Pictures
+pub mod Runs
+pub mod Tickets

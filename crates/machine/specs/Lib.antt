@@ -1,0 +1,9 @@
+pub mod Causes
+pub mod Changes
+pub mod Fits
+pub mod Laws
+pub mod Machine
+pub mod Pieces
+pub mod Says
+pub mod State
+pub mod Turns

@@ -1,0 +1,42 @@
+-- When a piece of an object can't be read.
+use Rattle.std.specs.Prelude.{◌≡◌, ◌⊎◌, ℕ, ◌+◌, ◌-◌, ◌==◌, min, nat_lt, false, ◌&&◌, List, [], ◌∷◌, ◌++◌, filter, take, drop, Contains, if◌then◌else◌}
+use Rattle.std.specs.List.{AllByRecursion}
+use Rattle.store_api.specs.Cause.{Rose}
+use Rattle.kinds.specs.declared.segment.Segment.{Segment}
+use Rattle.inventory_rows.specs.version_groups.declared.copies.CopyRow.{CopyRow}
+use Rattle.inventory_rows.specs.version_groups.declared.versions.Version.{Version}
+use Rattle.inventory_rows.specs.State.{Inv}
+use Rattle.placing.specs.Placing.{is_readable}
+
+-- a file's count of faults rose, from the one to the other
+abbrev pub RoseAt : (before after : ℕ → ℕ) → ℕ → Type 0
+RoseAt before after file = Rose (before file) (after file)
+
+-- the segments, the first of which begins at this byte of the object, that have bytes of the piece: `count` bytes from `offset` on
+abbrev pub segments_in : (start offset count : ℕ) → List Segment → List Segment
+segments_in start offset count [] = []
+segments_in start offset count (s ∷ segments) =
+    (if nat_lt start (offset + count) && nat_lt offset (start + s.len) then s ∷ [] else []) ++ segments_in (start + s.len) offset count segments
+
+-- the copies that are asked: that of one pool, or with 0 all
+abbrev pub asked_copies : ℕ → List CopyRow → List CopyRow
+asked_copies from copies = if from == 0 then copies else filter (λ c. c.pool == from) copies
+
+-- the volume of a segment may not be read, or its file's count rose
+abbrev pub IsLost : (rose : ℕ → Type 0) → Inv → Segment → Type 0
+IsLost rose v s = (is_readable s.file v ≡ false) ⊎ rose s.file
+
+-- the copy has such a segment in the piece
+abbrev pub IsCopyLost : (rose : ℕ → Type 0) → Inv → (offset count : ℕ) → CopyRow → Type 0
+IsCopyLost rose v offset count copy = (s : Segment) × Contains (segments_in 0 offset count copy.segments) s × IsLost rose v s
+
+-- each of the copies that are asked has one: exactly then the piece is refused
+abbrev pub IsUnavailable : (rose : ℕ → Type 0) → Inv → (from offset count : ℕ) → Version → Type 0
+IsUnavailable rose v from offset count w = AllByRecursion (IsCopyLost rose v offset count) (asked_copies from w.copies)
+
+-- how many bytes a piece has of what an object has from the offset on, and which they are
+abbrev pub piece_length : (wanted size offset : ℕ) → ℕ
+piece_length wanted size offset = min wanted (size - offset)
+
+abbrev pub piece : (offset count : ℕ) → List ℕ → List ℕ
+piece offset count bytes = take count (drop offset bytes)
