@@ -1,7 +1,9 @@
 //! A call of the server, and what it leaves.
+use mem_files::{MemReader, MemWriter};
+use real_edge::{StdSink, StdSource};
 use std::alloc::{AllocError, Global};
+use std::io::Read;
 use store_api::Store;
-use tree_api::{MemSink, MemSource, Source};
 use tsm_top::{Ended, serve};
 
 /// What a call put, and what it left beside the store.
@@ -22,11 +24,11 @@ pub struct Said {
 }
 
 /// How many bytes are still to come.
-fn unread(source: &mut MemSource) -> usize {
+fn unread(reader: &mut MemReader) -> usize {
     let mut bytes = [0; 1024];
     let mut total: usize = 0;
     for _ in 0..1024 {
-        match source.take(&mut bytes) {
+        match reader.read(&mut bytes) {
             Ok(0) => return total,
             Ok(count) => total = total.saturating_add(count),
             Err(_) => {}
@@ -71,20 +73,22 @@ fn owned(alloc: Global, words: &[&str]) -> Result<Vec<String>, AllocError> {
     Ok(all)
 }
 
-/// Calls the server.
+/// Calls the server, as the program does: over streams of which each call is one of the reader or the writer.
 pub fn call<S: Store + Drop>(
     alloc: Global,
     words: &[&str],
     store: S,
-    script: MemSource,
-    sink: MemSink,
+    reader: MemReader,
+    writer: MemWriter,
 ) -> Result<(S, Said), AllocError> {
     let words = owned(alloc, words)?;
-    let mut script = script;
-    let mut sink = sink;
-    let ended = serve(alloc, &words, store, &mut script, &mut sink);
-    let (store, mut said) = parts(alloc, ended, unread(&mut script));
-    said.put = sink.bytes().to_vec(alloc)?;
+    let mut reader = reader;
+    let mut writer = writer;
+    let mut script = StdSource::new(&mut reader);
+    let mut out = StdSink::new(&mut writer);
+    let ended = serve(alloc, &words, store, &mut script, &mut out);
+    let (store, mut said) = parts(alloc, ended, unread(&mut reader));
+    said.put = writer.bytes().to_vec(alloc)?;
     Ok((store, said))
 }
 

@@ -1,5 +1,7 @@
 //! Runs over an answerer that gives each line back.
-use crate::sweeps::digit;
+use crate::trials::digit;
+use mem_files::{MemReader, MemWriter};
+use real_edge::{StdSink, StdSource};
 use script_loop::{Answerer, Halt, Reply, run};
 use std::alloc::{AllocError, Global};
 use tree_api::{MemSink, MemSource, Sink};
@@ -59,12 +61,20 @@ fn echoed(alloc: Global, number: u32, line: &[u8]) -> Result<Reply, AllocError> 
     Ok(reply)
 }
 
-/// The status of a run, and its sink.
-fn ran(alloc: Global, source: MemSource, sink: MemSink) -> (u8, MemSink) {
-    let mut source = source;
-    let mut sink = sink;
+/// The status of a run, the faults of its sink, and what was written.
+fn ran(alloc: Global, reader: MemReader, writer: MemWriter) -> (u8, u64, MemWriter) {
+    let mut writer = writer;
+    let mut source = StdSource::new(reader);
+    let mut sink = StdSink::new(&mut writer);
     let end = run(alloc, &mut Echo, &mut source, &mut sink);
-    (end.status(), sink)
+    let faults = sink.faults();
+    (end.status(), faults, writer)
+}
+
+/// A reader of the script that gives at most so many bytes a call.
+fn reader(alloc: Global, script: &str, most: usize) -> Result<MemReader, AllocError> {
+    let source = MemSource::new(alloc, script.as_bytes().to_vec(alloc)?);
+    Ok(MemReader::new(source.giving_at_most(most.max(1))))
 }
 
 /// The bytes as text, with `\r` for each CR.
@@ -81,9 +91,9 @@ fn shown(alloc: Global, bytes: &[u8]) -> Result<String, AllocError> {
 }
 
 /// What a run puts, and its status.
-pub fn answer(alloc: Global, source: MemSource, sink: MemSink) -> Result<String, AllocError> {
-    let (status, sink) = ran(alloc, source, sink);
-    let put = shown(alloc, sink.bytes())?;
+pub fn answer(alloc: Global, reader: MemReader, writer: MemWriter) -> Result<String, AllocError> {
+    let (status, _, writer) = ran(alloc, reader, writer);
+    let put = shown(alloc, writer.bytes())?;
     let gap = if put.is_empty() || put.ends_with('\n') {
         ""
     } else {
@@ -92,11 +102,10 @@ pub fn answer(alloc: Global, source: MemSource, sink: MemSink) -> Result<String,
     format!(in alloc; "{put}{gap}status {status}")
 }
 
-/// The same, where the source gives and the sink takes at most so many bytes a call.
-fn answer_in(alloc: Global, script: &str, bytes: usize) -> Result<String, AllocError> {
-    let most = bytes.max(1);
-    let source = MemSource::new(alloc, script.as_bytes().to_vec(alloc)?).giving_at_most(most);
-    answer(alloc, source, MemSink::new(alloc).taking_at_most(most))
+/// The same, where the reader gives and the writer takes at most so many bytes a call.
+fn answer_in(alloc: Global, script: &str, most: usize) -> Result<String, AllocError> {
+    let writer = MemWriter::new(MemSink::new(alloc), most);
+    answer(alloc, reader(alloc, script, most)?, writer)
 }
 
 /// What a run puts and its status, whether in pieces of 1, 2, 5 or 100,000 bytes; or the first of these with which it is another.
@@ -114,14 +123,12 @@ pub fn pieces(alloc: Global, script: &str) -> Result<String, AllocError> {
 /// The status of a run whose sink takes a byte at a time and fails at this call; or `!` where it took other bytes than those before
 /// it, or failed otherwise than once.
 fn status_at(alloc: Global, script: &str, whole: &[u8], call: usize) -> Result<char, AllocError> {
-    let source = MemSource::new(alloc, script.as_bytes().to_vec(alloc)?);
-    let sink = MemSink::new(alloc)
-        .with_failing([call as u64].to_vec(alloc)?)
-        .taking_at_most(1);
-    let (status, sink) = ran(alloc, source, sink);
+    let failing = [call as u64].to_vec(alloc)?;
+    let writer = MemWriter::new(MemSink::new(alloc).with_failing(failing), 1);
+    let (status, counted, writer) = ran(alloc, reader(alloc, script, usize::MAX)?, writer);
     let before = call.min(whole.len());
     let faults = if call < whole.len() { 1 } else { 0 };
-    if sink.bytes() == &whole[..before] && sink.faults() == faults {
+    if writer.bytes() == &whole[..before] && counted == faults {
         Ok(digit(status as usize))
     } else {
         Ok('!')
@@ -130,11 +137,11 @@ fn status_at(alloc: Global, script: &str, whole: &[u8], call: usize) -> Result<c
 
 /// The status of the run for each call of the sink that fails, up to the first that isn't made.
 pub fn sink_faults(alloc: Global, script: &str) -> Result<String, AllocError> {
-    let source = MemSource::new(alloc, script.as_bytes().to_vec(alloc)?);
-    let (_, sink) = ran(alloc, source, MemSink::new(alloc));
+    let writer = MemWriter::new(MemSink::new(alloc), usize::MAX);
+    let (_, _, writer) = ran(alloc, reader(alloc, script, usize::MAX)?, writer);
     let mut signs = String::new(alloc);
-    for call in 0..=sink.bytes().len() {
-        signs.push(status_at(alloc, script, sink.bytes(), call)?)?;
+    for call in 0..=writer.bytes().len() {
+        signs.push(status_at(alloc, script, writer.bytes(), call)?)?;
     }
     Ok(signs)
 }

@@ -1,4 +1,4 @@
-//! Single steps on a store in memory.
+//! Single steps on a store.
 use crate::answer::Fault;
 use mem_store::MemStore;
 use std::alloc::Global;
@@ -14,17 +14,17 @@ pub const FILES: u32 = 10;
 /// The machine stops and starts again.
 pub fn stop(alloc: Global, store: &mut MemStore, choice: u64) {
     let before = mem::replace(store, MemStore::new(alloc));
-    *store = before.stop(choice);
+    drop(mem::replace(store, before.stop(choice)));
 }
 
 /// The calls that begin at these moments fail, and no others.
 pub fn fail_at(alloc: Global, store: &mut MemStore, moments: Vec<u64>) {
     let before = mem::replace(store, MemStore::new(alloc));
-    *store = before.with_failing(moments);
+    drop(mem::replace(store, before.with_failing(moments)));
 }
 
 /// Writes bytes and makes them durable.
-pub fn write(store: &mut MemStore, file: u32, offset: u64, bytes: &[u8]) -> Result<(), Fault> {
+pub fn write<S: Store>(store: &mut S, file: u32, offset: u64, bytes: &[u8]) -> Result<(), Fault> {
     if store.moment() >= LATE {
         return Err(Fault::Store);
     }
@@ -34,9 +34,9 @@ pub fn write(store: &mut MemStore, file: u32, offset: u64, bytes: &[u8]) -> Resu
     }
 }
 
-/// A store whose files read as those of another, all of them on the disk.
-pub fn copied(alloc: Global, store: &MemStore) -> Result<MemStore, Fault> {
-    let mut copy = MemStore::new(alloc);
+/// An empty store, whose files then read as those of another, all of them on the disk.
+pub fn copied<S: Store + Drop>(empty: S, store: &MemStore) -> Result<S, Fault> {
+    let mut copy = empty;
     for file in 0..FILES {
         write(&mut copy, file, 0, store.bytes(file))?;
     }

@@ -1,48 +1,109 @@
-//! A script that is run over the files of a folder in memory, with another call of the files that fails each time.
+//! Runs over the files of a folder in memory whose calls fail.
 use crate::answer::Fault;
 use crate::call::Said;
-use crate::sweeps::{MOST, asked_all, digit, from, run, shown_over, stored};
+use crate::files::copied;
+use crate::trials::{
+    Bench, Failed, Opened, Stopped, Trial, answers, failed_over, from, run, shown_over,
+    stopped_over,
+};
 use mem_files::MemFiles;
+use mem_store::MemStore;
 use real_edge::FolderStore;
 use std::alloc::{AllocError, Global};
 use store_api::Stop;
 
-/// The script over an empty folder all calls of whose files fail from this one on.
+/// Each call is one of the files.
+pub struct Folders;
+
+/// A store over an empty folder, of whose files these calls fail, and behind each stop those of its list, the next one's last.
+fn empty(alloc: Global, failing: Vec<u64>, later: Vec<Vec<u64>>) -> FolderStore<MemFiles> {
+    let files = MemFiles::new(alloc)
+        .with_failing(failing, usize::MAX)
+        .failing_behind_stops(later);
+    FolderStore::new(files, alloc)
+}
+
+/// The script over an empty folder all calls of whose files fail from this one on, and behind each stop those of its list.
 fn run_until(
-    alloc: Global,
-    script: &str,
+    trial: &Trial,
     call: u64,
+    later: Vec<Vec<u64>>,
 ) -> Result<(FolderStore<MemFiles>, Said), AllocError> {
-    let files = MemFiles::new(alloc).with_failing(from(alloc, call)?, usize::MAX);
-    run(alloc, "fresh", FolderStore::new(files, alloc), script)
+    let failing = from(trial.alloc, call)?;
+    let store = empty(trial.alloc, failing, later);
+    run(trial.alloc, "fresh", store, &trial.script)
 }
 
-/// Puts the two signs behind what was put, where they aren't those that were put last.
-fn put_signs(signs: &mut String, last: (char, char), next: (char, char)) -> Result<(), AllocError> {
-    if next.0 == last.0 && next.1 == last.1 {
-        return Ok(());
-    }
-    if !signs.is_empty() {
-        signs.push(' ')?;
-    }
-    signs.push(next.0)?;
-    signs.push(next.1)
+/// What a stop leaves of a store that is opened, and whether a call of its files failed in that.
+fn left_in_opening(
+    trial: &Trial,
+    store: FolderStore<MemFiles>,
+) -> Result<(FolderStore<MemFiles>, bool), AllocError> {
+    let (store, opened) = run(trial.alloc, "run", store, "")?;
+    Ok((store.stop(trial.choice), opened.status == 5))
 }
 
-/// What the script says that it stored, and what is shown after a stop, for each call of the files; each two once.
-pub fn stops(alloc: Global, choice: u64, script: &str) -> Result<String, Fault> {
-    let (gets, answers) = asked_all(alloc, script)?;
-    let mut signs = String::new(alloc);
-    let mut last = (' ', ' ');
-    for call in 0..MOST {
-        let (store, said) = run_until(alloc, script, call)?;
-        let shown = shown_over(alloc, store.stop(choice), &gets, &answers)?;
-        let next = (digit(stored(&said)), shown);
-        put_signs(&mut signs, last, next)?;
-        last = next;
-        if said.status == 0 {
-            return Ok(signs);
-        }
+/// The list of all calls from this one on; of none where there is none.
+fn all_from(alloc: Global, call: Option<u64>) -> Result<Vec<u64>, AllocError> {
+    match call {
+        Some(call) => from(alloc, call),
+        None => Ok(Vec::new(alloc)),
     }
-    Err(Fault::NoCommand)
+}
+
+/// The lists of an opening whose calls fail from one on, and of the next one.
+fn two_openings(alloc: Global, call: u64, later: Option<u64>) -> Result<Vec<Vec<u64>>, AllocError> {
+    let mut lists = Vec::new(alloc);
+    lists.push(all_from(alloc, later)?)?;
+    lists.push(from(alloc, call)?)?;
+    Ok(lists)
+}
+
+/// The list of the next opening.
+fn one_opening(alloc: Global, call: u64) -> Result<Vec<Vec<u64>>, AllocError> {
+    let mut lists = Vec::new(alloc);
+    lists.push(from(alloc, call)?)?;
+    Ok(lists)
+}
+
+impl Bench for Folders {
+    fn stopped(trial: &Trial, call: u64) -> Result<Stopped, AllocError> {
+        let (store, said) = run_until(trial, call, Vec::new(trial.alloc))?;
+        stopped_over(trial, &said, store.stop(trial.choice))
+    }
+
+    fn stopped_again(trial: &Trial, call: u64, later: u64) -> Result<(char, bool), AllocError> {
+        let lists = one_opening(trial.alloc, later)?;
+        let (store, _said) = run_until(trial, call, lists)?;
+        let (store, has_failed) = left_in_opening(trial, store.stop(trial.choice))?;
+        Ok((shown_over(trial, store)?, has_failed))
+    }
+
+    fn failed(trial: &Trial, call: u64) -> Result<Failed, AllocError> {
+        let failing = [call].to_vec(trial.alloc)?;
+        let store = empty(trial.alloc, failing, Vec::new(trial.alloc));
+        let (store, said) = run(trial.alloc, "fresh", store, &trial.script)?;
+        Ok(failed_over(store, said.status))
+    }
+
+    fn opened(
+        trial: &Trial,
+        store: &MemStore,
+        call: u64,
+        later: Option<u64>,
+    ) -> Result<Opened, Fault> {
+        let alloc = trial.alloc;
+        let lists = two_openings(alloc, call, later)?;
+        let copy = copied(empty(alloc, Vec::new(alloc), lists), store)?;
+        let (store, has_failed) = left_in_opening(trial, copy.stop(trial.choice))?;
+        let (store, has_failed_again) = match later {
+            Some(_) => left_in_opening(trial, store)?,
+            None => (store, false),
+        };
+        Ok(Opened {
+            words: answers(trial, store)?,
+            has_failed,
+            has_failed_again,
+        })
+    }
 }

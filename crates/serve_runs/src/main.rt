@@ -6,7 +6,8 @@
 //! - `do WORD..`: the server is called with these words and that script, which is empty again then. Printed are what it put, its status, how
 //!   many transactions it made, of how many it says when they were durable, and the newest image's generation; or, where it opened no
 //!   database, how many bytes of the script it didn't read. `last WORD..`: the same with the last line alone of what it put.
-//! - `source N CALL..`, `sink N CALL..`: in the next call the source gives, or the sink takes, at most N bytes at a time, and those calls fail.
+//! - `source N CALL..`, `sink N CALL..`: in the next call standard input gives, or standard output takes, at most N bytes at a time, and those
+//!   calls fail; of `sink 0` it takes none. The server reads and writes them as the program does, by `StdSource` and `StdSink`.
 //! - `new`: an empty store. `stop CHOICE`: the machine stops and starts again. `fail MOMENT..`: the calls that begin then fail.
 //! - `write FILE OFFSET HEX`: these bytes are written and made durable; `show FILE`; `moment`; `faults FILE`: how often calls on it failed.
 //! - `blank MOMENT HEX WORD..`: the server is called over another store, which keeps nothing and whose files always read as these bytes.
@@ -18,9 +19,10 @@
 //!   from then on, and there the machine stops. Then `run` follows with the script. One row, with a sign for each moment: `=` where that run prints
 //!   what `do run` would over a copy that was never opened, also where the machine stops once more, at each call of the opening; else `!`. The
 //!   last sign is that of the first run in which no call fails.
-//! - `folder CHOICE`: as `stops`, over the files of an empty folder in memory, once for each call of these files. The two signs of each call stand
-//!   together, and those of calls in turn that have the same once.
-//! - `faults`: the script is run by `fresh`, once for each moment at which the one call fails. Two rows: the status, and the file whose call failed.
+//! - `faults`: the script is run by `fresh`, once for each moment at which the one call fails. Three rows: the status, the first of the files with
+//!   faults, and how many faults there are.
+//! - `folder stops CHOICE`, `folder again CHOICE`, `folder opens CHOICE`, `folder faults`: the same over a store in a folder in memory, for each
+//!   call of the folder's files.
 //! - `echo`: the script is run over an answerer that gives each line back; of the line `two` it gives two, it refuses `no`, of `bad` it counts a
 //!   failed file, with `full` it ends the run, and an empty line is a comment. Printed are what was put, with `\r` for CR, and the status. `pieces`:
 //!   the same, where the streams move 1, 2, 5 and 100,000 bytes at a time, if it is the same for each. `sinks`: the status for each call of a sink
@@ -32,12 +34,13 @@
 mod answer;
 mod blank;
 mod call;
+mod devices;
 mod echo;
 mod files;
 mod folders;
-mod openings;
 mod run;
 mod sweeps;
+mod trials;
 
 use run::Run;
 use std::io;

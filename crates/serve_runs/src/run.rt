@@ -2,8 +2,12 @@
 use crate::answer::{Fault, large, number, numbers, text};
 use crate::blank::BlankStore;
 use crate::call::{Said, call, last_line, text_of, words_of};
-use crate::{echo, files, folders, openings, sweeps};
+use crate::devices::Devices;
+use crate::folders::Folders;
+use crate::trials::{Bench, Trial};
+use crate::{echo, files, sweeps};
 use hex::{decode, encode};
+use mem_files::{MemReader, MemWriter};
 use mem_store::MemStore;
 use std::alloc::{AllocError, Global};
 use std::mem;
@@ -43,25 +47,20 @@ fn read_way(alloc: Global, most: &str, calls: &[&str]) -> Result<Way, Fault> {
     })
 }
 
-/// A source of the text.
-fn source(alloc: Global, text: &str, way: Way) -> Result<MemSource, AllocError> {
+/// A reader of the text; of no bytes at a time it gives all.
+fn reader(alloc: Global, text: &str, way: Way) -> Result<MemReader, AllocError> {
     let Way { most, failing } = way;
     let source = MemSource::new(alloc, text.as_bytes().to_vec(alloc)?).with_failing(failing);
-    Ok(if most > 0 {
+    Ok(MemReader::new(if most > 0 {
         source.giving_at_most(most)
     } else {
         source
-    })
+    }))
 }
 
-fn sink(alloc: Global, way: Way) -> MemSink {
+fn writer(alloc: Global, way: Way) -> MemWriter {
     let Way { most, failing } = way;
-    let sink = MemSink::new(alloc).with_failing(failing);
-    if most > 0 {
-        sink.taking_at_most(most)
-    } else {
-        sink
-    }
+    MemWriter::new(MemSink::new(alloc).with_failing(failing), most)
 }
 
 impl Run {
@@ -91,10 +90,10 @@ impl Run {
         let script = self.take_script();
         let from = mem::replace(&mut self.source, plain(alloc));
         let to = mem::replace(&mut self.sink, plain(alloc));
-        let from = source(alloc, &script, from)?;
+        let from = reader(alloc, &script, from)?;
         let store = mem::replace(&mut self.store, MemStore::new(alloc));
-        let (store, answered) = call(alloc, words, store, from, sink(alloc, to))?;
-        self.store = store;
+        let (store, answered) = call(alloc, words, store, from, writer(alloc, to))?;
+        drop(mem::replace(&mut self.store, store));
         Ok(answered)
     }
 
@@ -112,8 +111,8 @@ impl Run {
         let alloc = self.alloc;
         let script = self.take_script();
         let store = BlankStore::new(large(moment)?, self.bytes(bytes)?);
-        let from = source(alloc, &script, plain(alloc))?;
-        let (_store, answered) = call(alloc, words, store, from, MemSink::new(alloc))?;
+        let from = reader(alloc, &script, plain(alloc))?;
+        let (_store, answered) = call(alloc, words, store, from, writer(alloc, plain(alloc)))?;
         Ok(words_of(alloc, &answered, text_of(&answered))?)
     }
 
@@ -129,7 +128,7 @@ impl Run {
     }
 
     fn start_again(&mut self) -> Result<String, Fault> {
-        self.store = MemStore::new(self.alloc);
+        drop(mem::replace(&mut self.store, MemStore::new(self.alloc)));
         self.done()
     }
 
@@ -209,8 +208,8 @@ impl Run {
         let script = self.take_script();
         let from = mem::replace(&mut self.source, plain(alloc));
         let to = mem::replace(&mut self.sink, plain(alloc));
-        let from = source(alloc, &script, from)?;
-        Ok(echo::answer(alloc, from, sink(alloc, to))?)
+        let from = reader(alloc, &script, from)?;
+        Ok(echo::answer(alloc, from, writer(alloc, to))?)
     }
 
     fn pieces(&mut self) -> Result<String, Fault> {
@@ -245,40 +244,29 @@ impl Run {
         self.done()
     }
 
-    fn stops(&mut self, choice: &str) -> Result<String, Fault> {
+    /// The trial of the script, which is empty then.
+    fn trial(&mut self, choice: &str) -> Result<Trial, Fault> {
+        let choice = large(choice)?;
         let script = self.take_script();
-        sweeps::stops(self.alloc, large(choice)?, &script)
+        Ok(Trial::new(self.alloc, choice, script)?)
     }
 
-    fn folder_stops(&mut self, choice: &str) -> Result<String, Fault> {
-        let script = self.take_script();
-        folders::stops(self.alloc, large(choice)?, &script)
+    /// What a command on many stores is answered, each of whose calls can fail; none where it is no such command.
+    fn sweep<B: Bench>(&mut self, words: &[&str]) -> Result<Option<String>, Fault> {
+        Ok(Some(match words {
+            ["stops", choice] => sweeps::stops::<B>(&self.trial(choice)?)?,
+            ["again", choice] => sweeps::again::<B>(&self.trial(choice)?)?,
+            ["opens", choice] => sweeps::opens::<B>(&self.trial(choice)?, &self.store)?,
+            ["faults"] => sweeps::faults::<B>(&self.trial("0")?)?,
+            _ => return Ok(None),
+        }))
     }
 
-    fn again(&mut self, choice: &str) -> Result<String, Fault> {
-        let script = self.take_script();
-        sweeps::again(self.alloc, large(choice)?, &script)
-    }
-
-    fn opens(&mut self, choice: &str) -> Result<String, Fault> {
-        let script = self.take_script();
-        openings::opens(self.alloc, large(choice)?, &self.store, &script)
-    }
-
-    fn all_faults(&mut self) -> Result<String, Fault> {
-        let script = self.take_script();
-        sweeps::faults(self.alloc, &script)
-    }
-
-    /// What a command on many stores is answered.
-    fn sweep(&mut self, words: &[&str]) -> Result<String, Fault> {
-        match words {
-            ["stops", choice] => self.stops(choice),
-            ["again", choice] => self.again(choice),
-            ["opens", choice] => self.opens(choice),
-            ["folder", choice] => self.folder_stops(choice),
-            ["faults"] => self.all_faults(),
-            _ => self.on_script(words),
+    /// The same over the calls of a store, and what another command on the script is answered.
+    fn on_calls(&mut self, words: &[&str]) -> Result<String, Fault> {
+        match self.sweep::<Devices>(words)? {
+            Some(text) => Ok(text),
+            None => self.on_script(words),
         }
     }
 
@@ -292,7 +280,8 @@ impl Run {
             ["show", file] => self.show(file),
             ["faults", file] => self.faults(file),
             ["moment"] => self.moment(),
-            _ => self.sweep(words),
+            ["folder", words @ ..] => self.sweep::<Folders>(words)?.ok_or(Fault::NoCommand),
+            _ => self.on_calls(words),
         }
     }
 
