@@ -52,7 +52,7 @@ Ascend-free_runs at [] = tt
 Ascend-free_runs at (true ∷ used) = Ascend-weaker at (at + 1) (free_runs_from (at + 1) used) (omega arith) (Ascend-free_runs (at + 1) used)
 Ascend-free_runs at (false ∷ used) = Ascend-with_block at (free_runs_from (at + 1) used) (Ascend-free_runs (at + 1) used)
 
-abbrev HaveBlocks : List Run → Type 0
+abbrev pub HaveBlocks : List Run → Type 0
 HaveBlocks [] = Unit {0}
 HaveBlocks (r ∷ rs) = (0 < r.blocks) × HaveBlocks rs
 
@@ -61,7 +61,7 @@ HaveBlocks-with_block at [] f = (omega arith, tt)
 HaveBlocks-with_block at (r ∷ rs) f =
     elim (r.first == at + 1) as (λ b. HaveBlocks (joined_or b at r rs)) [ true ↦ (omega arith, f.1) | false ↦ (omega arith, f) ]
 
-HaveBlocks-free_runs : (at : ℕ) (used : List Bool) → HaveBlocks (free_runs_from at used)
+pub HaveBlocks-free_runs : (at : ℕ) (used : List Bool) → HaveBlocks (free_runs_from at used)
 HaveBlocks-free_runs at [] = tt
 HaveBlocks-free_runs at (true ∷ used) = HaveBlocks-free_runs (at + 1) used
 HaveBlocks-free_runs at (false ∷ used) = HaveBlocks-with_block at (free_runs_from (at + 1) used) (HaveBlocks-free_runs (at + 1) used)

@@ -1,4 +1,5 @@
 pub mod FreeRuns
+pub mod Marking
 pub mod Members
 pub mod Taking
 pub mod Words

@@ -9,7 +9,7 @@ use Rattle.extent_map.specs.declared.extents.Run.{Run}
 use Rattle.extent_map.specs.Blocks.{run, end_of, room_in, total_room, blocks_for, with_block, free_runs_from, free_runs, first_of, taken, marked, AllAre, AreFree, Ascend}
 use Rattle.extent_map.proofs.Words.{between_outside}
 use Rattle.extent_map.proofs.Members.{length-marked_from, get_or-marked_from}
-use Rattle.extent_map.proofs.FreeRuns.{total_room-cons, Ascend-free_runs, AllAre-fits, used_at, free_at}
+use Rattle.extent_map.proofs.FreeRuns.{total_room-cons, Ascend-free_runs, HaveBlocks, HaveBlocks-free_runs, AllAre-fits, used_at, free_at}
 
 -- ---- a step of the walk over the free runs
 
@@ -205,3 +205,30 @@ next_behind first end next used free now e not-used fits low here are =
           absurd (false≢true (sym (free_at free used next not-used inside (here inside')) ∙ is-used))
       | inr le ↦ le
     ]
+
+-- ---- all the free runs
+
+blocks_for_run : (r : Run) → 0 < r.blocks → run r.first (blocks_for (room_in r)) ≡ r
+blocks_for_run r some =
+    let t = div_ceil_times (room_in r + 32) 4096 (omega arith) in
+    let blocks : blocks_for (room_in r) ≡ r.blocks = omega (arith, t.0, t.1) in
+    ap (λ (n : ℕ). run r.first n) blocks
+
+-- for the bytes of all of their room all runs are taken
+first_of-whole : (runs : List Run) → HaveBlocks runs → first_of (total_room runs) runs ≡ runs
+first_of-whole [] some = refl
+first_of-whole (r ∷ []) some =
+    let whole : total_room (r ∷ []) ≡ room_in r + 0 = total_room-cons r [] in
+    first_of_last (total_room (r ∷ [])) r [] (omega (arith, whole, some.0)) (omega (arith, whole))
+    ∙ ap (λ (n : ℕ). run r.first (blocks_for n) ∷ []) (omega (arith, whole))
+    ∙ ap (λ (one : Run). one ∷ []) (blocks_for_run r some.0)
+first_of-whole (r ∷ next ∷ rs) some =
+    let whole : total_room (r ∷ next ∷ rs) ≡ room_in r + total_room (next ∷ rs) = total_room-cons r (next ∷ rs) in
+    let rest : total_room (next ∷ rs) ≡ room_in next + total_room rs = total_room-cons next rs in
+    let left : total_room (r ∷ next ∷ rs) - room_in r ≡ total_room (next ∷ rs) = omega (arith, whole) in
+    first_of_more (total_room (r ∷ next ∷ rs)) r (next ∷ rs) (omega (arith, whole, some.0)) (omega (arith, whole, rest, some.1.0))
+    ∙ ap (λ (n : ℕ). r ∷ first_of n (next ∷ rs)) left
+    ∙ ap (λ (l : List Run). r ∷ l) (first_of-whole (next ∷ rs) some.1)
+
+pub all_runs : (used : List Bool) → first_of (total_room (free_runs used)) (free_runs used) ≡ free_runs used
+all_runs used = first_of-whole (free_runs used) (HaveBlocks-free_runs 0 used)

@@ -1,4 +1,4 @@
-ghost use Rattle.std.specs.Prelude.{◌≡◌, ◌↔◌, ◌<◌, ◌≤◌, true, false, not, ◌∷◌, length, map, drop, replicate, IsTrue, IfOk, OnErr, IfSome, IsNone, MatchOption};
+ghost use Rattle.std.specs.Prelude.{◌≡◌, ℕ, ◌↔◌, ◌<◌, ◌≤◌, true, false, not, ◌∷◌, length, map, drop, replicate, slice_index_or, IsTrue, IfOk, OnErr, IfSome, IsNone, MatchOption};
 ghost use Rattle.std.specs.Option.{option_map};
 ghost use Rattle.extent_map.specs.Blocks.{end_of, header_if, marked};
 
@@ -97,6 +97,64 @@ impl Extents {
         let runs = self.plan(alloc, bytes)?;
         self.occupy_all(runs.as_slice());
         Ok(Some(runs))
+    }
+
+    /// The runs that `take` would take for so many bytes, of which nothing is taken.
+    pub fn runs_for(&self, alloc: Global, bytes: u64) -> Result<Vec<Run>, Refusal>
+        requires { bytes ≤ total_room (free_runs self.now) }
+        ensures { AnswersBy (λ v. v.items) result (first_of bytes (free_runs self.now)) }
+    {
+        let runs = self.plan(alloc, bytes)?;
+        Ok(runs)
+    }
+
+    /// The free runs, all of them, in ascending order.
+    pub fn free_runs(&self, alloc: Global) -> Result<Vec<Run>, Refusal>
+        ensures { AnswersBy (λ v. v.items) result (free_runs self.now) }
+    {
+        let runs = self.plan(alloc, self.room)?;
+        Ok(runs)
+    }
+
+    /// How many blocks the volume has.
+    pub fn blocks(&self) -> u32
+        ensures { result ≡ length self.now }
+    {
+        self.used.len() as u32
+    }
+
+    /// Marks the blocks of a run as in use, those among them too that are in use already. It takes no memory.
+    pub fn mark_used(&mut self, run: Run)
+        requires { end_of run ≤ length self.old }
+        ensures { self.new ≡ marked true run self.old }
+    {
+        let end = run.first as usize + run.blocks as usize;
+        let mut at = run.first as usize;
+        'parts: while at < end {
+            let part = self.free_within(at, end);
+            if part.blocks > 0 {
+                self.occupy(part);
+            }
+            at = part.first as usize + part.blocks as usize;
+        }
+    }
+
+    /// The first free run from block `at` on, as far as it lies before block `end`. Where there is none it has no blocks and begins with `end`.
+    fn free_within(&self, at: usize, end: usize) -> Run
+        requires order { at < end }
+        requires within { end ≤ length self.now }
+        ensures low { at ≤ result.first }
+        ensures high { end_of result ≤ end }
+        ensures on { at < end_of result }
+        ensures before { (k : ℕ) → at ≤ k → k < result.first → slice_index_or self.now k true ≡ true }
+        ensures free { AllAre false result self.now }
+    {
+        let first = self.free.next(at).min(end);
+        let stop = self.used.next(first).min(end);
+        Run {
+            first: first as u32,
+            blocks: (stop - first) as u32,
+        }
     }
 
     /// Gives the blocks of a run back, all of which are in use: all or some of those of a run that was taken. It takes no memory.

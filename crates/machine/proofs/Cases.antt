@@ -13,8 +13,8 @@ use Rattle.kinds.specs.declared.change.Verb.TheVariants as verb
 use Rattle.entries.specs.declared.change.Change.{Change}
 use Rattle.entries.specs.declared.change.Change.TheVariants as change
 use Rattle.inventory_rows.specs.pool_rows.PoolRows.{pool_named, volume_named}
-use Rattle.steps.specs.declared.aim.Aim.{Aim}
-use Rattle.steps.specs.declared.aim.Aim.TheVariants as aim
+use Rattle.space.specs.declared.aim.Aim.{Aim}
+use Rattle.space.specs.declared.aim.Aim.TheVariants as aim
 use Rattle.steps.specs.declared.image.ImageKind.{ImageKind}
 use Rattle.steps.specs.declared.image.ImageKind.TheVariants as image
 use Rattle.steps.specs.declared.image.ImageReply.{ImageReply}

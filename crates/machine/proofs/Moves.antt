@@ -10,7 +10,7 @@ use Rattle.entries.specs.declared.change.Change.TheVariants as change
 use Rattle.entries.specs.declared.entry.Entry.{Entry}
 use Rattle.inventory_answers.specs.declared.query.Query.{Query}
 use Rattle.inventory_answers.specs.declared.reply.Answer.{Answer}
-use Rattle.steps.specs.declared.aim.Aim.{Aim}
+use Rattle.space.specs.declared.aim.Aim.{Aim}
 use Rattle.steps.specs.declared.asked.Asked.{Asked}
 use Rattle.steps.specs.declared.image.ImageKind.{ImageKind}
 use Rattle.steps.specs.declared.image.ImageKind.TheVariants as image

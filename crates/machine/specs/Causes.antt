@@ -21,8 +21,8 @@ use Rattle.inventory_rules.specs.Transactions.{refused}
 use Rattle.inventory_rules.specs.Versions.{name_once, of_version}
 use Rattle.inventory_answers.specs.Answered.{answered}
 use Rattle.inventory_answers.specs.declared.query.Query.{Query}
-use Rattle.steps.specs.declared.aim.Aim.{Aim}
-use Rattle.steps.specs.declared.aim.Aim.TheVariants as aim
+use Rattle.space.specs.declared.aim.Aim.{Aim}
+use Rattle.space.specs.declared.aim.Aim.TheVariants as aim
 use Rattle.steps.specs.declared.asked.Asked.{Asked}
 use Rattle.steps.specs.declared.asked.Asked.TheVariants as asked
 use Rattle.steps.specs.declared.image.ImageKind.{ImageKind}

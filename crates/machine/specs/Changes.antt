@@ -16,8 +16,8 @@ use Rattle.entries.specs.declared.change.Change.TheVariants as change
 use Rattle.inventory_rows.specs.version_groups.Entries.{is_nil}
 use Rattle.inventory_rows.specs.pool_tables.Rows.{row_at}
 use Rattle.inventory_rows.specs.State.{Inv}
-use Rattle.steps.specs.declared.aim.Aim.{Aim}
-use Rattle.steps.specs.declared.aim.Aim.TheVariants as aim
+use Rattle.space.specs.declared.aim.Aim.{Aim}
+use Rattle.space.specs.declared.aim.Aim.TheVariants as aim
 use Rattle.steps.specs.declared.asked.Asked.{Asked}
 use Rattle.steps.specs.declared.asked.Asked.TheVariants as asked
 use Rattle.steps.specs.declared.asked.HeldItem.{HeldItem}

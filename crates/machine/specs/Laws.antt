@@ -2,7 +2,7 @@
 use Rattle.std.specs.Prelude.{◌≡◌, ℕ, true, Err}
 use Rattle.kinds.specs.declared.refusal.Refusal.{Refusal}
 use Rattle.inventory_rows.specs.State.{Inv}
-use Rattle.steps.specs.declared.aim.Aim.{Aim}
+use Rattle.space.specs.declared.aim.Aim.{Aim}
 use Rattle.machine.specs.Machine.{Places, Space}
 use Rattle.machine.specs.Says.{is_elsewhere}
 

@@ -26,8 +26,8 @@ use Rattle.inventory_answers.specs.declared.query.Query.{Query}
 use Rattle.inventory_answers.specs.declared.query.Query.TheVariants as query
 use Rattle.inventory_answers.specs.declared.reply.Answer.{Answer}
 use Rattle.inventory_answers.specs.declared.reply.Rows.TheVariants as rows
-use Rattle.steps.specs.declared.aim.Aim.{Aim}
-use Rattle.steps.specs.declared.aim.Aim.TheVariants as aim
+use Rattle.space.specs.declared.aim.Aim.{Aim}
+use Rattle.space.specs.declared.aim.Aim.TheVariants as aim
 use Rattle.steps.specs.declared.asked.Asked.{Asked}
 use Rattle.steps.specs.declared.image.ImageKind.{ImageKind}
 use Rattle.steps.specs.declared.image.ImageKind.TheVariants as image

@@ -10,7 +10,7 @@ use Rattle.inventory_rows.specs.State.{Inv}
 use Rattle.inventory_rules.specs.Journal.{Journal}
 use Rattle.inventory_rules.specs.Run.{journal_of}
 use Rattle.inventory_rules.specs.Transactions.{effect}
-use Rattle.steps.specs.declared.aim.Aim.{Aim}
+use Rattle.space.specs.declared.aim.Aim.{Aim}
 
 -- ---- tickets
 

@@ -7,7 +7,7 @@ use Rattle.kinds.specs.declared.refusal.Refusal.{Refusal}
 use Rattle.kinds.specs.declared.segment.Digest.{Digest}
 use Rattle.inventory_answers.specs.declared.query.Query.{Query}
 use Rattle.inventory_answers.specs.declared.reply.Answer.{Answer}
-use Rattle.steps.specs.declared.aim.Aim.{Aim}
+use Rattle.space.specs.declared.aim.Aim.{Aim}
 use Rattle.steps.specs.declared.asked.Asked.{Asked}
 use Rattle.steps.specs.declared.image.ImageKind.{ImageKind}
 use Rattle.steps.specs.declared.image.ImageReply.{ImageReply}

@@ -4,13 +4,11 @@
 //! each call only that this step was made and answered so. What replies mean is said elsewhere, once for all that make steps.
 #![tactic(auto)]
 
-mod aim;
 mod asked;
 mod image;
 mod step;
 mod stepper;
 
-pub use aim::Aim;
 pub use asked::{Asked, HeldItem, Item};
 pub use image::{ImageKind, ImageReply};
 pub use step::{Reply, Step};

@@ -1,11 +1,11 @@
 //! Steps and replies as values.
 
-use crate::aim::Aim;
 use crate::asked::Asked;
 use crate::image::{ImageKind, ImageReply};
 use inventory_answers::{Answer, Query};
 use inventory_work::Listed;
 use kinds::{Digest, Refusal};
+use space::Aim;
 
 /// A step: what the method of `Stepper` with its name is given. Of a read the last number is the length of the buffer.
 #[derive(Drop)]

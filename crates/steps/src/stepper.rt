@@ -4,11 +4,11 @@ ghost use Rattle.steps.specs.Calls.{Does, Waits, piece_of, risen};
 ghost use Rattle.steps.specs.Events.{Event};
 ghost use Rattle.steps.specs.Events.Deed.{OpenNew, OpenCopy, WritePiece, CopyPiece, Seal, Commit, DropTicket, ReadPiece, Ask, Image, Reuse, Force};
 
-use crate::aim::Aim;
 use crate::asked::Asked;
 use crate::image::{ImageKind, ImageReply};
 use inventory_answers::{Answer, Query};
 use kinds::{Digest, Holder, Refusal};
+use space::Aim;
 
 /// One actor, a client's session or a process of the server, who makes steps. Each method but the first two and `wait` is one step. Where memory is wanted
 /// before a step, nothing is done and the answer is `Memory`. Each step answers `RunFull` in a run that is full and else `LogFault` in a hall that a fault has halted;

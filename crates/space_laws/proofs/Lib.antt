@@ -1,0 +1,4 @@
+pub mod Fits
+pub mod Keys
+pub mod Tails
+pub mod Whole
