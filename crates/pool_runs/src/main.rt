@@ -1,4 +1,4 @@
-//! Reads a script of small commands, each a call on one value of `Pools` or of `Extents`, and prints a line for each: what the call answers, or
+//! Reads a script of small commands, each a call on one value of `Pools`, of `Extents` or of `Space`, and prints a line for each: what the call answers, or
 //! its refusal, and `changed` where the rows of classes, pools and volumes are no longer those of before. `unmet` says that what
 //! the call requires doesn't hold, and that it was not made. A comment, which begins with `#`, is printed as it stands.
 //!
@@ -19,6 +19,11 @@
 //! - `blocks LEN` and `bytes LEN`: of the frame of a segment of so many bytes.
 //! - `extents new BLOCKS`: a random-access volume of so many blocks; `extents room`: `room`; `extents take BYTES`: the runs that `take` takes, as
 //!   `3+2` for the blocks 3 and 4, or `none`; `extents used FIRST BLOCKS`: `are_used`; `extents give FIRST BLOCKS`: `give`, where they are used.
+//! - `space new NEXT`: no ticket, no transaction, and the number that the next file gets; `space hold TICKET ACTOR PLACE..` with places as
+//!   `2:6@0+100`, the 100 bytes at 0 of file 6 in pool 2: `hold`; `space release TICKET`, `space note TRANSACTION PLACE..`, `space force`,
+//!   `space draw FILE`: the calls of these names.
+//! - `choose ACTOR SIZE AIM PREFER AVOID` with aims as `new=1`, `move=2` into a pool alone, `along=2` into a hierarchy, and `copy=4`:
+//!   `choose_by_walk`, each segment as a place.
 //! - `classes`, `pools`, `volumes`, and `show FILE`: the rows. A segment is shown as its object, offset and length, as `1@0+100`.
 //!
 //! The stored output was written by hand, from the rules of pools, volumes and blocks.
@@ -32,6 +37,7 @@ mod questions;
 mod rows;
 mod run;
 mod segments;
+mod tickets;
 mod volumes;
 mod words;
 

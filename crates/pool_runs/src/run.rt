@@ -1,20 +1,22 @@
 //! A run over a script.
 use crate::answer::{Answer, Fault, text};
 use crate::words::{number, words_of};
-use crate::{changes, extents, parts, questions, rows, segments, volumes};
+use crate::{changes, extents, parts, questions, rows, segments, tickets, volumes};
 use extent_map::Extents;
 use kinds::Refusal;
 use pool_rows::Pools;
+use space::Space;
 use std::alloc::{AllocError, Global};
 use std::mem;
 
-/// What the commands are about: the value of `Pools`, another one that was put aside, and the blocks of a volume.
+/// What the commands are about: the value of `Pools`, another one that was put aside, the blocks of a volume, and what tickets hold.
 #[derive(Drop)]
 pub struct Run {
     alloc: Global,
     pools: Pools,
     aside: Pools,
     extents: Extents,
+    space: Space,
 }
 
 /// The file number that is the only word.
@@ -33,6 +35,7 @@ impl Run {
             pools: Pools::fresh(alloc)?,
             aside: Pools::fresh(alloc)?,
             extents: Extents::new(alloc, 0)?,
+            space: Space::new(alloc, 4),
         })
     }
 
@@ -153,6 +156,12 @@ impl Run {
         }
     }
 
+    /// What a command on the space of tickets is answered.
+    fn on_space(&mut self, words: &[&str]) -> Result<String, AllocError> {
+        let answered = tickets::answer(self.alloc, &mut self.space, words);
+        text(self.alloc, &answered)
+    }
+
     /// What the line with these words is answered.
     fn say(&mut self, words: &[&str]) -> Result<String, AllocError> {
         match words {
@@ -162,6 +171,8 @@ impl Run {
             ["volumes"] => rows::volumes(self.alloc, &self.pools),
             ["show", word] => self.show(word),
             ["extents", words @ ..] => extents::say(self.alloc, &mut self.extents, words),
+            ["space", words @ ..] => self.on_space(words),
+            ["choose", words @ ..] => tickets::choose(self.alloc, &self.pools, &self.space, words),
             [command, words @ ..] => self.answer_text(command, words),
         }
     }

@@ -1,15 +1,15 @@
 -- The free space of a volume of random access, and what is filled of free space.
-use Rattle.std.proofs.Common.{◌≡◌, ℕ, ◌+◌, ◌-◌, ◌*◌, ◌/◌, ◌<◌, ◌≤◌, Bool, true, false, List, [], ◌∷◌, length, get_or, map, Some, zero, suc, refl, sym, ap, subst, ◌∙◌, arith, inl, inr, ◌⊎◌}
+use Rattle.std.proofs.Common.{◌≡◌, ℕ, ◌+◌, ◌-◌, ◌/◌, ◌<◌, ◌≤◌, Bool, true, false, List, [], ◌∷◌, length, get_or, map, Some, zero, suc, refl, sym, ap, subst, ◌∙◌, arith, inl, inr}
 use Rattle.std.specs.Prelude.{if◌then◌else◌, ◌==◌, ◌||◌, nat_le, slice_get, max}
 use Rattle.std.specs.List.{AllByRecursion, list_any}
 use Rattle.std.proofs.lemmas.Option.{slice_get-get_or, slice_get_within, get_or_from_slice_get}
-use Rattle.std.proofs.lemmas.Bool.{cases_lt, eqb-true, eqb-false, leb-true, leb-false}
+use Rattle.std.proofs.lemmas.Bool.{cases_lt, eqb-true, leb-true, leb-false}
 use Rattle.std.proofs.lemmas.Bool.{false≢true}
 use Rattle.kinds.specs.declared.segment.Segment.{Segment}
 use Rattle.volume_rows.specs.declared.volume.Volume.{Volume}
 use Rattle.extent_map.specs.declared.extents.Run.{Run}
 use Rattle.extent_map.specs.Bits.{is_between}
-use Rattle.extent_map.specs.Blocks.{run, end_of, room_in, total_room, free_runs, first_of, marked, AllAre, AreFree}
+use Rattle.extent_map.specs.Blocks.{end_of, room_in, total_room, free_runs, first_of, marked, AllAre, AreFree}
 use Rattle.extent_map.proofs.FreeRuns.{AllAre-fits}
 use Rattle.extent_map.proofs.Members.{get_or-marked_from}
 use Rattle.extent_map.proofs.Marking.{length-marked}

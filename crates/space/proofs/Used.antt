@@ -1,14 +1,14 @@
 -- Which blocks of a volume some segments use, and what one segment more makes of that.
-use Rattle.std.proofs.Common.{◌≡◌, ℕ, ◌+◌, ◌-◌, ◌<◌, ◌≤◌, Bool, true, false, List, [], ◌∷◌, ◌++◌, length, get_or, map, replicate, refl, sym, ap, ◌∙◌, arith, inl, inr, zero, suc}
+use Rattle.std.proofs.Common.{◌≡◌, ℕ, ◌+◌, ◌<◌, ◌≤◌, Bool, true, false, List, [], ◌∷◌, ◌++◌, length, get_or, replicate, refl, sym, ap, ◌∙◌, arith, inl, inr}
 use Rattle.std.specs.Prelude.{if◌then◌else◌, ◌||◌, min}
-use Rattle.std.specs.List.{list_any, range_with_len}
+use Rattle.std.specs.List.{list_any}
 use Rattle.std.proofs.lemmas.List.{ext_get_or, length-replicate, get_or-replicate}
 use Rattle.std.proofs.lemmas.List.Folds.{list_any-append}
 use Rattle.std.proofs.lemmas.List.FromFn.{length-map-range_with_len, get_or-map-range_with_len}
 use Rattle.std.proofs.lemmas.Bool.{cases_lt}
 use Rattle.kinds.specs.declared.segment.Segment.{Segment}
 use Rattle.extent_map.specs.Bits.{is_between}
-use Rattle.extent_map.specs.Blocks.{run, end_of, marked}
+use Rattle.extent_map.specs.Blocks.{run, marked}
 use Rattle.extent_map.proofs.Words.{between_inside, between_outside}
 use Rattle.extent_map.proofs.Members.{get_or-marked_from}
 use Rattle.extent_map.proofs.Marking.{length-marked}

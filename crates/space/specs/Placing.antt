@@ -1,5 +1,5 @@
 -- Where an object goes: the first pool of its hierarchy that may take it and has room, and the pieces of that pool's free space; or why it goes nowhere.
-use Rattle.std.specs.Prelude.{ℕ, ◌+◌, ◌-◌, ◌^◌, ◌==◌, ◌&&◌, not, Bool, true, false, nat_le, is_some, Option, Some, None, Result, Ok, Err, List, [], ◌∷◌, map, filter, length, if◌then◌else◌}
+use Rattle.std.specs.Prelude.{ℕ, ◌+◌, ◌-◌, ◌^◌, ◌==◌, ◌&&◌, not, Bool, true, false, nat_le, is_some, Option, Some, None, Result, Ok, Err, List, [], ◌∷◌, map, length, if◌then◌else◌}
 use Rattle.std.specs.List.{find, list_any, flat_map}
 use Rattle.std.specs.Option.{option_map}
 use Rattle.kinds.specs.declared.pool.SizeLimit.{SizeLimit}

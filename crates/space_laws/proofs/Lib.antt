@@ -1,3 +1,4 @@
+pub mod Ends
 pub mod Fits
 pub mod Keys
 pub mod Tails

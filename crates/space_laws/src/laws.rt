@@ -16,6 +16,7 @@ ghost use Rattle.space.specs.Pieces.{free_pieces, tail_piece};
 ghost use Rattle.space.specs.Placing.{choose};
 ghost use Rattle.space.specs.Volumes.{sites, has_tail};
 ghost use Rattle.space_laws.specs.Chosen.{IsWhole};
+ghost use Rattle.space_laws.specs.Ending.{EndsBefore};
 ghost use Rattle.space_laws.specs.Fitting.{FitsThere};
 
 /// A segment in the free space of a volume of random access fits where a transaction that brings it is judged: it lies on a volume of the pool,
@@ -36,4 +37,10 @@ pub fn tails_fit()
 /// What an object gets has its bytes, in the first pool of its hierarchy that may take it and has room for it.
 pub fn chosen_whole()
     ensures { (r : Request) (s : PoolRows) (claims : Claims) (places : List Placed) → choose r s claims ≡ Ok places → IsWhole r s claims places }
+{}
+
+/// A volume as it is seen ends behind each segment that the actor's own tickets hold on it, so that what is written next meets none of them. A
+/// volume on which another actor's ticket has space isn't written at all.
+pub fn own_segments_end()
+    ensures { (s : PoolRows) (c : Counted) → AllByRecursion (EndsBefore (sites s c)) c.own }
 {}

@@ -3,4 +3,4 @@
 
 mod laws;
 
-pub use laws::{chosen_whole, free_space_fits, tails_fit};
+pub use laws::{chosen_whole, free_space_fits, own_segments_end, tails_fit};

@@ -1,7 +1,7 @@
 use Rattle.std.proofs.Common.{◌∙◌, ◌+◌, ◌++◌, ◌∷◌, [], List, drop, get_or, sym, ap}
 use Rattle.std.proofs.lemmas.List.{drop_more}
 use Rattle.space.specs.declared.piece.Piece.{Piece}
-use Rattle.space.specs.Pieces.{cut, filled}
+use Rattle.space.specs.Pieces.{filled}
 use Rattle.space.proofs.Lists.{fill_zero, fill_more}
 use Rattle.space.proofs.choosing.filled.Goals as goal
 

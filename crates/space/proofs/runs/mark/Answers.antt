@@ -1,4 +1,4 @@
-use Rattle.std.proofs.Common.{◌≡◌, ◌∙◌, ℕ, ◌+◌, ◌-◌, ◌/◌, List, Bool, true, length, refl, ap, arith}
+use Rattle.std.proofs.Common.{◌≡◌, ◌∙◌, ◌+◌, ◌-◌, ◌/◌, List, Bool, true, length, refl, ap, arith}
 use Rattle.std.specs.Prelude.{min}
 use Rattle.extent_map.specs.Blocks.{run, marked}
 use Rattle.space.proofs.Used.{used_more, length-blocks_used}
