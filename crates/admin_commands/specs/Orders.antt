@@ -1,5 +1,5 @@
 -- What each command asks for: a line for each, first the look-ups that have to be answered, and then the work by their answers.
-use Rattle.std.specs.Prelude.{ℕ, List, [], ◌∷◌, Option, Some, None, is_some, Result, Ok, Err, if◌then◌else◌}
+use Rattle.std.specs.Prelude.{ℕ, List, [], ◌∷◌, Option, Some, None, Result, Ok, Err, if◌then◌else◌}
 use Rattle.kinds.specs.declared.change.DefineOrDelete.TheVariants as two
 use Rattle.kinds.specs.declared.change.ObjectChange.{ObjectChange}
 use Rattle.kinds.specs.declared.change.ObjectChange.TheVariants as client
@@ -9,7 +9,6 @@ use Rattle.kinds.specs.declared.change.PoolChange.{PoolChange}
 use Rattle.kinds.specs.declared.change.PoolChange.TheVariants as store
 use Rattle.kinds.specs.declared.change.Verb.TheVariants as verb
 use Rattle.kinds.specs.declared.refusal.Refusal.{Refusal}
-use Rattle.kinds.specs.declared.refusal.Refusal.TheVariants.{NoDefaultClass}
 use Rattle.entries.specs.declared.change.Change.TheVariants as change
 use Rattle.inventory_rows.specs.version_groups.Entries.{if_found}
 use Rattle.inventory_work.specs.declared.search.Named.TheVariants as named
@@ -202,10 +201,6 @@ run_filespace name answers = if_found (filespace_named name answers) (λ f. run 
 -- over nothing; the policy set that is named has to be there
 abbrev pub run_set : List ℕ → List Answer → Result Work Refusal
 run_set name answers = if_found (set_named name answers) (λ set. run [])
-
--- what VALIDATE POLICYSET comes to: the set has to be there, and to have a default class
-abbrev pub validated : List ℕ → List Answer → Result (Unit {0}) Refusal
-validated name answers = if_found (set_named name answers) (λ set. if is_some set.default_class then Ok tt else Err NoDefaultClass)
 
 -- the objects that are held in the filespace with this name
 abbrev pub show_held : List ℕ → List Answer → Result Work Refusal

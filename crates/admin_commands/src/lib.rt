@@ -16,5 +16,4 @@ mod volumes;
 mod work;
 
 pub use orders::{needs, work_of};
-pub use policy::validate;
 pub use work::Work;

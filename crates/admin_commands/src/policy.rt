@@ -2,7 +2,7 @@
 ghost use Rattle.std.specs.Prelude.{◌≡◌};
 ghost use Rattle.kinds.specs.Answers.{Answers, AnswersBy};
 ghost use Rattle.inventory_answers.specs.declared.query.Query.TheVariants as query;
-ghost use Rattle.admin_commands.specs.Orders.{policy_needs, policy_work, delete_domain, run_set, validated, show};
+ghost use Rattle.admin_commands.specs.Orders.{policy_needs, policy_work, delete_domain, run_set, show};
 
 use crate::changes::{activate, domain, set};
 use crate::found::{domain_named, set_named};
@@ -46,23 +46,6 @@ fn run_set(alloc: Global, name: &Name, answers: &[Answer]) -> Result<Work, Refus
     match set_named(answers, name) {
         None => Err(Refusal::NotFound),
         Some(_) => Ok(run(alloc)),
-    }
-}
-
-/// What VALIDATE POLICYSET comes to, by the answers to its look-ups: `NotFound` where the set isn't there, `NoDefaultClass` where it has no default
-/// class. It takes no memory.
-pub fn validate(command: &NamedSet, answers: &[Answer]) -> Result<(), Refusal>
-    ensures { result ≡ validated command.now.set answers.now }
-{
-    match set_named(answers, &command.set) {
-        None => Err(Refusal::NotFound),
-        Some(line) => {
-            if line.default_class.is_some() {
-                Ok(())
-            } else {
-                Err(Refusal::NoDefaultClass)
-            }
-        }
     }
 }
 

@@ -45,16 +45,25 @@ fn encode(alloc: Global, entry: &Entry, count: u32) -> Option<u64> {
 
 fn encode_what_is_read(alloc: Global, bytes: &[u8], count: u32) -> Option<u64> {
     match Entry::decode(alloc, bytes) {
-        Ok(Some(entry)) => encode(alloc, &entry, count),
-        _ => None,
+        Ok(Some(entry)) => {
+            let total = encode(alloc, &entry, count);
+            drop(entry);
+            total
+        }
+        Ok(None) => None,
+        Err(_) => None,
     }
 }
 
 /// How many bytes were an entry's spelling; none where they are no entry's, or for want of memory.
 fn decoded(alloc: Global, bytes: &[u8]) -> Option<u64> {
     match Entry::decode(alloc, bytes) {
-        Ok(Some(_entry)) => Some(bytes.len() as u64),
-        _ => None,
+        Ok(Some(entry)) => {
+            drop(entry);
+            Some(bytes.len() as u64)
+        }
+        Ok(None) => None,
+        Err(_) => None,
     }
 }
 

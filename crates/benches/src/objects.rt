@@ -52,26 +52,31 @@ fn copies(alloc: Global, object: u32) -> Result<Copies, Refusal> {
     }
 }
 
-/// The filespace 1 of the node 1.
-fn one_filespace(alloc: Global) -> Result<Objects, Refusal> {
-    let mut objects = Objects::new(alloc);
-    let node = ObjectChange::Node {
+/// Defines the node 1.
+fn define_node(alloc: Global, objects: &mut Objects) -> Result<(), Refusal> {
+    let node = NodeName::read(alloc, b"N", 64)?;
+    let domain = Name::read(alloc, b"STANDARD", 30)?;
+    let change = ObjectChange::Node {
         verb: DefineOrDelete::Define,
-        node: NodeName::read(alloc, b"N", 64)?,
-        domain: Name::read(alloc, b"STANDARD", 30)?,
+        node,
+        domain,
     };
-    let filespace = ObjectChange::Filespace {
+    let defined = define(objects, &change);
+    drop(change);
+    defined
+}
+
+/// Defines the filespace 1 of the node 1.
+fn define_filespace(alloc: Global, objects: &mut Objects) -> Result<(), Refusal> {
+    let change = ObjectChange::Filespace {
         verb: DefineOrDelete::Define,
         node: 1,
         name: FilespaceName::read(alloc, b"/home")?,
         filespace: 1,
     };
-    for change in [&node, &filespace] {
-        if !objects.nodes().contains_key(&1) || !objects.filespaces().contains_key(&1) {
-            define(&mut objects, change)?;
-        }
-    }
-    Ok(objects)
+    let defined = define(objects, &change);
+    drop(change);
+    defined
 }
 
 /// Makes a change of which the number 1 is not in use.
@@ -176,29 +181,44 @@ fn remove_half(objects: &mut Objects, paths: &[Path], count: u32) -> u32 {
     removed
 }
 
-fn run(alloc: Global, count: u32, steps: u32) -> Result<Totals, Refusal> {
-    let paths = paths(alloc, count)?;
-    let mut objects = one_filespace(alloc)?;
+/// The steps behind the first, where there are no objects yet.
+fn run_over(
+    alloc: Global,
+    objects: &mut Objects,
+    paths: &[Path],
+    count: u32,
+    steps: u32,
+) -> Result<Totals, Refusal> {
+    define_node(alloc, objects)?;
+    define_filespace(alloc, objects)?;
     let inserted = if steps < 2 {
         0
     } else {
-        insert_all(alloc, &mut objects, paths.as_slice(), count)?
+        insert_all(alloc, objects, paths, count)?
     };
     let found = if steps < 3 {
         0
     } else {
-        find_all(&objects, count)
+        find_all(objects, count)
     };
     let removed = if steps < 4 {
         0
     } else {
-        remove_half(&mut objects, paths.as_slice(), count)
+        remove_half(objects, paths, count)
     };
     Ok(Totals {
         inserted,
         found,
         removed,
     })
+}
+
+fn run(alloc: Global, count: u32, steps: u32) -> Result<Totals, Refusal> {
+    let paths = paths(alloc, count)?;
+    let mut objects = Objects::new(alloc);
+    let totals = run_over(alloc, &mut objects, paths.as_slice(), count, steps);
+    drop(objects);
+    totals
 }
 
 /// Makes the steps up to this one with so many versions.

@@ -45,7 +45,10 @@ fn read(alloc: Global, lines: u32) -> Counts {
         let line = LINES[(number % 16) as usize].as_bytes();
         if line.len() < 4096 {
             match read_line(alloc, line, false) {
-                Ok(_) => counts.commands = counts.commands.saturating_add(1),
+                Ok(command) => {
+                    drop(command);
+                    counts.commands = counts.commands.saturating_add(1);
+                }
                 Err(_) => counts.refusals = counts.refusals.saturating_add(1),
             }
         }

@@ -90,7 +90,7 @@ fn volume_change(alloc: Global, words: &[&str]) -> Result<PoolChange, Fault> {
 }
 
 /// Makes the change, where what it defines may have its number and its name.
-fn make(pools: &mut Pools, change: &PoolChange, number: u32) -> Result<Answer, Fault> {
+fn make_free(pools: &mut Pools, change: &PoolChange, number: u32) -> Result<Answer, Fault> {
     if !pools.is_free(change, number) {
         return Ok(Answer::Unmet);
     }
@@ -98,10 +98,16 @@ fn make(pools: &mut Pools, change: &PoolChange, number: u32) -> Result<Answer, F
     Ok(Answer::Done)
 }
 
+/// Makes the change, which goes.
+fn make(pools: &mut Pools, change: PoolChange, number: u32) -> Result<Answer, Fault> {
+    let made = make_free(pools, &change, number);
+    drop(change);
+    made
+}
+
 /// `define|delete CLASS BYTES`.
 pub fn class(alloc: Global, pools: &mut Pools, words: &[&str]) -> Result<Answer, Fault> {
-    let change = class_change(alloc, words)?;
-    make(pools, &change, 0)
+    make(pools, class_change(alloc, words)?, 0)
 }
 
 /// `define|update|delete NUMBER POOL CLASS KIND`, and settings as `next=3`.
@@ -109,12 +115,11 @@ pub fn pool(alloc: Global, pools: &mut Pools, words: &[&str]) -> Result<Answer, 
     let [_, place, ..] = words else {
         return Err(Fault::NoCommand);
     };
-    let change = pool_change(alloc, words)?;
-    make(pools, &change, number(place)?)
+    let place = number(place)?;
+    make(pools, pool_change(alloc, words)?, place)
 }
 
 /// `define|update|delete FILE VOLUME POOL BYTES ACCESS`.
 pub fn volume(alloc: Global, pools: &mut Pools, words: &[&str]) -> Result<Answer, Fault> {
-    let change = volume_change(alloc, words)?;
-    make(pools, &change, 0)
+    make(pools, volume_change(alloc, words)?, 0)
 }

@@ -3,11 +3,12 @@ use crate::answer::{Answer, Fault, text};
 use crate::words::{large, number};
 use extent_map::{Extents, Run};
 use std::alloc::{AllocError, Global};
+use std::mem;
 
 /// The volume becomes one of so many blocks.
 fn start(alloc: Global, extents: &mut Extents, blocks: &str) -> Result<Answer, Fault> {
-    let blocks = number(blocks)?;
-    *extents = Extents::new(alloc, blocks)?;
+    let fresh = Extents::new(alloc, number(blocks)?)?;
+    drop(mem::replace(extents, fresh));
     Ok(Answer::Done)
 }
 

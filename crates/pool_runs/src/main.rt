@@ -66,7 +66,11 @@ fn answer_all(rt: &HostRuntime, run: &mut Run) -> io::Result<()> {
 
 fn main(rt: HostRuntime) -> io::Result<()> {
     match Run::new(rt.alloc()) {
-        Ok(mut run) => answer_all(&rt, &mut run),
+        Ok(mut run) => {
+            let answered = answer_all(&rt, &mut run);
+            drop(run);
+            answered
+        }
         Err(_) => Err(AllocError.into()),
     }
 }

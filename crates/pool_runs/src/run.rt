@@ -40,13 +40,15 @@ impl Run {
     }
 
     fn start_again(&mut self) -> Result<Answer, Fault> {
-        self.pools = Pools::fresh(self.alloc)?;
+        let fresh = Pools::fresh(self.alloc)?;
+        drop(mem::replace(&mut self.pools, fresh));
         Ok(Answer::Done)
     }
 
     /// Puts a copy aside.
     fn copy(&mut self) -> Result<Answer, Fault> {
-        self.aside = self.pools.clone()?;
+        let copy = self.pools.clone()?;
+        drop(mem::replace(&mut self.aside, copy));
         Ok(Answer::Done)
     }
 
@@ -58,7 +60,7 @@ impl Run {
     fn take_up(&mut self, made: Option<Pools>) -> Answer {
         match made {
             Some(pools) => {
-                self.pools = pools;
+                drop(mem::replace(&mut self.pools, pools));
                 Answer::Done
             }
             None => Answer::Nothing,

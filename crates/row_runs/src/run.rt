@@ -6,6 +6,7 @@ use kinds::Refusal;
 use object_rows::Objects;
 use policy_domains::Domains;
 use std::alloc::{AllocError, Global};
+use std::mem;
 
 /// What the commands are about.
 #[derive(Drop)]
@@ -25,22 +26,29 @@ impl Run {
         })
     }
 
+    fn become_objects(&mut self, objects: Objects) {
+        drop(mem::replace(&mut self.objects, objects));
+    }
+
     fn start_again(&mut self) -> Result<Answer, Fault> {
-        self.domains = Domains::fresh(self.alloc)?;
-        self.objects = Objects::new(self.alloc);
+        let domains = Domains::fresh(self.alloc)?;
+        drop(mem::replace(&mut self.domains, domains));
+        self.become_objects(Objects::new(self.alloc));
         Ok(Answer::Done)
     }
 
     fn copy(&mut self) -> Result<Answer, Fault> {
-        self.domains = self.domains.clone()?;
-        self.objects = self.objects.clone()?;
+        let domains = self.domains.clone()?;
+        drop(mem::replace(&mut self.domains, domains));
+        let objects = self.objects.clone()?;
+        self.become_objects(objects);
         Ok(Answer::Done)
     }
 
     fn take_up(&mut self, made: Option<Objects>) -> Answer {
         match made {
             Some(objects) => {
-                self.objects = objects;
+                self.become_objects(objects);
                 Answer::Done
             }
             None => Answer::Nothing,
@@ -54,7 +62,8 @@ impl Run {
 
     fn made_again(&mut self) -> Result<Answer, Fault> {
         let rows = self.domains.rows().clone()?;
-        self.domains = Domains::from_rows(self.alloc, rows)?;
+        let domains = Domains::from_rows(self.alloc, rows)?;
+        drop(mem::replace(&mut self.domains, domains));
         let made = parts::made_again(self.alloc, &self.objects)?;
         Ok(self.take_up(made))
     }

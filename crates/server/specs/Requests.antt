@@ -1,13 +1,10 @@
 -- What is asked of a server: which transactions it makes and what it is answered, without any file or log.
-use Rattle.std.specs.Prelude.{◌≡◌, ◌⊎◌, ℕ, ◌+◌, ◌*◌, ◌^◌, ◌<◌, ◌≤◌, nat_lt, Bool, false, true, if◌then◌else◌, Option, Some, None, List, [], ◌∷◌, ◌++◌, length, Result, Ok, Err, codes}
+use Rattle.std.specs.Prelude.{◌≡◌, ◌⊎◌, ℕ, ◌+◌, ◌^◌, ◌<◌, ◌≤◌, nat_lt, Bool, false, true, if◌then◌else◌, Option, Some, None, List, [], ◌∷◌, ◌++◌, length, Result, Ok, Err}
 use Rattle.std.specs.List.{AllByRecursion}
 use Rattle.std.specs.Option.{option_or}
 use Rattle.sha2.specs.Sha256.{sha256}
 use Rattle.kinds.specs.declared.change.DefineOrDelete.TheVariants as two
 use Rattle.kinds.specs.declared.change.ObjectChange.TheVariants as client
-use Rattle.kinds.specs.declared.change.PoolChange.TheVariants as store
-use Rattle.kinds.specs.declared.change.Verb.TheVariants as verb
-use Rattle.kinds.specs.declared.pool.Access.TheVariants.{ReadWrite}
 use Rattle.kinds.specs.declared.refusal.Refusal.{Refusal}
 use Rattle.kinds.specs.declared.refusal.Refusal.TheVariants.{NotFound, NoBackupGroup, NoSpace, Unavailable, WriteFault, TooLarge, RecordFull, InventoryFull}
 use Rattle.kinds.specs.declared.rule.BackupRule.{BackupRule}
@@ -22,7 +19,6 @@ use Rattle.entries.specs.EntryForm.{entry as entry_form}
 use Rattle.inventory_rows.specs.version_groups.declared.copies.CopyRow.{CopyRow}
 use Rattle.inventory_rows.specs.version_groups.declared.versions.Version.{Version}
 use Rattle.inventory_rows.specs.object_rows.Names.{node_named, filespace_named}
-use Rattle.inventory_rows.specs.pool_rows.PoolRows.{pool_named}
 use Rattle.inventory_rows.specs.State.{Inv}
 use Rattle.inventory_rules.specs.Transactions.{effect, refused}
 use Rattle.inventory_rules.specs.Journal.{no_journal}
@@ -60,24 +56,6 @@ Commits rose full c text v (Err (Refused why)) added = (why_not c v ≡ Some why
 Commits rose full c text v (Err (LogFault file)) added = RoseOfVault rose file × (refused no_journal c v ≡ None) × (added ≡ kept c text ∷ [])
 Commits rose full c text v (Err RunFull) added = full × (added ≡ [])
 Commits rose full c text v (Err Memory) added = added ≡ []
-
--- ---- nodes and volumes
-
--- a node is registered in the domain STANDARD
-abbrev pub node_defined : List ℕ → Change
-node_defined name = change.Object (client.Node two.Define name (codes "STANDARD"))
-
--- a volume of so many MiB is defined, with the next file number
-abbrev pub volume_defined : List ℕ → ℕ → ℕ → Inv → Change
-volume_defined name pool mebibytes v = change.Pool (store.Volume verb.Define name pool v.next_file (mebibytes * 2 ^ 20) ReadWrite)
-
-abbrev pub DefinesVolumeIn : {T : Type 0} → (rose : ℕ → Type 0) → (full : Type 0) → Option ℕ → List ℕ → ℕ → Inv → Result T Stop → List Kept → Type 0
-DefinesVolumeIn rose full None name mebibytes v result added = (result ≡ Err (Refused NotFound)) × (added ≡ [])
-DefinesVolumeIn rose full (Some pool) name mebibytes v result added = Commits rose full (volume_defined name pool mebibytes v) [] v result added
-
--- A volume is defined in the pool with this name, which has to be there.
-abbrev pub DefinesVolume : {T : Type 0} → (rose : ℕ → Type 0) → (full : Type 0) → (pool name : List ℕ) → ℕ → Inv → Result T Stop → List Kept → Type 0
-DefinesVolume rose full pool name mebibytes v result added = DefinesVolumeIn rose full (pool_named pool v.stores) name mebibytes v result added
 
 -- ---- a file that is stored
 

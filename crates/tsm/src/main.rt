@@ -20,15 +20,17 @@ const NO_MEMORY: u8 = 8;
 
 fn main(rt: HostRuntime) -> ExitCode {
     let alloc = rt.alloc();
-    let store = FolderStore::new(RealFiles::new(rt, alloc, FOLDER), alloc);
     let mut out = StdSink::new(io::writer(&rt));
     let words = match words(&rt) {
         Ok(words) => words,
         Err(error) => return ExitCode::from(refused(&error, &mut out)),
     };
+    let store = FolderStore::new(RealFiles::new(rt, alloc, FOLDER), alloc);
     let mut script = StdSource::new(rt.reader());
     let ended = serve(alloc, &words, store, &mut script, &mut out);
-    ExitCode::from(ended.status)
+    let status = ended.status;
+    drop(ended);
+    ExitCode::from(status)
 }
 
 // The words behind the program's name.

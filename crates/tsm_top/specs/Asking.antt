@@ -117,7 +117,7 @@ own_of _ = none_yet
 abbrev pub file_put : FilePut → File
 file_put p = record { node = p.node; filespace = p.filespace; path = p.path; mtime = p.mtime; text = p.text }
 
--- a set may be activated: exactly then VALIDATE is answered OK
+-- what the policy domains make of a set's activation: VALIDATE is answered OK exactly where they take it
 abbrev pub validated : NamedSet → Inv → Result (Unit {0}) Refusal
 validated s v = on_ok (λ domains. tt) (after (policy.Activate s.domain s.set) v.domains)
 

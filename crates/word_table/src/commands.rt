@@ -84,7 +84,11 @@ fn line_text(alloc: Global, line: &[u8], in_block: bool) -> Result<String, Alloc
     requires { length line.now ≤ 4096 }
 {
     match read_line(alloc, line, in_block) {
-        Ok(command) => command_text(alloc, &command),
+        Ok(command) => {
+            let text = command_text(alloc, &command);
+            drop(command);
+            text
+        }
         Err(refusal) => refusal_text(alloc, &refusal),
     }
 }
