@@ -1,4 +1,5 @@
 //! What a line is answered, and its words.
+use files_api::ListRefused;
 use kinds::{OpenRefused, Refusal};
 use std::alloc::{AllocError, Global};
 use std::io;
@@ -10,8 +11,12 @@ pub enum Fault {
     NoCommand,
     /// What the line is about was not made yet.
     NotMade,
-    /// The call on the store, the source or the sink failed.
+    /// The call on the store, the files, the source or the sink failed.
     Failed,
+    /// There is no such file.
+    Missing,
+    /// A name in the folder isn't UTF-8.
+    NotText,
     /// The system refused what the line asks of it.
     System,
     /// The log refused.
@@ -23,6 +28,22 @@ pub enum Fault {
 impl From<store_api::Failed> for Fault {
     fn from(_failed: store_api::Failed) -> Fault {
         Fault::Failed
+    }
+}
+
+impl From<files_api::Failed> for Fault {
+    fn from(_failed: files_api::Failed) -> Fault {
+        Fault::Failed
+    }
+}
+
+impl From<ListRefused> for Fault {
+    fn from(refused: ListRefused) -> Fault {
+        match refused {
+            ListRefused::Failed => Fault::Failed,
+            ListRefused::NotText => Fault::NotText,
+            ListRefused::Memory => Fault::Refused(Refusal::Memory),
+        }
     }
 }
 
@@ -92,6 +113,8 @@ fn fault_text(alloc: Global, fault: &Fault) -> Result<String, AllocError> {
         Fault::NoCommand => String::from_str(alloc, "no command"),
         Fault::NotMade => String::from_str(alloc, "not made"),
         Fault::Failed => String::from_str(alloc, "failed"),
+        Fault::Missing => String::from_str(alloc, "missing"),
+        Fault::NotText => String::from_str(alloc, "not text"),
         Fault::System => String::from_str(alloc, "refused by the system"),
         Fault::Refused(refusal) => format!(in alloc; "{refusal:?}"),
         Fault::NotOpened(refused) => format!(in alloc; "{refused:?}"),

@@ -45,24 +45,32 @@ fn take_each<I: Source>(alloc: Global, source: &mut I, counts: &[&str]) -> Resul
 
 fn create(rt: &HostRuntime, path: &str, pieces: &[&str]) -> Result<String, Fault> {
     let mut sink = StdSink::new(File::create(rt, path)?);
-    put_once(rt.alloc(), &mut sink, pieces)
+    let put = put_once(rt.alloc(), &mut sink, pieces);
+    drop(sink);
+    put
 }
 
 fn put_unwritable(rt: &HostRuntime, path: &str, pieces: &[&str]) -> Result<String, Fault> {
     let mut sink = StdSink::new(File::open(rt, path)?);
-    put_once(rt.alloc(), &mut sink, pieces)
+    let put = put_once(rt.alloc(), &mut sink, pieces);
+    drop(sink);
+    put
 }
 
 fn put_unread(rt: &HostRuntime, pieces: &[&str]) -> Result<String, Fault> {
     let (reader, writer) = io::pipe(rt)?;
     drop(reader);
     let mut sink = StdSink::new(writer);
-    put_once(rt.alloc(), &mut sink, pieces)
+    let put = put_once(rt.alloc(), &mut sink, pieces);
+    drop(sink);
+    put
 }
 
 fn take(rt: &HostRuntime, path: &str, counts: &[&str]) -> Result<String, Fault> {
     let mut source = StdSource::new(File::open(rt, path)?);
-    take_each(rt.alloc(), &mut source, counts)
+    let taken = take_each(rt.alloc(), &mut source, counts);
+    drop(source);
+    taken
 }
 
 /// What a line about a stream of the system is answered.

@@ -13,6 +13,13 @@
 //! - `folder new MOST CALL..`: a store over the files of an empty folder in memory, which write and read at most so many bytes a call,
 //!   and whose calls with these numbers fail, counted from 0; and the calls on it, as `folder len FILE`. `folder stop CHOICE`: the
 //!   machine stops and starts again, and no call of the files fails any more.
+//! - `files new CALL..`: the files of an empty folder in memory, which was entered, and of which the calls with these numbers fail,
+//!   counted from 0, and a renaming or a removal whose number stands there twice is done all the same. `files make NAME BYTES..`: a
+//!   file is made and the bytes are put into it by one call each, and it is printed how many were; `files sync NAME`, `files show NAME`,
+//!   two calls each, and 16 bytes at most; `files list`, the names in ascending order; `files rename FROM TO`; `files remove NAME`:
+//!   whether there was one; `files settle`: the names are synced. `files stop CHOICE`: the machine stops and starts again, and the
+//!   folder is entered again.
+//! - `real enter`: the folder `named` of the system is made, where it is missing, and entered; and the same calls on its files.
 //! - `log create FILE`, `log frame BYTES..`: how many bytes a record takes, `log append BYTES..`, `log force`, `log end`; `log start
 //!   FILE`: its end and how many records were read; `log record PLACE`: such a record, counted from 0; `log same PLACE BYTES..`:
 //!   whether it has these bytes.
@@ -43,6 +50,7 @@ mod image;
 mod logs;
 mod mem_folder;
 mod memory;
+mod names;
 mod run;
 mod stops;
 mod streams;

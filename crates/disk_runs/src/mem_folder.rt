@@ -29,7 +29,8 @@ impl MemFolder {
 
     fn begin(&mut self, alloc: Global, most: &str, calls: &[&str]) -> Result<String, Fault> {
         let most = number(most)? as usize;
-        let files = MemFiles::new(alloc).with_failing(numbers(alloc, calls)?, most);
+        let calls = numbers(alloc, calls)?;
+        let files = MemFiles::new(alloc).with_failing(calls, most);
         drop(mem::replace(&mut self.store, FolderStore::new(files, alloc)));
         done(alloc)
     }

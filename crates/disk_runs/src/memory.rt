@@ -28,21 +28,21 @@ impl Memory {
     }
 
     fn begin(&mut self, alloc: Global) -> Result<String, Fault> {
-        self.store = MemStore::new(alloc);
+        drop(mem::replace(&mut self.store, MemStore::new(alloc)));
         done(alloc)
     }
 
     fn fail(&mut self, alloc: Global, words: &[&str]) -> Result<String, Fault> {
         let moments = numbers(alloc, words)?;
         let store = mem::replace(&mut self.store, MemStore::new(alloc));
-        self.store = store.with_failing(moments);
+        drop(mem::replace(&mut self.store, store.with_failing(moments)));
         done(alloc)
     }
 
     fn stop(&mut self, alloc: Global, choice: &str) -> Result<String, Fault> {
         let choice = large(choice)?;
         let store = mem::replace(&mut self.store, MemStore::new(alloc));
-        self.store = store.stop(choice);
+        drop(mem::replace(&mut self.store, store.stop(choice)));
         done(alloc)
     }
 

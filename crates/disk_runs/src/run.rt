@@ -3,13 +3,14 @@ use crate::answer::{Fault, text};
 use crate::folder::Folder;
 use crate::mem_folder::MemFolder;
 use crate::memory::Memory;
+use crate::names::Names;
 use crate::streams::Streams;
 use crate::words::words_of;
 use crate::{ends, frame, system};
 use std::alloc::AllocError;
 
-/// What the lines are about: a store in memory, one over a folder in memory, two in folders of the system, and a source and a sink in
-/// memory.
+/// What the lines are about: a store in memory, one over a folder in memory, two in folders of the system, the files of a folder in memory
+/// and of one of the system, and a source and a sink in memory.
 #[derive(Drop)]
 pub struct Run {
     rt: HostRuntime,
@@ -17,6 +18,7 @@ pub struct Run {
     folder: MemFolder,
     first: Folder,
     second: Folder,
+    names: Names,
     streams: Streams,
 }
 
@@ -30,6 +32,7 @@ impl Run {
             folder: MemFolder::new(alloc),
             first: Folder::new(),
             second: Folder::new(),
+            names: Names::new(rt),
             streams: Streams::new(alloc),
         }
     }
@@ -41,6 +44,8 @@ impl Run {
             ["sink", words @ ..] => self.streams.on_sink(self.rt.alloc(), words),
             ["stream", words @ ..] => ends::answer(&self.rt, words),
             ["folder", words @ ..] => self.folder.answer(self.rt.alloc(), words),
+            ["files", words @ ..] => self.names.on_memory(self.rt.alloc(), words),
+            ["real", words @ ..] => self.names.on_real(self.rt.alloc(), words),
             _ => self.memory.answer(self.rt.alloc(), words),
         }
     }

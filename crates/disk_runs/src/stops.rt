@@ -24,7 +24,9 @@ fn write_whole(store: &mut MemStore, image: &mut Image) -> Result<(), Fault> {
 
 fn write(alloc: Global, store: &mut MemStore, number: u64, payload: &[u8]) -> Result<(), Fault> {
     let mut image = Image::begin(payload.to_vec(alloc)?, Mark::Server, number, 0);
-    write_whole(store, &mut image)
+    let written = write_whole(store, &mut image);
+    drop(image);
+    written
 }
 
 fn write_both(alloc: Global, store: &mut MemStore) -> Result<(), Fault> {
@@ -54,10 +56,13 @@ fn found(alloc: Global, store: &mut MemStore) -> char {
 
 /// What the file holds where the call at this moment fails and the machine then stops, and whether both images were written.
 fn stopped(alloc: Global, moment: u64, choice: u64) -> Result<(char, bool), AllocError> {
-    let mut store = MemStore::new(alloc).with_failing([moment].to_vec(alloc)?);
+    let failing = [moment].to_vec(alloc)?;
+    let mut store = MemStore::new(alloc).with_failing(failing);
     let is_written = write_both(alloc, &mut store).is_ok();
     let mut after = store.stop(choice).with_failing(Vec::new(alloc));
-    Ok((found(alloc, &mut after), is_written))
+    let sign = found(alloc, &mut after);
+    drop(after);
+    Ok((sign, is_written))
 }
 
 /// What the file holds behind a stop at each moment.

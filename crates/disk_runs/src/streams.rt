@@ -4,6 +4,7 @@ ghost use Rattle.std.specs.Prelude.{◌<◌, IfOk};
 use crate::answer::{Fault, bytes_text, done, number_text, read_text};
 use crate::words::{buffer, bytes, number, numbers};
 use std::alloc::Global;
+use std::mem;
 use tree_api::{MemSink, MemSource, Sink, Source, put_all};
 
 /// The source and the sink.
@@ -26,14 +27,20 @@ fn most(word: &str) -> Result<usize, Fault>
 }
 
 fn source(alloc: Global, least: &str, piece: &str, calls: &[&str]) -> Result<MemSource, Fault> {
+    let most = most(least)?;
+    let calls = numbers(alloc, calls)?;
     let bytes = bytes(alloc, &[piece])?;
-    let source = MemSource::new(alloc, bytes).with_failing(numbers(alloc, calls)?);
-    Ok(source.giving_at_most(most(least)?))
+    Ok(
+        MemSource::new(alloc, bytes)
+            .with_failing(calls)
+            .giving_at_most(most),
+    )
 }
 
 fn sink(alloc: Global, least: &str, calls: &[&str]) -> Result<MemSink, Fault> {
-    let sink = MemSink::new(alloc).with_failing(numbers(alloc, calls)?);
-    Ok(sink.taking_at_most(most(least)?))
+    let most = most(least)?;
+    let calls = numbers(alloc, calls)?;
+    Ok(MemSink::new(alloc).with_failing(calls).taking_at_most(most))
 }
 
 impl Streams {
@@ -52,12 +59,14 @@ impl Streams {
         piece: &str,
         calls: &[&str],
     ) -> Result<String, Fault> {
-        self.source = source(alloc, least, piece, calls)?;
+        let source = source(alloc, least, piece, calls)?;
+        drop(mem::replace(&mut self.source, source));
         done(alloc)
     }
 
     fn new_sink(&mut self, alloc: Global, least: &str, calls: &[&str]) -> Result<String, Fault> {
-        self.sink = sink(alloc, least, calls)?;
+        let sink = sink(alloc, least, calls)?;
+        drop(mem::replace(&mut self.sink, sink));
         done(alloc)
     }
 

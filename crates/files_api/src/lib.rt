@@ -4,4 +4,4 @@
 
 mod files;
 
-pub use files::{Failed, Files, Stop};
+pub use files::{Failed, Files, ListRefused, Stop};

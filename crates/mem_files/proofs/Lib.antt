@@ -1,3 +1,5 @@
 pub mod Calls
+pub mod Listing
 pub mod Lists
+pub mod Moving
 pub mod Stores

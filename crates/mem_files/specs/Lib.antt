@@ -1,3 +1,5 @@
 pub mod Entries
+pub mod Lists
 pub mod Mem
+pub mod Moves
 pub mod Settled

@@ -3,7 +3,9 @@
 #![tactic(auto)]
 
 mod entries;
+mod list;
 mod mem;
+mod moves;
 mod streams;
 
 pub use mem::{MemFiles, MemHandle};

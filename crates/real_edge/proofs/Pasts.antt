@@ -7,7 +7,7 @@ use Rattle.std.proofs.Math.ListN.{get_or-eq_default}
 use Rattle.store_api.specs.Disk.{now, Standing, IsLoose, Leaves, settled, Call, on, idle, standing, reads}
 use Rattle.store_api.specs.Told.{Told, Adds, MayWrite, MayCut, MaySync, StopsAs}
 use Rattle.store_api.specs.declared.store.Failed.{Failed}
-use Rattle.files_api.specs.Folder.{File, Folder, Stage, away, made, kept, held, spoiled, IsOnDisk, StopsAs as FilesStop}
+use Rattle.files_api.specs.Folder.{File, Folder, Stage, away, made, kept, held, spoiled, File, Moves, Label, IsOnDisk, IsAllOnDisk, LeavesFile, Undoes, StopsAs as FilesStop, unmoved}
 use Rattle.real_edge.specs.Ledger.{Faults, Worse}
 use Rattle.real_edge.specs.Names.{file_name}
 use Rattle.real_edge.specs.Pool.{AreNamed}
@@ -23,10 +23,10 @@ use Rattle.real_edge.proofs.Keeps.{holds_worse, never, told_from}
 use Rattle.real_edge.proofs.Ties.{tied_left}
 
 -- the count of its calls is its moment
-pub counted : {H : Type 0} (name_of : H → List ℕ) (is_entered : Bool) (desk : Desk H) (faults : Faults) (count : ℕ) (x : Option Folder) (past : Option Past) → Tells x past (TellsTrue name_of is_entered desk faults count) → count ≡ moment_in count past
-counted name_of is_entered desk faults count x None true_of = refl
-counted name_of is_entered desk faults count (Some folder) (Some told) true_of = sym true_of.clock
-counted name_of is_entered desk faults count None (Some told) true_of = absurd true_of
+pub counted : {H : Type 0} (label_of : H → Label) (is_entered : Bool) (desk : Desk H) (faults : Faults) (count : ℕ) (x : Option Folder) (past : Option Past) → Tells x past (TellsTrue label_of is_entered desk faults count) → count ≡ moment_in count past
+counted label_of is_entered desk faults count x None true_of = refl
+counted label_of is_entered desk faults count (Some folder) (Some told) true_of = sym true_of.clock
+counted label_of is_entered desk faults count None (Some told) true_of = absurd true_of
 
 -- the call is on a file whose number is a `u32`, or on none
 abbrev pub IsSmall : Call → Type 0
@@ -55,61 +55,61 @@ beyond_next told (on changed_file change) small before file out =
     ap (λ (s : Standing). s.stable) (cond-false _ _ _ (ne_eqb changed_file file (λ same. omega (arith, small, out, same)))) ∙ before file out
 
 -- after a call of the store what it did stands in its files
-holds_next : {H : Type 0} (name_of : H → List ℕ) (desk : Desk H) (faults : Faults) (folder : Folder) (told : Past) (call : Call) → Holds name_of true desk faults folder (after_call call (standing (history told)))
-    → Holds name_of true desk faults folder (standing (history (record { first = told.first; began = told.began; calls = call ∷ told.calls })))
-holds_next name_of desk faults folder told idle holds = holds
-holds_next name_of desk faults folder told (on file change) holds = holds
+holds_next : {H : Type 0} (label_of : H → Label) (desk : Desk H) (faults : Faults) (folder : Folder) (told : Past) (call : Call) → Holds label_of true desk faults folder (after_call call (standing (history told)))
+    → Holds label_of true desk faults folder (standing (history (record { first = told.first; began = told.began; calls = call ∷ told.calls })))
+holds_next label_of desk faults folder told idle holds = holds
+holds_next label_of desk faults folder told (on file change) holds = holds
 
 -- a call that only looked
-pub ends_looked : {F H : Type 0} (name_of : H → List ℕ) (is_entered : Bool) (desk : Desk H) (run : Run F H) (faults faults' : Faults) (x y : Option Folder)
-    → Told x y (λ old new. (seen : ℕ → Standing) → Holds name_of is_entered desk faults old seen → Holds name_of true (desk_of run) faults' new seen)
-    → Told x y (λ old new. (seen : ℕ → Standing) → Holds name_of is_entered desk faults old seen → Ends name_of (call_of Look new) (λ call. call ≡ idle) run faults' new seen)
-ends_looked name_of is_entered desk run faults faults' x y keeps = told_from x y keeps (λ old new keep seen holds. record { holds = keep seen holds; is_one = refl })
+pub ends_looked : {F H : Type 0} (label_of : H → Label) (is_entered : Bool) (desk : Desk H) (run : Run F H) (faults faults' : Faults) (x y : Option Folder)
+    → Told x y (λ old new. (seen : ℕ → Standing) → Holds label_of is_entered desk faults old seen → Holds label_of true (desk_of run) faults' new seen)
+    → Told x y (λ old new. (seen : ℕ → Standing) → Holds label_of is_entered desk faults old seen → Ends label_of (call_of Look new) (λ call. call ≡ idle) run faults' new seen)
+ends_looked label_of is_entered desk run faults faults' x y keeps = told_from x y keeps (λ old new keep seen holds. record { holds = keep seen holds; is_one = refl })
 
 -- what it tells has one call more
-pub tells_on : {F H : Type 0} (name_of : H → List ℕ) (is_entered : Bool) (desk : Desk H) (run : Run F H) (faults faults' : Faults) (count : ℕ) (step : Step) (may : Call → Type 0) (x y : Option Folder) (past : Option Past)
-    → Tells x past (TellsTrue name_of is_entered desk faults count)
-    → Told x y (λ old new. (seen : ℕ → Standing) → Holds name_of is_entered desk faults old seen → Ends name_of (call_of step new) may run faults' new seen)
+pub tells_on : {F H : Type 0} (label_of : H → Label) (is_entered : Bool) (desk : Desk H) (run : Run F H) (faults faults' : Faults) (count : ℕ) (step : Step) (may : Call → Type 0) (x y : Option Folder) (past : Option Past)
+    → Tells x past (TellsTrue label_of is_entered desk faults count)
+    → Told x y (λ old new. (seen : ℕ → Standing) → Holds label_of is_entered desk faults old seen → Ends label_of (call_of step new) may run faults' new seen)
     → Told (history_of past) (history_of (next_past (Called step) y past)) (Adds may)
-tells_on name_of is_entered desk run faults faults' count step may None None None true_of ends = tt
-tells_on name_of is_entered desk run faults faults' count step may (Some old) (Some new) None true_of ends = tt
-tells_on name_of is_entered desk run faults faults' count step may (Some old) (Some new) (Some told) true_of ends = (call_of step new, (ends (standing (history told)) true_of.holds).is_one, refl)
-tells_on name_of is_entered desk run faults faults' count step may None None (Some told) true_of ends = absurd true_of
-tells_on name_of is_entered desk run faults faults' count step may None (Some new) past true_of ends = absurd ends
-tells_on name_of is_entered desk run faults faults' count step may (Some old) None past true_of ends = absurd ends
+tells_on label_of is_entered desk run faults faults' count step may None None None true_of ends = tt
+tells_on label_of is_entered desk run faults faults' count step may (Some old) (Some new) None true_of ends = tt
+tells_on label_of is_entered desk run faults faults' count step may (Some old) (Some new) (Some told) true_of ends = (call_of step new, (ends (standing (history told)) true_of.holds).is_one, refl)
+tells_on label_of is_entered desk run faults faults' count step may None None (Some told) true_of ends = absurd true_of
+tells_on label_of is_entered desk run faults faults' count step may None (Some new) past true_of ends = absurd ends
+tells_on label_of is_entered desk run faults faults' count step may (Some old) None past true_of ends = absurd ends
 
 -- and that is so
-pub tells_still : {F H : Type 0} (name_of : H → List ℕ) (is_entered is_entered' : Bool) (desk : Desk H) (run : Run F H) (faults faults' after : Faults) (count count' : ℕ) (step : Step) (may : Call → Type 0) (x y : Option Folder) (past : Option Past)
-    → IsTrue is_entered' → Worse faults' after → count' ≡ count + 1 → ((call : Call) → may call → IsSmall call) → Tells x past (TellsTrue name_of is_entered desk faults count)
-    → Told x y (λ old new. (seen : ℕ → Standing) → Holds name_of is_entered desk faults old seen → Ends name_of (call_of step new) may run faults' new seen)
-    → Tells y (next_past (Called step) y past) (TellsTrue name_of is_entered' (desk_of run) after count')
-tells_still name_of is_entered is_entered' desk run faults faults' after count count' step may None None None entered worse more small true_of ends = tt
-tells_still name_of is_entered is_entered' desk run faults faults' after count count' step may (Some old) (Some new) None entered worse more small true_of ends = tt
-tells_still name_of is_entered is_entered' desk run faults faults' after count count' step may (Some old) (Some new) (Some told) entered worse more small true_of ends =
+pub tells_still : {F H : Type 0} (label_of : H → Label) (is_entered is_entered' : Bool) (desk : Desk H) (run : Run F H) (faults faults' after : Faults) (count count' : ℕ) (step : Step) (may : Call → Type 0) (x y : Option Folder) (past : Option Past)
+    → IsTrue is_entered' → Worse faults' after → count' ≡ count + 1 → ((call : Call) → may call → IsSmall call) → Tells x past (TellsTrue label_of is_entered desk faults count)
+    → Told x y (λ old new. (seen : ℕ → Standing) → Holds label_of is_entered desk faults old seen → Ends label_of (call_of step new) may run faults' new seen)
+    → Tells y (next_past (Called step) y past) (TellsTrue label_of is_entered' (desk_of run) after count')
+tells_still label_of is_entered is_entered' desk run faults faults' after count count' step may None None None entered worse more small true_of ends = tt
+tells_still label_of is_entered is_entered' desk run faults faults' after count count' step may (Some old) (Some new) None entered worse more small true_of ends = tt
+tells_still label_of is_entered is_entered' desk run faults faults' after count count' step may (Some old) (Some new) (Some told) entered worse more small true_of ends =
     let next : Past = record { first = told.first; began = told.began; calls = call_of step new ∷ told.calls } in
     record {
-      holds = subst (λ (b : Bool). Holds name_of b (desk_of run) after new (standing (history next))) (sym entered)
-          (holds_worse name_of true (desk_of run) faults' after new (standing (history next)) worse (holds_next name_of (desk_of run) faults' new told (call_of step new) (ends (standing (history told)) true_of.holds).holds));
+      holds = subst (λ (b : Bool). Holds label_of b (desk_of run) after new (standing (history next))) (sym entered)
+          (holds_worse label_of true (desk_of run) faults' after new (standing (history next)) worse (holds_next label_of (desk_of run) faults' new told (call_of step new) (ends (standing (history told)) true_of.holds).holds));
       clock = omega (arith, true_of.clock, more);
       beyond = beyond_next told (call_of step new) (small (call_of step new) (ends (standing (history told)) true_of.holds).is_one) true_of.beyond;
     }
-tells_still name_of is_entered is_entered' desk run faults faults' after count count' step may None None (Some told) entered worse more small true_of ends = absurd true_of
-tells_still name_of is_entered is_entered' desk run faults faults' after count count' step may None (Some new) past entered worse more small true_of ends = absurd ends
-tells_still name_of is_entered is_entered' desk run faults faults' after count count' step may (Some old) None past entered worse more small true_of ends = absurd ends
+tells_still label_of is_entered is_entered' desk run faults faults' after count count' step may None None (Some told) entered worse more small true_of ends = absurd true_of
+tells_still label_of is_entered is_entered' desk run faults faults' after count count' step may None (Some new) past entered worse more small true_of ends = absurd ends
+tells_still label_of is_entered is_entered' desk run faults faults' after count count' step may (Some old) None past entered worse more small true_of ends = absurd ends
 
 -- its moment is the next one
 pub moment_next : (count count' moment moment' : ℕ) → count ≡ moment → count' ≡ moment' → count' ≡ count + 1 → moment' ≡ moment + 1
 moment_next count count' moment moment' is is' more = omega (arith, is, is', more)
 
 -- what a call answers of what the files tell is so of what the store tells
-pub answer_told : {H T E : Type 0} (name_of : H → List ℕ) (is_entered : Bool) (desk : Desk H) (faults : Faults) (count file : ℕ) (says : T → List ℕ → Type 0) (answer : Result T E) (x : Option Folder) (past : Option Past)
-    → Tells x past (TellsTrue name_of is_entered desk faults count)
-    → IfOk answer (λ v. IfSome x (λ old. (seen : ℕ → Standing) → Holds name_of is_entered desk faults old seen → says v (seen file).bytes))
+pub answer_told : {H T E : Type 0} (label_of : H → Label) (is_entered : Bool) (desk : Desk H) (faults : Faults) (count file : ℕ) (says : T → List ℕ → Type 0) (answer : Result T E) (x : Option Folder) (past : Option Past)
+    → Tells x past (TellsTrue label_of is_entered desk faults count)
+    → IfOk answer (λ v. IfSome x (λ old. (seen : ℕ → Standing) → Holds label_of is_entered desk faults old seen → says v (seen file).bytes))
     → IfOk answer (λ v. IfSome (history_of past) (λ h. says v (reads h file)))
-answer_told name_of is_entered desk faults count file says (Err failed) x past true_of known = tt
-answer_told name_of is_entered desk faults count file says (Ok v) x None true_of known = tt
-answer_told name_of is_entered desk faults count file says (Ok v) (Some old) (Some told) true_of known = known (standing (history told)) true_of.holds
-answer_told name_of is_entered desk faults count file says (Ok v) None (Some told) true_of known = absurd true_of
+answer_told label_of is_entered desk faults count file says (Err failed) x past true_of known = tt
+answer_told label_of is_entered desk faults count file says (Ok v) x None true_of known = tt
+answer_told label_of is_entered desk faults count file says (Ok v) (Some old) (Some told) true_of known = known (standing (history told)) true_of.holds
+answer_told label_of is_entered desk faults count file says (Ok v) None (Some told) true_of known = absurd true_of
 
 contents_length : (n : ℕ) (contents : ℕ → List ℕ) → length (contents_below n contents) ≡ n
 unfolding contents_below
@@ -157,31 +157,32 @@ unfolding settled
 none_beyond first file out = ap length (get_or-eq_default first [] {n = file} out)
 
 -- A store that begins over a folder that no run has entered. No file is open, none is marked.
-starts : {H : Type 0} (name_of : H → List ℕ) (desk : Desk H) (faults : Faults) (began : ℕ) (folder : Folder) → ((name : List ℕ) → IsOnDisk (folder.files name)) → folder.stage ≡ away → AreNamed name_of desk.pool → desk.is_synced ≡ false
-    → TellsTrue name_of false desk faults began folder (started began folder)
-starts name_of desk faults began folder on_disk at named unsynced = record {
+starts : {H : Type 0} (label_of : H → Label) (desk : Desk H) (faults : Faults) (began : ℕ) (folder : Folder) → IsAllOnDisk folder → folder.stage ≡ away → AreNamed label_of desk.pool → desk.is_synced ≡ false
+    → TellsTrue label_of false desk faults began folder (started began folder)
+starts label_of desk faults began folder on_disk at named unsynced = record {
   holds = record {
     each = λ file fits. record {
-      tied = subst (λ (bytes : List ℕ). Tied (folder.files (file_name file)) (settled bytes)) (sym (contents_at (2 ^ 32) file (bytes_in folder) fits)) (tied_first (folder.files (file_name file)) (on_disk (file_name file)));
+      tied = subst (λ (bytes : List ℕ). Tied (folder.files (file_name file)) (settled bytes)) (sym (contents_at (2 ^ 32) file (bytes_in folder) fits)) (tied_first (folder.files (file_name file)) (on_disk.files (file_name file)));
       sure = λ is. absurd (never (subst IsTrue unsynced is));
-      sound = λ used. (on_disk (file_name file)).sound;
-      clean = λ clean. (on_disk (file_name file)).bytes;
+      sound = λ used. (on_disk.files (file_name file)).sound;
+      clean = λ clean. (on_disk.files (file_name file)).bytes;
     };
     stage = record { before = λ entered. at; within = λ entered used. absurd (never entered) };
+    moves = on_disk.moves;
     named = named;
   };
   clock = omega arith;
   beyond = λ file out. none_beyond (contents_below (2 ^ 32) (bytes_in folder)) file (omega (arith, contents_length (2 ^ 32) (bytes_in folder), out));
 }
 
-pub tells_first : {H : Type 0} (name_of : H → List ℕ) (desk : Desk H) (faults : Faults) (x : Option Folder) → IfSome x (λ d. IsTrue d.is_settled → (name : List ℕ) → IsOnDisk (d.files name)) → AreNamed name_of desk.pool → desk.is_synced ≡ false
-    → Tells x (first_past 0 x) (TellsTrue name_of false desk faults 0)
-tells_first name_of desk faults None settles named unsynced = tt
-tells_first {H} name_of desk faults (Some folder) settles named unsynced = go (folder.is_settled && is_away folder.stage) refl
+pub tells_first : {H : Type 0} (label_of : H → Label) (desk : Desk H) (faults : Faults) (x : Option Folder) → IfSome x (λ d. IsTrue d.is_settled → IsAllOnDisk d) → AreNamed label_of desk.pool → desk.is_synced ≡ false
+    → Tells x (first_past 0 x) (TellsTrue label_of false desk faults 0)
+tells_first label_of desk faults None settles named unsynced = tt
+tells_first {H} label_of desk faults (Some folder) settles named unsynced = go (folder.is_settled && is_away folder.stage) refl
   where
-    go : (b : Bool) → (folder.is_settled && is_away folder.stage) ≡ b → Tells (Some folder) (if b then Some (started 0 folder) else None) (TellsTrue name_of false desk faults 0)
+    go : (b : Bool) → (folder.is_settled && is_away folder.stage) ≡ b → Tells (Some folder) (if b then Some (started 0 folder) else None) (TellsTrue label_of false desk faults 0)
     go false is = tt
-    go true is = starts name_of desk faults 0 folder (settles (both_true folder.is_settled (is_away folder.stage) is).0) (stage_away folder.stage (both_true folder.is_settled (is_away folder.stage) is).1) named unsynced
+    go true is = starts label_of desk faults 0 folder (settles (both_true folder.is_settled (is_away folder.stage) is).0) (stage_away folder.stage (both_true folder.is_settled (is_away folder.stage) is).1) named unsynced
 
 pub begins : (x : Option Folder) → IfSome x (λ folder. IsTrue folder.is_settled → folder.stage ≡ away → IsSomeAnd (history_of (first_past 0 x)) (Begins folder))
 begins None = tt
@@ -200,34 +201,40 @@ told_call may result answer was before past past' same is is' told =
     (subst (λ (p : Option Past). Told (history_of was.past) (history_of p) (Adds (may answer))) (sym is') told))
 
 -- what a stop of the machine leaves of the files is what the store begins with
-pub tells_stopped : {H : Type 0} (name_of : H → List ℕ) (is_entered : Bool) (desk desk' : Desk H) (faults faults' : Faults) (count : ℕ) (x y : Option Folder) (past : Option Past)
-    → IfSome y (λ d. IsTrue d.is_settled → (name : List ℕ) → IsOnDisk (d.files name)) → AreNamed name_of desk'.pool → desk'.is_synced ≡ false → Tells x past (TellsTrue name_of is_entered desk faults count) → Told x y FilesStop
-    → Tells y (next_past Stopped y past) (TellsTrue name_of false desk' faults' count)
-tells_stopped name_of is_entered desk desk' faults faults' count None None None settles named unsynced true_of stops = tt
-tells_stopped name_of is_entered desk desk' faults faults' count (Some old) (Some new) None settles named unsynced true_of stops = tt
-tells_stopped name_of is_entered desk desk' faults faults' count (Some old) (Some new) (Some told) settles named unsynced true_of stops =
-    subst (λ (moment : ℕ). TellsTrue name_of false desk' faults' moment new (started (now (history told)) new)) true_of.clock (starts name_of desk' faults' (now (history told)) new (settles stops.settled) stops.stage named unsynced)
-tells_stopped name_of is_entered desk desk' faults faults' count None None (Some told) settles named unsynced true_of stops = absurd true_of
-tells_stopped name_of is_entered desk desk' faults faults' count None (Some new) past settles named unsynced true_of stops = absurd stops
-tells_stopped name_of is_entered desk desk' faults faults' count (Some old) None past settles named unsynced true_of stops = absurd stops
+pub tells_stopped : {H : Type 0} (label_of : H → Label) (is_entered : Bool) (desk desk' : Desk H) (faults faults' : Faults) (count : ℕ) (x y : Option Folder) (past : Option Past)
+    → IfSome y (λ d. IsTrue d.is_settled → IsAllOnDisk d) → AreNamed label_of desk'.pool → desk'.is_synced ≡ false → Tells x past (TellsTrue label_of is_entered desk faults count) → Told x y FilesStop
+    → Tells y (next_past Stopped y past) (TellsTrue label_of false desk' faults' count)
+tells_stopped label_of is_entered desk desk' faults faults' count None None None settles named unsynced true_of stops = tt
+tells_stopped label_of is_entered desk desk' faults faults' count (Some old) (Some new) None settles named unsynced true_of stops = tt
+tells_stopped label_of is_entered desk desk' faults faults' count (Some old) (Some new) (Some told) settles named unsynced true_of stops =
+    subst (λ (moment : ℕ). TellsTrue label_of false desk' faults' moment new (started (now (history told)) new)) true_of.clock (starts label_of desk' faults' (now (history told)) new (settles stops.settled) stops.stage named unsynced)
+tells_stopped label_of is_entered desk desk' faults faults' count None None (Some told) settles named unsynced true_of stops = absurd true_of
+tells_stopped label_of is_entered desk desk' faults faults' count None (Some new) past settles named unsynced true_of stops = absurd stops
+tells_stopped label_of is_entered desk desk' faults faults' count (Some old) None past settles named unsynced true_of stops = absurd stops
+
+-- where no file was moved each name has what the stop may leave of its file
+left_there : (old new : Folder) (name : List ℕ) → old.moves ≡ unmoved → FilesStop old new → LeavesFile (old.files name) (new.files name)
+left_there old new name none stops =
+    let same : stops.files name ≡ old.files name = subst (λ (moves : Moves). Undoes [] moves.pending old.files stops.files) none stops.names name in
+    subst (λ (file : File). LeavesFile file (new.files name)) same (stops.left name)
 
 -- and that is one of the images that a stop may leave of the store
-pub told_stopped : {H : Type 0} (name_of : H → List ℕ) (is_entered : Bool) (desk : Desk H) (faults : Faults) (count : ℕ) (x y : Option Folder) (past : Option Past) → Tells x past (TellsTrue name_of is_entered desk faults count) → Told x y FilesStop
+pub told_stopped : {H : Type 0} (label_of : H → Label) (is_entered : Bool) (desk : Desk H) (faults : Faults) (count : ℕ) (x y : Option Folder) (past : Option Past) → Tells x past (TellsTrue label_of is_entered desk faults count) → Told x y FilesStop
     → Told (history_of past) (history_of (next_past Stopped y past)) StopsAs
-told_stopped name_of is_entered desk faults count None None None true_of stops = tt
-told_stopped name_of is_entered desk faults count (Some old) (Some new) None true_of stops = tt
-told_stopped name_of is_entered desk faults count (Some old) (Some new) (Some told) true_of stops = record {
+told_stopped label_of is_entered desk faults count None None None true_of stops = tt
+told_stopped label_of is_entered desk faults count (Some old) (Some new) None true_of stops = tt
+told_stopped label_of is_entered desk faults count (Some old) (Some new) (Some told) true_of stops = record {
   same_moment = refl;
   nothing_pending = refl;
   left = λ file. elim (cases_lt file (2 ^ 32)) [
     | inl fits ↦ subst (λ (bytes : List ℕ). Leaves (standing (history told) file) bytes) (sym (contents_at (2 ^ 32) file (bytes_in new) fits))
-        (tied_left (old.files (file_name file)) (new.files (file_name file)) (standing (history told) file) (stops.left (file_name file)) (true_of.holds.each file fits).tied)
+        (tied_left (old.files (file_name file)) (new.files (file_name file)) (standing (history told) file) (left_there old new (file_name file) true_of.holds.moves stops) (true_of.holds.each file fits).tied)
     | inr out ↦ record { long = omega (arith, true_of.beyond file out); same = λ place lt clear. absurd (omega (arith, lt, true_of.beyond file out)) }
   ];
 }
-told_stopped name_of is_entered desk faults count None None (Some told) true_of stops = absurd true_of
-told_stopped name_of is_entered desk faults count None (Some new) past true_of stops = absurd stops
-told_stopped name_of is_entered desk faults count (Some old) None past true_of stops = absurd stops
+told_stopped label_of is_entered desk faults count None None (Some told) true_of stops = absurd true_of
+told_stopped label_of is_entered desk faults count None (Some new) past true_of stops = absurd stops
+told_stopped label_of is_entered desk faults count (Some old) None past true_of stops = absurd stops
 
 -- the same as its callers see it
 pub stop_told : (was before : Kept) (past past' : Option Past) → was ≡ before → past' ≡ past → Told (history_of was.past) (history_of past) StopsAs → Told (history_of before.past) (history_of past') StopsAs

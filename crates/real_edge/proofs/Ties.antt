@@ -100,10 +100,10 @@ tied_unwritten file seen at t = record {
 
 -- what a stop leaves of the file is what it may leave of the store's
 pub tied_left : (before after : File) (seen : Standing) → LeavesFile before after → Tied before seen → Leaves seen after.standing.bytes
-tied_left before after seen left t = elim left.bytes [
-  | inl leaves ↦ record {
-    long = omega (arith, leaves.long, t.stable);
-    same = λ place lt clear. leaves.same place (omega (arith, lt, t.stable)) (λ in_it. clear (t.loose place lt in_it)) ∙ ap (λ (bytes : List ℕ). get_or bytes place 0) (sym t.same);
+tied_left before after seen left t = elim left.left [
+  | inl there ↦ record {
+    long = omega (arith, there.1.long, t.stable);
+    same = λ place lt clear. there.1.same place (omega (arith, lt, t.stable)) (λ in_it. clear (t.loose place lt in_it)) ∙ ap (λ (bytes : List ℕ). get_or bytes place 0) (sym t.same);
   }
   | inr gone ↦ record {
     long = omega (arith, t.unsure gone.0);

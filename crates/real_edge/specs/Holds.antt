@@ -4,10 +4,10 @@ use Rattle.std.specs.Ordering.{nat_cmp}
 use Rattle.std.specs.BTreeMap.{is_at}
 use Rattle.std.specs.List.{list_any, slice_index_or}
 use Rattle.store_api.specs.Disk.{Standing, IsLoose, Call, on, idle, changed, write, cut, settle, settled}
-use Rattle.files_api.specs.Folder.{Stage, away, held, File, Folder, IsMissing}
+use Rattle.files_api.specs.Folder.{Stage, away, held, File, unmoved, Folder, Label, IsMissing}
 use Rattle.files_api.specs.Calls.{Only}
 use Rattle.real_edge.specs.Ledger.{Faults, is_lost, Worse}
-use Rattle.real_edge.specs.Names.{file_name}
+use Rattle.real_edge.specs.Names.{file_name, file_label}
 use Rattle.real_edge.specs.Pool.{AreNamed}
 use Rattle.real_edge.specs.declared.pool.Pool.{Pool}
 
@@ -45,10 +45,11 @@ pub record IsAtStage (is_entered all_lost : Bool) (stage : Stage) : Type 0 where
   pub within : IsTrue is_entered → ¬ IsTrue all_lost → stage ≡ held
 
 -- what the store keeps true of the folder, whose files stand for those of the store
-pub record Holds {H : Type 0} (name_of : H → List ℕ) (is_entered : Bool) (desk : Desk H) (faults : Faults) (folder : Folder) (seen : ℕ → Standing) : Type 0 where
+pub record Holds {H : Type 0} (label_of : H → Label) (is_entered : Bool) (desk : Desk H) (faults : Faults) (folder : Folder) (seen : ℕ → Standing) : Type 0 where
   pub each : (file : ℕ) → file < 2 ^ 32 → IsKnown (folder.files (file_name file)) (seen file) desk.is_synced (is_lost faults file) (has desk.changed file)
   pub stage : IsAtStage is_entered faults.all_lost folder.stage
-  pub named : AreNamed name_of desk.pool
+  pub moves : folder.moves ≡ unmoved
+  pub named : AreNamed label_of desk.pool
 
 -- it holds of the faults where the call went well, and else of all later ones that count the loss
 abbrev pub After : {T E : Type 0} → Result T E → (Faults → Type 0) → Faults → (Faults → Type 0) → Type 0
@@ -56,10 +57,10 @@ After (Ok done) lost faults P = P faults
 After (Err failed) lost faults P = (after : Faults) → Worse faults after → lost after → P after
 
 -- what was looked for: the file's handle, or none where the file is missing
-abbrev pub Got : {H E : Type 0} → (H → List ℕ) → ℕ → Result (Option H) E → Folder → Type 0
-Got name_of file (Ok None) folder = IsMissing (folder.files (file_name file))
-Got name_of file (Ok (Some handle)) folder = name_of handle ≡ file_name file
-Got name_of file (Err failed) folder = Unit {0}
+abbrev pub Got : {H E : Type 0} → (H → Label) → ℕ → Result (Option H) E → Folder → Type 0
+Got label_of file (Ok None) folder = IsMissing (folder.files (file_name file))
+Got label_of file (Ok (Some handle)) folder = label_of handle ≡ file_label file
+Got label_of file (Err failed) folder = Unit {0}
 
 -- The bytes of a file were changed within a range at will, and the range isn't on the disk.
 pub record Patched (at len : ℕ) (old new : Standing) : Type 0 where

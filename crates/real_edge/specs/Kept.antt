@@ -1,8 +1,8 @@
 -- A store in a folder, as its callers see it.
-use Rattle.std.specs.Prelude.{◌≡◌, ℕ, ◌<◌, ◌≤◌, ◌^◌, List, [], Bool, Option, None, Some, IfSome}
+use Rattle.std.specs.Prelude.{◌≡◌, ℕ, ◌<◌, ◌≤◌, ◌^◌, [], Bool, Option, None, Some, IfSome}
 use mathlib.Core.Path.{refl}
 use Rattle.store_api.specs.Disk.{History, standing, now}
-use Rattle.files_api.specs.Folder.{Folder}
+use Rattle.files_api.specs.Folder.{Folder, Label}
 use Rattle.real_edge.specs.Ledger.{Faults}
 use Rattle.real_edge.specs.Past.{Told, history, history_of, bytes_in}
 use Rattle.real_edge.specs.Holds.{Desk, Holds}
@@ -37,8 +37,8 @@ Tells None (Some told) R = ⊥
 Tells (Some folder) (Some told) R = R folder told
 
 -- What it tells is so. Files whose numbers are no `u32` have nothing.
-pub record TellsTrue {H : Type 0} (name_of : H → List ℕ) (is_entered : Bool) (desk : Desk H) (faults : Faults) (count : ℕ) (folder : Folder) (told : Told) : Type 0 where
-  pub holds : Holds name_of is_entered desk faults folder (standing (history told))
+pub record TellsTrue {H : Type 0} (label_of : H → Label) (is_entered : Bool) (desk : Desk H) (faults : Faults) (count : ℕ) (folder : Folder) (told : Told) : Type 0 where
+  pub holds : Holds label_of is_entered desk faults folder (standing (history told))
   pub clock : now (history told) ≡ count
   pub beyond : (file : ℕ) → 2 ^ 32 ≤ file → (standing (history told) file).stable ≡ 0
 

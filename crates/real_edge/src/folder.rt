@@ -1,8 +1,8 @@
 // The numbered files of a folder, a few of which are open.
-ghost use Rattle.std.specs.Prelude.{◌≡◌, ◌≢◌, ◌<◌, ◌^◌, ℕ, List, [], IsTrue, OnOk, true, false};
+ghost use Rattle.std.specs.Prelude.{◌≡◌, ◌≢◌, ◌<◌, ◌^◌, ℕ, [], IsTrue, OnOk, true, false};
 ghost use Rattle.store_api.specs.Disk.{Standing};
 ghost use Rattle.store_api.specs.Told.{Told};
-ghost use Rattle.files_api.specs.Folder.{IsMissing};
+ghost use Rattle.files_api.specs.Folder.{Label};
 ghost use Rattle.real_edge.specs.Ledger.{Faults, is_lost};
 ghost use Rattle.real_edge.specs.Names.{file_name};
 ghost use Rattle.real_edge.specs.Pool.{AreNamed};
@@ -33,7 +33,7 @@ impl<F: Files + Drop> Folder<F> {
     // A folder that is still to be entered.
     pub fn new(files: F, alloc: Global) -> Folder<F>
         ensures files { result.files ≡ files }
-        ensures named { (name_of : F.Handle → List ℕ) → AreNamed name_of result.pool }
+        ensures named { (label_of : F.Handle → Label) → AreNamed label_of result.pool }
         ensures changed { result.changed.keys ≡ [] }
         ensures synced { result.is_synced ≡ false }
     {
@@ -49,7 +49,7 @@ impl<F: Files + Drop> Folder<F> {
 
     // Makes the folder, where it is missing, and locks it.
     pub fn enter(&mut self) -> Result<(), Failed>
-        ensures told { Told (F.told self.old.files) (F.told self.new.files) (Enters F.name_of result self.old self.new) }
+        ensures told { Told (F.told self.old.files) (F.told self.new.files) (Enters F.label_of result self.old self.new) }
     {
         match self.files.make() {
             Ok(()) => {}
@@ -63,7 +63,7 @@ impl<F: Files + Drop> Folder<F> {
 
     // Opens a file, and makes it where it is missing and is to be made. Answers none where there is no such file.
     pub fn fetch(&mut self, file: u32, is_made: bool) -> Result<Option<F::Handle>, Failed>
-        ensures told { Told (F.told self.old.files) (F.told self.new.files) (λ old new. (faults : Faults) (seen : ℕ → Standing) → ¬ IsTrue faults.all_lost → Holds F.name_of true (desk_of self.old) faults old seen → Reached F.name_of file result self.new faults new seen) }
+        ensures told { Told (F.told self.old.files) (F.told self.new.files) (λ old new. (faults : Faults) (seen : ℕ → Standing) → ¬ IsTrue faults.all_lost → Holds F.label_of true (desk_of self.old) faults old seen → Reached F.label_of file result self.new faults new seen) }
     {
         let name = match name_of(self.alloc, file) {
             Ok(name) => name,
@@ -78,7 +78,7 @@ impl<F: Files + Drop> Folder<F> {
     // Makes a file that is missing.
     fn make(&mut self, file: u32, name: &str) -> Result<Option<F::Handle>, Failed>
         requires { name.now ≡ file_name file }
-        ensures told { Told (F.told self.old.files) (F.told self.new.files) (λ old new. (faults : Faults) (seen : ℕ → Standing) → ¬ IsTrue faults.all_lost → Holds F.name_of true (desk_of self.old) faults old seen → Reached F.name_of file result self.new faults new seen) }
+        ensures told { Told (F.told self.old.files) (F.told self.new.files) (λ old new. (faults : Faults) (seen : ℕ → Standing) → ¬ IsTrue faults.all_lost → Holds F.label_of true (desk_of self.old) faults old seen → Reached F.label_of file result self.new faults new seen) }
     {
         self.is_synced = false;
         match self.files.create(name) {
@@ -89,7 +89,7 @@ impl<F: Files + Drop> Folder<F> {
 
     // Makes the names of the folder's files durable.
     pub fn sync_names(&mut self) -> Result<(), Failed>
-        ensures told { Told (F.told self.old.files) (F.told self.new.files) (SyncsAllNames F.name_of result self.old self.new) }
+        ensures told { Told (F.told self.old.files) (F.told self.new.files) (SyncsAllNames F.label_of result self.old self.new) }
         ensures synced { OnOk result (IsTrue self.new.is_synced) }
         ensures changed { self.new.changed.keys ≡ self.old.changed.keys }
     {
@@ -107,7 +107,7 @@ impl<F: Files + Drop> Folder<F> {
 
     // Makes a file durable, where it was changed since its last sync.
     pub fn sync_changed(&mut self, file: u32, handle: &F::Handle) -> Result<(), Failed>
-        ensures told { Told (F.told self.old.files) (F.told self.new.files) (SyncsChanged F.name_of file handle.now result self.old self.new) }
+        ensures told { Told (F.told self.old.files) (F.told self.new.files) (SyncsChanged F.label_of file handle.now result self.old self.new) }
         ensures unchanged { OnOk result (¬ IsTrue (has self.new.changed.keys file)) }
     {
         if !is_marked(&self.changed, file) {
@@ -129,7 +129,7 @@ impl<F: Stop + Drop> Folder<F> {
     // The folder after a stop of the machine, still to be entered.
     pub fn stop(self, choice: u64) -> Folder<F>
         ensures told { Told (F.told self.files) (F.told result.files) StopsAs }
-        ensures named { (name_of : F.Handle → List ℕ) → AreNamed name_of result.pool }
+        ensures named { (label_of : F.Handle → Label) → AreNamed label_of result.pool }
         ensures synced { result.is_synced ≡ false }
     {
         let Folder { files, alloc, .. } = self;

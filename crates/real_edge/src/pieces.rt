@@ -19,7 +19,7 @@ fn fill_from<F: Files>(
     requires { offset + length into.old < 2 ^ 64 }
     ensures told { Told (F.told files.old) (F.told files.new) Looks }
     ensures long { length into.new ≡ length into.old }
-    ensures bytes { OnOk result (IfSome (F.told files.old) (λ d. IsUsable d (F.name_of handle.now) → into.new ≡ take (length into.old) (drop offset (d.files (F.name_of handle.now)).standing.bytes))) }
+    ensures bytes { OnOk result (IfSome (F.told files.old) (λ d. IsUsable d (F.label_of handle.now) → into.new ≡ take (length into.old) (drop offset (d.files (F.label_of handle.now).name).standing.bytes))) }
 {
     let mut done = 0;
     'pieces: while done < into.len() {
@@ -41,7 +41,7 @@ pub(crate) fn read_from<F: Files>(
 ) -> Result<usize, Failed>
     ensures told { Told (F.told files.old) (F.told files.new) Looks }
     ensures bound { IfOk result (λ count. count ≤ length into.new) }
-    ensures bytes { IfOk result (λ count. IfSome (F.told files.old) (λ d. IsUsable d (F.name_of handle.now) → ReadsFrom (d.files (F.name_of handle.now)).standing.bytes offset into.new count)) }
+    ensures bytes { IfOk result (λ count. IfSome (F.told files.old) (λ d. IsUsable d (F.label_of handle.now) → ReadsFrom (d.files (F.label_of handle.now).name).standing.bytes offset into.new count)) }
 {
     let len = match files.len(handle) {
         Ok(len) => len,
@@ -62,7 +62,7 @@ pub(crate) fn write_all<F: Files>(
     bytes: &[u8],
 ) -> Result<(), Failed>
     requires { offset + length bytes.now < 2 ^ 63 }
-    ensures told { Told (F.told files.old) (F.told files.new) (λ old new. IsUsable old (F.name_of handle.now) → WroteAll (F.name_of handle.now) offset bytes.now result old new) }
+    ensures told { Told (F.told files.old) (F.told files.new) (λ old new. IsUsable old (F.label_of handle.now) → WroteAll (F.label_of handle.now).name offset bytes.now result old new) }
 {
     let mut done = 0;
     'pieces: while done < bytes.len() {
@@ -87,7 +87,7 @@ pub(crate) fn has_room(offset: u64, bytes: &[u8]) -> bool
 
 // Cuts the file to a length, where it is longer.
 pub(crate) fn cut_to<F: Files>(files: &mut F, handle: &F::Handle, len: u64) -> Result<(), Failed>
-    ensures told { Told (F.told files.old) (F.told files.new) (λ old new. IsUsable old (F.name_of handle.now) → CutTo (F.name_of handle.now) len result old new) }
+    ensures told { Told (F.told files.old) (F.told files.new) (λ old new. IsUsable old (F.label_of handle.now) → CutTo (F.label_of handle.now).name len result old new) }
 {
     match files.len(handle) {
         Ok(old) if len < old => files.cut(handle, len),

@@ -1,6 +1,7 @@
 // The files that are open.
-ghost use Rattle.std.specs.Prelude.{◌≡◌, ◌<◌, ℕ, List, All, IfSome, length, slice_index_or};
-ghost use Rattle.real_edge.specs.Names.{file_name};
+ghost use Rattle.std.specs.Prelude.{◌≡◌, ◌<◌, IfSome, length, slice_index_or};
+ghost use Rattle.files_api.specs.Folder.{Label};
+ghost use Rattle.real_edge.specs.Names.{file_label};
 
 use std::alloc::Global;
 
@@ -23,7 +24,7 @@ impl<H: Drop> Pool<H> {
     ghost use Rattle.real_edge.specs.Pool.{AreNamed};
 
     pub fn new(alloc: Global) -> Pool<H>
-        ensures named { (name_of : H → List ℕ) → AreNamed name_of result }
+        ensures named { (label_of : H → Label) → AreNamed label_of result }
     {
         Pool {
             open: Vec::new(alloc),
@@ -32,8 +33,8 @@ impl<H: Drop> Pool<H> {
 
     // Takes out a file, where it is open.
     pub fn take(&mut self, file: u32) -> Option<H>
-        ensures named { (name_of : H → List ℕ) → AreNamed name_of self.old → AreNamed name_of self.new }
-        ensures found { (name_of : H → List ℕ) → AreNamed name_of self.old → IfSome result (λ handle. name_of handle ≡ file_name file) }
+        ensures named { (label_of : H → Label) → AreNamed label_of self.old → AreNamed label_of self.new }
+        ensures found { (label_of : H → Label) → AreNamed label_of self.old → IfSome result (λ handle. label_of handle ≡ file_label file) }
     {
         match place_of(&self.open, file) {
             Some(place) => Some(self.open.remove(place).handle),
@@ -43,8 +44,8 @@ impl<H: Drop> Pool<H> {
 
     // Takes out the file that has been unused the longest, where as many are open as may be.
     pub fn take_oldest(&mut self) -> Option<Opened<H>>
-        ensures named { (name_of : H → List ℕ) → AreNamed name_of self.old → AreNamed name_of self.new }
-        ensures found { (name_of : H → List ℕ) → AreNamed name_of self.old → IfSome result (λ oldest. name_of oldest.handle ≡ file_name oldest.file) }
+        ensures named { (label_of : H → Label) → AreNamed label_of self.old → AreNamed label_of self.new }
+        ensures found { (label_of : H → Label) → AreNamed label_of self.old → IfSome result (λ oldest. label_of oldest.handle ≡ file_label oldest.file) }
     {
         if self.open.len() < MOST_OPEN {
             None
@@ -55,7 +56,7 @@ impl<H: Drop> Pool<H> {
 
     // Keeps a file open that was just used. Where there is no memory for that it is closed.
     pub fn keep(&mut self, file: u32, handle: H)
-        ensures named { (name_of : H → List ℕ) → AreNamed name_of self.old → name_of handle ≡ file_name file → AreNamed name_of self.new }
+        ensures named { (label_of : H → Label) → AreNamed label_of self.old → label_of handle ≡ file_label file → AreNamed label_of self.new }
     {
         let _ = self.open.push(Opened { file, handle });
     }

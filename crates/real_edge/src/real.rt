@@ -2,8 +2,8 @@
 ghost use Rattle.std.specs.Prelude.{None, []};
 
 use crate::names::{parent_of, path_of};
-use files_api::{Failed, Files};
-use std::alloc::Global;
+use files_api::{Failed, Files, ListRefused};
+use std::alloc::{Alloc, AllocError, Global};
 use std::fs::{File, OpenOptions};
 use std::os::fd::AsRawFd;
 use std::os::unix::fs::FileExt;
@@ -14,9 +14,10 @@ use std::{fs, io};
 const LOCK: &str = "lock";
 
 /// The files of a folder of the system. They tell nothing. Each call is one call of the system, beside those that open and close what
-/// it needs; the system's error is kept for nobody.
+/// it needs and those by which a list goes on; the system's error is kept for nobody. What a link that stands in the folder points
+/// to is never renamed or removed, but the link itself. The lock is a file `lock` in the folder, which the list leaves out.
 #[derive(Drop)]
-pub struct RealFiles<R: System<File = File> + Drop> {
+pub struct RealFiles<R: System<File = File> + Alloc + Clone + Drop> {
     system: R,
     alloc: Global,
     path: &'static str,
@@ -24,7 +25,7 @@ pub struct RealFiles<R: System<File = File> + Drop> {
     lock: Option<File>,
 }
 
-impl<R: System<File = File> + Drop> RealFiles<R> {
+impl<R: System<File = File> + Alloc + Clone + Drop> RealFiles<R> {
     /// The files in the folder at a path. Nothing is done yet; the folder that it lies in must be there.
     pub fn new(system: R, alloc: Global, path: &'static str) -> RealFiles<R> {
         RealFiles {
@@ -42,6 +43,17 @@ impl<R: System<File = File> + Drop> RealFiles<R> {
 
     fn sync_folder(&self, path: &str) -> io::Result<()> {
         above_streams(File::open(&self.system, path)?)?.sync_all()
+    }
+
+    fn rename_file(&self, from: &str, to: &str) -> io::Result<()> {
+        let from = path_of(self.alloc, self.path, from)?;
+        let to = path_of(self.alloc, self.path, to)?;
+        fs::rename(&self.system, from.as_str(), to.as_str())
+    }
+
+    fn remove_file(&self, name: &str) -> io::Result<()> {
+        let path = path_of(self.alloc, self.path, name)?;
+        fs::remove_file(&self.system, path.as_str())
     }
 
     fn take_lock(&mut self) -> io::Result<()> {
@@ -70,16 +82,33 @@ fn plain<T>(answer: io::Result<T>) -> Result<T, Failed> {
     }
 }
 
+// Why the list ends before its end.
+fn refusal_of(error: &io::Error) -> ListRefused {
+    match error.kind() {
+        io::ErrorKind::InvalidFilename => ListRefused::NotText,
+        io::ErrorKind::OutOfMemory => ListRefused::Memory,
+        _ => ListRefused::Failed,
+    }
+}
+
+// Adds a name to the list, but that of the lock.
+fn add_name(alloc: Global, names: &mut Vec<String>, name: &str) -> Result<(), AllocError> {
+    if name != LOCK {
+        names.push(String::from_str(alloc, name)?)?;
+    }
+    Ok(())
+}
+
 fn length_of(file: &File) -> io::Result<u64> {
     Ok(file.metadata()?.len())
 }
 
-impl<R: System<File = File> + Drop> Files for RealFiles<R> {
+impl<R: System<File = File> + Alloc + Clone + Drop> Files for RealFiles<R> {
     type Handle = File;
 
     ghost told = { λ _. None };
 
-    ghost name_of = { λ _. [] };
+    ghost label_of = { λ _. record { name = []; turn = 0 } };
 
     ghost settled = { λ _. record {} };
 
@@ -144,5 +173,39 @@ impl<R: System<File = File> + Drop> Files for RealFiles<R> {
 
     fn sync_names(&mut self) -> Result<(), Failed> {
         plain(self.sync_folder(self.path))
+    }
+
+    fn list(&mut self) -> Result<Vec<String>, ListRefused> {
+        let entries = match fs::read_dir(&self.system, self.path) {
+            Ok(entries) => entries,
+            Err(error) if error.kind() == io::ErrorKind::OutOfMemory => {
+                return Err(ListRefused::Memory);
+            }
+            Err(_) => return Err(ListRefused::Failed),
+        };
+        let mut names = Vec::new(self.alloc);
+        for entry in entries {
+            let entry = match entry {
+                Ok(entry) => entry,
+                Err(error) => return Err(refusal_of(&error)),
+            };
+            match add_name(self.alloc, &mut names, entry.file_name()) {
+                Ok(()) => {}
+                Err(_) => return Err(ListRefused::Memory),
+            }
+        }
+        Ok(names)
+    }
+
+    fn rename(&mut self, from: &str, to: &str) -> Result<(), Failed> {
+        plain(self.rename_file(from, to))
+    }
+
+    fn remove(&mut self, name: &str) -> Result<bool, Failed> {
+        match self.remove_file(name) {
+            Ok(()) => Ok(true),
+            Err(error) if error.kind() == io::ErrorKind::NotFound => Ok(false),
+            Err(_) => Err(Failed),
+        }
     }
 }

@@ -5,7 +5,7 @@ ghost use Rattle.store_api.specs.Disk.{Standing};
 ghost use Rattle.store_api.specs.Told.{Told, ReadsFrom, MayWrite, MayCut, MaySync};
 ghost use Rattle.files_api.specs.Folder.{away};
 ghost use Rattle.real_edge.specs.Ledger.{Faults, faults_of, is_lost, StayLost, Worse};
-ghost use Rattle.real_edge.specs.Names.{file_name};
+ghost use Rattle.real_edge.specs.Names.{file_label};
 ghost use Rattle.real_edge.specs.Past.{call_of, history_of};
 ghost use Rattle.real_edge.specs.declared.past.Step.TheVariants.{Look};
 ghost use Rattle.real_edge.specs.Holds.{Holds, After, has, after_sync};
@@ -50,7 +50,7 @@ impl<F: Files + Drop> Model for FolderStore<F> {
 
     ghost view = { λ s. record { count = s.count; faults = s.ledger; past = s.past.told } };
 
-    ghost invariant = { λ s. Tells (F.told s.folder.files) s.past.told (TellsTrue F.name_of s.is_entered (desk_of s.folder) s.ledger s.count) };
+    ghost invariant = { λ s. Tells (F.told s.folder.files) s.past.told (TellsTrue F.label_of s.is_entered (desk_of s.folder) s.ledger s.count) };
 }
 
 // How a call ended, and what it did.
@@ -75,7 +75,7 @@ fn enter<F: Files + Drop>(folder: &mut Folder<F>, ledger: &mut Ledger, is_entere
     ensures counts { NoneFell (faults_of ledger.old) (faults_of ledger.new) }
     ensures stay { StayLost (is_lost ledger.old) (is_lost ledger.new) }
     ensures worse { Worse ledger.old ledger.new }
-    ensures told { Told (F.told folder.old.files) (F.told folder.new.files) (λ old new. (seen : ℕ → Standing) → Holds F.name_of is_entered.old (desk_of folder.old) ledger.old old seen → Holds F.name_of true (desk_of folder.new) ledger.new new seen) }
+    ensures told { Told (F.told folder.old.files) (F.told folder.new.files) (λ old new. (seen : ℕ → Standing) → Holds F.label_of is_entered.old (desk_of folder.old) ledger.old old seen → Holds F.label_of true (desk_of folder.new) ledger.new new seen) }
     ensures entered { IsTrue is_entered.new }
 {
     if *is_entered {
@@ -98,7 +98,7 @@ fn reach<F: Files + Drop>(
     requires used { ¬ IsTrue (is_lost ledger.old file) }
     ensures counts { NoneFell (faults_of ledger.old) (faults_of ledger.new) }
     ensures stay { StayLost (is_lost ledger.old) (is_lost ledger.new) }
-    ensures told { Told (F.told folder.old.files) (F.told folder.new.files) (LooksFor F.name_of file result folder.old ledger.old folder.new ledger.new) }
+    ensures told { Told (F.told folder.old.files) (F.told folder.new.files) (LooksFor F.label_of file result folder.old ledger.old folder.new ledger.new) }
     ensures used { IfOk result (λ _. ¬ IsTrue (is_lost ledger.new file)) }
 {
     if let Some(handle) = folder.pool.take(file) {
@@ -119,7 +119,7 @@ fn reach<F: Files + Drop>(
 fn make_room<F: Files + Drop>(folder: &mut Folder<F>, ledger: &mut Ledger)
     ensures counts { NoneFell (faults_of ledger.old) (faults_of ledger.new) }
     ensures stay { StayLost (is_lost ledger.old) (is_lost ledger.new) }
-    ensures told { Told (F.told folder.old.files) (F.told folder.new.files) (Keeps F.name_of folder.old ledger.old folder.new ledger.new) }
+    ensures told { Told (F.told folder.old.files) (F.told folder.new.files) (Keeps F.label_of folder.old ledger.old folder.new ledger.new) }
 {
     if let Some(oldest) = folder.pool.take_oldest() {
         close(folder, ledger, oldest);
@@ -130,7 +130,7 @@ fn make_room<F: Files + Drop>(folder: &mut Folder<F>, ledger: &mut Ledger)
 fn close<F: Files + Drop>(folder: &mut Folder<F>, ledger: &mut Ledger, oldest: Opened<F::Handle>)
     ensures counts { NoneFell (faults_of ledger.old) (faults_of ledger.new) }
     ensures stay { StayLost (is_lost ledger.old) (is_lost ledger.new) }
-    ensures told { Told (F.told folder.old.files) (F.told folder.new.files) (λ old new. (seen : ℕ → Standing) → F.name_of oldest.handle ≡ file_name oldest.file → Holds F.name_of true (desk_of folder.old) ledger.old old seen → Holds F.name_of true (desk_of folder.new) ledger.new new seen) }
+    ensures told { Told (F.told folder.old.files) (F.told folder.new.files) (λ old new. (seen : ℕ → Standing) → F.label_of oldest.handle ≡ file_label oldest.file → Holds F.label_of true (desk_of folder.old) ledger.old old seen → Holds F.label_of true (desk_of folder.new) ledger.new new seen) }
 {
     let file = oldest.file;
     if ledger.is_lost(file) {
@@ -168,7 +168,7 @@ fn settle<F: Files + Drop>(
     ensures counts { NoneFell (faults_of ledger.old) (faults_of ledger.new) }
     ensures stay { StayLost (is_lost ledger.old) (is_lost ledger.new) }
     ensures failed { OnErr result (IsTrue (is_lost ledger.new file)) }
-    ensures told { Told (F.told folder.old.files) (F.told folder.new.files) (λ old new. (seen : ℕ → Standing) → F.name_of handle ≡ file_name file → Holds F.name_of true (desk_of folder.old) ledger.old old seen → Reached F.name_of file result folder.new ledger.new new seen) }
+    ensures told { Told (F.told folder.old.files) (F.told folder.new.files) (λ old new. (seen : ℕ → Standing) → F.label_of handle ≡ file_label file → Holds F.label_of true (desk_of folder.old) ledger.old old seen → Reached F.label_of file result folder.new ledger.new new seen) }
     ensures used { IfOk result (λ _. ¬ IsTrue (is_lost ledger.new file)) }
 {
     if folder.settled.contains(&file) {
@@ -196,7 +196,7 @@ fn sync_names<F: Files + Drop>(
     ensures counts { NoneFell (faults_of ledger.old) (faults_of ledger.new) }
     ensures stay { StayLost (is_lost ledger.old) (is_lost ledger.new) }
     ensures failed { OnErr result (IsTrue (is_lost ledger.new file)) }
-    ensures told { Told (F.told folder.old.files) (F.told folder.new.files) (Keeps F.name_of folder.old ledger.old folder.new ledger.new) }
+    ensures told { Told (F.told folder.old.files) (F.told folder.new.files) (Keeps F.label_of folder.old ledger.old folder.new ledger.new) }
     ensures synced { OnOk result (IsTrue folder.new.is_synced) }
     ensures changed { folder.new.changed.keys ≡ folder.old.changed.keys }
     ensures used { OnOk result (¬ IsTrue (is_lost ledger.new file)) }
@@ -219,8 +219,8 @@ fn length_in<F: Files + Drop>(
     requires used { ¬ IsTrue (is_lost ledger.old file) }
     ensures counts { NoneFell (faults_of ledger.old) (faults_of ledger.new) }
     ensures stay { StayLost (is_lost ledger.old) (is_lost ledger.new) }
-    ensures told { Told (F.told folder.old.files) (F.told folder.new.files) (Keeps F.name_of folder.old ledger.old folder.new ledger.new) }
-    ensures value { IfOk result (λ len. IfSome (F.told folder.old.files) (λ old. (seen : ℕ → Standing) → Holds F.name_of true (desk_of folder.old) ledger.old old seen → len ≡ length (seen file).bytes)) }
+    ensures told { Told (F.told folder.old.files) (F.told folder.new.files) (Keeps F.label_of folder.old ledger.old folder.new ledger.new) }
+    ensures value { IfOk result (λ len. IfSome (F.told folder.old.files) (λ old. (seen : ℕ → Standing) → Holds F.label_of true (desk_of folder.old) ledger.old old seen → len ≡ length (seen file).bytes)) }
 {
     match reach(folder, ledger, file, false) {
         Ok(Some(handle)) => {
@@ -246,8 +246,8 @@ fn measure<F: Files + Drop>(
     ensures counts { NoneFell (faults_of ledger.old) (faults_of ledger.new) }
     ensures stay { StayLost (is_lost ledger.old) (is_lost ledger.new) }
     ensures lost { IsTrue (is_lost ledger.old file) → IsErr result }
-    ensures told { Told (F.told folder.old.files) (F.told folder.new.files) (λ old new. (seen : ℕ → Standing) → Holds F.name_of is_entered.old (desk_of folder.old) ledger.old old seen → Holds F.name_of true (desk_of folder.new) ledger.new new seen) }
-    ensures value { IfOk result (λ len. IfSome (F.told folder.old.files) (λ old. (seen : ℕ → Standing) → Holds F.name_of is_entered.old (desk_of folder.old) ledger.old old seen → len ≡ length (seen file).bytes)) }
+    ensures told { Told (F.told folder.old.files) (F.told folder.new.files) (λ old new. (seen : ℕ → Standing) → Holds F.label_of is_entered.old (desk_of folder.old) ledger.old old seen → Holds F.label_of true (desk_of folder.new) ledger.new new seen) }
+    ensures value { IfOk result (λ len. IfSome (F.told folder.old.files) (λ old. (seen : ℕ → Standing) → Holds F.label_of is_entered.old (desk_of folder.old) ledger.old old seen → len ≡ length (seen file).bytes)) }
     ensures entered { IsTrue is_entered.new }
 {
     enter(folder, ledger, is_entered);
@@ -269,8 +269,8 @@ fn read_in<F: Files + Drop>(
     ensures counts { NoneFell (faults_of ledger.old) (faults_of ledger.new) }
     ensures stay { StayLost (is_lost ledger.old) (is_lost ledger.new) }
     ensures bound { IfOk result (λ count. count ≤ length into.new) }
-    ensures told { Told (F.told folder.old.files) (F.told folder.new.files) (Keeps F.name_of folder.old ledger.old folder.new ledger.new) }
-    ensures bytes { IfOk result (λ count. IfSome (F.told folder.old.files) (λ old. (seen : ℕ → Standing) → Holds F.name_of true (desk_of folder.old) ledger.old old seen → ReadsFrom (seen file).bytes offset into.new count)) }
+    ensures told { Told (F.told folder.old.files) (F.told folder.new.files) (Keeps F.label_of folder.old ledger.old folder.new ledger.new) }
+    ensures bytes { IfOk result (λ count. IfSome (F.told folder.old.files) (λ old. (seen : ℕ → Standing) → Holds F.label_of true (desk_of folder.old) ledger.old old seen → ReadsFrom (seen file).bytes offset into.new count)) }
 {
     match reach(folder, ledger, file, false) {
         Ok(Some(handle)) => {
@@ -299,8 +299,8 @@ fn read<F: Files + Drop>(
     ensures stay { StayLost (is_lost ledger.old) (is_lost ledger.new) }
     ensures lost { IsTrue (is_lost ledger.old file) → IsErr result }
     ensures bound { IfOk result (λ count. count ≤ length into.new) }
-    ensures told { Told (F.told folder.old.files) (F.told folder.new.files) (λ old new. (seen : ℕ → Standing) → Holds F.name_of is_entered.old (desk_of folder.old) ledger.old old seen → Holds F.name_of true (desk_of folder.new) ledger.new new seen) }
-    ensures bytes { IfOk result (λ count. IfSome (F.told folder.old.files) (λ old. (seen : ℕ → Standing) → Holds F.name_of is_entered.old (desk_of folder.old) ledger.old old seen → ReadsFrom (seen file).bytes offset into.new count)) }
+    ensures told { Told (F.told folder.old.files) (F.told folder.new.files) (λ old new. (seen : ℕ → Standing) → Holds F.label_of is_entered.old (desk_of folder.old) ledger.old old seen → Holds F.label_of true (desk_of folder.new) ledger.new new seen) }
+    ensures bytes { IfOk result (λ count. IfSome (F.told folder.old.files) (λ old. (seen : ℕ → Standing) → Holds F.label_of is_entered.old (desk_of folder.old) ledger.old old seen → ReadsFrom (seen file).bytes offset into.new count)) }
     ensures entered { IsTrue is_entered.new }
 {
     enter(folder, ledger, is_entered);
@@ -319,7 +319,7 @@ fn write_open<F: Files + Drop>(
     bytes: &[u8],
 ) -> Ended<()>
     requires { offset + length bytes.now < 2 ^ 63 }
-    ensures told { Told (F.told folder.old.files) (F.told folder.new.files) (λ old new. (faults : Faults) (seen : ℕ → Standing) → ¬ IsTrue (is_lost faults file) → F.name_of handle ≡ file_name file → Holds F.name_of true (desk_of folder.old) faults old seen → Ends F.name_of (call_of result.step new) (MayWrite file offset bytes.now result.answer) folder.new faults new seen) }
+    ensures told { Told (F.told folder.old.files) (F.told folder.new.files) (λ old new. (faults : Faults) (seen : ℕ → Standing) → ¬ IsTrue (is_lost faults file) → F.label_of handle ≡ file_label file → Holds F.label_of true (desk_of folder.old) faults old seen → Ends F.label_of (call_of result.step new) (MayWrite file offset bytes.now result.answer) folder.new faults new seen) }
 {
     match mark(&mut folder.changed, file) {
         Ok(()) => {}
@@ -355,7 +355,7 @@ fn write_in<F: Files + Drop>(
     ensures counts { NoneFell (faults_of ledger.old) (faults_of ledger.new) }
     ensures stay { StayLost (is_lost ledger.old) (is_lost ledger.new) }
     ensures fits { OnOk result.answer (offset + length bytes.now < 2 ^ 64) }
-    ensures told { Told (F.told folder.old.files) (F.told folder.new.files) (λ old new. (seen : ℕ → Standing) → Holds F.name_of true (desk_of folder.old) ledger.old old seen → Ends F.name_of (call_of result.step new) (MayWrite file offset bytes.now result.answer) folder.new ledger.new new seen) }
+    ensures told { Told (F.told folder.old.files) (F.told folder.new.files) (λ old new. (seen : ℕ → Standing) → Holds F.label_of true (desk_of folder.old) ledger.old old seen → Ends F.label_of (call_of result.step new) (MayWrite file offset bytes.now result.answer) folder.new ledger.new new seen) }
 {
     if !has_room(offset, bytes) {
         return refused();
@@ -383,7 +383,7 @@ fn write<F: Files + Drop>(
     ensures stay { StayLost (is_lost ledger.old) (is_lost ledger.new) }
     ensures lost { IsTrue (is_lost ledger.old file) → IsErr result.answer }
     ensures fits { OnOk result.answer (offset + length bytes.now < 2 ^ 64) }
-    ensures told { Told (F.told folder.old.files) (F.told folder.new.files) (λ old new. (seen : ℕ → Standing) → Holds F.name_of is_entered.old (desk_of folder.old) ledger.old old seen → Ends F.name_of (call_of result.step new) (MayWrite file offset bytes.now result.answer) folder.new ledger.new new seen) }
+    ensures told { Told (F.told folder.old.files) (F.told folder.new.files) (λ old new. (seen : ℕ → Standing) → Holds F.label_of is_entered.old (desk_of folder.old) ledger.old old seen → Ends F.label_of (call_of result.step new) (MayWrite file offset bytes.now result.answer) folder.new ledger.new new seen) }
     ensures entered { IsTrue is_entered.new }
 {
     enter(folder, ledger, is_entered);
@@ -400,7 +400,7 @@ fn cut_open<F: Files + Drop>(
     handle: F::Handle,
     len: u64,
 ) -> Ended<()>
-    ensures told { Told (F.told folder.old.files) (F.told folder.new.files) (λ old new. (faults : Faults) (seen : ℕ → Standing) → ¬ IsTrue (is_lost faults file) → F.name_of handle ≡ file_name file → Holds F.name_of true (desk_of folder.old) faults old seen → Ends F.name_of (call_of result.step new) (MayCut file len result.answer) folder.new faults new seen) }
+    ensures told { Told (F.told folder.old.files) (F.told folder.new.files) (λ old new. (faults : Faults) (seen : ℕ → Standing) → ¬ IsTrue (is_lost faults file) → F.label_of handle ≡ file_label file → Holds F.label_of true (desk_of folder.old) faults old seen → Ends F.label_of (call_of result.step new) (MayCut file len result.answer) folder.new faults new seen) }
 {
     match mark(&mut folder.changed, file) {
         Ok(()) => {}
@@ -433,7 +433,7 @@ fn cut_in<F: Files + Drop>(
     requires used { ¬ IsTrue (is_lost ledger.old file) }
     ensures counts { NoneFell (faults_of ledger.old) (faults_of ledger.new) }
     ensures stay { StayLost (is_lost ledger.old) (is_lost ledger.new) }
-    ensures told { Told (F.told folder.old.files) (F.told folder.new.files) (λ old new. (seen : ℕ → Standing) → Holds F.name_of true (desk_of folder.old) ledger.old old seen → Ends F.name_of (call_of result.step new) (MayCut file len result.answer) folder.new ledger.new new seen) }
+    ensures told { Told (F.told folder.old.files) (F.told folder.new.files) (λ old new. (seen : ℕ → Standing) → Holds F.label_of true (desk_of folder.old) ledger.old old seen → Ends F.label_of (call_of result.step new) (MayCut file len result.answer) folder.new ledger.new new seen) }
 {
     match reach(folder, ledger, file, false) {
         Ok(Some(handle)) => cut_open(folder, file, handle, len),
@@ -456,7 +456,7 @@ fn cut<F: Files + Drop>(
     ensures counts { NoneFell (faults_of ledger.old) (faults_of ledger.new) }
     ensures stay { StayLost (is_lost ledger.old) (is_lost ledger.new) }
     ensures lost { IsTrue (is_lost ledger.old file) → IsErr result.answer }
-    ensures told { Told (F.told folder.old.files) (F.told folder.new.files) (λ old new. (seen : ℕ → Standing) → Holds F.name_of is_entered.old (desk_of folder.old) ledger.old old seen → Ends F.name_of (call_of result.step new) (MayCut file len result.answer) folder.new ledger.new new seen) }
+    ensures told { Told (F.told folder.old.files) (F.told folder.new.files) (λ old new. (seen : ℕ → Standing) → Holds F.label_of is_entered.old (desk_of folder.old) ledger.old old seen → Ends F.label_of (call_of result.step new) (MayCut file len result.answer) folder.new ledger.new new seen) }
     ensures entered { IsTrue is_entered.new }
 {
     enter(folder, ledger, is_entered);
@@ -472,7 +472,7 @@ fn sync_open<F: Files + Drop>(
     file: u32,
     handle: F::Handle,
 ) -> Result<(), Failed>
-    ensures told { Told (F.told folder.old.files) (F.told folder.new.files) (λ old new. (faults : Faults) (seen : ℕ → Standing) → ¬ IsTrue (is_lost faults file) → F.name_of handle ≡ file_name file → Holds F.name_of true (desk_of folder.old) faults old seen → After result (λ after. IsTrue (is_lost after file)) faults (λ after. Holds F.name_of true (desk_of folder.new) after new seen)) }
+    ensures told { Told (F.told folder.old.files) (F.told folder.new.files) (λ old new. (faults : Faults) (seen : ℕ → Standing) → ¬ IsTrue (is_lost faults file) → F.label_of handle ≡ file_label file → Holds F.label_of true (desk_of folder.old) faults old seen → After result (λ after. IsTrue (is_lost after file)) faults (λ after. Holds F.label_of true (desk_of folder.new) after new seen)) }
     ensures unchanged { OnOk result (¬ IsTrue (has folder.new.changed.keys file)) }
 {
     match folder.sync_changed(file, &handle) {
@@ -493,7 +493,7 @@ fn sync_in<F: Files + Drop>(
     requires used { ¬ IsTrue (is_lost ledger.old file) }
     ensures counts { NoneFell (faults_of ledger.old) (faults_of ledger.new) }
     ensures stay { StayLost (is_lost ledger.old) (is_lost ledger.new) }
-    ensures told { Told (F.told folder.old.files) (F.told folder.new.files) (λ old new. (seen : ℕ → Standing) → Holds F.name_of true (desk_of folder.old) ledger.old old seen → After result (λ after. IsTrue (is_lost after file)) ledger.new (λ after. Holds F.name_of true (desk_of folder.new) after new (after_sync file result seen))) }
+    ensures told { Told (F.told folder.old.files) (F.told folder.new.files) (λ old new. (seen : ℕ → Standing) → Holds F.label_of true (desk_of folder.old) ledger.old old seen → After result (λ after. IsTrue (is_lost after file)) ledger.new (λ after. Holds F.label_of true (desk_of folder.new) after new (after_sync file result seen))) }
 {
     match reach(folder, ledger, file, false) {
         Ok(Some(handle)) => match sync_open(folder, file, handle) {
@@ -520,7 +520,7 @@ fn sync<F: Files + Drop>(
     ensures stay { StayLost (is_lost ledger.old) (is_lost ledger.new) }
     ensures lost { IsTrue (is_lost ledger.old file) → IsErr result.answer }
     ensures failed { OnErr result.answer (IsTrue (is_lost ledger.new file)) }
-    ensures told { Told (F.told folder.old.files) (F.told folder.new.files) (λ old new. (seen : ℕ → Standing) → Holds F.name_of is_entered.old (desk_of folder.old) ledger.old old seen → Ends F.name_of (call_of result.step new) (MaySync file result.answer) folder.new ledger.new new seen) }
+    ensures told { Told (F.told folder.old.files) (F.told folder.new.files) (λ old new. (seen : ℕ → Standing) → Holds F.label_of is_entered.old (desk_of folder.old) ledger.old old seen → Ends F.label_of (call_of result.step new) (MaySync file result.answer) folder.new ledger.new new seen) }
     ensures entered { IsTrue is_entered.new }
 {
     enter(folder, ledger, is_entered);

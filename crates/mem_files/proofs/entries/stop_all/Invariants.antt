@@ -5,10 +5,10 @@ use Rattle.mem_files.specs.Entries.{is_at_rest}
 use Rattle.mem_files.proofs.Lists.{PairsUpTo}
 use Rattle.mem_files.proofs.entries.stop_all.Given as goal
 
--- The entries that were passed are what a stop leaves of them, and all of each is on the disk.
+-- The entries that were passed have what a stop leaves of what they had, and all of it is on the disk.
 abbrev pub invariant-entries : goal.invariant-entries
 invariant-entries l =
     record {
       left : PairsUpTo LeavesFile l.at l.fn.entries.items l.entries.items;
-      rest : (k : ℕ) (other : Entry) → k < l.at → is_at_rest (get_or l.entries.items k other) ≡ true;
+      rest : (k : ℕ) (other : Entry) → k < l.at → is_at_rest (get_or l.entries.items k other).body ≡ true;
     }

@@ -11,7 +11,7 @@ invariant-pieces g l =
       within : l.done ≤ length l.into;
       long : length l.into ≡ length l.fn.into;
       told : Told (g.F.Files.told l.fn.files) (g.F.Files.told l.files) Looks;
-      front : IfSome (g.F.Files.told l.fn.files) (λ (d : Folder). IsUsable d (g.F.Files.name_of l.handle) → take l.done l.into ≡ take l.done (drop l.offset (d.files (g.F.Files.name_of l.handle)).standing.bytes));
+      front : IfSome (g.F.Files.told l.fn.files) (λ (d : Folder). IsUsable d (g.F.Files.label_of l.handle) → take l.done l.into ≡ take l.done (drop l.offset (d.files (g.F.Files.label_of l.handle).name).standing.bytes));
     }
 
 abbrev pub decreases-pieces : goal.decreases-pieces

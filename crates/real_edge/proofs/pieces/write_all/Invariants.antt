@@ -10,7 +10,7 @@ abbrev pub invariant-pieces : goal.invariant-pieces
 invariant-pieces g l =
     record {
       within : l.done ≤ length l.bytes;
-      told : Told (g.F.Files.told l.fn.files) (g.F.Files.told l.files) (λ (old new : Folder). IsUsable old (g.F.Files.name_of l.handle) → WroteFront (g.F.Files.name_of l.handle) l.offset l.bytes l.done old new);
+      told : Told (g.F.Files.told l.fn.files) (g.F.Files.told l.files) (λ (old new : Folder). IsUsable old (g.F.Files.label_of l.handle) → WroteFront (g.F.Files.label_of l.handle).name l.offset l.bytes l.done old new);
     }
 
 abbrev pub decreases-pieces : goal.decreases-pieces

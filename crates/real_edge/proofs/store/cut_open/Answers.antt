@@ -6,26 +6,27 @@ use Rattle.real_edge.specs.Desks.{desk_of}
 use Rattle.real_edge.proofs.Keeps.{told_from, usable}
 use Rattle.real_edge.proofs.Tellings.{told_same}
 use Rattle.real_edge.proofs.Ends.{holds_desk, ends_idle, refused_cut, ends_cut, cut_part}
+use Rattle.files_api.specs.Folder.{Label}
 use Rattle.real_edge.proofs.store.cut_open.Goals as goal
 
 pub returns-in-Err : goal.returns-in-Err
 returns-in-Err g c = record {
   told = told_same _ (g.F.Files.told c.args.folder.now.files) (λ old faults seen used named holds.
-      ends_idle g.F.Files.name_of c.refused.result.step _ _ faults old seen c.refused.ensures.step (refused_cut c.args.file c.args.len c.refused.result.answer c.refused.ensures.answer)
-      (holds_desk (c.keep.ensures.named g.F.Files.name_of holds.named named) (λ is. is) c.mark.ensures.others holds));
+      ends_idle g.F.Files.label_of c.refused.result.step _ _ faults old seen c.refused.ensures.step (refused_cut c.args.file c.args.len c.refused.result.answer c.refused.ensures.answer)
+      (holds_desk (c.keep.ensures.named g.F.Files.label_of holds.named named) (λ is. is) c.mark.ensures.others holds));
 }
 
 pub returns-in-Ok-answer : goal.returns-in-Ok-answer
 returns-in-Ok-answer g c = record {
   told = told_from (g.F.Files.told c.args.folder.now.files) (g.F.Files.told c.cut_to-answer.new.files) c.in-Ok-answer.ensures.told (λ old new cuts faults seen used named holds.
-      let done = subst (λ name. IsUsable old name → CutTo {T = Unit {0}} {E = Failed} name c.args.len (Ok c.in-Ok-answer.field-0) old new) named cuts (usable g.F.Files.name_of _ faults old seen c.args.file c.ranges.file.fits used holds) in
-      ends_cut g.F.Files.name_of c.args.file c.args.len _ _ (desk_of c.args.folder.now) _ faults old new seen c.ranges.file.fits holds (c.keep-2.ensures.named g.F.Files.name_of holds.named named) (λ is. is) c.mark.ensures.others c.in-Ok.ensures.marked done refl);
+      let done = subst (λ (label : Label). IsUsable old label → CutTo {T = Unit {0}} {E = Failed} label.name c.args.len (Ok c.in-Ok-answer.field-0) old new) named cuts (usable g.F.Files.label_of _ faults old seen c.args.file c.ranges.file.fits used holds) in
+      ends_cut g.F.Files.label_of c.args.file c.args.len _ _ (desk_of c.args.folder.now) _ faults old new seen c.ranges.file.fits holds (c.keep-2.ensures.named g.F.Files.label_of holds.named named) (λ is. is) c.mark.ensures.others c.in-Ok.ensures.marked done refl);
 }
 
 pub returns-in-Err-answer : goal.returns-in-Err-answer
 returns-in-Err-answer g c = record {
   told = told_from (g.F.Files.told c.args.folder.now.files) (g.F.Files.told c.cut_to-answer.new.files) c.in-Err-answer.ensures.told (λ old new cuts faults seen used named holds.
-      let done = subst (λ name. IsUsable old name → CutTo {T = Unit {0}} {E = Failed} name c.args.len (Err c.in-Err-answer.field-0) old new) named cuts (usable g.F.Files.name_of _ faults old seen c.args.file c.ranges.file.fits used holds) in
-      ends_cut g.F.Files.name_of c.args.file c.args.len _ _ (desk_of c.args.folder.now) _ faults old new seen c.ranges.file.fits holds (c.keep-2.ensures.named g.F.Files.name_of holds.named named) (λ is. is) c.mark.ensures.others c.in-Ok.ensures.marked done
+      let done = subst (λ (label : Label). IsUsable old label → CutTo {T = Unit {0}} {E = Failed} label.name c.args.len (Err c.in-Err-answer.field-0) old new) named cuts (usable g.F.Files.label_of _ faults old seen c.args.file c.ranges.file.fits used holds) in
+      ends_cut g.F.Files.label_of c.args.file c.args.len _ _ (desk_of c.args.folder.now) _ faults old new seen c.ranges.file.fits holds (c.keep-2.ensures.named g.F.Files.label_of holds.named named) (λ is. is) c.mark.ensures.others c.in-Ok.ensures.marked done
       (cut_part (Unit {0}) c.args.file c.args.len _ new));
 }

@@ -6,7 +6,7 @@ use Rattle.real_edge.proofs.store.sync.Goals as goal
 
 pub returns-then-is_lost-clause-told : goal.returns-then-is_lost-clause-told
 returns-then-is_lost-clause-told g c = told_from (g.F.Files.told c.args.folder.now.files) (g.F.Files.told c.enter.new.folder.files) c.enter.ensures.told (λ old new enters seen holds. record {
-  holds = holds_worse g.F.Files.name_of _ (desk_of c.enter.new.folder) c.enter.new.ledger c.give_up.new.ledger new seen c.give_up.ensures.worse (enters seen holds);
+  holds = holds_worse g.F.Files.label_of _ (desk_of c.enter.new.folder) c.enter.new.ledger c.give_up.new.ledger new seen c.give_up.ensures.worse (enters seen holds);
   is_one = refl;
 })
 

@@ -5,7 +5,7 @@ use Rattle.real_edge.proofs.store.write.Goals as goal
 
 pub returns-then-is_lost-clause-told : goal.returns-then-is_lost-clause-told
 returns-then-is_lost-clause-told g c = told_from (g.F.Files.told c.args.folder.now.files) (g.F.Files.told c.enter.new.folder.files) c.enter.ensures.told (λ old new enters seen holds.
-    ends_idle g.F.Files.name_of c.refused.result.step _ c.enter.new.folder c.enter.new.ledger new seen c.refused.ensures.step (refused_write c.args.file c.args.offset c.args.bytes.now c.refused.result.answer c.refused.ensures.answer) (enters seen holds))
+    ends_idle g.F.Files.label_of c.refused.result.step _ c.enter.new.folder c.enter.new.ledger new seen c.refused.ensures.step (refused_write c.args.file c.args.offset c.args.bytes.now c.refused.result.answer c.refused.ensures.answer) (enters seen holds))
 
 pub returns-clause-told : goal.returns-clause-told
 returns-clause-told g c = told_joined (g.F.Files.told c.args.folder.now.files) (g.F.Files.told c.enter.new.folder.files) (g.F.Files.told c.write_in.new.folder.files) c.enter.ensures.told c.write_in.ensures.told (λ old mid new enters ends seen holds. ends seen (enters seen holds))

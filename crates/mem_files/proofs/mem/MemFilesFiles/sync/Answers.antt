@@ -1,16 +1,17 @@
-use Rattle.mem_files.specs.Mem.{stage_of, named}
+use Rattle.mem_files.specs.Mem.{stage_of, labelled}
 use Rattle.mem_files.proofs.Calls.{there, nowhere, synced_none, was_synced}
 use Rattle.mem_files.proofs.mem.MemFilesFiles.sync.Goals as goal
 
 pub returns-in-Some : goal.returns-in-Some
 returns-in-Some c = record {
-  told = was_synced (stage_of c.args.self.now.at) c.args.self.now.entries.items (named c.args.handle.now) c.in-Some.at c.index_mut.result.now c.sync.new.entry
-      (there c.deref-2.result.now c.args.self.now.entries.items c.as_str.result.now (named c.args.handle.now) c.in-Some.at c.deref-2.ensures.value c.as_str.ensures.value c.in-Some.ensures.some) c.index_mut.ensures.value
+  told = was_synced (stage_of c.args.self.now.at) c.args.self.now.moves.items c.args.self.now.entries.items (labelled c.args.handle.now).name c.in-Some.at c.index_mut.result.now c.sync.new.entry
+      (there c.deref-2.result.now c.args.self.now.entries.items c.as_str.result.now (labelled c.args.handle.now).name c.in-Some.at c.deref-2.ensures.value c.as_str.ensures.value
+      c.in-Some.ensures.some) c.index_mut.ensures.value
       c.sync.result c.sync.ensures.told;
 }
 
 pub returns-in-None : goal.returns-in-None
 returns-in-None c = record {
-  told = λ usable. synced_none (stage_of c.args.self.now.at) c.args.self.now.entries.items (named c.args.handle.now)
-      (nowhere c.deref-2.result.now c.args.self.now.entries.items c.as_str.result.now (named c.args.handle.now) c.deref-2.ensures.value c.as_str.ensures.value c.in-None.ensures.none);
+  told = λ usable. synced_none (stage_of c.args.self.now.at) c.args.self.now.moves.items c.args.self.now.entries.items (labelled c.args.handle.now).name
+      (nowhere c.deref-2.result.now c.args.self.now.entries.items c.as_str.result.now (labelled c.args.handle.now).name c.deref-2.ensures.value c.as_str.ensures.value c.in-None.ensures.none);
 }

@@ -9,9 +9,9 @@ use Rattle.real_edge.proofs.Pasts.{ends_looked, tells_still, small_look}
 use Rattle.real_edge.proofs.store.FolderStoreStore.len.Goals as goal
 
 pub invariant_of-self : goal.invariant_of-self
-invariant_of-self g c = subst (λ (past : Option Past). Tells (g.F.Files.told c.measure-answer.new.folder.files) past (TellsTrue g.F.Files.name_of c.measure-answer.new.is_entered (desk_of c.measure-answer.new.folder) c.end.new.ledger c.end.new.count)) (sym c.then-self-inside.ensures)
-    (tells_still g.F.Files.name_of c.self.inside.is_entered c.measure-answer.new.is_entered (desk_of c.self.inside.folder) c.measure-answer.new.folder c.self.inside.ledger c.measure-answer.new.ledger c.end.new.ledger c.self.inside.count c.end.new.count Look (λ call. call ≡ idle) (g.F.Files.told c.self.inside.folder.files) (g.F.Files.told c.measure-answer.new.folder.files) c.self.inside.past.told
-    c.measure-answer.ensures.entered c.end.ensures.worse c.end.ensures.time small_look c.self.invariant (ends_looked g.F.Files.name_of c.self.inside.is_entered (desk_of c.self.inside.folder) c.measure-answer.new.folder c.self.inside.ledger c.measure-answer.new.ledger (g.F.Files.told c.self.inside.folder.files) (g.F.Files.told c.measure-answer.new.folder.files) c.measure-answer.ensures.told))
+invariant_of-self g c = subst (λ (past : Option Past). Tells (g.F.Files.told c.measure-answer.new.folder.files) past (TellsTrue g.F.Files.label_of c.measure-answer.new.is_entered (desk_of c.measure-answer.new.folder) c.end.new.ledger c.end.new.count)) (sym c.then-self-inside.ensures)
+    (tells_still g.F.Files.label_of c.self.inside.is_entered c.measure-answer.new.is_entered (desk_of c.self.inside.folder) c.measure-answer.new.folder c.self.inside.ledger c.measure-answer.new.ledger c.end.new.ledger c.self.inside.count c.end.new.count Look (λ call. call ≡ idle) (g.F.Files.told c.self.inside.folder.files) (g.F.Files.told c.measure-answer.new.folder.files) c.self.inside.past.told
+    c.measure-answer.ensures.entered c.end.ensures.worse c.end.ensures.time small_look c.self.invariant (ends_looked g.F.Files.label_of c.self.inside.is_entered (desk_of c.self.inside.folder) c.measure-answer.new.folder c.self.inside.ledger c.measure-answer.new.ledger (g.F.Files.told c.self.inside.folder.files) (g.F.Files.told c.measure-answer.new.folder.files) c.measure-answer.ensures.told))
 
 pub returns-clause-cause : goal.returns-clause-cause
 returns-clause-cause g c = rose_in c.end.result c.args.file _ _ c.measure-answer.new.ledger c.end.new.ledger c.self.view_is c.measure-answer.ensures.counts c.end.ensures.cause
