@@ -67,7 +67,7 @@ module _ (P : ℕ → ℕ → List ℕ → Type 0) where
   neither false b h = (refl, h)
 
   -- the contents of an object that has no version don't matter
-  have_others : (contents : ℕ → List ℕ) (object : ℕ) (bytes : List ℕ) (xs : List Version) → has_object object xs ≡ false → HaveAll P contents xs → HaveAll P (with_content object bytes contents) xs
+  pub have_others : (contents : ℕ → List ℕ) (object : ℕ) (bytes : List ℕ) (xs : List Version) → has_object object xs ≡ false → HaveAll P contents xs → HaveAll P (with_content object bytes contents) xs
   have_others contents object bytes [] none h = tt
   have_others contents object bytes (x ∷ xs) none h =
       let apart = neither (eqb x.object object) (has_object object xs) none in (

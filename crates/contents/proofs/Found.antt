@@ -1,9 +1,8 @@
 -- The version of an object that is found in a database.
-use Rattle.std.proofs.Common.{◌≡◌, ℕ, ◌+◌, eqb, Bool, true, false, cond, not, nat_le, List, [], ◌∷◌, length, Some, refl, sym, ap, subst, ◌∙◌}
-use Rattle.std.specs.List.{AllByRecursion, find, list_all, sum_by}
+use Rattle.std.proofs.Common.{◌≡◌, ℕ, ◌+◌, eqb, Bool, true, not, nat_le, List, [], ◌∷◌, length, Some, refl, sym, ap, subst, ◌∙◌}
+use Rattle.std.specs.List.{AllByRecursion, list_all, sum_by}
 use Rattle.std.proofs.lemmas.Bool.{eqb-true}
 use Rattle.std.proofs.lemmas.List.Sums.{sum_by-cons}
-use Rattle.std.proofs.lemmas.Option.{same_Some}
 use Rattle.kinds.specs.declared.segment.Segment.{Segment}
 use Rattle.inventory_rows.specs.version_groups.declared.copies.CopyRow.{CopyRow}
 use Rattle.inventory_rows.specs.version_groups.declared.versions.Version.{Version}
@@ -14,22 +13,14 @@ use Rattle.inventory_rows.specs.Search.{version, versions}
 use Rattle.inventory_rows.specs.State.{Inv}
 use Rattle.inventory_rules.specs.Valid.{is_copied, is_valid, primary_copies}
 use Rattle.inventory_laws.proofs.Facts.{facts_of, rest}
+use Rattle.inventory_laws.proofs.Origins.{each_found}
 use Rattle.contents.specs.Contents.{HasVersion, HaveAll}
 use Rattle.contents.proofs.Segments.{all_weaker, each_passes}
-
--- what holds of all holds of the one that is found, which passes the test
-found_one : {X : Type 0} (P : X → Type 0) (test : X → Bool) (xs : List X) (x : X) → AllByRecursion P xs → find test xs ≡ Some x → P x × (test x ≡ true)
-found_one P test [] x all h = absurd cc
-found_one {X} P test (y ∷ xs) x all h =
-    elim (test y) as (λ b. test y ≡ b → cond b (Some y) (find test xs) ≡ Some x → P x × (test x ≡ true)) [
-      | true ↦ λ t s. let same : y ≡ x = same_Some y x s in (subst P same all.0, subst (λ (z : X). test z ≡ true) same t)
-      | false ↦ λ t s. found_one P test xs x all.1 s
-    ] refl h
 
 -- its object has the bytes that the contents give
 pub found_has : (P : ℕ → ℕ → List ℕ → Type 0) (contents : ℕ → List ℕ) (object : ℕ) (v : Inv) (w : Version) → HaveAll P contents (versions v) → version object v ≡ Some w → HasVersion P (contents object) w
 found_has P contents object v w all found =
-    let one = found_one (λ (x : Version). HasVersion P (contents x.object) x) (λ (x : Version). eqb x.object object) (versions v) w all found in
+    let one = each_found (λ (x : Version). HasVersion P (contents x.object) x) (λ (x : Version). eqb x.object object) (versions v) w all found in
     subst (λ (n : ℕ). HasVersion P (contents n) w) (eqb-true w.object object one.1) one.0
 
 -- ---- the lengths of its copies
@@ -46,5 +37,5 @@ copied_long v w h =
 
 pub found_long : (object : ℕ) (v : Inv) (w : Version) → is_valid v ≡ true → version object v ≡ Some w → AllByRecursion (λ (c : CopyRow). bytes_len c.segments ≡ w.size) w.copies
 found_long object v w valid found =
-    (found_one (λ (x : Version). AllByRecursion (λ (c : CopyRow). bytes_len c.segments ≡ x.size) x.copies) (λ (x : Version). eqb x.object object) (versions v) w
+    (each_found (λ (x : Version). AllByRecursion (λ (c : CopyRow). bytes_len c.segments ≡ x.size) x.copies) (λ (x : Version). eqb x.object object) (versions v) w
     (all_weaker (λ (x : Version). is_copied v x ≡ true) (λ (x : Version). AllByRecursion (λ (c : CopyRow). bytes_len c.segments ≡ x.size) x.copies) (copied_long v) (versions v) (each_passes (is_copied v) (versions v) (facts_of v valid).versions_copied)) found).0

@@ -54,12 +54,19 @@ turned false false h = h
 clear_too : (q : Bool) (a b : Segment) → are_clear q a b ≡ true → are_clear q b a ≡ true
 clear_too q a b h = turned (nat_le (high_of q a) (low_of q b)) (nat_le (high_of q b) (low_of q a)) h
 
+-- what holds of each segment in front that is clear of the next one, where no two of a transaction's segments overlap
+pub front_clear : (v : Inv) (front : List Segment) (s : Segment) (back : List Segment) (R : Segment → Type 0) →
+    ((t : Segment) (sequential : Bool) → (t.file ≡ s.file → are_clear sequential s t ≡ true) → R t) → are_all_clear v (front ++ s ∷ back) ≡ true → AllByRecursion R front
+front_clear v front s back R f clear =
+    let apart : Segment → Segment → Bool = λ a b. not (eqb a.file b.file) || are_clear (is_sequential_at a.file v.stores) a b in
+    all_weaker (λ (t : Segment). apart t s ≡ true) R
+    (λ t a. f t (is_sequential_at t.file v.stores) (λ same. clear_too (is_sequential_at t.file v.stores) t s
+    (second_of (eqb t.file s.file) (are_clear (is_sequential_at t.file v.stores) t s) (eq-eqb t.file s.file same) a)))
+    front (before apart front s back clear)
+
 -- the frames of the segments that were written first stay where the next one is written
 pub frames_stay : (old new : History) (v : Inv) (object number : ℕ) (front : List Segment) (s : Segment) (back : List Segment) (bytes : List ℕ) → are_all_clear v (front ++ s ∷ back) ≡ true
     → WroteWithin s.file s.offset (32 + s.len) old new → FramesHave (InStore old) object number front bytes → FramesHave (InStore new) object number front bytes
 frames_stay old new v object number front s back bytes clear wrote h =
-    let apart : Segment → Segment → Bool = λ a b. not (eqb a.file b.file) || are_clear (is_sequential_at a.file v.stores) a b in
     frames_carried (InStore old) (InStore new) object number front bytes
-    (all_weaker (λ (t : Segment). apart t s ≡ true) (Carries (InStore old) (InStore new))
-    (λ t a. firm_clear (is_sequential_at t.file v.stores) s t old new wrote (λ same. clear_too (is_sequential_at t.file v.stores) t s (second_of (eqb t.file s.file) (are_clear (is_sequential_at t.file v.stores) t s) (eq-eqb t.file s.file same) a)))
-    front (before apart front s back clear)) h
+    (front_clear v front s back (Carries (InStore old) (InStore new)) (λ t q apart. firm_clear q s t old new wrote apart) clear) h

@@ -3,15 +3,14 @@ use Rattle.std.proofs.Common.{◌≡◌, inl, inr, ℕ, suc, ◌+◌, ◌<◌, �
 use Rattle.std.proofs.Math.Seq.{drop-cons, take-add}
 use Rattle.std.proofs.lemmas.List.{append-nil, drop-drop, drop_all, length-take-le, length-drop, take-append-drop, take_all}
 use Rattle.kinds.specs.declared.segment.Segment.{Segment}
-use Rattle.store_api.specs.declared.store.Failed.{Failed}
 use Rattle.store_api.specs.Cause.{Rose, NoneFell}
 use Rattle.store_api.specs.Disk.{Standing, History, reads}
-use Rattle.store_api.specs.Runs.{Stands, GoesOn, ReadWithin}
+use Rattle.store_api.specs.Runs.{Stands, GoesOn}
 use Rattle.store_api.proofs.Pieces.{stands_right}
 use Rattle.store_api.proofs.Runs.{goes_none, goes_standing, goes_then, told_map, told_then}
 use Rattle.store_api.specs.Told.{Told}
 use Rattle.volume_frames.proofs.Copies.{length-first_header, length-frame_header}
-use Rattle.volume_frames.specs.Frames.{bytes_len, data_place, first_header, frame_header}
+use Rattle.volume_frames.specs.Frames.{bytes_len, first_header, frame_header}
 use Rattle.contents.specs.Contents.{first_frame, frame, FramesHave, HasFrame, InImage}
 use Rattle.contents.specs.Reading.{MayLack, ReadData, ReadCopy, lies_in_file}
 use Rattle.contents.specs.declared.frames.Unread.{Unread}
@@ -20,19 +19,6 @@ use Rattle.contents.specs.declared.frames.Unread.TheVariants.{Fault, RunFull}
 -- files that weren't changed read as before
 pub looked_reads : (old new : History) (file : ℕ) → GoesOn (λ f. ⊥) old new → reads new file ≡ reads old file
 looked_reads old new file goes = ap (λ (s : Standing). s.bytes) (goes_standing (λ f. ⊥) old new file (λ none. none) goes)
-
--- no look at all
-pub data_unread : {T : Type 0} (segment : Segment) (buffer : List ℕ) (unread : Unread) (h : History) → (let result : Result T Unread = Err unread in ReadData segment buffer result h h)
-data_unread segment buffer unread h = record { goes = goes_none (λ f. ⊥) h; bytes = tt }
-
--- a read that succeeded, and one that failed
-pub data_read : {T : Type 0} (segment : Segment) (buffer : List ℕ) (count : ℕ) (done : T) (old new : History) → (let first : Result ℕ Failed = Ok count in ReadWithin segment.file (data_place segment) buffer first old new)
-    → (let result : Result T Unread = Ok done in ReadData segment buffer result old new)
-data_read segment buffer count done old new read = record { goes = read.goes; bytes = λ piece long stands. (read.piece piece long stands).1 }
-
-pub data_failed : {T : Type 0} (segment : Segment) (buffer : List ℕ) (failed : Failed) (unread : Unread) (old new : History) → (let first : Result ℕ Failed = Err failed in ReadWithin segment.file (data_place segment) buffer first old new)
-    → (let result : Result T Unread = Err unread in ReadData segment buffer result old new)
-data_failed segment buffer failed unread old new read = record { goes = read.goes; bytes = tt }
 
 -- behind the header of a frame that stands its data stands
 data_stands : (file : List ℕ) (at object number : ℕ) (part : List ℕ) → 0 < length part → Stands file at (frame object number part) → Stands file (at + 32) part
@@ -45,7 +31,7 @@ unfolding first_frame
 first_data_stands file at object number part some s =
     subst (λ (n : ℕ). Stands file (at + n) part) (length-first_header object number (length part)) (stands_right file at (first_header object number (length part)) part some s)
 
-data_behind : (image : ℕ → List ℕ) (file at object number : ℕ) (part : List ℕ) → 0 < length part → HasFrame (InImage image) file at object number part → Stands (image file) (at + 32) part
+pub data_behind : (image : ℕ → List ℕ) (file at object number : ℕ) (part : List ℕ) → 0 < length part → HasFrame (InImage image) file at object number part → Stands (image file) (at + 32) part
 data_behind image file at object number part some (inl s) = data_stands (image file) at object number part some s
 data_behind image file at object number part some (inr s) = first_data_stands (image file) at object number part some s.1
 
@@ -61,13 +47,15 @@ going_start all buffer h = record { goes = goes_none (λ f. ⊥) h; front = λ o
 
 -- a part that was read is the part of the bytes, also where it is empty
 part_read : {T : Type 0} (s : Segment) (object number : ℕ) (part buffer : List ℕ) (done : T) (old new : History) → length buffer ≡ s.len → length part ≡ s.len → HasFrame (InImage (reads old)) s.file s.offset object number part
-    → (let result : Result T Unread = Ok done in ReadData s buffer result old new) → buffer ≡ part
+    → (let result : Result T Unread = Ok done in ReadData s 0 buffer result old new) → buffer ≡ part
 part_read s object number [] [] done old new long same stands read = refl
 part_read s object number [] (b ∷ buffer) done old new long same stands read = absurd (omega arith)
-part_read s object number (b ∷ part) buffer done old new long same stands read = read.bytes (b ∷ part) (same ∙ sym long) (data_behind (reads old) s.file s.offset object number (b ∷ part) (omega arith) stands)
+part_read s object number (b ∷ part) buffer done old new long same stands read = read.bytes (b ∷ part) (same ∙ sym long)
+    (subst (λ (n : ℕ). Stands (reads old s.file) n (b ∷ part)) (let e : s.offset + 32 ≡ s.offset + 32 + 0 = omega arith in e)
+    (data_behind (reads old) s.file s.offset object number (b ∷ part) (omega arith) stands))
 
 pub going_next : {T : Type 0} (all : List Segment) (s : Segment) (rest : List Segment) (at : ℕ) (before after : List ℕ) (done : T) (old mid new : History) → at + s.len ≤ length after → take at after ≡ take at before
-    → Going all (s ∷ rest) at before old mid → (let result : Result T Unread = Ok done in ReadData s (take s.len (drop at after)) result mid new) → Going all rest (at + s.len) after old new
+    → Going all (s ∷ rest) at before old mid → (let result : Result T Unread = Ok done in ReadData s 0 (take s.len (drop at after)) result mid new) → Going all rest (at + s.len) after old new
 going_next {T} all s rest at before after done old mid new room same g read = record {
   goes = goes_then (λ f. ⊥) old mid new g.goes read.goes;
   front = λ object number bytes f. next bytes object (g.front object number bytes f);
@@ -100,7 +88,7 @@ going_end all at buffer done old new whole g = record {
 
 -- a read failed
 pub going_stop : {T U : Type 0} (all : List Segment) (s : Segment) (rest : List Segment) (at : ℕ) (before part after : List ℕ) (unread : Unread) (old mid new : History) → Going all rest at before old mid
-    → (let result : Result T Unread = Err unread in ReadData s part result mid new) → (let result : Result U Unread = Err unread in ReadCopy all after result old new)
+    → (let result : Result T Unread = Err unread in ReadData s 0 part result mid new) → (let result : Result U Unread = Err unread in ReadCopy all after result old new)
 going_stop all s rest at before part after unread old mid new g read = record { goes = goes_then (λ f. ⊥) old mid new g.goes read.goes; bytes = tt }
 
 -- ---- why a read failed
@@ -108,16 +96,20 @@ going_stop all s rest at before part after unread old mid new g read = record { 
 rose_since : (before mid after : ℕ) → before ≤ mid → Rose mid after → Rose before after
 rose_since before mid after le rose = omega (arith, rose)
 
-one_file : (s : Segment) (file : ℕ) (rest : List Segment) → lies_in_file (s ∷ []) file ≡ true → lies_in_file (s ∷ rest) file ≡ true
+pub one_file : (s : Segment) (file : ℕ) (rest : List Segment) → lies_in_file (s ∷ []) file ≡ true → lies_in_file (s ∷ rest) file ≡ true
 one_file s file rest h = elim (eqb s.file file) as (λ b. (b || false) ≡ true → (b || lies_in_file rest file) ≡ true) [ true ↦ λ t. refl | false ↦ λ t. absurd cc ] h
 
--- the cause of a read of one of the segments is one of the reading of all
+-- the cause of a read of some of the segments is one of the reading of all
+pub lacks_from : (some all : List Segment) (before mid after : ℕ → ℕ) (moment : ℕ) (unread : Unread) → ((file : ℕ) → lies_in_file some file ≡ true → lies_in_file all file ≡ true) → NoneFell before mid
+    → MayLack some mid after moment unread → MayLack all before after moment unread
+lacks_from some all before mid after moment (Fault file) among none h = (among file h.0, rose_since (before file) (mid file) (after file) (none file) h.1)
+lacks_from some all before mid after moment RunFull among none h = h
+
 pub lacks_since : (all : List Segment) (s : Segment) (rest : List Segment) (before mid after : ℕ → ℕ) (moment : ℕ) (unread : Unread) → ((file : ℕ) → lies_in_file (s ∷ rest) file ≡ true → lies_in_file all file ≡ true) → NoneFell before mid
     → MayLack (s ∷ []) mid after moment unread → MayLack all before after moment unread
-lacks_since all s rest before mid after moment (Fault file) among none h = (among file (one_file s file rest h.0), rose_since (before file) (mid file) (after file) (none file) h.1)
-lacks_since all s rest before mid after moment RunFull among none h = h
+lacks_since all s rest before mid after moment unread among none h = lacks_from (s ∷ []) all before mid after moment unread (λ file one. among file (one_file s file rest one)) none h
 
-behind_one : (s : Segment) (file : ℕ) (rest : List Segment) → lies_in_file rest file ≡ true → lies_in_file (s ∷ rest) file ≡ true
+pub behind_one : (s : Segment) (file : ℕ) (rest : List Segment) → lies_in_file rest file ≡ true → lies_in_file (s ∷ rest) file ≡ true
 behind_one s file rest h = elim (eqb s.file file) as (λ b. (b || lies_in_file rest file) ≡ true) [ true ↦ refl | false ↦ h ]
 
 pub among_next : (all : List Segment) (s : Segment) (rest : List Segment) → ((file : ℕ) → lies_in_file (s ∷ rest) file ≡ true → lies_in_file all file ≡ true) → (file : ℕ) → lies_in_file rest file ≡ true → lies_in_file all file ≡ true
@@ -129,7 +121,7 @@ from_place all i d lt = subst (λ (n : ℕ). drop i all ≡ get_or all i d ∷ d
 
 -- one segment more of those that were read
 pub going_at : {T : Type 0} (all : List Segment) (i : ℕ) (d : Segment) (at : ℕ) (before after : List ℕ) (done : T) (told mid new : Option History) → i < length all → at + (get_or all i d).len ≤ length after → take at after ≡ take at before
-    → Told told mid (Going all (drop i all) at before) → (let result : Result T Unread = Ok done in Told mid new (ReadData (get_or all i d) (take (get_or all i d).len (drop at after)) result))
+    → Told told mid (Going all (drop i all) at before) → (let result : Result T Unread = Ok done in Told mid new (ReadData (get_or all i d) 0 (take (get_or all i d).len (drop at after)) result))
     → Told told new (Going all (drop (i + 1) all) (at + (get_or all i d).len) after)
 going_at all i d at before after done told mid new lt room same g read =
     told_then told mid new _ _ _
@@ -137,7 +129,7 @@ going_at all i d at before after done told mid new lt room same g read =
 
 -- a read that failed
 pub going_failed : (T U : Type 0) (all : List Segment) (s : Segment) (rest : List Segment) (at : ℕ) (before part after : List ℕ) (unread : Unread) (told mid new : Option History) → Told told mid (Going all rest at before)
-    → (let result : Result T Unread = Err unread in Told mid new (ReadData s part result)) → (let result : Result U Unread = Err unread in Told told new (ReadCopy all after result))
+    → (let result : Result T Unread = Err unread in Told mid new (ReadData s 0 part result)) → (let result : Result U Unread = Err unread in Told told new (ReadCopy all after result))
 going_failed T U all s rest at before part after unread told mid new g read =
     told_then told mid new _ _ _ (λ old half last one two. going_stop all s rest at before part after unread old half last one two) g read
 

@@ -199,8 +199,11 @@ ends_before : (sequential : Bool) (a b : Segment) → nat_le (high_of sequential
 ends_before true a b h = leb-true (a.offset + 32 + a.len) b.offset h
 ends_before false a b h = let le = leb-true ((a.offset + 32 + a.len + 4095) / 4096) (b.offset / 4096) h in omega arith
 
-pub clear_outside : (sequential : Bool) (s other : Segment) (piece : List ℕ) → are_clear sequential s other ≡ true → length piece ≡ 32 + other.len → IsOutside s.offset (32 + s.len) other.offset piece
-clear_outside sequential s other piece clear long = elim (either (nat_le (high_of sequential s) (low_of sequential other)) (nat_le (high_of sequential other) (low_of sequential s)) clear) [
-  | inl ahead ↦ let le = ends_before sequential s other ahead in inr (omega arith)
-  | inr behind ↦ let le = ends_before sequential other s behind in inl (omega arith)
+pub clear_apart : (sequential : Bool) (s other : Segment) → are_clear sequential s other ≡ true → (s.offset + 32 + s.len ≤ other.offset) ⊎ (other.offset + 32 + other.len ≤ s.offset)
+clear_apart sequential s other clear = elim (either (nat_le (high_of sequential s) (low_of sequential other)) (nat_le (high_of sequential other) (low_of sequential s)) clear) [
+  | inl ahead ↦ inl (ends_before sequential s other ahead)
+  | inr behind ↦ inr (ends_before sequential other s behind)
 ]
+
+pub clear_outside : (sequential : Bool) (s other : Segment) (piece : List ℕ) → are_clear sequential s other ≡ true → length piece ≡ 32 + other.len → IsOutside s.offset (32 + s.len) other.offset piece
+clear_outside sequential s other piece clear long = elim (clear_apart sequential s other clear) [ inl ahead ↦ inr (omega (arith, ahead)) | inr behind ↦ inl (omega (arith, behind, long)) ]

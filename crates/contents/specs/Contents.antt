@@ -5,10 +5,12 @@ use Rattle.sha2.specs.Sha256.{sha256}
 use Rattle.kinds.specs.declared.segment.Segment.{Segment}
 use Rattle.store_api.specs.Disk.{History, standing}
 use Rattle.store_api.specs.Runs.{Stands, Firm}
+use Rattle.entries.specs.declared.change.Change.{Change}
 use Rattle.volume_frames.specs.Frames.{frame_header, first_header}
 use Rattle.inventory_rows.specs.version_groups.declared.versions.Version.{Version}
 use Rattle.inventory_rows.specs.Search.{versions}
 use Rattle.inventory_rows.specs.State.{Inv}
+use Rattle.inventory_laws.specs.Origins.{new_objects, placed_segments}
 
 -- a segment's frame: the header, which names the object, the segment's number and the length, and the data
 unfoldable pub frame : ℕ → ℕ → List ℕ → List ℕ
@@ -28,6 +30,14 @@ abbrev pub FramesHave : (ℕ → ℕ → List ℕ → Type 0) → ℕ → ℕ �
 FramesHave P object number [] bytes = bytes ≡ []
 FramesHave P object number (s ∷ segments) bytes =
     (s.len ≤ length bytes) × HasFrame P s.file s.offset object number (take s.len bytes) × FramesHave P object (suc number) segments (drop s.len bytes)
+
+-- Of segments, numbered from there on, over which these bytes are spread: P of each one's file, its place and what was taken of it, its header and the bytes behind it; of segments that
+-- have taken nothing yet nothing is said.
+abbrev pub TookHave : (ℕ → ℕ → List ℕ → Type 0) → (object number : ℕ) → List Segment → List ℕ → Type 0
+TookHave P object number [] bytes = bytes ≡ []
+TookHave P object number (s ∷ segments) [] = Unit {0}
+TookHave P object number (s ∷ segments) (byte ∷ bytes) =
+    P s.file s.offset (frame_header object number s.len ++ take s.len (byte ∷ bytes)) × TookHave P object (suc number) segments (drop s.len (byte ∷ bytes))
 
 -- a version's object has these bytes: as many as its size says, with its digest, and P of the frames of each of its copies
 pub record HasVersion (P : ℕ → ℕ → List ℕ → Type 0) (bytes : List ℕ) (version : Version) : Type 0 where
@@ -58,6 +68,11 @@ Holds contents image v = HasAll (InImage image) contents v
 -- a store in use holds a database, and no stop takes any of it away
 abbrev pub IsKept : (ℕ → List ℕ) → History → Inv → Type 0
 IsKept contents h v = HasAll (InStore h) contents v
+
+-- What a transaction brings has these contents: each new object has as many bytes as its size says, with its digest, and P of the frames of each copy that is placed.
+pub record BringsHave (P : ℕ → ℕ → List ℕ → Type 0) (contents : ℕ → List ℕ) (c : Change) : Type 0 where
+  pub objects : AllByRecursion (λ o. (length (contents o.object) ≡ o.size) × (o.digest.0 ≡ sha256 (contents o.object))) (new_objects c)
+  pub copies : AllByRecursion (λ e. FramesHave P e.0 0 e.1 (contents e.0)) (placed_segments c)
 
 -- the contents with those of one object more
 abbrev pub with_content : ℕ → List ℕ → (ℕ → List ℕ) → ℕ → List ℕ

@@ -5,4 +5,4 @@ mod frames;
 pub mod laws;
 pub mod transactions;
 
-pub use frames::{Unread, framed, read_copy};
+pub use frames::{Unread, framed, read_copy, read_piece};

@@ -1,5 +1,5 @@
 // What transactions do to the contents of a database, as laws. Each stands on a function that does nothing.
-ghost use Rattle.std.specs.Prelude.{◌≡◌, ◌≤◌, ℕ, true, List, [], ◌∷◌};
+ghost use Rattle.std.specs.Prelude.{◌≡◌, ◌≤◌, ℕ, true, List, [], ◌∷◌, None};
 ghost use Rattle.std.specs.List.{AllByRecursion, list_all};
 ghost use Rattle.kinds.specs.declared.change.ObjectChange.{ObjectChange};
 ghost use Rattle.kinds.specs.declared.change.PolicyChange.{PolicyChange};
@@ -9,9 +9,10 @@ ghost use Rattle.entries.specs.change_items.declared.items.NewHeldObject.{NewHel
 ghost use Rattle.entries.specs.change_items.declared.items.NewVersion.{NewVersion};
 ghost use Rattle.entries.specs.change_items.declared.lists.NewHeldObjects.{NewHeldObjects};
 ghost use Rattle.entries.specs.change_items.declared.lists.NewVersions.{NewVersions};
+ghost use Rattle.entries.specs.declared.change.Change.{Change};
 ghost use Rattle.entries.specs.declared.change.Change.TheVariants as change;
 ghost use Rattle.inventory_rows.specs.pool_rows.PoolRows.{is_sequential};
-ghost use Rattle.inventory_rows.specs.Search.{segments_on, versions};
+ghost use Rattle.inventory_rows.specs.Search.{segments_on, version, versions};
 ghost use Rattle.inventory_rows.specs.State.{Inv};
 ghost use Rattle.inventory_rules.specs.Transactions.{effect, causes, parts_fit};
 ghost use Rattle.inventory_rules.specs.Versions.{new_held, new_version};
@@ -19,7 +20,7 @@ ghost use Rattle.inventory_rules.specs.Journal.{Journal};
 ghost use Rattle.inventory_rules.specs.Valid.{is_valid};
 ghost use Rattle.inventory_rules.specs.Segments.{are_all_clear, are_clear};
 ghost use Rattle.inventory_rows.specs.Ascending.{AreAscending};
-ghost use Rattle.contents.specs.Contents.{HasVersion, InImage, InStore, Holds, IsKept, with_content};
+ghost use Rattle.contents.specs.Contents.{BringsHave, HasVersion, InImage, InStore, Holds, IsKept, with_content};
 
 /// A transaction on days, policy, clients, or device classes, pools and volumes leaves what is kept as it is. A filespace
 /// that is defined has no versions, and takes the place of none that has.
@@ -28,6 +29,21 @@ pub fn versions_stay()
     ensures policy { (c : PolicyChange) (v : Inv) → versions (effect (change.Policy c) v) ≡ versions v }
     ensures clients { (j : Journal) (c : ObjectChange) (v : Inv) → is_valid v ≡ true → causes j (change.Object c) v ≡ [] → versions (effect (change.Object c) v) ≡ versions v }
     ensures stores { (c : PoolChange) (v : Inv) → versions (effect (change.Pool c) v) ≡ versions v }
+{}
+
+/// Whatever the transaction: where what it brings has these contents, and all that was kept before it has, all that is kept behind it has.
+pub fn contents_go_on()
+    ensures kept { (contents : ℕ → List ℕ) (h : History) (c : Change) (v : Inv) → BringsHave (InStore h) contents c → IsKept contents h v → IsKept contents h (effect c v) }
+    ensures held { (contents image : ℕ → List ℕ) (c : Change) (v : Inv) → BringsHave (InImage image) contents c → Holds contents image v → Holds contents image (effect c v) }
+{}
+
+/// Only the contents of objects that are kept matter: others may take their place where each object that is kept has the same,
+/// and those of an object that isn't kept may come.
+pub fn other_contents()
+    ensures kept { (contents other : ℕ → List ℕ) (h : History) (v : Inv) → AllByRecursion (λ w. other w.object ≡ contents w.object) (versions v) → IsKept contents h v → IsKept other h v }
+    ensures held { (contents other image : ℕ → List ℕ) (v : Inv) → AllByRecursion (λ w. other w.object ≡ contents w.object) (versions v) → Holds contents image v → Holds other image v }
+    ensures new_kept { (contents : ℕ → List ℕ) (object : ℕ) (bytes : List ℕ) (h : History) (v : Inv) → version object v ≡ None → IsKept contents h v → IsKept (with_content object bytes contents) h v }
+    ensures new_held { (contents image : ℕ → List ℕ) (object : ℕ) (bytes : List ℕ) (v : Inv) → version object v ≡ None → Holds contents image v → Holds (with_content object bytes contents) image v }
 {}
 
 /// Where the versions and held objects are the same, so is what is kept of them.

@@ -51,6 +51,19 @@ facts_reordered p q v f r =
 
 -- ---- one volume changes
 
+-- the numbers of which no two are the same are so in front of others, too
+pub apart_front : (xs ys : List ℕ) → all_later (λ a b. not (a == b)) (xs ++ ys) ≡ true → all_later (λ a b. not (a == b)) xs ≡ true
+apart_front [] ys h = refl
+apart_front (x ∷ xs) ys h =
+    let parts = and_parts (list_all (λ b. not (x == b)) (xs ++ ys)) (all_later (λ a b. not (a == b)) (xs ++ ys)) h in
+    and_from (list_all (λ b. not (x == b)) xs) (all_later (λ a b. not (a == b)) xs) (front xs parts.0) (apart_front xs ys parts.1)
+  where
+    front : (zs : List ℕ) → list_all (λ b. not (x == b)) (zs ++ ys) ≡ true → list_all (λ b. not (x == b)) zs ≡ true
+    front [] g = refl
+    front (z ∷ zs) g =
+        let sides = and_parts (not (x == z)) (list_all (λ b. not (x == b)) (zs ++ ys)) g in
+        and_from (not (x == z)) (list_all (λ b. not (x == b)) zs) sides.0 (front zs sides.1)
+
 -- the database with other rows of volumes
 abbrev pub renewed : List (ℕ × Volume) → Inv → Inv
 renewed rows v = with_stores (record v.stores { volumes = rows }) v
@@ -70,18 +83,6 @@ one_changed p q v k old new found keeps others change f =
     (each_but (IsRowOf v (λ file. lying p file v)) (IsRowOf v (λ file. lying q file v)) k old new
     (λ e other h. subst (λ (l : List (ℕ × Segment)). IsRow (without_volumes v.stores) v.today l e) (others e.0 other) h) change v.stores.volumes found
     (apart_front (keys_of v.stores.volumes) (keys_of v.backups) t.apart) (rows_of p v f))
-  where
-    apart_front : (xs ys : List ℕ) → all_later (λ a b. not (a == b)) (xs ++ ys) ≡ true → all_later (λ a b. not (a == b)) xs ≡ true
-    apart_front [] ys h = refl
-    apart_front (x ∷ xs) ys h =
-        let parts = and_parts (list_all (λ b. not (x == b)) (xs ++ ys)) (all_later (λ a b. not (a == b)) (xs ++ ys)) h in
-        and_from (list_all (λ b. not (x == b)) xs) (all_later (λ a b. not (a == b)) xs) (front xs parts.0) (apart_front xs ys parts.1)
-      where
-        front : (zs : List ℕ) → list_all (λ b. not (x == b)) (zs ++ ys) ≡ true → list_all (λ b. not (x == b)) zs ≡ true
-        front [] g = refl
-        front (z ∷ zs) g =
-            let sides = and_parts (not (x == z)) (list_all (λ b. not (x == b)) (zs ++ ys)) g in
-            and_from (not (x == z)) (list_all (λ b. not (x == b)) zs) sides.0 (front zs sides.1)
 
 pub named_still : (k : ℕ) (old new : Volume) → Keeps old new → is_named_soundly (k, old) ≡ true → is_named_soundly (k, new) ≡ true
 named_still k old new keeps h =

@@ -44,7 +44,7 @@ left_besides c class x classes there ne =
 abbrev ClassesStay : Inv → List (List ℕ × Option ℕ) → Type 0
 ClassesStay v classes = AllByRecursion (λ (p : ℕ × Pool). named p.1.class classes ≡ named p.1.class v.stores.classes) v.stores.pools
 
-alike : (v : Inv) (classes : List (List ℕ × Option ℕ)) → ClassesStay v classes → (n : ℕ) → Alike v.stores (with_pools v classes v.stores.pools) n
+pub alike : (v : Inv) (classes : List (List ℕ × Option ℕ)) → ClassesStay v classes → (n : ℕ) → Alike v.stores (with_pools v classes v.stores.pools) n
 alike v classes h n = record {
   there = refl;
   primary = refl;

@@ -27,7 +27,7 @@ use Rattle.inventory_laws.proofs.MadeItems.{others_hold}
 -- ---- entries beside one that changes
 
 module _ {K X : Type 0} (test other : K → Bool) (beside : (k : K) → test k ≡ true → other k ≡ false) where
-  lookup-beside_set : (x : X) (es : List (K × X)) → lookup other (set_value test es x) ≡ lookup other es
+  pub lookup-beside_set : (x : X) (es : List (K × X)) → lookup other (set_value test es x) ≡ lookup other es
   lookup-beside_set x [] = refl
   lookup-beside_set x (e ∷ es) =
       elim (test e.0) as (λ b. test e.0 ≡ b → lookup other (cond b ((e.0, x) ∷ es) (e ∷ set_value test es x)) ≡ lookup other (e ∷ es)) [

@@ -56,6 +56,7 @@ pub mod Names
 pub mod Numbers
 pub mod Ordered
 pub mod Orders
+pub mod Origins
 pub mod Others
 pub mod Policy
 pub mod PolicyCounts
@@ -69,8 +70,10 @@ pub mod Removals
 pub mod RemovedItems
 pub mod Reordered
 pub mod Rewrites
+pub mod Rising
 pub mod RowParts
 pub mod RowsKept
+pub mod Said
 pub mod Scratch
 pub mod ScratchBack
 pub mod ScratchList

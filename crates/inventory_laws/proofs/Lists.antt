@@ -48,11 +48,11 @@ pub each_both : {A : Type 0} (P Q R : A → Type 0) (xs : List A) → ((x : A) �
 each_both P Q R [] up h t = tt
 each_both P Q R (x ∷ xs) up h t = (up x h.0 t.0, each_both P Q R xs up h.1 t.1)
 
-each_joined : {A : Type 0} (P : A → Type 0) (xs ys : List A) → AllByRecursion P (xs ++ ys) → AllByRecursion P xs × AllByRecursion P ys
+pub each_joined : {A : Type 0} (P : A → Type 0) (xs ys : List A) → AllByRecursion P (xs ++ ys) → AllByRecursion P xs × AllByRecursion P ys
 each_joined P [] ys h = (tt, h)
 each_joined P (x ∷ xs) ys h = let t = each_joined P xs ys h.1 in ((h.0, t.0), t.1)
 
-each_mapped : {A B : Type 0} (P : B → Type 0) (f : A → B) (xs : List A) → AllByRecursion P (map f xs) → AllByRecursion (λ x. P (f x)) xs
+pub each_mapped : {A B : Type 0} (P : B → Type 0) (f : A → B) (xs : List A) → AllByRecursion P (map f xs) → AllByRecursion (λ x. P (f x)) xs
 each_mapped P f [] h = tt
 each_mapped P f (x ∷ xs) h = (h.0, each_mapped P f xs h.1)
 

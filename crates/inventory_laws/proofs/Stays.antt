@@ -126,7 +126,7 @@ still_free file w volumes (f ∷ files) a h =
     (ap is_none (row_at-inserted_other file f w volumes (eqb-false file f ne)) ∙ here)
     (still_free file w volumes files (rest (not (file == f)) (list_all (λ b. not (file == b)) files) a) (rest (is_none (row_at f volumes)) (list_all (λ g. is_none (row_at g volumes)) files) h))
 
-no_volumes : (files : List ℕ) (v : Inv) → list_all (is_free_file v) files ≡ true → list_all (λ f. is_none (row_at f v.stores.volumes)) files ≡ true
+pub no_volumes : (files : List ℕ) (v : Inv) → list_all (is_free_file v) files ≡ true → list_all (λ f. is_none (row_at f v.stores.volumes)) files ≡ true
 no_volumes [] v h = refl
 no_volumes (f ∷ files) v h =
     let free : is_free_file v f ≡ true = first (is_free_file v f) (list_all (is_free_file v) files) h in

@@ -1,13 +1,15 @@
 -- A new image takes the place of the older one.
-use Rattle.std.proofs.Common.{◌≡◌, ◌⊎◌, ⊎_elim, inl, inr, ℕ, ◌+◌, List, [], Result, Ok, refl, sym, ◌∙◌, subst, arith}
-use Rattle.store_api.specs.Disk.{History, standing, now, Leaves}
-use Rattle.store_api.specs.Runs.{GoesOn, EachImage}
+use Rattle.std.proofs.Common.{◌≡◌, ◌⊎◌, ⊎_elim, inl, inr, ℕ, ◌+◌, ◌<◌, ◌^◌, List, [], Result, Ok, refl, sym, ◌∙◌, subst, arith}
+use Rattle.store_api.specs.Disk.{History, standing, reads, settled, now, Leaves}
+use Rattle.store_api.specs.Runs.{Firm, GoesOn, EachImage}
 use Rattle.store_api.proofs.Runs.{goes_weaker, goes_images, now_image}
 use Rattle.log_file.specs.Blocks.{LogEnds}
 use Rattle.log_file.proofs.Logs.{sure_since, sure_left}
 use Rattle.db_image.specs.declared.mark.Mark.TheVariants.{Server}
-use Rattle.db_image.proofs.One.{never_spent_other}
-use Rattle.db_image.specs.Images.{NeverSpent, HasImage}
+use Rattle.db_image.proofs.One.{never_spent_less, never_spent_other, image_settled}
+use Rattle.db_image.proofs.One as one
+use Rattle.db_image.specs.Images.{image_bytes, NeverSpent, HasImage}
+use Rattle.db_image.specs.Steps.{CanShut}
 use Rattle.entries.specs.declared.entry.Entry.{Entry}
 use Rattle.fields.specs.Editions.{Edition, second_form}
 use Rattle.entries.specs.Meaning.{Meaning, IsMeaning}
@@ -15,6 +17,7 @@ use Rattle.vault.specs.Files.{image_file, log_file, IsOurs, IsOf}
 use Rattle.vault.specs.Recovery.{Older, Newest, records_in, after_all, RecoversWithin}
 use Rattle.vault.specs.Images.{IsImage, StaysOlder, Replaced}
 use Rattle.vault.specs.Vaults.{HoldsIn, Holds}
+use Rattle.vault.specs.Openings.{ImagesAre}
 use Rattle.vault.proofs.Replacing.{can_shut}
 use Rattle.vault.proofs.Goodness.{image_ours, log_ours, image_log, image_next, log_next, image_again, image_left, image_beside, older_left}
 
@@ -31,6 +34,37 @@ image_apart generation (inr is) = image_log generation (generation + 1) is
 pub log_apart : (generation : ℕ) → ¬ IsOf (generation + 1) (log_file generation)
 log_apart generation (inl is) = image_log (generation + 1) generation (sym is)
 log_apart generation (inr is) = log_next generation is
+
+-- the images' files are on the disk: no stop takes away the newest, and the gate of the other can be shut
+pub images_stay : (generation : ℕ) (start old : History) → generation + 1 < 2 ^ 62 → (are : ImagesAre generation start old) → IsImage old (image_file generation) generation are.payload × CanShut
+    (standing old (image_file (generation + 1)))
+images_stay generation start old few are =
+    let durable : (file : ℕ) → file < 2 → standing old file ≡ settled (reads start file) = are.durable in (
+      record {
+        firm = subst (λ s. Firm s 0 (image_bytes Server generation are.payload)) (sym (durable (image_file generation) (omega arith)))
+            (image_settled (image_file generation) generation Server (reads start (image_file generation)) are.payload are.newest.stands);
+        allowed = are.newest.stands.allowed;
+        unspent = never_spent_less Server generation are.payload few;
+        small = are.newest.stands.small;
+      },
+      subst CanShut (sym (durable (image_file (generation + 1)) (omega arith))) (one.can_shut (reads start (image_file (generation + 1)))),
+    )
+
+-- an image that is put behind one that no stop takes away is there to stay
+pub holds_behind : {D T E : Type 0} (m : Meaning D) (generation : ℕ) (before : List ℕ) (d : D) → m.Valid second_form d → (payload : List ℕ) → payload ≡ m.spelled second_form d → NeverSpent Server
+    (generation + 1) payload → (old new : History)
+    → IsImage old (image_file generation) generation before → CanShut (standing old (image_file (generation + 1))) → (log : T) →
+    (let result : Result T E = Ok log in Replaced (generation + 1) payload result old new) → Holds m (generation + 1) d [] 0 new
+holds_behind m generation before d valid payload spelled unspent old new image can log replaced =
+    let there = replaced.stands unspent can in
+    record {
+      image = subst (λ (p : List ℕ). IsImage new (image_file (generation + 1)) (generation + 1) p) spelled there.0;
+      other = subst (λ (n : ℕ). StaysOlder (generation + 1) n new) (sym (image_again generation))
+          (inr (generation, before, image_beside (IsOf (generation + 1)) old new replaced.goes (image_file generation) generation before (image_apart generation) image, omega arith));
+      log = there.1;
+      valid = valid;
+      legal = tt;
+    }
 
 module _ {D : Type 0} (m : Meaning D) (generation : ℕ) (base : D) (entries : List Entry) (end : ℕ) (d : D) (valid : m.Valid second_form d) (payload : List ℕ) (spelled : payload ≡ m.spelled second_form d) (unspent : NeverSpent Server (generation + 1) payload) (old new : History) (form : Edition) (holds : HoldsIn form m generation base entries end old) where
   module _ {T E : Type 0} (result : Result T E) (replaced : Replaced (generation + 1) payload result old new) where
@@ -72,15 +106,9 @@ module _ {D : Type 0} (m : Meaning D) (generation : ℕ) (base : D) (entries : L
 
   -- the new image is there to stay
   pub replaced_holds : {T E : Type 0} (log : T) → (let result : Result T E = Ok log in Replaced (generation + 1) payload result old new) → Holds m (generation + 1) d [] 0 new
-  replaced_holds log replaced =
-      let there = replaced.stands unspent (can_shut generation (image_file (generation + 1)) old holds.other) in
-      record {
-        image = subst (λ (p : List ℕ). IsImage new (image_file (generation + 1)) (generation + 1) p) spelled there.0;
-        other = subst (λ (n : ℕ). StaysOlder (generation + 1) n new) (sym (image_again generation)) (inr (generation, m.spelled form base, image_beside (IsOf (generation + 1)) old new replaced.goes (image_file generation) generation (m.spelled form base) (image_apart generation) holds.image, omega arith));
-        log = there.1;
-        valid = valid;
-        legal = tt;
-      }
+  replaced_holds {T} {E} log replaced =
+      holds_behind {T = T} {E = E} m generation (m.spelled form base) d valid payload spelled unspent old new holds.image
+      (can_shut generation (image_file (generation + 1)) old holds.other) log replaced
 
 -- a database in the form that is written is never spent
 pub written_unspent : {D : Type 0} (m : Meaning D) (law : IsMeaning m) (generation : ℕ) (payload : List ℕ) (d : D) → m.Valid second_form d → payload ≡ m.spelled second_form d → NeverSpent Server generation payload

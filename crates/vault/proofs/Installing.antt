@@ -1,8 +1,8 @@
 -- A database is put in the place of what files recover to.
 use Rattle.std.proofs.Common.{◌≡◌, ◌⊎◌, ⊎_elim, inl, inr, ℕ, ◌+◌, ◌<◌, ◌^◌, Bool, List, Option, None, Some, Result, Ok, Err, OnOk, refl, sym, subst, arith}
 use Rattle.std.proofs.lemmas.Bool.{cases_lt}
-use Rattle.store_api.specs.Disk.{History, reads, standing, settled, now, ImageAt}
-use Rattle.store_api.specs.Runs.{GoesOn, EachImage, Firm}
+use Rattle.store_api.specs.Disk.{History, reads, now, ImageAt}
+use Rattle.store_api.specs.Runs.{GoesOn, EachImage}
 use Rattle.store_api.specs.Told.{Told}
 use Rattle.store_api.proofs.Runs.{told_map, goes_none, goes_then, goes_weaker, goes_later, each_then}
 use Rattle.store_api.proofs.Pieces.{image_reads}
@@ -10,18 +10,16 @@ use Rattle.kinds.specs.declared.refusal.OpenRefused.{OpenRefused}
 use Rattle.kinds.specs.declared.refusal.OpenRefused.TheVariants.{NotFormatted, Damaged}
 use Rattle.log_file.specs.declared.writer.Log.{Log}
 use Rattle.db_image.specs.declared.mark.Mark.TheVariants.{Server}
-use Rattle.db_image.specs.Images.{image_bytes, NeverSpent}
-use Rattle.db_image.specs.Steps.{CanShut}
-use Rattle.db_image.proofs.One.{can_shut, image_settled, never_spent_less}
+use Rattle.db_image.specs.Images.{NeverSpent}
 use Rattle.fields.specs.Editions.{Edition, second_form}
 use Rattle.entries.specs.Meaning.{Meaning, IsMeaning}
-use Rattle.vault.specs.Files.{image_file, IsOurs, IsOf}
+use Rattle.vault.specs.Files.{IsOurs, IsOf}
 use Rattle.vault.specs.Recovery.{Recovers, RecoversWithin, IsBase, IsNext, IsInstalledAs}
-use Rattle.vault.specs.Images.{IsImage, StaysOlder, Replaced}
+use Rattle.vault.specs.Images.{Replaced}
 use Rattle.vault.specs.Vaults.{State, IsGoodIn}
 use Rattle.vault.specs.Openings.{form_of, Recovered, ImagesAre, Formatted, HadOne, PutBehind, Installed, SaysWhy}
-use Rattle.vault.proofs.Checkpointing.{replaced_since, image_apart, written_unspent}
-use Rattle.vault.proofs.Goodness.{image_again, image_beside, good_image, good_since}
+use Rattle.vault.proofs.Checkpointing.{replaced_since, images_stay, holds_behind, written_unspent}
+use Rattle.vault.proofs.Goodness.{good_image, good_since}
 use Rattle.vault.proofs.Formatting.{of_ours, holds_base}
 use Rattle.vault.proofs.Sounding.{within_recovers, had_one}
 use Rattle.vault.proofs.Unique.{is_formatted, not_damaged_there}
@@ -61,26 +59,17 @@ module _ {D : Type 0} (m : Meaning D) (vault : State D) (d : D) where
     not_put why failed replaced = record { goes = ours (Err failed) replaced; installed = tt; since = since (Err failed) replaced }
 
     is_put : {T E U V : Type 0} (done : T) (log : U) → vault.generation + 1 < 2 ^ 62 → (let put : Result U V = Ok log in Replaced (vault.generation + 1) payload put old new) → (let result : Result T E = Ok done in PutBehind m vault d result old new)
-    is_put done log few replaced = record { goes = ours (Ok log) replaced; installed = λ start are. (vault.generation + 1, inl (few, refl), installed start are); since = since (Ok log) replaced }
+    is_put {T} {E} {U} {V} done log few replaced = record {
+      goes = ours (Ok log) replaced;
+      installed = λ start are. (vault.generation + 1, inl (few, refl), installed start are);
+      since = since
+          (Ok log) replaced;
+    }
       where
         installed : (start : History) → ImagesAre vault.generation start old → EachImage (now new) new (IsBase m (vault.generation + 1) d)
         installed start are =
-            let durable : (file : ℕ) → file < 2 → standing old file ≡ settled (reads start file) = are.durable in
-            let can : CanShut (standing old (image_file (vault.generation + 1))) = subst CanShut (sym (durable (image_file (vault.generation + 1)) (omega arith))) (can_shut (reads start (image_file (vault.generation + 1)))) in
-            let there = replaced.stands unspent can in
-            let before : IsImage old (image_file vault.generation) vault.generation are.payload = record {
-              firm = subst (λ s. Firm s 0 (image_bytes Server vault.generation are.payload)) (sym (durable (image_file vault.generation) (omega arith))) (image_settled (image_file vault.generation) vault.generation Server (reads start (image_file vault.generation)) are.payload are.newest.stands);
-              allowed = are.newest.stands.allowed;
-              unspent = never_spent_less Server vault.generation are.payload few;
-              small = are.newest.stands.small;
-            } in
-            holds_base m d (vault.generation + 1) new (record {
-              image = subst (λ (p : List ℕ). IsImage new (image_file (vault.generation + 1)) (vault.generation + 1) p) spelled there.0;
-              other = subst (λ (n : ℕ). StaysOlder (vault.generation + 1) n new) (sym (image_again vault.generation)) (inr (vault.generation, are.payload, image_beside (IsOf (vault.generation + 1)) old new replaced.goes (image_file vault.generation) vault.generation are.payload (image_apart vault.generation) before, omega arith));
-              log = there.1;
-              valid = valid;
-              legal = tt;
-            })
+            let stay = images_stay vault.generation start old few are in
+            holds_base m d (vault.generation + 1) new (holds_behind {T = U} {E = V} m vault.generation are.payload d valid payload spelled unspent old new stay.0 stay.1 log replaced)
 
 -- what is told of it, where the image is of the next generation
 module _ {D : Type 0} (m : Meaning D) (vault : State D) (d : D) (law : IsMeaning m) (valid : m.Valid second_form d) (x y : Option History) (next : ℕ) (payload : List ℕ) (spelled : payload ≡ m.spelled second_form d) where

@@ -1,12 +1,12 @@
 pub use Rattle.log_file.proofs as of_log_file
 mod Calming
 mod Checkpointing
-mod Committing
+pub mod Committing
 mod Finding
 mod Formatting
 pub mod Goodness
 mod Installing
-mod Leaving
+pub mod Leaving
 mod Looking
 mod Leading
 mod Piecing

@@ -1,5 +1,5 @@
 -- What files recover to in the first form is written in the second, as the next generation, and so a vault is opened.
-use Rattle.std.proofs.Common.{◌≡◌, ⊎_elim, inl, inr, ℕ, ◌+◌, true, false, List, [], length, Option, None, Some, Bool, Result, Ok, Err, IfOk, IfErr, sym, ◌∙◌, ap, subst, arith}
+use Rattle.std.proofs.Common.{◌≡◌, ⊎_elim, inl, inr, ℕ, ◌+◌, ◌<◌, ◌^◌, true, false, List, [], length, Option, None, Some, Bool, Result, Ok, Err, IfOk, IfErr, sym, ◌∙◌, ap, subst, arith}
 use Rattle.store_api.specs.Disk.{History, reads, now}
 use Rattle.store_api.specs.Runs.{GoesOn, EachImage}
 use Rattle.store_api.specs.Told.{Told}
@@ -14,16 +14,22 @@ use Rattle.entries.specs.Meaning.{Meaning, IsMeaning}
 use Rattle.vault.specs.Files.{IsOurs, IsOf}
 use Rattle.vault.specs.Recovery.{RecoversWithin}
 use Rattle.vault.specs.Images.{Replaced}
-use Rattle.vault.specs.Vaults.{State, HoldsIn, IsGoodIn}
+use Rattle.vault.specs.Vaults.{State, Holds, IsGoodIn, IsGood}
 use Rattle.vault.specs.Openings.{SaysWhy, OpenedAs, Recovered, Rewritten, HadOne, Spared, Opened, MayRefuseFormatting}
-use Rattle.vault.proofs.Checkpointing.{of_ours, replaced_since, replaced_holds, written_unspent}
+use Rattle.vault.proofs.Checkpointing.{of_ours, replaced_since, replaced_holds, images_stay, holds_behind, written_unspent}
 use Rattle.vault.proofs.Goodness.{good_image, good_since}
 use Rattle.vault.proofs.Sounding.{had_one}
 
 module _ {D : Type 0} (m : Meaning D) (vault : State D) where
   -- nothing was done
   pub none_rewritten : (why : OpenRefused) (h : History) → (let result : Result (State D) OpenRefused = Err why in Rewritten m vault result h h)
-  none_rewritten why h = record { goes = goes_none IsOurs h; since = λ form good moment files from to here. good_since m (λ file. ⊥) vault h h (λ file ours no. no) (goes_none (λ file. ⊥) h) good moment files from to here; good = tt }
+  none_rewritten why h = record {
+    goes = goes_none IsOurs h;
+    since = λ form good moment files from to here. good_since m (λ file. ⊥) vault h h (λ file ours no. no)
+        (goes_none (λ file. ⊥) h) good moment files from to here;
+    good = tt;
+    good_now = tt;
+  }
 
   pub told_none_rewritten : (x : Option History) (why : OpenRefused) → Told x x (λ old new. let result : Result (State D) OpenRefused = Err why in Rewritten m vault result old new)
   told_none_rewritten None why = tt
@@ -42,23 +48,28 @@ module _ {D : Type 0} (m : Meaning D) (vault : State D) where
     ours put replaced = goes_weaker (IsOf (vault.generation + 1)) IsOurs old new (of_ours (vault.generation + 1)) replaced.goes
 
     pub not_rewritten : {U V : Type 0} (why : OpenRefused) (failed : V) → (let put : Result U V = Err failed in Replaced (vault.generation + 1) payload put old new) → (let result : Result (State D) OpenRefused = Err why in Rewritten m vault result old new)
-    not_rewritten why failed replaced = record { goes = ours (Err failed) replaced; since = since (Err failed) replaced; good = tt }
+    not_rewritten why failed replaced = record { goes = ours (Err failed) replaced; since = since (Err failed) replaced; good = tt; good_now = tt }
 
-    pub is_rewritten : {U V : Type 0} (next : State D) (log : U) → next.generation ≡ vault.generation + 1 → next.database ≡ vault.database → next.end ≡ 0 → next.sure ≡ next.end → next.forced ≡ length next.journal → (let put : Result U V = Ok log in Replaced (vault.generation + 1) payload put old new)
+    pub is_rewritten : {U V : Type 0} (next : State D) (log : U) → vault.generation + 1 < 2 ^ 62 → next.generation ≡ vault.generation + 1 → next.database ≡ vault.database → next.end ≡ 0
+        → next.sure ≡ next.end → next.forced ≡ length next.journal → (let put : Result U V = Ok log in Replaced (vault.generation + 1) payload put old new)
         → (let result : Result (State D) OpenRefused = Ok next in Rewritten m vault result old new)
-    is_rewritten next log at has ends none all replaced = record {
+    is_rewritten {U} {V} next log few at has ends none all replaced = record {
       goes = ours (Ok log) replaced;
       since = since (Ok log) replaced;
-      good = λ form good. record {
-        base = vault.database;
-        entries = [];
-        holds = subst (λ (k : ℕ). HoldsIn second_form m k vault.database [] next.end new) (sym at) (subst (λ (e : ℕ). HoldsIn second_form m (vault.generation + 1) vault.database [] e new) (sym ends)
-            (replaced_holds m vault.generation good.base good.entries vault.end vault.database valid payload spelled unspent old new form good.holds log replaced));
-        gives = has;
-        none = none;
-        all = all;
-      };
+      good = λ form good. good_with (replaced_holds m vault.generation good.base good.entries vault.end vault.database valid payload spelled unspent old new form good.holds log replaced);
+      good_now = λ start are. (let stay = images_stay vault.generation start old few are in
+          good_with (holds_behind {T = U} {E = V} m vault.generation are.payload vault.database valid payload spelled unspent old new stay.0 stay.1 log replaced));
     }
+      where
+        good_with : Holds m (vault.generation + 1) vault.database [] 0 new → IsGood m next new
+        good_with holds = record {
+          base = vault.database;
+          entries = [];
+          holds = subst (λ (k : ℕ). Holds m k vault.database [] next.end new) (sym at) (subst (λ (e : ℕ). Holds m (vault.generation + 1) vault.database [] e new) (sym ends) holds);
+          gives = has;
+          none = none;
+          all = all;
+        }
 
 module _ {D : Type 0} (m : Meaning D) (old mid new : History) where
   -- it couldn't be read
@@ -68,6 +79,7 @@ module _ {D : Type 0} (m : Meaning D) (old mid new : History) where
     opens = tt;
     says = recovered.says;
     good = λ sound. tt;
+    good_now = λ sound. tt;
   }
 
   -- it is in the form that is written
@@ -79,6 +91,7 @@ module _ {D : Type 0} (m : Meaning D) (old mid new : History) where
         opens = (recovered.recovers.0, inl (recovered.recovers.1, sym recovered.recovers.2));
         says = tt;
         good = recovered.good;
+        good_now = recovered.good_now;
       }
 
   -- it was in the first
@@ -108,8 +121,16 @@ module _ {D : Type 0} (m : Meaning D) (old mid new : History) where
       opens = subst (λ (d : D). OpenedAs m (reads old) d next.generation) (sym same.1) (recovered.recovers.0, inr (recovered.recovers.1, same.0 ∙ ap (λ (n : ℕ). n + 1) (sym recovered.recovers.2)));
       says = tt;
       good = λ sound. rewritten.good first_form (recovered.good sound);
+      good_now = λ sound. rewritten.good_now old recovered.images;
     }
-    opened_anew (Err refusal) same before after moment may rewritten = record { spared = spared (Err refusal) rewritten; opens = tt; says = why refusal may; good = λ sound. tt }
+    opened_anew (Err refusal) same before after moment may rewritten = record {
+      spared = spared (Err refusal) rewritten;
+      opens = tt;
+      says = why refusal may;
+      good = λ sound. tt;
+      good_now =
+          λ sound. tt;
+    }
       where
         why : (refusal : OpenRefused) → MayRefuseFormatting before after moment refusal → SaysWhy m (reads old) refusal
         why (ReadFault file) may = tt

@@ -163,7 +163,7 @@ module _ {D : Type 0} (m : Meaning D) where
       record { database = is.0; recovers = is.1; start = files; left = start; same = is.1 }
 
   refused_so : (refusal : OpenRefused) (old new : History) → Calm old new → SaysWhy m (reads old) refusal → (let result : Result (State D × Bool) OpenRefused = Err refusal in Recovered m result old new)
-  refused_so refusal old new calm why = record { calm = calm; recovers = tt; images = tt; says = why; good = λ sound. tt }
+  refused_so refusal old new calm why = record { calm = calm; recovers = tt; images = tt; says = why; good = λ sound. tt; good_now = λ sound. tt }
 
   pub not_settled : {T : Type 0} (refusal : OpenRefused) (old new : History) → SaysNothing refusal → (let first : Result T OpenRefused = Err refusal in SettledAll first old new) → (let result : Result (State D × Bool) OpenRefused = Err refusal in Recovered m result old new)
   not_settled refusal old new nothing all = refused_so refusal old new all.calm (nothing_why m (reads old) refusal nothing)
@@ -205,15 +205,16 @@ module _ {D : Type 0} (m : Meaning D) where
         small = has.small;
       }
 
-      module _ (sound : IsSound m old) where
+      module _ (sound : IsSound m new) where
         -- a gate that is shut is there to stay
         shut_there : (n : ℕ) → n < 2 → IsClosed (reads old n) → FirmShut (standing new n)
         unfolding with_file
         shut_there n lt closed =
-            subst FirmShut (sym (there n (omega (arith, lt)) (λ e. absurd (omega (arith, lt, e, is_log))))) (stays_shut n Server (reads old n) closed (λ left leaves.
-            let here = image_with mid n left (subst (λ s. Leaves s left) (sym (based.below.durable n (omega (arith, lt)))) leaves) in
-            let recovered = sound (with_file (reads mid) n left) (based.below.calm.images (now mid) (with_file (reads mid) n left) (goes_later IsOurs old mid based.below.calm.goes) (omega arith) here) in
-            subst (λ (bytes : List ℕ). Headed n bytes) (cond-true _ left (reads mid n) (eq-eqb n n refl)) (both_headed (with_file (reads mid) n left) recovered.1.generation n (m.spelled recovered.1.form recovered.1.base) recovered.1.newest lt)))
+            let is = there n (omega (arith, lt)) (λ e. absurd (omega (arith, lt, e, is_log))) in
+            subst FirmShut (sym is) (stays_shut n Server (reads old n) closed (λ left leaves.
+            let recovered = sound (with_file (reads new) n left) (image_with new n left (subst (λ s. Leaves s left) (sym is) leaves)) in
+            subst (λ (bytes : List ℕ). Headed n bytes) (cond-true _ left (reads new n) (eq-eqb n n refl))
+            (both_headed (with_file (reads new) n left) recovered.1.generation n (m.spelled recovered.1.form recovered.1.base) recovered.1.newest lt)))
 
         older_there : StaysOlder generation (image_file (generation + 1)) new
         older_there = elim based.newest.other [
@@ -228,7 +229,9 @@ module _ {D : Type 0} (m : Meaning D) where
 
         ends_there : LogEnds (reads old (log_file generation)) (records_in form replayed.replays.entries)
         ends_there =
-            let recovered = (sound (reads old) (image_reads old)).1 in
+            let files : reads new ≡ reads old = fun_ext (λ n. (calm_new (Ok end) replayed).same n) in
+            let found = sound (reads new) (image_reads new) in
+            let recovered = subst (λ (read : ℕ → List ℕ). RecoversWithin m read found.0) files found.1 in
             let same = newest_one (reads old) generation recovered.generation (m.spelled form base) (m.spelled recovered.form recovered.base) based.newest recovered.newest in
             let bases = same_base m law form recovered.form base recovered.base based.valid recovered.valid same.1 in
             let here : LogEnds (reads old (log_file generation)) (records_in recovered.form recovered.entries) = subst (λ (k : ℕ). LogEnds (reads old (log_file k)) (records_in recovered.form recovered.entries)) (sym same.0) recovered.log in
@@ -256,6 +259,12 @@ module _ {D : Type 0} (m : Meaning D) where
           all = all;
         }
 
+      -- a store that was sound is sound: each of its images is one that a stop might have left before
+      sound_since : IsSound m old → IsSound m new
+      sound_since sound files here =
+          let calm = calm_new (Ok end) replayed in
+          sound files (calm.images (now new) files (goes_later IsOurs old new calm.goes) (omega arith) here)
+
       pub is_opened : (vault : State D) → vault.generation ≡ generation → vault.database ≡ d → vault.end ≡ end.end → vault.sure ≡ vault.end → vault.forced ≡ length vault.journal → (let result : Result (State D × Bool) OpenRefused = Ok (vault, first) in Recovered m result old new)
       is_opened vault at has ends none all = record {
         calm = calm_new (Ok end) replayed;
@@ -276,5 +285,6 @@ module _ {D : Type 0} (m : Meaning D) where
         );
         images = subst (λ (k : ℕ). ImagesAre k old new) (sym at) (record { payload = m.spelled form base; newest = based.newest; durable = λ n lt. there n (omega (arith, lt)) (λ e. absurd (omega (arith, lt, e, is_log))) });
         says = tt;
-        good = λ sound. good_there sound vault at has ends none all;
+        good = λ sound. good_there (sound_since sound) vault at has ends none all;
+        good_now = λ sound. good_there sound vault at has ends none all;
       }

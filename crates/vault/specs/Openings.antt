@@ -148,19 +148,22 @@ pub record ImagesAre (generation : ℕ) (old new : History) : Type 0 where
   pub durable : (file : ℕ) → file < 2 → standing new file ≡ settled (reads old file)
 
 -- What the files recover to was read, and whether it stands there in the first form. Nothing that is read changed, and each image since is one that a stop might
--- have left at the start. What refuses as not formatted or damaged says what the files are. Over a sound store no stop takes anything away.
+-- have left at the start. What refuses as not formatted or damaged says what the files are. Over a store that was sound, or that is sound then, no stop takes anything away.
 pub record Recovered {D : Type 0} (m : Meaning D) (result : Result (State D × Bool) OpenRefused) (old new : History) : Type 0 where
   pub calm : Calm old new
   pub recovers : IfOk result (λ found. (is : Recovers m (reads old) found.0.database) × (is.form ≡ form_of found.1) × (is.generation ≡ found.0.generation))
   pub images : IfOk result (λ found. ImagesAre found.0.generation old new)
   pub says : IfErr result (SaysWhy m (reads old))
   pub good : IsSound m old → IfOk result (λ found. IsGoodIn (form_of found.1) m found.0 new)
+  pub good_now : IsSound m new → IfOk result (λ found. IsGoodIn (form_of found.1) m found.0 new)
 
--- A vault that was read was written in its next generation, in the form that is written. Each image since recovers to its database. On Ok it is the same vault there.
+-- A vault that was read was written in its next generation, in the form that is written. Each image since recovers to its database. On Ok it is the same vault there, and no stop takes anything of it away, though it be only
+-- that the images from which it was read are on the disk.
 pub record Rewritten {D : Type 0} (m : Meaning D) (vault : State D) (result : Result (State D) OpenRefused) (old new : History) : Type 0 where
   pub goes : GoesOn IsOurs old new
   pub since : (form : Edition) → IsGoodIn form m vault old → EachImage (now old) new (λ files. RecoversWithin m files vault.database)
   pub good : IfOk result (λ next. (form : Edition) → IsGoodIn form m vault old → IsGood m next new)
+  pub good_now : IfOk result (λ next. (start : History) → ImagesAre vault.generation start old → IsGood m next new)
 
 -- the files recover to a database to which those that a stop might have left then recover, too
 pub record HadOne {D : Type 0} (m : Meaning D) (old : History) (files : ℕ → List ℕ) : Type 0 where
@@ -181,13 +184,18 @@ pub record Spared {D : Type 0} (m : Meaning D) (old new : History) : Type 0 wher
 abbrev pub OpenedAs : {D : Type 0} → Meaning D → (ℕ → List ℕ) → D → ℕ → Type 0
 OpenedAs m files d generation = (is : Recovers m files d) × (((is.form ≡ second_form) × (generation ≡ is.generation)) ⊎ ((is.form ≡ first_form) × (generation ≡ is.generation + 1)))
 
--- The vault was opened. On Ok the files recovered to the vault's database; what refuses as not formatted or damaged says what they are. Over a sound store no
--- stop takes anything of the vault away, which is in the form that is written.
+-- The vault was opened. On Ok the files recovered to the vault's database; what refuses as not formatted or damaged says what they are. Over a store that was sound, or that is sound
+-- then, no stop takes anything of the vault away, which is in the form that is written.
 pub record Opened {D : Type 0} (m : Meaning D) (result : Result (State D) OpenRefused) (old new : History) : Type 0 where
   pub spared : Spared m old new
   pub opens : IfOk result (λ vault. OpenedAs m (reads old) vault.database vault.generation)
   pub says : IfErr result (SaysWhy m (reads old))
   pub good : IsSound m old → IfOk result (λ vault. IsGood m vault new)
+  pub good_now : IsSound m new → IfOk result (λ vault. IsGood m vault new)
+
+-- no transaction was made in the vault and no checkpoint begun, and no fault has halted it
+abbrev pub IsNew : {D : Type 0} → State D → Type 0
+IsNew vault = (vault.journal ≡ []) × (vault.forced ≡ 0) × (vault.fault ≡ None) × (vault.pending ≡ None)
 
 -- Why opening was refused: a call on a file of the vault failed, the moment is all but the last, the files, or want of memory.
 abbrev pub MayRefuseOpening : (before after : ℕ → ℕ) (moment : ℕ) → OpenRefused → Type 0

@@ -1,10 +1,10 @@
 // How a database is put into files.
-ghost use Rattle.std.specs.Prelude.{◌≡◌, ◌+◌, ◌-◌, ◌<◌, ◌≤◌, ◌^◌, [], None, max, length, IfOk, OnOk, IfErr};
+ghost use Rattle.std.specs.Prelude.{◌≡◌, ◌+◌, ◌-◌, ◌<◌, ◌≤◌, ◌^◌, max, length, IfOk, OnOk, IfErr};
 ghost use Rattle.store_api.specs.Cause.{Rose, NoneFell};
 ghost use Rattle.store_api.specs.Told.{Told};
 ghost use Rattle.vault.specs.Files.{IsOurs};
 ghost use Rattle.kinds.specs.declared.refusal.OpenRefused.TheVariants.{RunFull};
-ghost use Rattle.vault.specs.Openings.{Cleared, Formatted, PutBehind, Installed, Rewritten, MayRefuseFormatting};
+ghost use Rattle.vault.specs.Openings.{IsNew, Cleared, Formatted, PutBehind, Installed, Rewritten, MayRefuseFormatting};
 
 use crate::files::LAST;
 use crate::open::{recover, settle_all};
@@ -129,7 +129,7 @@ pub(crate) fn rewrite<D: Database, S: Store>(
     requires number { vault.generation + 1 < 2 ^ 62 }
     ensures told { Told (S.told store.old) (S.told store.new) (Rewritten D.meaning vault result) }
     ensures same { IfOk result (λ next. (next.generation ≡ vault.generation + 1) × (next.database ≡ vault.database)) }
-    ensures begun { IfOk result (λ next. (next.journal ≡ []) × (next.fault ≡ None)) }
+    ensures begun { IfOk result IsNew }
     ensures refused { IfErr result (MayRefuseFormatting (S.faults_of store.old) (S.faults_of store.new) (S.moment_of store.new)) }
     ensures time { S.moment_of store.new ≤ max (S.moment_of store.old) (2 ^ 62) }
     ensures later { S.moment_of store.old ≤ S.moment_of store.new }

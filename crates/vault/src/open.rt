@@ -1,5 +1,5 @@
 // How a vault is opened.
-ghost use Rattle.std.specs.Prelude.{◌≡◌, ◌+◌, ◌≤◌, ◌^◌, ◌-◌, max, length, IfOk, OnOk, IfErr, IfSome, IfNone, None, ◌<◌, ℕ, List, [], true, if◌then◌else◌};
+ghost use Rattle.std.specs.Prelude.{◌≡◌, ◌+◌, ◌≤◌, ◌^◌, ◌-◌, max, length, IfOk, OnOk, IfErr, IfSome, IfNone, None, ◌<◌, ℕ, List, true, if◌then◌else◌};
 ghost use Rattle.std.specs.Option.{option_map};
 ghost use Rattle.store_api.specs.Cause.{NoneFell};
 ghost use Rattle.store_api.specs.Disk.{reads};
@@ -12,7 +12,7 @@ ghost use Rattle.entries.specs.EntryForm.{SpellsIn};
 ghost use Rattle.entries.specs.Meaning.{IsLegal, Spells};
 ghost use Rattle.vault.specs.Files.{image_file, log_file};
 ghost use Rattle.vault.specs.Recovery.{Newest, IsForeign};
-ghost use Rattle.vault.specs.Openings.{SettledAll, SaysNothing, has_open_gate, is_formatted, MayRefuseLooking, greater, FindsNewest, FindsBase, form_of, AppliesEntry, Applies, Replayed, Recovered, Opened, MayRefuseOpening};
+ghost use Rattle.vault.specs.Openings.{SettledAll, SaysNothing, has_open_gate, is_formatted, MayRefuseLooking, greater, FindsNewest, FindsBase, form_of, AppliesEntry, Applies, Replayed, Recovered, Opened, IsNew, MayRefuseOpening};
 
 use crate::files::{LAST, image_file, log_file};
 use crate::format::rewrite;
@@ -257,7 +257,7 @@ pub(crate) fn recover<D: Database, S: Store>(
     store: &mut S,
 ) -> Result<(Vault<D>, bool), OpenRefused>
     ensures told { Told (S.told store.old) (S.told store.new) (Recovered D.meaning result) }
-    ensures begun { IfOk result (λ found. (found.0.journal ≡ []) × (found.0.fault ≡ None)) }
+    ensures begun { IfOk result (λ found. IsNew found.0) }
     ensures more { IfOk result (λ found. found.1 ≡ true → found.0.generation + 1 < 2 ^ 62) }
     ensures refused { IfErr result (MayRefuseOpening (S.faults_of store.old) (S.faults_of store.new) (S.moment_of store.new)) }
     ensures onward { Onward (S.moment_of store.old) (S.moment_of store.new) (S.faults_of store.old) (S.faults_of store.new) }
@@ -288,7 +288,7 @@ impl<D: Database> Vault<D> {
     /// moment is, or came to, 2^62 - 2^24; and for want of memory.
     pub fn open<S: Store>(alloc: Global, store: &mut S) -> Result<Vault<D>, OpenRefused>
         ensures told { Told (S.told store.old) (S.told store.new) (Opened D.meaning result) }
-        ensures begun { IfOk result (λ vault. (vault.journal ≡ []) × (vault.fault ≡ None)) }
+        ensures begun { IfOk result IsNew }
         ensures refused { IfErr result (MayRefuseOpening (S.faults_of store.old) (S.faults_of store.new) (S.moment_of store.new)) }
         ensures time { S.moment_of store.new ≤ max (S.moment_of store.old) (2 ^ 62) }
         ensures later { S.moment_of store.old ≤ S.moment_of store.new }

@@ -85,6 +85,13 @@ impl<D: Database> Vault<D> {
         self.generation
     }
 
+    /// The file whose fault halted the vault, and how often calls on it had failed by then.
+    pub fn fault(&self) -> Option<(u32, u64)>
+        ensures { result ≡ self.now.fault }
+    {
+        self.fault
+    }
+
     /// How many of this run's transactions are forced: the oldest ones.
     pub fn forced(&self) -> usize
         ensures { result ≡ self.now.forced }

@@ -25,7 +25,7 @@ returns-in-Ok-put_generation-clause-told g c =
     let opened = c.opened.ensures in
     let made = c.in-Ok-put_generation.ensures.log in
     told_map _ _ _ _ (λ h n replaced.
-    is_rewritten m vault g.met.D.Database.is_meaning payload valid spelled h n c.opened.result c.in-Ok-put_generation.log
+    is_rewritten m vault g.met.D.Database.is_meaning payload valid spelled h n c.opened.result c.in-Ok-put_generation.log c.requires.number
     (ap (λ (v : State g.row.D.Denot). v.generation) opened ∙ ap (λ (k : ℕ). k + 1) c.generation-generation.ensures)
     (ap (λ (v : State g.row.D.Denot). v.database) opened ∙ c.into_database.ensures)
     (ap (λ (v : State g.row.D.Denot). v.end) opened ∙ ap (λ (l : log.State). l.end) made)

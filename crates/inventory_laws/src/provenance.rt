@@ -1,0 +1,14 @@
+// Where what is kept after a transaction comes from, as a law on a function that does nothing.
+ghost use Rattle.std.specs.List.{AllByRecursion};
+ghost use Rattle.entries.specs.declared.change.Change.{Change};
+ghost use Rattle.inventory_rows.specs.Search.{versions};
+ghost use Rattle.inventory_rows.specs.State.{Inv};
+ghost use Rattle.inventory_rules.specs.Transactions.{effect};
+ghost use Rattle.inventory_laws.specs.Origins.{ComesFrom};
+
+/// Whatever the transaction, be it legal or not: each object that is kept afterwards, a version or held, has the number, the size and the digest of one that
+/// was kept before, or of one that the transaction brings; and each of its copies is one that the object had, or has the segments of one that the
+/// transaction places of it.
+pub fn objects_come_from()
+    ensures { (c : Change) (v : Inv) → AllByRecursion (ComesFrom c v) (versions (effect c v)) }
+{}
