@@ -379,7 +379,7 @@ fn place_in(
 /// Where an object goes: its segments, each with its pool. `NoSpace`, with the number of the pool that the aim goes to, where no pool of the
 /// hierarchy that may take the object has room; `Busy` where one would have, if other actors' tickets or the transactions that aren't forced
 /// yet were gone, with the least of these that holds space there; `InventoryFull` where a scratch volume is needed for which no file number is
-/// left. It walks all volumes, tickets and transactions.
+/// left; `Memory` where there is too little. It walks all volumes, tickets and transactions.
 pub fn choose_by_walk(
     alloc: Global,
     pools: &Pools,

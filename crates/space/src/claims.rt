@@ -71,7 +71,7 @@ impl Space {
         self.next_file
     }
 
-    /// A ticket gets its space.
+    /// A ticket gets its space. Its one refusal is `Memory`; then nothing changes.
     pub fn hold(&mut self, number: u64, claim: Claim) -> Result<(), Refusal>
         ensures { Becomes result self.old self.new (Ok (held number claim self.old)) }
     {
@@ -86,7 +86,7 @@ impl Space {
         let _ = self.tickets.remove(&number);
     }
 
-    /// A transaction that isn't forced yet took these segments away.
+    /// A transaction that isn't forced yet took these segments away. Its one refusal is `Memory`; then nothing changes.
     pub fn note(&mut self, number: u64, places: Places) -> Result<(), Refusal>
         ensures { Becomes result self.old self.new (Ok (noted number places self.old)) }
     {

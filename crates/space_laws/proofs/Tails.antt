@@ -1,8 +1,8 @@
 -- A segment behind what is seen of a sequential volume fits there.
-use Rattle.std.proofs.Common.{◌≡◌, ℕ, ◌+◌, ◌-◌, ◌≤◌, Bool, true, false, cond, eqb, List, [], ◌∷◌, map, Option, Some, None, refl, sym, ap, subst, ◌∙◌, arith, inl, inr}
-use Rattle.std.specs.Prelude.{◌==◌, ◌&&◌, ◌||◌, nat_le, max, unwrap_or}
+use Rattle.std.proofs.Common.{◌≡◌, ℕ, ◌+◌, ◌-◌, ◌≤◌, Bool, true, false, cond, List, [], ◌∷◌, Option, Some, None, refl, sym, ap, subst, ◌∙◌, arith, inl, inr}
+use Rattle.std.specs.Prelude.{◌==◌, ◌&&◌, ◌||◌, nat_le, unwrap_or}
 use Rattle.std.specs.List.{list_all}
-use Rattle.std.specs.Option.{option_map, option_map_or}
+use Rattle.std.specs.Option.{option_map}
 use Rattle.std.specs.BTreeMap.{is_at}
 use Rattle.std.specs.Ordering.{nat_cmp}
 use Rattle.std.proofs.lemmas.Bool.{eq-eqb, le-leb, leb-true, and_parts, cases_eq}
@@ -12,15 +12,17 @@ use Rattle.volume_rows.specs.declared.volume.Volume.{Volume}
 use Rattle.pool_tables.specs.Rows.{row_at, with_row}
 use Rattle.pool_tables.proofs.Ascending.{both}
 use Rattle.inventory_rows.specs.pool_rows.PoolRows.{PoolRows, is_sequential, pool_capacity}
-use Rattle.inventory_rows.specs.Search.{is_primary_kind, pool, segments_on}
+use Rattle.inventory_rows.specs.Search.{segments_on}
 use Rattle.inventory_rows.specs.State.{Inv}
-use Rattle.inventory_rules.specs.Segments.{are_clear, leaves, lies_rightly, segment_fits_after}
-use Rattle.inventory_rules.specs.Valid.{are_disjoint, is_emptied_rightly, is_placed, is_sized, is_volume, may_have, volumes_are}
+use Rattle.inventory_rules.specs.Segments.{are_clear, leaves, lies_rightly}
+use Rattle.inventory_rules.specs.Valid.{is_placed, is_volume, volumes_are}
+use Rattle.inventory_laws.proofs.Rising.{placed_part}
 use Rattle.inventory_laws.proofs.ScratchBack.{own_row}
 use Rattle.inventory_laws.proofs.Stays.{row_at-inserted_other}
 use Rattle.inventory_laws.proofs.StoreRows.{all_there}
 use Rattle.space.specs.declared.counted.Counted.{Counted}
 use Rattle.space.specs.declared.places.Placed.{Placed}
+use Rattle.space.specs.declared.piece.Piece.{Piece}
 use Rattle.space.specs.declared.site.Site.{Site}
 use Rattle.space.specs.Pieces.{tail_piece}
 use Rattle.space.specs.Volumes.{site_of, seen, with_claim, claimed_site, claim, claim_all, drawn_site, sites, has_tail}
@@ -98,20 +100,6 @@ all_before moved number a volume (x ∷ xs) behind placed =
 some_sees : (volume : Volume) (found : Option Site) (site : Site) → found ≡ Some site → SeesAt volume found → Sees volume site
 some_sees volume found site e sees = subst (SeesAt volume) e sees
 
--- each segment of a volume that is one ends within it
-placed_part : (v : Inv) (k : ℕ) (volume : Volume) → is_volume v (k, volume) ≡ true → list_all (λ e. is_placed (is_sequential volume.pool v.stores) volume e.1) (segments_on k v) ≡ true
-placed_part v k volume whole =
-    let q : Bool = is_sequential volume.pool v.stores in
-    let there : List (ℕ × Segment) = segments_on k v in
-    let primary : Bool = option_map_or (λ p. is_primary_kind p.kind) (pool volume.pool v) false in
-    let last : Bool = list_all (λ e. is_placed q volume e.1) there && is_emptied_rightly q volume there in
-    let third : Bool = are_disjoint q there && last in
-    let second : Bool = may_have volume.access primary && third in
-    let one = and_parts (is_sized q v volume) second whole in
-    let two = and_parts (may_have volume.access primary) third one.1 in
-    let three = and_parts (are_disjoint q there) last two.1 in
-    (and_parts (list_all (λ e. is_placed q volume e.1) there) (is_emptied_rightly q volume there) three.1).0
-
 pub tail_fits : (v : Inv) (c : Counted) (k : ℕ) (volume : Volume) (site : Site) → volumes_are v ≡ true → row_at k v.stores.volumes ≡ Some volume → is_sequential volume.pool v.stores ≡ true → row_at k (sites v.stores c) ≡ Some site → has_tail site ≡ true → FitsThere v volume.pool (tail_piece (k, site))
 tail_fits v c k volume site are row sequential seen-at tail moved len fits =
     let a : Segment = record { file = k; offset = site.end; len = len } in
@@ -127,3 +115,17 @@ tail_fits v c k volume site are row sequential seen-at tail moved len fits =
     (both (volume.pool == volume.pool) (nat_le (site.end + 32 + len) volume.capacity && true) (eq-eqb volume.pool volume.pool refl)
     (both (nat_le (site.end + 32 + len) volume.capacity) true (le-leb (site.end + 32 + len) volume.capacity within) refl))
     (all_before moved volume.pool a volume (segments_on k v) sees.end placed)
+
+abbrev piece_of : ℕ → ℕ → ℕ → Piece
+piece_of file end room = record { file = file; offset = end; room = room - 32 }
+
+-- the same at the beginning of a volume on which nothing was written
+pub new_fits : (v : Inv) (file : ℕ) (volume : Volume) → volumes_are v ≡ true → row_at file v.stores.volumes ≡ Some volume → is_sequential volume.pool v.stores ≡ true → volume.end ≡ 0 → 4096 ≤ volume.capacity
+    → FitsThere v volume.pool (record { file = file; offset = 0; room = volume.capacity - 32 })
+new_fits v file volume are row sequential bare large =
+    let nothing : Counted = record { own = []; others = []; freed = [] } in
+    let seen-at : row_at file (seen v.stores.volumes) ≡ Some (site_of volume) = row_at-seen file v.stores.volumes ∙ ap (λ (o : Option Volume). option_map site_of o) row in
+    let left : volume.capacity - volume.end ≡ volume.capacity = omega (arith, bare) in
+    let tail : has_tail (site_of volume) ≡ true = le-leb 4096 (volume.capacity - volume.end) (omega (arith, large, left)) in
+    subst (λ (p : Piece). FitsThere v volume.pool p) (ap (λ (n : ℕ). piece_of file n (volume.capacity - volume.end)) bare ∙ ap (λ (n : ℕ). piece_of file 0 n) left)
+    (tail_fits v nothing file volume (site_of volume) are row sequential seen-at tail)

@@ -1,12 +1,10 @@
 -- The places that an object gets have its bytes.
-use Rattle.std.proofs.Common.{◌≡◌, ℕ, ◌+◌, ◌≤◌, Bool, true, false, cond, List, [], ◌∷◌, map, Option, Some, None, Result, Ok, Err, refl, sym, ap, ◌∙◌, arith}
-use Rattle.std.specs.Prelude.{◌&&◌, nat_le, if◌then◌else◌}
+use Rattle.std.proofs.Common.{◌≡◌, ℕ, ◌+◌, Bool, true, false, cond, List, [], ◌∷◌, map, Option, Some, None, Ok, Err, refl, sym, ap, ◌∙◌}
+use Rattle.std.specs.Prelude.{nat_le, if◌then◌else◌}
 use Rattle.std.specs.List.{find, list_any, sum_by}
 use Rattle.std.proofs.lemmas.Bool.{and_parts, leb-true}
 use Rattle.std.proofs.lemmas.List.Sums.{sum_by-cons}
-use Rattle.kinds.specs.declared.refusal.Refusal.{Refusal}
 use Rattle.kinds.specs.declared.refusal.Refusal.TheVariants.{InventoryFull}
-use Rattle.kinds.specs.declared.segment.Segment.{Segment}
 use Rattle.pool_tables.specs.Rows.{row_at}
 use Rattle.inventory_rows.specs.pool_rows.PoolRows.{PoolRows}
 use Rattle.space.specs.declared.piece.Piece.{Piece}
@@ -14,7 +12,7 @@ use Rattle.space.specs.declared.places.Placed.{Placed}
 use Rattle.space.specs.declared.request.Request.{Request}
 use Rattle.space.specs.Claims.{Claims, counted}
 use Rattle.space.specs.Pieces.{pieces, room, filled}
-use Rattle.space.specs.Placing.{walked, may_take, has_place, pool_for, is_last, placed, placed_in, placed_or_refused, choose}
+use Rattle.space.specs.Placing.{walked, may_take, has_place, pool_for, is_last, placed, placed_or_refused, choose}
 use Rattle.space.proofs.Free.{filled_whole}
 use Rattle.space_laws.specs.Chosen.{IsWhole}
 

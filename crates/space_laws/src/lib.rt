@@ -3,4 +3,7 @@
 
 mod laws;
 
-pub use laws::{chosen_whole, free_space_fits, own_segments_end, tails_fit};
+pub use laws::{
+    chosen_places_apart, chosen_whole, free_space_fits, holder_is_found, own_segments_end,
+    scratch_fits, tails_fit, unforced_is_found,
+};
