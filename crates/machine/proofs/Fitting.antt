@@ -19,7 +19,7 @@ use Rattle.steps.specs.Events.{Deed, Event}
 use Rattle.steps.specs.Events.Deed.{OpenNew, OpenCopy, WritePiece, CopyPiece, Seal, Commit, DropTicket, ReadPiece, Ask, Image, Reuse, Force}
 use Rattle.machine.specs.Causes.{copying_refused, most_bytes, object_gone, of_ticket, ticket_in_use}
 use Rattle.machine.specs.Fits.{Fits, History, Joined, JoinsAt, ImageAfter, Own, Step, TicketsAfter, entries_to, inv, number_after, sight_at}
-use Rattle.machine.specs.Laws.{RefusesElsewhere}
+use Rattle.machine.specs.Laws.{GoesWhereAimed, RefusesElsewhere}
 use Rattle.machine.specs.Machine.{Made, Places, next_count, read_count}
 use Rattle.machine.specs.Pieces.{piece}
 use Rattle.machine.specs.Says.{Says}
@@ -157,22 +157,22 @@ number-behind actor n joined old new is base journal =
 -- ---- one step
 
 -- a history that goes on as the hall does behind a step goes on as it does before it
-goes-before : (places : Places) (actor : ℕ) (e : Event) (old new : Machine) (w : History) → Made places actor e old new → GoesOn new.core w → GoesOn old.core w
-goes-before places actor e old new w made goes =
-    let m : Moved actor old.contents e.deed old.core new.core = moves places actor e.deed old new made.step in
+goes-before : (places : Places) → GoesWhereAimed places → (actor : ℕ) (e : Event) (old new : Machine) (w : History) → Made places actor e old new → GoesOn new.core w → GoesOn old.core w
+goes-before places aimed actor e old new w made goes =
+    let m : Moved actor old.contents e.deed old.core new.core = moves places aimed actor e.deed old new made.step in
     record {
       base = goes.base ∙ m.base;
       rest = entries_of actor m.joined ++ goes.rest;
       journal = goes.journal ∙ ap (λ (js : List Entry). js ++ goes.rest) m.journal ∙ append_assoc old.core.journal (entries_of actor m.joined) goes.rest;
     }
 
-step-fits : (places : Places) → RefusesElsewhere places → (w : History) (actor reached : ℕ) (e : Event) (old new : Machine) → Made places actor e old new → Agrees w old → GoesOn new.core w
+step-fits : (places : Places) → RefusesElsewhere places → GoesWhereAimed places → (w : History) (actor reached : ℕ) (e : Event) (old new : Machine) → Made places actor e old new → Agrees w old → GoesOn new.core w
     → reached ≤ (inventory old.core).number
     → (last : ℕ) × (last ≤ (inventory new.core).number) × Step w actor (own_in actor reached old.core) e (own_in actor last new.core)
 unfolding goes-before
-step-fits places elsewhere w actor reached e old new made agrees goes l =
-    let m : Moved actor old.contents e.deed old.core new.core = moves places actor e.deed old new made.step in
-    let before : GoesOn old.core w = goes-before places actor e old new w made goes in
+step-fits places elsewhere aimed w actor reached e old new made agrees goes l =
+    let m : Moved actor old.contents e.deed old.core new.core = moves places aimed actor e.deed old new made.step in
+    let before : GoesOn old.core w = goes-before places aimed actor e old new w made goes in
     let says : Says actor old.contents (sight actor old.core) e.deed = made-says places elsewhere actor e.deed old new made.step in
     let same : sight_at w (own_in actor reached old.core) e.n old.core.next_file ≡ sight actor old.core = sees w actor reached old.core e.n before.rest before.base before.journal made.number in
     let behind : number_after e.n m.joined ≡ (inventory new.core).number = number-behind actor e.n m.joined old.core new.core made.number m.base m.journal in
@@ -201,9 +201,9 @@ step-fits places elsewhere w actor reached e old new made agrees goes l =
 
 -- ---- runs
 
-runs-before : (places : Places) (w : History) (old new : Machine) (turns : List Turn) → Runs places w old turns new → GoesOn new.core w → GoesOn old.core w
-runs-before places w old new [] runs goes = subst (λ (m : Machine). GoesOn m.core w) runs goes
-runs-before places w old new (t ∷ turns) runs goes = goes-before places t.actor t.did old runs.0 w runs.1 (runs-before places w runs.0 new turns runs.3 goes)
+runs-before : (places : Places) → GoesWhereAimed places → (w : History) (old new : Machine) (turns : List Turn) → Runs places w old turns new → GoesOn new.core w → GoesOn old.core w
+runs-before places aimed w old new [] runs goes = subst (λ (m : Machine). GoesOn m.core w) runs goes
+runs-before places aimed w old new (t ∷ turns) runs goes = goes-before places aimed t.actor t.did old runs.0 w runs.1 (runs-before places aimed w runs.0 new turns runs.3 goes)
 
 abbrev own_with : ℕ → List Ticket → Option Picture → Own
 own_with reached tickets image = record { reached = reached; tickets = tickets; image = image }
@@ -212,33 +212,33 @@ own_with reached tickets image = record { reached = reached; tickets = tickets; 
 own-stays : (actor reached : ℕ) (old new : Core) → own_tickets actor new.tickets ≡ own_tickets actor old.tickets → own_image actor new.image ≡ own_image actor old.image → own_in actor reached new ≡ own_in actor reached old
 own-stays actor reached old new tickets image = ap (λ (ts : List Ticket). own_with reached ts (own_image actor new.image)) tickets ∙ ap (own_with reached (own_tickets actor old.tickets)) image
 
-others-step : (places : Places) (w : History) (actor reached : ℕ) (t : Turn) (old new : Machine) → (t.actor == actor) ≡ false → Made places t.actor t.did old new
+others-step : (places : Places) → GoesWhereAimed places → (w : History) (actor reached : ℕ) (t : Turn) (old new : Machine) → (t.actor == actor) ≡ false → Made places t.actor t.did old new
     → reached ≤ (inventory old.core).number → (reached ≤ (inventory new.core).number) × (own_in actor reached new.core ≡ own_in actor reached old.core)
-others-step places w actor reached t old new other made l =
-    let m : Moved t.actor old.contents t.did.deed old.core new.core = moves places t.actor t.did.deed old new made.step in
+others-step places aimed w actor reached t old new other made l =
+    let m : Moved t.actor old.contents t.did.deed old.core new.core = moves places aimed t.actor t.did.deed old new made.step in
     let n : actor ≡ t.actor → ⊥ = λ (h : actor ≡ t.actor). eqb-false t.actor actor other (sym h) in
     let behind : number_after t.did.n m.joined ≡ (inventory new.core).number = number-behind t.actor t.did.n m.joined old.core new.core made.number m.base m.journal in
     let grows : number_after t.did.n m.joined ≡ t.did.n + length (entries_of t.actor m.joined) = joined-length t.actor t.did.n m.joined in
     let at : t.did.n ≡ (inventory old.core).number = made.number in
     (omega arith, own-stays actor reached old.core new.core (m.others actor n) (m.other_image actor n))
 
-pub turns-fit : (places : Places) → RefusesElsewhere places → (w : History) (actor reached : ℕ) (old new : Machine) (turns : List Turn) → Runs places w old turns new → GoesOn new.core w
+pub turns-fit : (places : Places) → RefusesElsewhere places → GoesWhereAimed places → (w : History) (actor reached : ℕ) (old new : Machine) (turns : List Turn) → Runs places w old turns new → GoesOn new.core w
     → reached ≤ (inventory old.core).number
     → (last : ℕ) × (last ≤ (inventory new.core).number) × Fits w actor (own_in actor reached old.core) (events_of actor turns) (own_in actor last new.core)
-turns-fit places elsewhere w actor reached old new [] runs goes l =
+turns-fit places elsewhere aimed w actor reached old new [] runs goes l =
     subst (λ (m : Machine). (last : ℕ) × (last ≤ (inventory m.core).number) × Fits w actor (own_in actor reached old.core) [] (own_in actor last m.core)) (sym runs)
     (reached, l, fits-none w actor (own_in actor reached old.core))
-turns-fit places elsewhere w actor reached old new (t ∷ turns) runs goes l =
+turns-fit places elsewhere aimed w actor reached old new (t ∷ turns) runs goes l =
     let next : Machine = runs.0 in
-    let between : GoesOn next.core w = runs-before places w next new turns runs.3 goes in
+    let between : GoesOn next.core w = runs-before places aimed w next new turns runs.3 goes in
     elim (t.actor == actor) as (λ b. (t.actor == actor) ≡ b → (last : ℕ) × (last ≤ (inventory new.core).number) × Fits w actor (own_in actor reached old.core) (if b then t.did ∷ events_of actor turns else events_of actor turns) (own_in actor last new.core)) [
       | true ↦ λ e.
           (let made : Made places actor t.did old next = subst (λ (a : ℕ). Made places a t.did old next) (eqb-true t.actor actor e) runs.1 in
-          let s = step-fits places elsewhere w actor reached t.did old next made runs.2 between l in
-          let r = turns-fit places elsewhere w actor s.0 next new turns runs.3 goes s.1 in
+          let s = step-fits places elsewhere aimed w actor reached t.did old next made runs.2 between l in
+          let r = turns-fit places elsewhere aimed w actor s.0 next new turns runs.3 goes s.1 in
           (r.0, r.1, fits-step w actor (own_in actor reached old.core) (own_in actor s.0 next.core) (own_in actor r.0 new.core) t.did (events_of actor turns) s.2 r.2))
       | false ↦ λ e.
-          (let o = others-step places w actor reached t old next e runs.1 l in
-          let r = turns-fit places elsewhere w actor reached next new turns runs.3 goes o.0 in
+          (let o = others-step places aimed w actor reached t old next e runs.1 l in
+          let r = turns-fit places elsewhere aimed w actor reached next new turns runs.3 goes o.0 in
           (r.0, r.1, subst (λ (own : Own). Fits w actor own (events_of actor turns) (own_in actor r.0 new.core)) o.1 r.2))
     ] refl

@@ -1,5 +1,5 @@
 -- What each step of the machine leaves, as the actor has it then, and that it leaves what others have.
-use Rattle.std.proofs.Common.{◌≡◌, ◌⊎◌, inl, inr, ℕ, ◌+◌, ◌||◌, Bool, true, false, List, [], ◌∷◌, ◌++◌, length, is_some, Option, Some, None, Result, Ok, Err, refl, sym, ap, subst, ◌∙◌, if◌then◌else◌}
+use Rattle.std.proofs.Common.{◌≡◌, ◌⊎◌, inl, inr, ℕ, ◌+◌, ◌||◌, Bool, true, false, Contains, List, [], ◌∷◌, ◌++◌, length, is_some, Option, Some, None, Result, Ok, Err, refl, sym, ap, subst, ◌∙◌, if◌then◌else◌}
 use Rattle.std.proofs.lemmas.List.{append-nil}
 use Rattle.kinds.specs.Refusals.{foremost}
 use Rattle.kinds.specs.declared.refusal.Refusal.{Refusal}
@@ -10,7 +10,9 @@ use Rattle.entries.specs.declared.change.Change.TheVariants as change
 use Rattle.entries.specs.declared.entry.Entry.{Entry}
 use Rattle.inventory_answers.specs.declared.query.Query.{Query}
 use Rattle.inventory_answers.specs.declared.reply.Answer.{Answer}
+use Rattle.inventory_rows.specs.State.{Inv}
 use Rattle.space.specs.declared.aim.Aim.{Aim}
+use Rattle.space.specs.Placing.{walked}
 use Rattle.steps.specs.declared.asked.Asked.{Asked}
 use Rattle.steps.specs.declared.image.ImageKind.{ImageKind}
 use Rattle.steps.specs.declared.image.ImageKind.TheVariants as image
@@ -19,10 +21,11 @@ use Rattle.steps.specs.declared.image.ImageReply.TheVariants as reply
 use Rattle.steps.specs.Events.{Deed}
 use Rattle.steps.specs.Events.Deed.{OpenNew, OpenCopy, WritePiece, CopyPiece, Seal, Commit, DropTicket, ReadPiece, Ask, Image, Reuse, Force}
 use Rattle.machine.specs.Causes.{copying_refused, image_refused, seal_refused, write_refused}
-use Rattle.machine.specs.Fits.{ImageAfter, IsEnd, IsOpened, IsStoring, Joined, TicketsAfter, TicketsRefused, drops_image, is_log_fault, is_write_fault, picture_of}
-use Rattle.machine.specs.Machine.{BackupBegun, Becomes, Case, CheckpointBegun, CheckpointFails, Commits, Continues, CopiesPiece, Drops, DropsTicket, Forces, GoesOn, Images, OpensCopy, OpensNew, Places, Reads, Asks, Reuses, Seals, Stays, StopsShort, WritesPiece, BeginsBackup, BeginsCheckpoint, WroteMore, begun, ended, halting, image_file, in_progress, made, next_count, size_of, stamped, with_image, with_tickets}
+use Rattle.machine.specs.Fits.{ImageAfter, IsCopying, IsEnd, IsOpened, IsStoring, Joined, TicketsAfter, TicketsRefused, drops_image, is_log_fault, is_write_fault, picture_of}
+use Rattle.machine.specs.Laws.{GoesWhereAimed}
+use Rattle.machine.specs.Machine.{BackupBegun, Becomes, Case, CheckpointBegun, CheckpointFails, Commits, Continues, CopiesPiece, Drops, DropsTicket, Forces, GoesOn, Images, IsPlaced, OpensCopy, OpensNew, Places, Space, Reads, Asks, Reuses, Seals, Stays, StopsShort, WritesPiece, BeginsBackup, BeginsCheckpoint, WroteMore, begun, can_place_copy, ended, halting, image_file, in_progress, made, next_count, size_of, space, stamped, with_image, with_tickets}
 use Rattle.machine.specs.Pieces.{piece}
-use Rattle.machine.specs.State.{Core, Image as Picture, Machine, Ticket, backup, checkpoint, copying, inventory, object_of, own_image, own_tickets, sealing, sight, storing, taking, without}
+use Rattle.machine.specs.State.{Core, Image as Picture, Machine, Place, Ticket, backup, checkpoint, copying, inventory, object_of, own_image, own_tickets, sealing, sight, storing, taking, without}
 use Rattle.machine.proofs.Elsewhere.{append-none, none-held}
 use Rattle.machine.proofs.Mild.{mild-answered, mild-copy, mild-next, mild-seal, mild-write}
 use Rattle.machine.proofs.Pictures.{none-begun, others-begun, others-none, own-begun, own-is}
@@ -86,17 +89,27 @@ opens-new places actor number size prefer old new (Err e) h = elim h.2 as (λ _.
   | inr f ↦ absurd f.1
 ]
 
-opens-copy : (places : Places) (actor object : ℕ) (a : Aim) (avoid : ℕ) (old new : Machine) (answer : Result ℕ Refusal) → OpensCopy places actor object a avoid old new answer
+-- placing was asked, where it can be, and what it answered goes where it was aimed
+placed-where : (places : Places) → GoesWhereAimed places → (can : Bool) (v : Inv) (s : Space) (actor size : ℕ) (a : Aim) (avoid : ℕ) (placed : Result Place Refusal) (place : Place)
+    → IsPlaced can (places v s actor size a 0 avoid) placed → placed ≡ Ok place → Contains (walked a v.stores) place.pool
+placed-where places goes true v s actor size a avoid placed place h is = goes v s actor size a 0 avoid place (subst (places v s actor size a 0 avoid) is h)
+placed-where places goes false v s actor size a avoid placed place h is = let never : Err refusal.NotFound ≡ Ok place = sym h ∙ is in absurd cc
+
+opens-copy : (places : Places) → GoesWhereAimed places → (actor object : ℕ) (a : Aim) (avoid : ℕ) (old new : Machine) (answer : Result ℕ Refusal) → OpensCopy places actor object a avoid old new answer
     → Leads actor (OpenCopy object a avoid answer) old new
-opens-copy places actor object a avoid old new (Ok it) h =
+opens-copy places goes actor object a avoid old new (Ok it) h =
     let d = h.2.1 in
     let t : Ticket = record { number = old.core.next_ticket; actor = actor; purpose = copying object a; size = size_of object (inventory old.core); place = d.0; bytes = []; is_sealed = false } in
     subst (λ (c : Core). Moved actor old.contents (OpenCopy object a avoid (Ok it)) old.core c) (sym d.3.core)
     (only-tickets actor old.contents (OpenCopy object a avoid (Ok it)) old.core _ refl refl refl tt
-    (subst (λ (n : ℕ). IsOpened actor n (size_of object (inventory old.core)) (λ purpose. purpose ≡ copying object a) (own_tickets actor old.core.tickets) (own_tickets actor (old.core.tickets ++ t ∷ []))) (sym d.2)
-    (copying object a, d.0, refl, own-push actor old.core.tickets t refl))
+    (subst (λ (n : ℕ). IsOpened actor n (size_of object (inventory old.core)) (IsCopying object a (inventory old.core)) (own_tickets actor old.core.tickets) (own_tickets actor (old.core.tickets ++ t ∷ []))) (sym d.2) (
+      copying object a,
+      d.0,
+      (refl, placed-where places goes (can_place_copy object a (inventory old.core)) (inventory old.core) (space old.core) actor (size_of object (inventory old.core)) a avoid h.0 d.0 h.1 d.1),
+      own-push actor old.core.tickets t refl,
+    ))
     refl (λ other n. others-push other old.core.tickets t (λ (s : actor ≡ other). n (sym s))))
-opens-copy places actor object a avoid old new (Err e) h = elim h.2 as (λ _. Leads actor (OpenCopy object a avoid (Err e)) old new) [
+opens-copy places goes actor object a avoid old new (Err e) h = elim h.2 as (λ _. Leads actor (OpenCopy object a avoid (Err e)) old new) [
   | inl s ↦ stays-led actor (OpenCopy object a avoid (Err e)) old new s.1 tt refl refl
   | inr f ↦ absurd f.1
 ]
@@ -473,16 +486,16 @@ images actor (image.Since after) old new answer h =
 images actor image.Next old new answer h = continues actor old new answer h
 
 -- every step leads so
-pub moves : (places : Places) (actor : ℕ) (deed : Deed) (old new : Machine) → Case places actor deed old new → Moved actor old.contents deed old.core new.core
-moves places actor (OpenNew number size prefer answer) old new h = opens-new places actor number size prefer old new answer h
-moves places actor (OpenCopy object a avoid answer) old new h = opens-copy places actor object a avoid old new answer h
-moves places actor (WritePiece number bytes answer) old new h = writes actor number bytes old new answer h
-moves places actor (CopyPiece number answer) old new h = copies actor number old new answer h
-moves places actor (Seal number answer) old new h = seals actor number old new answer h
-moves places actor (Commit asked numbers answer) old new h = commits actor asked numbers old new answer h
-moves places actor (DropTicket number answer) old new h = drops actor number old new answer h
-moves places actor (ReadPiece object kept from offset wanted answer) old new h = reads actor object kept from offset wanted old new answer h
-moves places actor (Ask query answer) old new h = asks actor query old new answer h
-moves places actor (Image kind answer) old new h = images actor kind old new answer h
-moves places actor (Reuse file answer) old new h = reuses actor file old new answer h
-moves places actor (Force answer) old new h = forces actor old new answer h
+pub moves : (places : Places) → GoesWhereAimed places → (actor : ℕ) (deed : Deed) (old new : Machine) → Case places actor deed old new → Moved actor old.contents deed old.core new.core
+moves places goes actor (OpenNew number size prefer answer) old new h = opens-new places actor number size prefer old new answer h
+moves places goes actor (OpenCopy object a avoid answer) old new h = opens-copy places goes actor object a avoid old new answer h
+moves places goes actor (WritePiece number bytes answer) old new h = writes actor number bytes old new answer h
+moves places goes actor (CopyPiece number answer) old new h = copies actor number old new answer h
+moves places goes actor (Seal number answer) old new h = seals actor number old new answer h
+moves places goes actor (Commit asked numbers answer) old new h = commits actor asked numbers old new answer h
+moves places goes actor (DropTicket number answer) old new h = drops actor number old new answer h
+moves places goes actor (ReadPiece object kept from offset wanted answer) old new h = reads actor object kept from offset wanted old new answer h
+moves places goes actor (Ask query answer) old new h = asks actor query old new answer h
+moves places goes actor (Image kind answer) old new h = images actor kind old new answer h
+moves places goes actor (Reuse file answer) old new h = reuses actor file old new answer h
+moves places goes actor (Force answer) old new h = forces actor old new answer h

@@ -1,5 +1,5 @@
 -- What an actor did fits a history: each of its steps was made on the database of its number, and what joined there is its own.
-use Rattle.std.specs.Prelude.{◌≡◌, ◌⊎◌, ℕ, ◌+◌, ◌-◌, ◌≤◌, ◌==◌, ◌||◌, if◌then◌else◌, Bool, true, false, List, [], ◌∷◌, ◌++◌, length, take, Option, None, Some, Ok, Err}
+use Rattle.std.specs.Prelude.{◌≡◌, ◌⊎◌, ℕ, ◌+◌, ◌-◌, ◌≤◌, ◌==◌, ◌||◌, if◌then◌else◌, Bool, true, false, Contains, List, [], ◌∷◌, ◌++◌, length, take, Option, None, Some, Ok, Err}
 use Rattle.std.specs.List.{slice_get}
 use Rattle.kinds.specs.declared.refusal.Refusal.{Refusal}
 use Rattle.kinds.specs.Refusals.{number_of}
@@ -8,6 +8,8 @@ use Rattle.entries.specs.declared.change.Change.TheVariants as change
 use Rattle.entries.specs.declared.entry.Entry.{Entry}
 use Rattle.inventory_rows.specs.State.{Inv}
 use Rattle.inventory_rules.specs.Run.{journal_of}
+use Rattle.space.specs.declared.aim.Aim.{Aim}
+use Rattle.space.specs.Placing.{walked}
 use Rattle.steps.specs.declared.asked.Asked.{Asked}
 use Rattle.steps.specs.declared.image.ImageKind.{ImageKind}
 use Rattle.steps.specs.declared.image.ImageKind.TheVariants as image
@@ -126,13 +128,17 @@ number_after n (Some c) = n + 1
 -- ---- what the actor has afterwards
 
 -- one ticket more
-abbrev pub IsOpened : (actor number size : ℕ) → (Purpose → Type 0) → List Ticket → List Ticket → Type 0
+abbrev pub IsOpened : (actor number size : ℕ) → (Purpose → Place → Type 0) → List Ticket → List Ticket → Type 0
 IsOpened actor number size Is old new =
-    (purpose : Purpose) × (place : Place) × Is purpose
+    (purpose : Purpose) × (place : Place) × Is purpose place
     × (new ≡ old ++ (record { number = number; actor = actor; purpose = purpose; size = size; place = place; bytes = []; is_sealed = false }) ∷ [])
 
-abbrev pub IsStoring : Purpose → Type 0
-IsStoring purpose = (object : ℕ) × (purpose ≡ storing object)
+abbrev pub IsStoring : Purpose → Place → Type 0
+IsStoring purpose place = (object : ℕ) × (purpose ≡ storing object)
+
+-- for a copy of the object with this aim, in a pool that the aim walks
+abbrev pub IsCopying : (object : ℕ) → Aim → Inv → Purpose → Place → Type 0
+IsCopying object aim v purpose place = (purpose ≡ copying object aim) × Contains (walked aim v.stores) place.pool
 
 -- behind a refusal a ticket to which writing failed is gone, and nothing else changed
 abbrev pub TicketsRefused : (actor number : ℕ) → Refusal → List Ticket → List Ticket → Type 0
@@ -144,7 +150,7 @@ TicketsDoubt actor numbers e old new = (new ≡ old) ⊎ ((is_log_fault e ≡ tr
 
 abbrev pub TicketsAfter : (actor : ℕ) → (contents : ℕ → List ℕ) → Sight → Deed → List Ticket → Type 0
 TicketsAfter actor contents s (OpenNew pool size prefer (Ok number)) new = IsOpened actor number size IsStoring s.tickets new
-TicketsAfter actor contents s (OpenCopy object aim avoid (Ok number)) new = IsOpened actor number (size_of object s.inventory) (λ purpose. purpose ≡ copying object aim) s.tickets new
+TicketsAfter actor contents s (OpenCopy object aim avoid (Ok number)) new = IsOpened actor number (size_of object s.inventory) (IsCopying object aim s.inventory) s.tickets new
 TicketsAfter actor contents s (WritePiece number bytes (Ok count)) new = new ≡ taking actor number bytes s.tickets
 TicketsAfter actor contents s (WritePiece number bytes (Err e)) new = TicketsRefused actor number e s.tickets new
 TicketsAfter actor contents s (CopyPiece number (Ok count)) new =

@@ -1,22 +1,17 @@
 -- When a piece of an object can't be read.
-use Rattle.std.specs.Prelude.{◌≡◌, ◌⊎◌, ℕ, ◌+◌, ◌-◌, ◌==◌, min, nat_lt, false, ◌&&◌, List, [], ◌∷◌, ◌++◌, filter, take, drop, Contains, if◌then◌else◌}
+use Rattle.std.specs.Prelude.{◌≡◌, ◌⊎◌, ℕ, ◌-◌, ◌==◌, min, false, List, filter, take, drop, Contains, if◌then◌else◌}
 use Rattle.std.specs.List.{AllByRecursion}
 use Rattle.store_api.specs.Cause.{Rose}
 use Rattle.kinds.specs.declared.segment.Segment.{Segment}
 use Rattle.inventory_rows.specs.version_groups.declared.copies.CopyRow.{CopyRow}
 use Rattle.inventory_rows.specs.version_groups.declared.versions.Version.{Version}
 use Rattle.inventory_rows.specs.State.{Inv}
+use Rattle.contents.specs.Reading.{segments_in}
 use Rattle.placing.specs.Placing.{is_readable}
 
 -- a file's count of faults rose, from the one to the other
 abbrev pub RoseAt : (before after : ℕ → ℕ) → ℕ → Type 0
 RoseAt before after file = Rose (before file) (after file)
-
--- the segments, the first of which begins at this byte of the object, that have bytes of the piece: `count` bytes from `offset` on
-abbrev pub segments_in : (start offset count : ℕ) → List Segment → List Segment
-segments_in start offset count [] = []
-segments_in start offset count (s ∷ segments) =
-    (if nat_lt start (offset + count) && nat_lt offset (start + s.len) then s ∷ [] else []) ++ segments_in (start + s.len) offset count segments
 
 -- the copies that are asked: that of one pool, or with 0 all
 abbrev pub asked_copies : ℕ → List CopyRow → List CopyRow

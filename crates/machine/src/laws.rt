@@ -40,7 +40,7 @@ pub fn what_joins_is_legal()
 
 /// Where objects go, whatever decides it.
 pub trait Placing {
-    ghost use Rattle.machine.specs.Laws.{RefusesElsewhere};
+    ghost use Rattle.machine.specs.Laws.{GoesWhereAimed, RefusesElsewhere};
     ghost use Rattle.machine.specs.Machine.{Places};
 
     /// Where an object goes, or why it goes nowhere.
@@ -48,6 +48,9 @@ pub trait Placing {
 
     /// It is refused for want of room, for room that others hold, and for numbers at their bounds.
     ghost refuses: { RefusesElsewhere places };
+
+    /// It goes into one of the pools that its aim walks.
+    ghost goes: { GoesWhereAimed places };
 }
 
 /// What the machine answers an actor is what that actor can say of it: a step of the machine is answered as the database, the actor's own tickets and its own image

@@ -1,5 +1,5 @@
 -- What a call of one who makes steps did.
-use Rattle.std.specs.Prelude.{◌≡◌, ◌⊎◌, ℕ, ◌+◌, ◌-◌, ◌^◌, nat_lt, ◌&&◌, Bool, true, false, if◌then◌else◌, List, [], ◌∷◌, take, Some, Result, Ok, Err}
+use Rattle.std.specs.Prelude.{◌≡◌, ◌⊎◌, ℕ, ◌+◌, ◌-◌, ◌^◌, nat_lt, ◌&&◌, Bool, true, false, if◌then◌else◌, List, [], ◌∷◌, ◌++◌, take, Some, Result, Ok, Err}
 use Rattle.std.specs.Option.{option_map_or}
 use Rattle.kinds.specs.declared.refusal.Holder.{Holder}
 use Rattle.kinds.specs.declared.refusal.Holder.TheVariants as holder
@@ -8,9 +8,13 @@ use Rattle.kinds.specs.declared.refusal.Refusal.TheVariants as refused
 use Rattle.steps.specs.Events.{Event, event, Deed, refusal, has_number, is_listed}
 use Rattle.steps.specs.Events.Deed.{Force}
 
--- The step was made, its reply is one that it may have, and it is the one event. Or memory was wanted before it, and nothing was done.
+-- The step was made: it is the one event, and its reply is one that it may have.
+abbrev pub MakesStep : {S : Type 0} → (did : S → List Event → S → Type 0) → S → S → Deed → Type 0
+MakesStep did old new deed = (n : ℕ) × did old (event n deed ∷ []) new × (is_listed deed ≡ true)
+
+-- The step was made; or memory was wanted before it, and nothing was done.
 abbrev pub Does : {S : Type 0} → (did : S → List Event → S → Type 0) → S → S → Deed → Type 0
-Does did old new deed = ((n : ℕ) × did old (event n deed ∷ []) new × (is_listed deed ≡ true)) ⊎ ((refusal deed ≡ Some refused.Memory) × did old [] new)
+Does did old new deed = MakesStep did old new deed ⊎ ((refusal deed ≡ Some refused.Memory) × did old [] new)
 
 -- the bytes that were read, of a buffer behind which others may stand
 abbrev pub piece_of : Result ℕ Refusal → List ℕ → Result (List ℕ) Refusal
@@ -32,6 +36,20 @@ Waits did old new (holder.Image actor) result = did old [] new × ((result ≡ O
 -- a call made these events, and no others, and Q holds of them
 abbrev pub Call : {S : Type 0} → (did : S → List Event → S → Type 0) → S → S → (List Event → Type 0) → Type 0
 Call did old new Q = (events : List Event) × did old events new × Q events
+
+-- ---- steps one after the other
+
+-- the one event is this step, with a reply that it may have
+abbrev pub IsStep : Deed → List Event → Type 0
+IsStep deed events = (n : ℕ) × (events ≡ event n deed ∷ []) × (is_listed deed ≡ true)
+
+-- the step was made; or memory was wanted before it, and there is none
+abbrev pub Made : Deed → List Event → Type 0
+Made deed events = IsStep deed events ⊎ ((refusal deed ≡ Some refused.Memory) × (events ≡ []))
+
+-- first these steps, and then those
+abbrev pub Then : (First Next : List Event → Type 0) → List Event → Type 0
+Then First Next events = (xs : List Event) × (ys : List Event) × (events ≡ xs ++ ys) × First xs × Next ys
 
 -- ---- refused steps
 

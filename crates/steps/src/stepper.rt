@@ -1,6 +1,6 @@
 //! The trait of whoever makes steps.
 ghost use Rattle.std.specs.Prelude.{◌≡◌, ◌≤◌, ◌^◌, ◌++◌, ℕ, List, [], length, IfOk};
-ghost use Rattle.steps.specs.Calls.{Does, Waits, piece_of, risen};
+ghost use Rattle.steps.specs.Calls.{Does, MakesStep, Waits, piece_of, risen};
 ghost use Rattle.steps.specs.Events.{Event};
 ghost use Rattle.steps.specs.Events.Deed.{OpenNew, OpenCopy, WritePiece, CopyPiece, Seal, Commit, DropTicket, ReadPiece, Ask, Image, Reuse, Force};
 
@@ -11,7 +11,8 @@ use kinds::{Digest, Holder, Refusal};
 use space::Aim;
 
 /// One actor, a client's session or a process of the server, who makes steps. Each method but the first two and `wait` is one step. Where memory is wanted
-/// before a step, nothing is done and the answer is `Memory`. Each step answers `RunFull` in a run that is full and else `LogFault` in a hall that a fault has halted;
+/// before a step, nothing is done and the answer is `Memory`; so it may be before each step but `drop_ticket`, also where the step itself takes none, since
+/// who keeps what was done takes memory for it. Each step answers `RunFull` in a run that is full and else `LogFault` in a hall that a fault has halted;
 /// every other refusal of a step stands in its table (specs/Events). Every step but `ask` and `read_piece` speaks of the caller's own tickets.
 pub trait Stepper {
     /// These events, in this order and no others of this actor, led from the one to the other.
@@ -59,9 +60,10 @@ pub trait Stepper {
         requires { length tickets.now ≤ 256 }
         ensures { Does did self.old self.new (Commit asked.now tickets.now result) };
 
-    /// Gives the ticket's space back.
+    /// Gives the ticket's space back. This step is always made and wants no memory, so that whoever makes steps can end with no ticket left: who keeps what was
+    /// done takes the memory for a drop when the ticket is opened.
     fn drop_ticket(&mut self, ticket: u64) -> Result<(), Refusal>
-        ensures { Does did self.old self.new (DropTicket ticket result) };
+        ensures { MakesStep did self.old self.new (DropTicket ticket result) };
 
     /// Reads bytes of an object from the offset on, from its copy in the pool `from`, or with 0 from any, and answers how many: the buffer's length, at most
     /// 65,536, or what the object has from there on. `kept` is the SHA-256 that the caller takes the object to have.
