@@ -1,0 +1,6 @@
+//! Copy pools: further copies of what primary pools hold.
+#![tactic(auto)]
+
+mod backup;
+
+pub use backup::backup_pool;

@@ -1,0 +1,10 @@
+pub mod Carrying
+pub mod Committed
+pub mod Ending
+pub mod Entries
+pub mod Outcomes
+pub mod Passing
+pub mod Risen
+pub mod Running
+pub mod Told
+pub mod Whole

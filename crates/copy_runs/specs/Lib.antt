@@ -1,0 +1,4 @@
+pub mod Ends
+pub mod Processes
+pub mod Runs
+pub mod Wanting
