@@ -1,0 +1,3 @@
+pub mod Ascend
+pub mod Parted
+pub mod Walk
