@@ -1,0 +1,71 @@
+-- What a run that changes files of the vault alone leaves of copies and of tickets.
+use Rattle.std.proofs.Common.{◌≡◌, ℕ, ◌≤◌, suc, true, List, [], ◌∷◌, ◌++◌, take, drop, sym, ap, subst, arith}
+use Rattle.std.specs.List.{AllByRecursion, flat_map}
+use Rattle.kinds.specs.declared.segment.Segment.{Segment}
+use Rattle.store_api.specs.Disk.{History, now, reads}
+use Rattle.store_api.specs.Runs.{EachImage, GoesOn, Stands}
+use Rattle.store_api.proofs.Pieces.{firm_beside}
+use Rattle.store_api.proofs.Runs.{goes_standing}
+use Rattle.volume_frames.specs.Frames.{frame_header}
+use Rattle.contents.specs.Contents.{HasAll, HaveAll, InImage, InStore, TookHave}
+use Rattle.contents.proofs.Kept.{beside, beside_since}
+use Rattle.contents.proofs.Segments.{Carries, EachSegment, each_weaker, frames_carried, on_volumes}
+use Rattle.inventory_laws.proofs.Lists.{each_also}
+use Rattle.inventory_rows.specs.Search.{versions}
+use Rattle.inventory_rows.specs.State.{Inv}
+use Rattle.inventory_rows.specs.version_groups.declared.copies.CopyRow.{CopyRow}
+use Rattle.inventory_rows.specs.version_groups.declared.versions.Version.{Version}
+use Rattle.inventory_rules.specs.Valid.{is_valid}
+use Rattle.vault.specs.Files.{IsOurs}
+use Rattle.machine.specs.State.{Ticket, object_of}
+use Rattle.hall.specs.Good.{HasTaken}
+use Rattle.hall.proofs.Covering.{all_each}
+use Rattle.hall.proofs.Databases.{each_covered}
+
+module _ (h new : History) (goes : GoesOn IsOurs h new) where
+  not_ours : (file : ℕ) → 4 ≤ file → ¬ IsOurs file
+  not_ours file from ours = omega (arith, from, ours)
+
+  -- ---- copies
+
+  elsewhere : (list : List Inv) → AllByRecursion (λ v. is_valid v ≡ true) list → EachSegment (λ s. ¬ IsOurs s.file) (flat_map versions list)
+  elsewhere list valid =
+      each_covered (λ (w : Version). AllByRecursion (λ (c : CopyRow). AllByRecursion (λ s. ¬ IsOurs s.file) c.segments) w.copies) list
+      (each_also (λ v. is_valid v ≡ true) (λ v. EachSegment (λ s. ¬ IsOurs s.file) (versions v)) list
+      (λ v one. each_weaker (λ s. 4 ≤ s.file) (λ s. ¬ IsOurs s.file) (λ s from. not_ours s.file from) (versions v) (on_volumes v one)) valid)
+
+  pub covered_beside : (contents : ℕ → List ℕ) (list : List Inv) → AllByRecursion (λ v. is_valid v ≡ true) list → HaveAll (InStore h) contents (flat_map versions list)
+      → HaveAll (InStore new) contents (flat_map versions list)
+  covered_beside contents list valid kept = beside IsOurs contents h new (flat_map versions list) (elsewhere list valid) goes kept
+
+  pub covered_since : (contents : ℕ → List ℕ) (list : List Inv) → AllByRecursion (λ v. is_valid v ≡ true) list → HaveAll (InStore h) contents (flat_map versions list)
+      → EachImage (now h) new (λ image. AllByRecursion (HasAll (InImage image) contents) list)
+  covered_since contents list valid kept moment image from to at =
+      all_each (InImage image) contents list (beside_since IsOurs contents h new (flat_map versions list) (elsewhere list valid) goes kept moment image from to at)
+
+  -- ---- tickets
+
+  reads_same : (file : ℕ) → 4 ≤ file → reads new file ≡ reads h file
+  reads_same file from = ap (λ s. s.bytes) (goes_standing IsOurs h new file (not_ours file from) goes)
+
+  took_beside : (object number : ℕ) (segments : List Segment) (bytes : List ℕ) → AllByRecursion (λ s. 4 ≤ s.file) segments
+      → TookHave (InImage (reads h)) object number segments bytes → TookHave (InImage (reads new)) object number segments bytes
+  took_beside object number [] bytes from t = t
+  took_beside object number (s ∷ segments) [] from t = tt
+  took_beside object number (s ∷ segments) (byte ∷ bytes) from t = (
+    subst (λ (b : List ℕ). Stands b s.offset (frame_header object number s.len ++ take s.len (byte ∷ bytes))) (sym (reads_same s.file from.0)) t.0,
+    took_beside object (suc number) segments (drop s.len (byte ∷ bytes)) from.1 t.1,
+  )
+
+  taken_beside : (t : Ticket) → AllByRecursion (λ s. 4 ≤ s.file) t.place.segments → HasTaken h t → HasTaken new t
+  taken_beside t from taken = record {
+    stands = took_beside (object_of t.purpose) 0 t.place.segments t.bytes from taken.stands;
+    firm = λ is_sealed. frames_carried (InStore h) (InStore new) (object_of t.purpose) 0 t.place.segments t.bytes
+        (each_also (λ s. 4 ≤ s.file) (Carries (InStore h) (InStore new)) t.place.segments (λ s one piece long f. firm_beside IsOurs h new s.file s.offset piece (not_ours s.file one) goes f) from)
+        (taken.firm is_sealed);
+  }
+
+  pub all_taken_beside : (tickets : List Ticket) → AllByRecursion (λ t. AllByRecursion (λ s. 4 ≤ s.file) t.place.segments) tickets → AllByRecursion (HasTaken h) tickets
+      → AllByRecursion (HasTaken new) tickets
+  all_taken_beside [] from taken = tt
+  all_taken_beside (t ∷ tickets) from taken = (taken_beside t from.0 taken.0, all_taken_beside tickets from.1 taken.1)

@@ -1,0 +1,9 @@
+pub mod Beside
+pub mod Covered
+pub mod Good
+pub mod Held
+pub mod Opening
+pub mod Placed
+pub mod Plays
+pub mod Seats
+pub mod Steps

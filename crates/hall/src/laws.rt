@@ -1,0 +1,65 @@
+// What the definitions mean, as laws. Each stands on a function that does nothing.
+ghost use Rattle.std.specs.Prelude.{◌≡◌, ◌+◌, ◌≤◌, ℕ, List, ◌∷◌, ◌++◌, None, Some, length};
+ghost use Rattle.std.specs.List.{AllByRecursion};
+ghost use Rattle.kinds.specs.declared.segment.Segment.{Segment};
+ghost use Rattle.store_api.specs.Disk.{History, now, ImageAt};
+ghost use Rattle.store_api.specs.Runs.{WroteWithin};
+ghost use Rattle.contents.specs.Contents.{HaveAll, Holds, InStore, IsKept as IsKeptBy};
+ghost use Rattle.steps.specs.Events.{Deed, event};
+ghost use Rattle.steps.specs.declared.step.Reply.{Reply};
+ghost use Rattle.machine.specs.Machine.{Made};
+ghost use Rattle.machine.specs.State.{Core, Machine, Ticket, inventory};
+ghost use Rattle.hall.specs.declared.turn.Turn.{Turn};
+ghost use Rattle.hall.specs.Beside.{IsBeside, IsKeptBut};
+ghost use Rattle.hall.specs.Covered.{NumbersAreDrawn, SpaceIsClear, covered, left_open};
+ghost use Rattle.hall.specs.Good.{Is, IsKept, WasSound};
+ghost use Rattle.hall.specs.Held.{Hall, Held};
+ghost use Rattle.hall.specs.Placed.{hall_places};
+ghost use Rattle.hall.specs.Plays.{Plays, RunsTurns};
+ghost use Rattle.hall.specs.Steps.{Goes, IsTrusted, Steps};
+
+use inventory::Inventory;
+use store_api::Store;
+use vault::laws::pending;
+
+/// What is kept of the covered copies is kept of each database that a stop may bring back.
+pub fn covered_is_kept()
+    ensures { (contents : ℕ → List ℕ) (h : History) (c : Core) → HaveAll (InStore h) contents (covered c) → AllByRecursion (IsKeptBy contents h) (left_open c) }
+{}
+
+/// Each image that a stop right now may leave of a hall that keeps what it should holds every copy of every object of each of these databases.
+pub fn images_hold_what_is_covered()
+    ensures { (m : Machine) (held : Held) (h : History) (image : ℕ → List ℕ) → IsKept m held h → ImageAt h (now h) image → AllByRecursion (Holds m.contents image) (left_open m.core) }
+{}
+
+/// Over a store that tells its bytes and was sound when the hall was opened, a step of the hall is a step of the machine with the very bytes that its objects have, those that a read gives
+/// among them; and behind each step the store is still one that was sound then. So of such halls each run of steps is a run of the machine.
+pub fn steps_are_exact<S: Store>()
+    ensures exact { (actor : ℕ) (deed : Deed) (old new : Hall S) (m : Machine) → IsTrusted (S.told old.store) old.held → Is S.told S.moment_of S.faults_of old m → Steps S.told S.moment_of S.faults_of actor deed old new
+        → (next : Machine) × Made hall_places actor (event (inventory m.core).number deed) m next × Is S.told S.moment_of S.faults_of new next }
+    ensures trusted { (old new : Hall S) (m : Machine) → IsTrusted (S.told old.store) old.held → Is S.told S.moment_of S.faults_of old m → Goes S.told old new → IsTrusted (S.told new.store) new.held }
+{}
+
+/// Over such a store a hall keeps what no stop may take from it: at every moment since the opening each image recovers to the database behind a transaction that is at least the last with a
+/// stamp by then, and holds every copy of every object of it.
+pub fn trusted_halls_are_safe<S: Store>()
+    ensures { (hall : Hall S) (m : Machine) (h : History) → S.told hall.store ≡ Some h → Is S.told S.moment_of S.faults_of hall m → WasSound hall.held.base hall.held.opened h → IsKept m hall.held h }
+{}
+
+/// Over a sound store the turns of whatever actors, with stops of the machine between them and an opening behind each, are a run of the machine in which every byte is exact; a stop brings back
+/// the database behind a transaction that is at least the last with a stamp. Behind them the store is still one that was sound at the last opening.
+pub fn turns_are_exact<S: Store>()
+    ensures { (turns : List Turn) (replies : List Reply) (old new : Hall S) (m : Machine) → IsTrusted (S.told old.store) old.held → Is S.told S.moment_of S.faults_of old m
+        → Plays S.told S.moment_of S.faults_of turns replies old new → (last : Machine) × RunsTurns turns replies m last × Is S.told S.moment_of S.faults_of new last × IsTrusted (S.told new.store) new.held }
+{}
+
+/// A ticket's frame is written, in part or whole, whether the call fails or not: all is kept that no stop may take from the hall, and what every other ticket took. A segment of a ticket is
+/// one in whose place that may be done: it lies beside every copy of every database that a stop may bring back, and beside the other tickets'.
+pub fn frame_is_written_beside()
+    ensures written { (m : Machine) (held : Held) (h new : History) (pool number : ℕ) (s : Segment) → m.core.fault ≡ None → length m.core.stamps ≤ length m.core.journal → IsKept m held h
+        → IsBeside m.core pool number s → WroteWithin s.file s.offset (32 + s.len) h new → IsKeptBut number m held new }
+    ensures beside { (c : Core) (front back : List Ticket) (t : Ticket) (ahead beyond : List Segment) (s : Segment) → c.tickets ≡ front ++ (t ∷ back) → t.place.segments ≡ ahead ++ (s ∷ beyond)
+        → SpaceIsClear c → NumbersAreDrawn c → IsBeside c t.place.pool t.number s }
+{
+    pending::<Inventory>();
+}

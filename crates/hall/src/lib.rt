@@ -1,0 +1,15 @@
+//! The hall: what every actor's steps are made on. Here stand what it holds, what is kept of it at every moment, and what its steps make of it, as definitions, and the laws that
+//! they keep.
+#![tactic(auto)]
+
+mod hall;
+pub mod laws;
+mod parts;
+mod seat;
+mod seated;
+mod turn;
+
+pub use hall::{Closed, Hall};
+pub use seat::{Hashed, Purpose, Seat};
+pub use seated::Seated;
+pub use turn::Turn;
