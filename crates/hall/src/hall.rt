@@ -100,7 +100,8 @@ impl<S: Store> Hall<S> {
         self.parts.vault.generation()
     }
 
-    /// Gives the ticket's space back. Refused with `NotFound` where the actor has no such ticket.
+    /// Gives the ticket's space back. Refused with `RunFull` where the store's moment is 2^62 - 2^24 or a later one, with `LogFault` where a fault of the log has halted the hall, and with
+    /// `NotFound` where the actor has no such ticket. It takes no memory and makes no device call.
     pub fn drop_ticket(&mut self, actor: u32, ticket: u64) -> Result<(), Refusal>
         ensures step { Steps S.told S.moment_of S.faults_of actor (DropTicket ticket result) self.old self.new }
         ensures listed { is_listed (DropTicket ticket result) ≡ true }
@@ -117,7 +118,8 @@ impl<S: Store> Hall<S> {
         Ok(())
     }
 
-    /// Answers a query: `NotFound` exactly where what it names isn't there.
+    /// Answers a query: `NotFound` exactly where what it names isn't there. Else it is refused with `RunFull` and `LogFault`, as any step of a full run or of a halted hall, and with `Memory`.
+    /// It makes no device call.
     pub fn ask(&mut self, actor: u32, query: &Query) -> Result<Answer, Refusal>
         ensures step { Steps S.told S.moment_of S.faults_of actor (Ask query.now result) self.old self.new }
         ensures listed { is_listed (Ask query.now result) ≡ true }
