@@ -5,6 +5,7 @@ pub mod Found
 pub mod Growing
 pub mod Kept
 pub mod Looking
+pub mod Lying
 pub mod Parts
 pub mod Piecing
 pub mod Segments

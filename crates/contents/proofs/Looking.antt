@@ -1,5 +1,6 @@
 -- How the bytes of a copy come into a buffer, segment by segment.
 use Rattle.std.proofs.Common.{◌≡◌, inl, inr, ℕ, suc, ◌+◌, ◌<◌, ◌≤◌, eqb, true, false, ◌||◌, List, [], ◌∷◌, ◌++◌, length, get_or, take, drop, Option, Result, Ok, Err, refl, sym, ap, subst, ◌∙◌, arith}
+use Rattle.std.specs.Prelude.{IfErr}
 use Rattle.std.proofs.Math.Seq.{drop-cons, take-add}
 use Rattle.std.proofs.lemmas.List.{append-nil, drop-drop, drop_all, length-take-le, length-drop, take-append-drop, take_all}
 use Rattle.kinds.specs.declared.segment.Segment.{Segment}
@@ -12,7 +13,7 @@ use Rattle.store_api.specs.Told.{Told}
 use Rattle.volume_frames.proofs.Copies.{length-first_header, length-frame_header}
 use Rattle.volume_frames.specs.Frames.{bytes_len, first_header, frame_header}
 use Rattle.contents.specs.Contents.{first_frame, frame, FramesHave, HasFrame, InImage}
-use Rattle.contents.specs.Reading.{MayLack, ReadData, ReadCopy, lies_in_file}
+use Rattle.contents.specs.Reading.{Lacks, MayLack, ReadData, ReadCopy, lies_in_file}
 use Rattle.contents.specs.declared.frames.Unread.{Unread}
 use Rattle.contents.specs.declared.frames.Unread.TheVariants.{Fault, RunFull}
 
@@ -108,6 +109,22 @@ lacks_from some all before mid after moment RunFull among none h = h
 pub lacks_since : (all : List Segment) (s : Segment) (rest : List Segment) (before mid after : ℕ → ℕ) (moment : ℕ) (unread : Unread) → ((file : ℕ) → lies_in_file (s ∷ rest) file ≡ true → lies_in_file all file ≡ true) → NoneFell before mid
     → MayLack (s ∷ []) mid after moment unread → MayLack all before after moment unread
 lacks_since all s rest before mid after moment unread among none h = lacks_from (s ∷ []) all before mid after moment unread (λ file one. among file (one_file s file rest one)) none h
+
+-- what is lacking where there was time
+lacking : (segments : List Segment) (before after : ℕ → ℕ) (moment : ℕ) (unread : Unread) → Lacks segments before after unread → MayLack segments before after moment unread
+lacking segments before after moment (Fault file) h = h
+lacking segments before after moment RunFull h = absurd h
+
+pub may_lack : {T : Type 0} (segments : List Segment) (before after : ℕ → ℕ) (moment : ℕ) (result : Result T Unread) → IfErr result (Lacks segments before after)
+    → IfErr result (MayLack segments before after moment)
+may_lack segments before after moment (Ok x) h = tt
+may_lack segments before after moment (Err unread) h = lacking segments before after moment unread h
+
+-- the same of more segments
+lacks_more : (some all : List Segment) (before mid after : ℕ → ℕ) (unread : Unread) → ((file : ℕ) → lies_in_file some file ≡ true → lies_in_file all file ≡ true) → NoneFell before mid
+    → Lacks some mid after unread → Lacks all before after unread
+lacks_more some all before mid after (Fault file) among none h = (among file h.0, rose_since (before file) (mid file) (after file) (none file) h.1)
+lacks_more some all before mid after RunFull among none h = absurd h
 
 pub behind_one : (s : Segment) (file : ℕ) (rest : List Segment) → lies_in_file rest file ≡ true → lies_in_file (s ∷ rest) file ≡ true
 behind_one s file rest h = elim (eqb s.file file) as (λ b. (b || lies_in_file rest file) ≡ true) [ true ↦ refl | false ↦ h ]

@@ -97,7 +97,7 @@ copies_pass p R f object (c ∷ cs) h =
     let more : Bool = list_all p (map (λ (c : CopyRow). (object, c)) cs) in
     (f (object, c) (first (p (object, c)) more h), copies_pass p R f object cs (rest (p (object, c)) more h))
 
-versions_pass : (p : ℕ × CopyRow → Bool) (R : Segment → Type 0) → ((e : ℕ × CopyRow) → p e ≡ true → AllByRecursion R e.1.segments) → (list : List Version)
+pub versions_pass : (p : ℕ × CopyRow → Bool) (R : Segment → Type 0) → ((e : ℕ × CopyRow) → p e ≡ true → AllByRecursion R e.1.segments) → (list : List Version)
     → list_all p (flat_map with_object list) ≡ true → EachSegment R list
 versions_pass p R f [] h = tt
 versions_pass p R f (w ∷ list) h =

@@ -30,6 +30,11 @@ abbrev pub MayLack : List Segment → (before after : ℕ → ℕ) → (moment :
 MayLack segments before after moment (Fault file) = (lies_in_file segments file ≡ true) × Rose (before file) (after file)
 MayLack segments before after moment RunFull = 2 ^ 62 - 2 ^ 24 ≤ moment
 
+-- Why segments weren't read where there was time for it: the count of faults of a file in which one of them lies rose.
+abbrev pub Lacks : List Segment → (before after : ℕ → ℕ) → Unread → Type 0
+Lacks segments before after (Fault file) = (lies_in_file segments file ≡ true) × Rose (before file) (after file)
+Lacks segments before after RunFull = ⊥
+
 -- A part of a segment's data was read, which changed nothing. On Ok the buffer has what stands behind the header's place, from this byte
 -- of the data on, where that is as long.
 pub record ReadData {T : Type 0} (segment : Segment) (from : ℕ) (buffer : List ℕ) (result : Result T Unread) (old new : History) : Type 0 where

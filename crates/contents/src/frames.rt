@@ -5,7 +5,7 @@ ghost use Rattle.store_api.specs.Cause.{NoneFell};
 ghost use Rattle.store_api.specs.Told.{Told};
 ghost use Rattle.volume_frames.specs.Frames.{bytes_len};
 ghost use Rattle.contents.specs.Contents.{frame};
-ghost use Rattle.contents.specs.Reading.{MayLack, ReadData, ReadCopy, ReadOver, ReadPiece, filled, segments_in};
+ghost use Rattle.contents.specs.Reading.{Lacks, MayLack, ReadData, ReadCopy, ReadOver, ReadPiece, filled, segments_in};
 
 use kinds::Segment;
 use std::alloc::{AllocError, Global};
@@ -42,18 +42,15 @@ fn read_data<S: Store>(
     from: u64,
     into: &mut [u8],
 ) -> Result<(), Unread>
-    requires { segment.now.offset + 32 + from < 2 ^ 64 }
+    requires place { segment.now.offset + 32 + from < 2 ^ 64 }
+    requires time { S.moment_of store.old < 2 ^ 62 }
     ensures told { Told (S.told store.old) (S.told store.new) (ReadData segment.now from into.new result) }
     ensures len { length into.new ≡ length into.old }
     ensures brief { S.moment_of store.new ≤ S.moment_of store.old + 1 }
-    ensures time { S.moment_of store.new ≤ max (S.moment_of store.old) (2 ^ 62 - 2 ^ 24) }
     ensures later { S.moment_of store.old ≤ S.moment_of store.new }
     ensures counts { NoneFell (S.faults_of store.old) (S.faults_of store.new) }
-    ensures unread { IfErr result (MayLack (segment.now ∷ []) (S.faults_of store.old) (S.faults_of store.new) (S.moment_of store.new)) }
+    ensures unread { IfErr result (Lacks (segment.now ∷ []) (S.faults_of store.old) (S.faults_of store.new)) }
 {
-    if store.moment() >= FULL {
-        return Err(Unread::RunFull);
-    }
     match read_within(store, segment.file, data_place(segment) + from, into) {
         Ok(_) => Ok(()),
         Err(_) => Err(Unread::Fault(segment.file)),
@@ -61,6 +58,7 @@ fn read_data<S: Store>(
 }
 
 /// Reads the data of a segment into a part of the buffer. What is before that part stays.
+#[tactic(auto, using(crate::proofs::Looking::may_lack))]
 fn read_part<S: Store>(
     store: &mut S,
     segment: &Segment,
@@ -77,6 +75,9 @@ fn read_part<S: Store>(
     ensures counts { NoneFell (S.faults_of store.old) (S.faults_of store.new) }
     ensures unread { IfErr result (MayLack (segment.now ∷ []) (S.faults_of store.old) (S.faults_of store.new) (S.moment_of store.new)) }
 {
+    if store.moment() >= FULL {
+        return Err(Unread::RunFull);
+    }
     let end = at + segment.len as usize;
     read_data(store, segment, 0, &mut into[at..end])
 }
@@ -126,14 +127,14 @@ fn read_range<S: Store>(
 ) -> Result<(), Unread>
     requires place { segment.now.offset + 32 + from < 2 ^ 64 }
     requires room { at + count ≤ length into.old }
+    requires time { S.moment_of store.old < 2 ^ 62 }
     ensures told { Told (S.told store.old) (S.told store.new) (ReadData segment.now from (take count (drop at into.new)) result) }
     ensures before { take at into.new ≡ take at into.old }
     ensures len { length into.new ≡ length into.old }
     ensures brief { S.moment_of store.new ≤ S.moment_of store.old + 1 }
-    ensures time { S.moment_of store.new ≤ max (S.moment_of store.old) (2 ^ 62 - 2 ^ 24) }
     ensures later { S.moment_of store.old ≤ S.moment_of store.new }
     ensures counts { NoneFell (S.faults_of store.old) (S.faults_of store.new) }
-    ensures unread { IfErr result (MayLack (segment.now ∷ []) (S.faults_of store.old) (S.faults_of store.new) (S.moment_of store.new)) }
+    ensures unread { IfErr result (Lacks (segment.now ∷ []) (S.faults_of store.old) (S.faults_of store.new)) }
 {
     let end = at + count;
     read_data(store, segment, from, &mut into[at..end])
@@ -151,14 +152,14 @@ fn read_over<S: Store>(
     requires place { segment.now.offset + 32 + segment.now.len < 2 ^ 64 }
     requires end { start + segment.now.len < 2 ^ 64 }
     requires piece { offset + length into.old < 2 ^ 64 }
+    requires time { S.moment_of store.old < 2 ^ 62 }
     ensures told { Told (S.told store.old) (S.told store.new) (ReadOver segment.now start offset into.new result) }
     ensures before { take (filled offset (length into.old) start) into.new ≡ take (filled offset (length into.old) start) into.old }
     ensures len { length into.new ≡ length into.old }
     ensures brief { S.moment_of store.new ≤ S.moment_of store.old + length (segments_in start offset (length into.old) (segment.now ∷ [])) }
-    ensures time { S.moment_of store.new ≤ max (S.moment_of store.old) (2 ^ 62 - 2 ^ 24) }
     ensures later { S.moment_of store.old ≤ S.moment_of store.new }
     ensures counts { NoneFell (S.faults_of store.old) (S.faults_of store.new) }
-    ensures unread { IfErr result (MayLack (segments_in start offset (length into.old) (segment.now ∷ [])) (S.faults_of store.old) (S.faults_of store.new) (S.moment_of store.new)) }
+    ensures unread { IfErr result (Lacks (segments_in start offset (length into.old) (segment.now ∷ [])) (S.faults_of store.old) (S.faults_of store.new)) }
 {
     let at = filled(offset, into.len(), start);
     let until = filled(offset, into.len(), start + segment.len);
@@ -176,9 +177,8 @@ fn read_over<S: Store>(
 }
 
 /// Reads a piece of a copy from the frames of those of its segments that have any of it: as many bytes as the buffer holds, from this
-/// byte of the object on. Where those frames don't stand, the buffer may hold anything afterwards. It fails with `Fault` only where a
-/// call on a file of one of those segments failed, and with `RunFull` only where the moment is, or came to, 2^62 - 2^24. It makes one
-/// device call for each of them.
+/// byte of the object on. Where those frames don't stand, the buffer may hold anything afterwards. It fails with `Fault` alone, and only
+/// where a call on a file of one of those segments failed. It makes one device call for each of them, for which there has to be time.
 pub fn read_piece<S: Store>(
     store: &mut S,
     segments: &[Segment],
@@ -188,13 +188,13 @@ pub fn read_piece<S: Store>(
     requires room { offset + length into.old ≤ bytes_len segments.now }
     requires long { bytes_len segments.now < 2 ^ 64 }
     requires places { AllByRecursion (λ s. s.offset + 32 + s.len < 2 ^ 64) segments.now }
+    requires time { S.moment_of store.old + length (segments_in 0 offset (length into.old) segments.now) < 2 ^ 62 }
     ensures told { Told (S.told store.old) (S.told store.new) (ReadPiece segments.now offset into.new result) }
     ensures len { length into.new ≡ length into.old }
     ensures brief { S.moment_of store.new ≤ S.moment_of store.old + length (segments_in 0 offset (length into.old) segments.now) }
-    ensures time { S.moment_of store.new ≤ max (S.moment_of store.old) (2 ^ 62 - 2 ^ 24) }
     ensures later { S.moment_of store.old ≤ S.moment_of store.new }
     ensures counts { NoneFell (S.faults_of store.old) (S.faults_of store.new) }
-    ensures unread { IfErr result (MayLack (segments_in 0 offset (length into.old) segments.now) (S.faults_of store.old) (S.faults_of store.new) (S.moment_of store.new)) }
+    ensures unread { IfErr result (Lacks (segments_in 0 offset (length into.old) segments.now) (S.faults_of store.old) (S.faults_of store.new)) }
 {
     let mut start = 0;
     'segments: for segment in segments {

@@ -31,6 +31,10 @@ released number s = record s { tickets = without_row number s.tickets }
 abbrev pub noted : ℕ → List Placed → Claims → Claims
 noted number places s = record s { freed = with_row number places s.freed }
 
+-- a transaction that was to take segments away wasn't made
+abbrev pub forgotten : ℕ → Claims → Claims
+forgotten number s = record s { freed = without_row number s.freed }
+
 -- every transaction is forced
 abbrev pub forced : Claims → Claims
 forced s = record s { freed = [] }

@@ -36,7 +36,7 @@ impl Model for Space {
 }
 
 impl Space {
-    ghost use Rattle.space.specs.Claims.{unclaimed, held, released, noted, forced, drawn};
+    ghost use Rattle.space.specs.Claims.{unclaimed, held, released, noted, forgotten, forced, drawn};
 
     /// Nothing is held, and no transaction waits to be forced. It takes no memory.
     pub fn new(alloc: Global, next_file: u32) -> Self
@@ -92,6 +92,13 @@ impl Space {
     {
         self.freed.insert(number, places)?;
         Ok(())
+    }
+
+    /// A transaction that was to take segments away wasn't made: what stands under its number goes. It takes no memory.
+    pub fn forget(&mut self, number: u64)
+        ensures { self.new ≡ forgotten number self.old }
+    {
+        let _ = self.freed.remove(&number);
     }
 
     /// Every transaction is forced. It takes no memory.

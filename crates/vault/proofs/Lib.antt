@@ -2,6 +2,7 @@ pub use Rattle.log_file.proofs as of_log_file
 mod Calming
 mod Checkpointing
 pub mod Committing
+mod Counting
 mod Finding
 mod Formatting
 pub mod Goodness

@@ -54,7 +54,7 @@ going_on Open len going not = absurd going
 going_on Stuck len going not = absurd going
 
 -- records behind records
-between_none : (journal : List Entry) (start copied : ℕ) → copied ≡ start → records_between journal start copied ≡ []
+pub between_none : (journal : List Entry) (start copied : ℕ) → copied ≡ start → records_between journal start copied ≡ []
 between_none journal start copied e = ap (λ n. map entry.spell (take n (drop start journal))) (let zero_long : copied - start ≡ 0 = omega (arith, e) in zero_long)
 
 pub between_join : (journal : List Entry) (start copied place : ℕ) → start ≤ copied → copied ≤ place → records_between journal start copied ++ records_between journal copied place ≡ records_between journal start place
@@ -405,13 +405,12 @@ orderly_on generation pending job orderly none going is = record {
   log = orderly.log;
   durable = λ some. absurd (false≢true (subst (λ (l : Option log.State). IsSome l) none some));
   ordered = orderly.ordered;
-  empty = orderly.empty;
 }
 
 -- its log was begun, or is another than before
-pub orderly_log : (generation : ℕ) (pending : Pending) (place : ℕ) (its : log.State) → IsOrderly generation pending → pending.job.phase ≡ Durable → its.file ≡ log_file generation → its.doubt ≡ None → pending.copied ≤ place → (place ≡ pending.start → its.end ≡ 0)
+pub orderly_log : (generation : ℕ) (pending : Pending) (place : ℕ) (its : log.State) → IsOrderly generation pending → pending.job.phase ≡ Durable → its.file ≡ log_file generation → its.doubt ≡ None → pending.copied ≤ place
     → IsOrderly generation (record { job = pending.job; start = pending.start; copied = place; log = Some its })
-orderly_log generation pending place its orderly durable is_log sure from ends = record {
+orderly_log generation pending place its orderly durable is_log sure from = record {
   number = orderly.number;
   file = orderly.file;
   mark = orderly.mark;
@@ -419,7 +418,6 @@ orderly_log generation pending place its orderly durable is_log sure from ends =
   log = (is_log, sure);
   durable = λ some. durable;
   ordered = omega (arith, orderly.ordered, from);
-  empty = ends;
 }
 
 -- records are copied one by one

@@ -91,7 +91,7 @@ left_to_write (Some pending) = left_of pending.job.phase (length pending.job.pay
 pub nears_piece : (journal : List Entry) (pending next : Pending) → pending.copied ≡ length journal → Nears journal pending next
     → (pending.job.phase ≡ Durable → ⊥) × (next.job ≡ at_phase (further pending.job.phase (length pending.job.payload)) pending.job) × (next.copied ≡ length journal)
 nears_piece journal pending next all (same, inl piece) = (piece.0, piece.1, piece.2 ∙ all)
-nears_piece journal pending next all (same, inr copy) = absurd (let more : pending.copied < next.copied = copy.1 in let few : next.copied ≤ length journal = copy.2 in omega (arith, more, few, all))
+nears_piece journal pending next all (same, inr copy) = absurd (let more : pending.copied < next.copied = copy.2 in let few : next.copied ≤ length journal = copy.3 in omega (arith, more, few, all))
 
 -- why a step was refused, where nothing wants memory
 pub step_faults : {D : Type 0} (vault middle next : State D) (pending last : Pending) → middle ≡ with_pending vault (Some last) → vault.fault ≡ None → last.copied ≡ length vault.journal → (before between after : ℕ → ℕ) → ((file : ℕ) → before file ≤ between file) → (refusal : Refusal) (same : Type 0)

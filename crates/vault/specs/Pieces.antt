@@ -1,5 +1,5 @@
 -- A checkpoint that is made in pieces: the image of the next generation, and its log with the entries that are committed meanwhile.
-use Rattle.std.specs.Prelude.{◌≡◌, ◌≢◌, ◌⊎◌, ℕ, ◌-◌, ◌<◌, ◌≤◌, ◌^◌, List, length, take, drop, map, Option, Some, None, IsSome, Result, IfOk, OnOk}
+use Rattle.std.specs.Prelude.{◌≡◌, ◌≢◌, ◌⊎◌, ℕ, ◌+◌, ◌-◌, ◌<◌, ◌≤◌, ◌^◌, List, length, take, drop, map, Option, Some, None, IsSome, Result, IfOk, OnOk}
 use Rattle.std.specs.List.{AllByRecursion}
 use Rattle.store_api.specs.Disk.{History, standing, now}
 use Rattle.store_api.specs.Runs.{GoesOn, EachImage}
@@ -42,13 +42,18 @@ abbrev pub IsLogOf : ℕ → Option log.State → Type 0
 IsLogOf generation None = Unit {0}
 IsLogOf generation (Some log) = (log.file ≡ log_file generation) × (log.doubt ≡ None)
 
--- the log is empty
+-- nothing is in the log
 abbrev pub IsEmpty : Option log.State → Type 0
 IsEmpty None = Unit {0}
 IsEmpty (Some log) = log.end ≡ 0
 
+-- the log goes on by so many bytes
+abbrev pub IsLonger : ℕ → Option log.State → Option log.State → Type 0
+IsLonger count (Some old) (Some new) = new.end ≡ old.end + count
+IsLonger count _ _ = ⊥
+
 -- What a checkpoint keeps that makes this generation: its files, and an image that is being written; its log is begun when all of the payload is
--- on the disk, and is empty while nothing was copied.
+-- on the disk.
 pub record IsOrderly (generation : ℕ) (pending : Pending) : Type 0 where
   pub number : pending.job.number ≡ generation
   pub file : pending.job.file ≡ image_file generation
@@ -57,7 +62,6 @@ pub record IsOrderly (generation : ℕ) (pending : Pending) : Type 0 where
   pub log : IsLogOf generation pending.log
   pub durable : IsSome pending.log → pending.job.phase ≡ Durable
   pub ordered : pending.start ≤ pending.copied
-  pub empty : pending.copied ≡ pending.start → IsEmpty pending.log
 
 -- its log is begun as soon as all of the payload is on the disk
 abbrev pub IsLogged : Pending → Type 0
@@ -71,6 +75,16 @@ AllOrderly generation (Some pending) = IsOrderly generation pending × IsLogged 
 -- the records of the journal's entries from one place to another
 abbrev pub records_between : List Entry → ℕ → ℕ → List (List ℕ)
 records_between journal start end = map entry.spell (take (end - start) (drop start journal))
+
+-- The log is as long as the records that were copied to it. Before it is begun none was.
+abbrev pub IsAsLong : List Entry → ℕ → ℕ → Option log.State → Type 0
+IsAsLong journal start copied None = copied ≡ start
+IsAsLong journal start copied (Some log) = log.end ≡ length (blocks (records_between journal start copied))
+
+-- A checkpoint that was begun has entries of the journal, and its log is as long as these are.
+abbrev pub AllCounted : List Entry → Option Pending → Type 0
+AllCounted journal None = Unit {0}
+AllCounted journal (Some pending) = (pending.copied ≤ length journal) × IsAsLong journal pending.start pending.copied pending.log
 
 -- The log of a generation is written as far as entries were copied to it. Before it is begun none was.
 abbrev pub CopiesAt : ℕ → List Entry → ℕ → ℕ → Option log.State → History → Type 0
@@ -89,11 +103,11 @@ pub record StandsAt (generation : ℕ) (payload : List ℕ) (journal : List Entr
   pub ordered : pending.start ≤ pending.copied
   pub within : pending.copied ≤ length journal
 
--- What a step of a checkpoint does to it: a piece of the payload was written, of which some was left; or records of entries behind those that were copied.
+-- What a step of a checkpoint does to it: a piece of the payload was written, of which some was left; or, where all of it is on the disk, records of entries behind those that were copied.
 abbrev pub Nears : (journal : List Entry) → Pending → Pending → Type 0
 Nears journal pending next = (next.start ≡ pending.start)
     × (((pending.job.phase ≢ Durable) × (next.job ≡ at_phase (further pending.job.phase (length pending.job.payload)) pending.job) × (next.copied ≡ pending.copied))
-    ⊎ ((next.job ≡ pending.job) × (pending.copied < next.copied) × (next.copied ≤ length journal)))
+    ⊎ ((pending.job.phase ≡ Durable) × (next.job ≡ pending.job) × (pending.copied < next.copied) × (next.copied ≤ length journal)))
 
 -- A checkpoint was begun: its image's gate was shut, and what stands first behind it was written. Only its files were written. Each image since has what was in the image's file, or a
 -- shut gate.

@@ -1,5 +1,5 @@
 -- The vault as a value, what no stop takes away from it, and what its calls do.
-use Rattle.std.specs.Prelude.{◌≡◌, ◌⊎◌, ℕ, ◌+◌, ◌<◌, ◌≤◌, ◌^◌, List, [], ◌∷◌, ◌++◌, length, drop, reverse, Option, None, Some, Result, OnOk, IfOk}
+use Rattle.std.specs.Prelude.{◌≡◌, ◌⊎◌, ℕ, ◌+◌, ◌<◌, ◌≤◌, ◌^◌, List, [], ◌∷◌, ◌++◌, length, map, drop, reverse, Option, None, Some, Result, OnOk, IfOk}
 use Rattle.std.specs.List.{AllByRecursion}
 use Rattle.store_api.specs.Cause.{Rose}
 use Rattle.store_api.specs.Disk.{History, now}
@@ -17,10 +17,11 @@ use Rattle.vault.specs.Files.{image_file, log_file, IsOurs}
 use Rattle.vault.specs.Recovery.{Newest, records_in, records_of, after_all, AllLegalIn, AllLegal, RecoversWithin}
 use Rattle.db_image.specs.declared.phase.Progress.{Progress}
 use Rattle.db_image.specs.declared.phase.Progress.TheVariants.{More, Done}
+use Rattle.db_image.specs.declared.phase.Phase.TheVariants.{Durable}
 use Rattle.db_image.specs.Steps.{written_to}
 use Rattle.vault.specs.Images.{IsImage, StaysOlder, IsPaced}
 use Rattle.vault.specs.Journals.{IsShort}
-use Rattle.vault.specs.Pieces.{Pending, AllOrderly, StandsAt, Nears, job_of}
+use Rattle.vault.specs.Pieces.{Pending, AllCounted, AllOrderly, StandsAt, Nears, job_of}
 
 -- The generation of the newest image; the database; the entries that were committed since the opening, oldest first, and how many of
 -- them are forced; where the gate lies behind the records of the log that are forced, and where behind all of them; after a fault the file
@@ -48,12 +49,13 @@ abbrev pub Holds : {D : Type 0} → Meaning D → (generation : ℕ) → (base :
 Holds m generation base entries end h = HoldsIn second_form m generation base entries end h
 
 -- What a vault keeps is in order: its log is that of its generation, and where no fault halted it no record of the log is in doubt; a checkpoint that was begun
--- is of the next generation; and each entry of the journal has few enough bytes.
+-- is of the next generation, and its log is as long as the entries that were copied to it; and each entry of the journal has few enough bytes.
 pub record IsWhole (generation : ℕ) (journal : List Entry) (log : log.State) (fault : Option (ℕ × ℕ)) (pending : Option Pending) : Type 0 where
   pub file : log.file ≡ log_file generation
   pub sure : fault ≡ None → log.doubt ≡ None
   pub short : AllByRecursion IsShort journal
   pub orderly : AllOrderly (generation + 1) pending
+  pub counted : AllCounted journal pending
 
 -- Whatever a stop leaves, it recovers to the vault's database by an image and a log of this form: nothing that was committed waits for a force.
 pub record IsGoodIn {D : Type 0} (form : Edition) (m : Meaning D) (vault : State D) (h : History) : Type 0 where
@@ -283,10 +285,11 @@ pub record Begins {D T E : Type 0} (m : Meaning D) (vault : State D) (result : R
   pub since : (durable : D) → IsHeld m vault durable old → EachImage (now old) new (RecoversToEither m durable vault.database)
   pub left : (durable : D) → IsHeld m vault durable old → IsLeft (RecoversToEither m durable vault.database) new
 
--- The vault after a step of a checkpoint. It goes on; or it is done, where all of the journal was copied, and its log is empty where that was nothing.
+-- The vault after a step of a checkpoint. It goes on; or it is done, where all of its payload is on the disk and all of the journal was copied, and its log is as long as the records of the
+-- entries behind its start.
 abbrev pub GoesTo : {D : Type 0} → State D → State D → Progress → Type 0
 GoesTo vault next More = (pending : Pending) × (last : Pending) × (vault.pending ≡ Some pending) × (next ≡ with_pending vault (Some last)) × Nears vault.journal pending last
-GoesTo vault next Done = (pending : Pending) × (end : ℕ) × (vault.pending ≡ Some pending) × (next ≡ at_done vault end) × (length vault.journal ≤ pending.copied) × (pending.copied ≡ pending.start → end ≡ 0)
+GoesTo vault next Done = (pending : Pending) × (vault.pending ≡ Some pending) × (next ≡ at_done vault (length (blocks (map entry.spell (drop pending.start vault.journal))))) × (pending.job.phase ≡ Durable) × (pending.copied ≡ length vault.journal)
 
 -- A checkpoint is in progress that has all of the journal, and for each 8,192 bytes of its payload no more than one call was made since a moment.
 abbrev pub IsInStep : {D : Type 0} → State D → (began moment : ℕ) → Type 0

@@ -1,5 +1,5 @@
 // A checkpoint that is made in pieces.
-ghost use Rattle.std.specs.Prelude.{◌≡◌, ◌≢◌, ◌⊎◌, ℕ, ◌+◌, ◌<◌, ◌≤◌, ◌^◌, length, IfOk, OnOk, IfErr, IsSome, None};
+ghost use Rattle.std.specs.Prelude.{◌≡◌, ◌≢◌, ◌⊎◌, ℕ, ◌+◌, ◌<◌, ◌≤◌, ◌^◌, length, IfOk, OnOk, IfErr, IfSome, IsSome, None};
 ghost use Rattle.std.specs.List.{AllByRecursion};
 ghost use Rattle.kinds.specs.declared.refusal.Refusal.TheVariants.{Memory as NoMemory};
 ghost use Rattle.store_api.specs.Cause.{Rose, NoneFell};
@@ -9,7 +9,7 @@ ghost use Rattle.db_image.specs.declared.phase.Phase.TheVariants.{Durable};
 ghost use Rattle.db_image.specs.Steps.{at_phase, further, written_to};
 ghost use Rattle.vault.specs.Files.{log_file, IsOf};
 ghost use Rattle.vault.specs.Journals.{IsShort};
-ghost use Rattle.vault.specs.Pieces.{IsOrderly, IsLogged, job_of, records_between, Starts, Furthered, Extended, Finished};
+ghost use Rattle.vault.specs.Pieces.{IsEmpty, IsLonger, IsOrderly, IsLogged, job_of, records_between, Starts, Furthered, Extended, Finished};
 
 use crate::files::{image_file, log_file};
 use crate::record::frame_entry;
@@ -89,6 +89,7 @@ fn begin_log<S: Store>(
     requires unlogged { checkpoint.old.log ≡ None }
     ensures told { Told (S.told store.old) (S.told store.new) (Furthered generation checkpoint.old checkpoint.new result) }
     ensures orderly { OnOk result (IsOrderly generation checkpoint.new × IsLogged checkpoint.new) }
+    ensures empty { OnOk result (IsEmpty checkpoint.new.log) }
     ensures same { OnOk result ((checkpoint.new.job ≡ checkpoint.old.job) × (checkpoint.new.start ≡ checkpoint.old.start) × (checkpoint.new.copied ≡ checkpoint.old.copied)) }
     ensures cause { IfErr result (λ file. IsOf generation file × Rose (S.faults_of store.old file) (S.faults_of store.new file)) }
     ensures time { S.moment_of store.new ≤ S.moment_of store.old + 2 }
@@ -145,6 +146,7 @@ pub(crate) fn advance<S: Store>(
     requires some { checkpoint.old.job.phase ≢ Durable }
     ensures told { Told (S.told store.old) (S.told store.new) (Furthered generation checkpoint.old checkpoint.new result) }
     ensures orderly { OnOk result (IsOrderly generation checkpoint.new × IsLogged checkpoint.new) }
+    ensures empty { OnOk result (IsEmpty checkpoint.new.log) }
     ensures piece { OnOk result ((checkpoint.new.job ≡ at_phase (further checkpoint.old.job.phase (length checkpoint.old.job.payload)) checkpoint.old.job) × (checkpoint.new.start ≡ checkpoint.old.start) × (checkpoint.new.copied ≡ checkpoint.old.copied)) }
     ensures cause { IfErr result (λ file. IsOf generation file × Rose (S.faults_of store.old file) (S.faults_of store.new file)) }
     ensures time { S.moment_of store.new ≤ S.moment_of store.old + 4 }
@@ -172,6 +174,7 @@ pub(crate) fn start<S: Store>(
     ensures told { Told (S.told store.old) (S.told store.new) (Starts generation payload.items made result) }
     ensures begun { IfOk result (λ checkpoint. (checkpoint.job ≡ job_of generation payload.items (written_to 65536 (length payload.items))) × (checkpoint.start ≡ made) × (checkpoint.copied ≡ made)) }
     ensures orderly { IfOk result (λ checkpoint. IsOrderly generation checkpoint × IsLogged checkpoint) }
+    ensures empty { IfOk result (λ checkpoint. IsEmpty checkpoint.log) }
     ensures cause { IfErr result (λ file. IsOf generation file × Rose (S.faults_of store.old file) (S.faults_of store.new file)) }
     ensures time { S.moment_of store.new ≤ S.moment_of store.old + 8 }
     ensures later { S.moment_of store.old ≤ S.moment_of store.new }
@@ -211,6 +214,7 @@ pub(crate) fn copy_batch<S: Store>(
     ensures told { Told (S.told store.old) (S.told store.new) (Extended generation checkpoint.old checkpoint.new batch.now place result) }
     ensures orderly { OnOk result (IsOrderly generation checkpoint.new × IsLogged checkpoint.new) }
     ensures same { OnOk result ((checkpoint.new.job ≡ checkpoint.old.job) × (checkpoint.new.start ≡ checkpoint.old.start) × (checkpoint.new.copied ≡ place)) }
+    ensures longer { OnOk result (IsLonger (length batch.now) checkpoint.old.log checkpoint.new.log) }
     ensures cause { IfErr result (λ file. IsOf generation file × Rose (S.faults_of store.old file) (S.faults_of store.new file)) }
     ensures time { S.moment_of store.new ≤ S.moment_of store.old + 1 }
     ensures later { S.moment_of store.old ≤ S.moment_of store.new }
@@ -242,7 +246,7 @@ pub(crate) fn finish<S: Store>(
     requires logged { IsSome checkpoint.log }
     ensures told { Told (S.told store.old) (S.told store.new) (Finished generation checkpoint result) }
     ensures log { IfOk result (λ log. (log.file ≡ log_file generation) × (log.sure ≡ log.end) × (log.doubt ≡ None)) }
-    ensures empty { IfOk result (λ log. checkpoint.copied ≡ checkpoint.start → log.end ≡ 0) }
+    ensures end { IfOk result (λ log. IfSome checkpoint.log (λ its. log.end ≡ its.end)) }
     ensures cause { IfErr result (λ file. IsOf generation file × Rose (S.faults_of store.old file) (S.faults_of store.new file)) }
     ensures time { S.moment_of store.new ≤ S.moment_of store.old + 3 }
     ensures later { S.moment_of store.old ≤ S.moment_of store.new }

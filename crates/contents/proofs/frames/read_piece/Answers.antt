@@ -33,7 +33,6 @@ segments-preserved g c =
       begins = omega (arith, begins);
       len = c.read_over.ensures.len ∙ inv.len;
       brief = omega (arith, inv.brief, first, parted, counted);
-      time = omega (arith, inv.time, c.read_over.ensures.time);
       later = omega (arith, inv.later, c.read_over.ensures.later);
       counts = λ file. omega (arith, inv.counts file, c.read_over.ensures.counts file);
       places = (subst (λ (l : List Segment). AllByRecursion (λ x. x.offset + 32 + x.len < 2 ^ 64) l) split inv.places).1;

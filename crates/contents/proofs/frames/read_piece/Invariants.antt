@@ -1,4 +1,4 @@
-use Rattle.std.proofs.Common.{◌≡◌, ◌+◌, ◌-◌, ◌^◌, ◌<◌, ◌≤◌, ℕ, max, true, length, drop}
+use Rattle.std.proofs.Common.{◌≡◌, ◌+◌, ◌^◌, ◌<◌, ◌≤◌, ℕ, true, length, drop}
 use Rattle.std.specs.List.{AllByRecursion}
 use Rattle.store_api.specs.Cause.{NoneFell}
 use Rattle.store_api.specs.Told.{Told}
@@ -15,7 +15,6 @@ invariant-segments g l =
       len : length l.into ≡ length l.fn.into;
       brief : g.S.Store.moment_of l.store + length (segments_in l.start l.offset (length l.fn.into) (drop l.segment-index l.segments)) ≤ g.S.Store.moment_of l.fn.store + length
           (segments_in 0 l.offset (length l.fn.into) l.segments);
-      time : g.S.Store.moment_of l.store ≤ max (g.S.Store.moment_of l.fn.store) (2 ^ 62 - 2 ^ 24);
       later : g.S.Store.moment_of l.fn.store ≤ g.S.Store.moment_of l.store;
       counts : NoneFell (g.S.Store.faults_of l.fn.store) (g.S.Store.faults_of l.store);
       places : AllByRecursion (λ s. s.offset + 32 + s.len < 2 ^ 64) (drop l.segment-index l.segments);

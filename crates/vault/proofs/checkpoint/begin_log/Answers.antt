@@ -26,4 +26,4 @@ returns-in-Ok-clause-orderly g c =
     let durable : was.job.phase ≡ Durable = sym c.phase.ensures ∙ c.in-Durable.is in
     let made = c.in-Ok.ensures.log in
     let from : was.copied ≤ was.copied = omega arith in
-    (orderly_log c.args.generation was inside.copied c.in-Ok.log orderly durable (ap (λ (l : log.State). l.file) made ∙ c.log_file-file.ensures.value) (ap (λ (l : log.State). l.doubt) made) from (λ e. ap (λ (l : log.State). l.end) made), λ e. refl)
+    (orderly_log c.args.generation was inside.copied c.in-Ok.log orderly durable (ap (λ (l : log.State). l.file) made ∙ c.log_file-file.ensures.value) (ap (λ (l : log.State). l.doubt) made) from, λ e. refl)

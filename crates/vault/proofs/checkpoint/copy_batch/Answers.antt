@@ -25,7 +25,6 @@ returns-in-Ok-clause-orderly g c =
     let its = subst (λ (l : Option log.State). IsLogOf c.args.generation l) there orderly.log in
     let made = c.in-Ok.ensures.ok in
     let more : was.copied < c.args.place = subst (λ (p : Pending). p.copied < c.args.place) (sym c.checkpoint.view_is) c.requires.more in (
-      orderly_log c.args.generation was c.args.place c.copy.new.self orderly (orderly.durable (subst (λ (l : Option log.State). IsSome l) (sym there) refl)) (ap (λ (l : log.State). l.file) made ∙ its.0) (ap (λ (l : log.State). l.doubt) made ∙ its.1) (omega (arith, more))
-          (λ e. absurd (let same : c.args.place ≡ was.start = e in omega (arith, same, more, orderly.ordered))),
+      orderly_log c.args.generation was c.args.place c.copy.new.self orderly (orderly.durable (subst (λ (l : Option log.State). IsSome l) (sym there) refl)) (ap (λ (l : log.State). l.file) made ∙ its.0) (ap (λ (l : log.State). l.doubt) made ∙ its.1) (omega (arith, more)),
       λ e. refl,
     )

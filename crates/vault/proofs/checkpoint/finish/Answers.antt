@@ -1,4 +1,4 @@
-use Rattle.std.proofs.Common.{rules, ◌≡◌, ◌∙◌, ℕ, length, Option, Some, IsSome, Ok, Err, ap, sym, subst}
+use Rattle.std.proofs.Common.{rules, ◌≡◌, ◌∙◌, ℕ, length, Option, Some, IfSome, IsSome, Ok, Err, ap, sym, subst}
 use Rattle.store_api.specs.Told.{Told}
 use Rattle.store_api.proofs.Runs.{told_map, told_then}
 use Rattle.db_image.specs.declared.phase.Phase.{Phase}
@@ -6,7 +6,7 @@ use Rattle.db_image.specs.declared.phase.Phase.TheVariants.{Durable}
 use Rattle.db_image.specs.Steps.{at_phase, further}
 use Rattle.log_file.specs.Sure as log
 use Rattle.vault.specs.Files.{log_file}
-use Rattle.vault.specs.Pieces.{Pending, IsOrderly, IsLogOf, IsEmpty, Finished}
+use Rattle.vault.specs.Pieces.{Pending, IsOrderly, IsLogOf, Finished}
 use Rattle.vault.proofs.Piecing.{not_sealed, not_opened, is_finished}
 use Rattle.vault.proofs.checkpoint.finish.Goals as goal
 
@@ -34,7 +34,7 @@ returns-clause-told g c =
     subst (λ (p : Pending). Told (g.S.Store.told c.args.store.now) (g.S.Store.told c.next.new.store) (Finished {E = ℕ} c.args.generation p (Err c.image_file.result))) c.checkpoint.view_is
     (told_then _ _ _ _ _ _ (λ h k n sealed step. not_opened c.args.generation was orderly c.in-Some.log c.in-Some.is is_log durable c.next.new.self h k n sealed c.in-Err-next.field-0 c.image_file.result step) c.in-Ok.ensures.told c.in-Err-next.ensures.told)
 
-pub returns-in-Ok-next-clause-empty : goal.returns-in-Ok-next-clause-empty
-returns-in-Ok-next-clause-empty g c =
+pub returns-in-Ok-next-clause-end : goal.returns-in-Ok-next-clause-end
+returns-in-Ok-next-clause-end g c =
     let there : c.args.checkpoint.log ≡ Some c.in-Some.log = ap (λ (p : Pending). p.log) (sym c.checkpoint.view_is) ∙ c.in-Some.is in
-    λ e. ap (λ (l : log.State). l.end) c.in-Ok.ensures.ok ∙ subst (λ (l : Option log.State). IsEmpty l) there (c.requires.orderly.empty e)
+    subst (λ (l : Option log.State). IfSome l (λ its. c.seal.new.self.end ≡ its.end)) (sym there) (ap (λ (l : log.State). l.end) c.in-Ok.ensures.ok)

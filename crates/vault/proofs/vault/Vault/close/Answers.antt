@@ -1,8 +1,10 @@
-use Rattle.std.proofs.Common.{rules, refl, ◌≡◌, ◌∙◌, ◌+◌, ◌≤◌, ℕ, length, Option, Some, IfSome, IsSome, Ok, Err, ap, sym, subst}
+use Rattle.std.proofs.Common.{rules, refl, ◌≡◌, ◌∙◌, ◌+◌, ◌≤◌, ℕ, length, Option, Some, IfSome, IsSome, Ok, Err, ap, sym, subst, arith, List}
 use Rattle.store_api.proofs.Runs.{told_map}
-use Rattle.vault.specs.Pieces.{Pending, Finished}
-use Rattle.vault.specs.Vaults.{State, with_fault}
+use Rattle.entries.specs.declared.entry.Entry.{Entry}
+use Rattle.vault.specs.Pieces.{AllCounted, AllOrderly, Pending, Finished}
+use Rattle.vault.specs.Vaults.{State, at_done, with_fault}
 use Rattle.vault.proofs.Checkpointing.{of_ours}
+use Rattle.vault.proofs.Counting.{long_done}
 use Rattle.vault.proofs.Leading.{pieced_done, pieced_not_done, done_is}
 use Rattle.vault.proofs.vault.Vault.close.Goals as goal
 
@@ -26,7 +28,20 @@ returns-in-Ok-clause-ok g c =
     let begun : IsSome c.in-Some.checkpoint.log × (length vault.journal ≤ c.in-Some.checkpoint.copied) = subst (λ (o : Option Pending). IfSome o (λ p. IsSome p.log × (length vault.journal ≤ p.copied))) there c.requires.begun in
     let all : c.len-self-inside.result ≡ length inside.journal.items = search rules in
     let is = done_is inside.generation inside.forced c.len-self-inside.result inside.log.sure c.in-Ok.log.sure inside.log.end c.in-Ok.log.end inside.database inside.journal.items inside.fault inside.pending c.take.new.self vault c.self.view_is all c.in-Ok.ensures.log.1 (ap (λ (v : State g.row.D.Denot). v.fault) c.self.view_is ∙ c.requires.sure) c.take.ensures.after in
-    (refl, (c.in-Some.checkpoint, c.in-Ok.log.end, there, is, begun.1, c.in-Ok.ensures.empty))
+    let inside_there : inside.pending ≡ Some c.in-Some.checkpoint = sym c.take.ensures.value ∙ c.in-Some.is in
+    let orderly = subst (AllOrderly (inside.generation + 1)) inside_there c.self.invariant.orderly in
+    let journals = ap (λ (v : State g.row.D.Denot). v.journal) c.self.view_is in
+    let counted = subst (λ (j : List Entry). AllCounted j (Some c.in-Some.checkpoint)) journals (subst (AllCounted inside.journal.items) inside_there c.self.invariant.counted) in
+    let copied : c.in-Some.checkpoint.copied ≡ length vault.journal = omega (arith, begun.1, counted.0) in (
+      refl,
+      (
+        c.in-Some.checkpoint,
+        there,
+        is ∙ ap (at_done vault) (long_done vault.journal c.in-Some.checkpoint c.in-Ok.log.end begun.0 c.in-Ok.ensures.end orderly.0.ordered copied counted.1),
+        orderly.0.durable begun.0,
+        copied,
+      ),
+    )
 
 pub returns-in-Err-clause-told : goal.returns-in-Err-clause-told
 returns-in-Err-clause-told g c =

@@ -1,8 +1,9 @@
 use Rattle.std.proofs.Common.{◌≡◌, ◌∙◌, ◌+◌, inr, Option, Some, IfSome, IsSome, ap, sym, subst}
 use Rattle.store_api.proofs.Runs.{told_map}
-use Rattle.vault.specs.Pieces.{Pending}
+use Rattle.vault.specs.Pieces.{AllCounted, AllOrderly, Pending}
 use Rattle.vault.specs.Vaults.{State, with_pending, with_fault}
 use Rattle.vault.proofs.Checkpointing.{of_ours}
+use Rattle.vault.proofs.Counting.{counted_copied}
 use Rattle.vault.proofs.Leading.{told_not_pieced, pieced_extended, pieced_not_extended}
 use Rattle.vault.proofs.vault.Vault.copy_on.Goals as goal
 
@@ -43,3 +44,22 @@ returns-clause-err g c =
         (vault.forced, vault.sure, c.halt.ensures.new ∙ ap (λ (v : State g.row.D.Denot). with_fault v c.in-Err-copy_batch.file (g.S.Store.faults_of c.copy_batch.new.store c.in-Err-copy_batch.file)) c.self.view_is),
       ),
     )
+
+pub invariant_of-self-in-Ok-copy_batch : goal.invariant_of-self-in-Ok-copy_batch
+invariant_of-self-in-Ok-copy_batch g c =
+    let inside = c.self.inside in
+    let vault = c.args.self.now in
+    let inside_there : inside.pending ≡ Some c.in-Some.checkpoint = sym c.take.ensures.value ∙ c.in-Some.is in
+    let there : vault.pending ≡ Some c.in-Some.checkpoint = sym (ap (λ (v : State g.row.D.Denot). v.pending) c.self.view_is) ∙ inside_there in
+    let begun : IsSome c.in-Some.checkpoint.log × (c.in-Some.checkpoint.copied ≡ c.args.copied) = subst (λ (o : Option Pending). IfSome o (λ p. IsSome p.log × (p.copied ≡ c.args.copied))) there c.requires.begun in
+    let orderly = subst (AllOrderly (inside.generation + 1)) inside_there c.self.invariant.orderly in
+    let counted = subst (AllCounted inside.journal.items) inside_there c.self.invariant.counted in
+    let same = c.in-Ok-copy_batch.ensures.same in
+    record {
+      file = c.self.invariant.file;
+      sure = c.self.invariant.sure;
+      short = c.self.invariant.short;
+      orderly = c.in-Ok-copy_batch.ensures.orderly;
+      counted = counted_copied inside.journal.items c.deref.result.now c.in-Some.checkpoint c.copy_batch.new.checkpoint c.args.copied c.in-Ok.found.1 c.in-Ok.found.0 c.deref.ensures.value
+          orderly.0.ordered counted begun.1 (same.1, same.2) c.in-Ok.ensures.place c.in-Ok.ensures.batch c.in-Ok-copy_batch.ensures.longer;
+    }

@@ -1,6 +1,10 @@
-use Rattle.std.proofs.Common.{refl, ◌≡◌, ◌∙◌, ◌<◌, ◌^◌, length, Option, Some, Result, Ok, ap, sym, subst, arith}
+use Rattle.std.proofs.Common.{refl, ◌≡◌, ◌∙◌, ◌<◌, ◌^◌, List, [], length, map, drop, Option, Some, Result, Ok, ap, sym, subst, arith}
+use Rattle.std.proofs.lemmas.List.{drop_all}
 use Rattle.store_api.proofs.Runs.{told_then}
+use Rattle.entries.specs.declared.entry.Entry.{Entry}
+use Rattle.entries.specs.EntryForm.{entry}
 use Rattle.kinds.specs.declared.refusal.Refusal.{Refusal}
+use Rattle.log_file.specs.Blocks.{blocks}
 use Rattle.db_image.specs.declared.phase.Progress.{Progress}
 use Rattle.db_image.specs.declared.phase.Progress.TheVariants.{More, Done}
 use Rattle.db_image.specs.Steps.{Job}
@@ -68,9 +72,11 @@ returns-in-Ok-Done-clause-ok g c =
     let inv = c.steps.invariant in
     let next = c.next_checkpoint.new.self in
     let goes : GoesTo c.steps.self next Done = subst (GoesTo c.steps.self next) c.in-Ok-Done.field-0-is c.in-Ok-Done.ensures.ok in
-    let which : goes.0 ≡ inv.last = ap (of_some inv.last) (sym goes.2 ∙ ap (λ (v : State g.row.D.Denot). v.pending) inv.is) in
-    let nothing : goes.0.copied ≡ goes.0.start = ap (λ (p : Pending). p.copied) which ∙ inv.all ∙ sym inv.starts ∙ sym (ap (λ (p : Pending). p.start) which) in
-    (refl, goes.3 ∙ ap (λ (v : State g.row.D.Denot). at_done v goes.1) inv.is ∙ ap (at_done c.args.self.now) (goes.5 nothing))
+    let which : goes.0 ≡ inv.last = ap (of_some inv.last) (sym goes.1 ∙ ap (λ (v : State g.row.D.Denot). v.pending) inv.is) in
+    let many : length c.steps.self.journal ≡ length c.args.self.now.journal = ap (λ (v : State g.row.D.Denot). length v.journal) inv.is in
+    let starts : goes.0.start ≡ length c.args.self.now.journal = ap (λ (p : Pending). p.start) which ∙ inv.starts in
+    let nothing : drop goes.0.start c.steps.self.journal ≡ [] = drop_all goes.0.start c.steps.self.journal (omega (arith, many, starts)) in
+    (refl, goes.2 ∙ ap (λ (l : List Entry). at_done c.steps.self (length (blocks (map entry.spell l)))) nothing ∙ ap (λ (v : State g.row.D.Denot). at_done v 0) inv.is)
 
 pub returns-in-Err-clause-told : goal.returns-in-Err-clause-told
 returns-in-Err-clause-told g c =
