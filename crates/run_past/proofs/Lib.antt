@@ -1,0 +1,9 @@
+pub mod Clients
+pub mod Frames
+pub mod Goes
+pub mod Groups
+pub mod Loops
+pub mod Noting
+pub mod Paths
+pub mod Touched
+pub mod Versions
