@@ -18,7 +18,7 @@ use Rattle.hall.specs.Covered.{IsClear, IsVolume, NumbersAreDrawn, SpaceIsClear,
 -- ---- lists
 
 -- each of the first is so related to each of the second, and these among one another
-later_joined : {X : Type 0} (r : X → X → Bool) (xs ys : List X) → all_later r (xs ++ ys) ≡ true → AllByRecursion (λ x. list_all (r x) ys ≡ true) xs × (all_later r ys ≡ true)
+pub later_joined : {X : Type 0} (r : X → X → Bool) (xs ys : List X) → all_later r (xs ++ ys) ≡ true → AllByRecursion (λ x. list_all (r x) ys ≡ true) xs × (all_later r ys ≡ true)
 later_joined r [] ys h = (tt, h)
 later_joined r (x ∷ xs) ys h =
     let parts = and_parts (list_all (r x) (xs ++ ys)) (all_later r (xs ++ ys)) h in
@@ -30,11 +30,11 @@ later_joined r (x ∷ xs) ys h =
     all_behind p (x ∷ xs) ys h = all_behind p xs ys (and_parts (p x) (list_all p (xs ++ ys)) h).1
 
 -- the one in the middle
-at_middle : {X : Type 0} (P : X → Type 0) (front : List X) (x : X) (back : List X) → AllByRecursion P (front ++ (x ∷ back)) → P x
+pub at_middle : {X : Type 0} (P : X → Type 0) (front : List X) (x : X) (back : List X) → AllByRecursion P (front ++ (x ∷ back)) → P x
 at_middle P [] x back h = h.0
 at_middle P (y ∷ front) x back h = at_middle P front x back h.1
 
-both_joined : {X : Type 0} (P : X → Type 0) (xs ys : List X) → AllByRecursion P xs → AllByRecursion P ys → AllByRecursion P (xs ++ ys)
+pub both_joined : {X : Type 0} (P : X → Type 0) (xs ys : List X) → AllByRecursion P xs → AllByRecursion P ys → AllByRecursion P (xs ++ ys)
 both_joined P [] ys a b = b
 both_joined P (x ∷ xs) ys a b = (a.0, both_joined P xs ys a.1 b)
 

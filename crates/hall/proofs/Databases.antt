@@ -18,7 +18,7 @@ use Rattle.hall.specs.Good.{IsLawful}
 
 -- ---- each is valid
 
-left_true : (found : Option Refusal) (b : Bool) → then_valid found b ≡ None → b ≡ true
+pub left_true : (found : Option Refusal) (b : Bool) → then_valid found b ≡ None → b ≡ true
 left_true (Some e) b h = absurd cc
 left_true None true h = refl
 left_true None false h = absurd cc
@@ -38,16 +38,27 @@ valid_along : (v : Inv) (es : List Entry) → is_valid v ≡ true
 valid_along v es first legal = each_valid IsValid v es first (λ i e at was. let l = legal i e at in left_true l.0 (is_valid (effect e.change (after v (take i es)))) l.1)
 
 -- those behind the first so many
-later_databases : (P : Inv → Type 0) (n : ℕ) (v : Inv) (es : List Entry) → AllByRecursion P (databases v es) → AllByRecursion P (databases (after v (take n es)) (drop n es))
+pub later_databases : (P : Inv → Type 0) (n : ℕ) (v : Inv) (es : List Entry) → AllByRecursion P (databases v es) → AllByRecursion P (databases (after v (take n es)) (drop n es))
 later_databases P zero v es h = h
 later_databases P (suc n) v [] h = h
 later_databases P (suc n) v (e ∷ es) h = later_databases P n (effect e.change v) es h.1
 
-pub left_lawful : (c : Core) → IsLawful c → AllByRecursion (λ v. is_valid v ≡ true) (left_open c)
+-- each database of the run is valid
+pub run_lawful : (c : Core) → IsLawful c → AllByRecursion (λ v. is_valid v ≡ true) (databases c.base c.journal)
 unfolding refused
-left_lawful c l =
-    later_databases IsValid (length c.stamps) c.base c.journal
-    (valid_along c.base c.journal l.valid (λ i e at. (foremost (causes (journal_of c.base (take i c.journal)) e.change (inv_at i c) ++ sizes_refused e.change (inv_at i c)), l.legal i e at)))
+run_lawful c l = valid_along c.base c.journal l.valid (λ i e at. (foremost (causes (journal_of c.base (take i c.journal)) e.change (inv_at i c) ++ sizes_refused e.change (inv_at i c)), l.legal i e at))
+
+valid_take : (v : Inv) (es : List Entry) → AllByRecursion IsValid (databases v es) → (k : ℕ) → IsValid (after v (take k es))
+valid_take v [] h zero = h.0
+valid_take v [] h (suc k) = h.0
+valid_take v (e ∷ es) h zero = h.0
+valid_take v (e ∷ es) h (suc k) = valid_take (effect e.change v) es h.1 k
+
+pub valid_at : (c : Core) → IsLawful c → (k : ℕ) → is_valid (inv_at k c) ≡ true
+valid_at c l k = valid_take c.base c.journal (run_lawful c l) k
+
+pub left_lawful : (c : Core) → IsLawful c → AllByRecursion (λ v. is_valid v ≡ true) (left_open c)
+left_lawful c l = later_databases IsValid (length c.stamps) c.base c.journal (run_lawful c l)
 
 -- ---- the last one
 

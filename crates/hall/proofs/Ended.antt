@@ -19,15 +19,19 @@ ended_is moment h m is at =
     ap (λ (n : ℕ). unless (nat_lt n last_moment) refusal.RunFull ++ halted m.core.fault) at
     ∙ ap (λ (f : Option (ℕ × ℕ)). unless (nat_lt moment last_moment) refusal.RunFull ++ halted f) is.fault
 
-halted_all : (P : Refusal → Type 0) → ((file count : ℕ) → P (refusal.LogFault file count)) → (fault : Option (ℕ × ℕ)) → AllByRecursion P (halted fault)
+pub halted_all : (P : Refusal → Type 0) → ((file count : ℕ) → P (refusal.LogFault file count)) → (fault : Option (ℕ × ℕ)) → AllByRecursion P (halted fault)
 halted_all P h None = tt
 halted_all P h (Some f) = (h f.0 f.1, tt)
 
--- what holds of a full run and of a fault holds of what is answered
+-- what holds of a full run and of a fault holds of each of these
+pub ended_all : (P : Refusal → Type 0) → P refusal.RunFull → ((file count : ℕ) → P (refusal.LogFault file count)) → (moment : ℕ) (h : Held) → AllByRecursion P (ended_at moment h)
+ended_all P full fault moment h =
+    append-all P (unless (nat_lt moment last_moment) refusal.RunFull) (halted h.vault.fault) (unless-all P (nat_lt moment last_moment) refusal.RunFull full) (halted_all P fault h.vault.fault)
+
+-- and of what is answered
 pub ended_has : (P : Refusal → Type 0) → P refusal.RunFull → ((file count : ℕ) → P (refusal.LogFault file count)) → (moment : ℕ) (h : Held) (e : Refusal) → foremost (ended_at moment h) ≡ Some e → P e
 ended_has P full fault moment h e is =
-    foremost-all P (ended_at moment h)
-    (append-all P (unless (nat_lt moment last_moment) refusal.RunFull) (halted h.vault.fault) (unless-all P (nat_lt moment last_moment) refusal.RunFull full) (halted_all P fault h.vault.fault)) e is
+    foremost-all P (ended_at moment h) (ended_all P full fault moment h) e is
 
 no_fault : (fault : Option (ℕ × ℕ)) → foremost (halted fault) ≡ None → fault ≡ None
 no_fault None h = refl
@@ -48,9 +52,13 @@ is_less a b faults h = elim (nat_lt a b) as (λ t. foremost (unless t refusal.Ru
     some_first None h = absurd cc
     some_first (Some x) h = absurd cc
 
+-- where a step may begin the run isn't full
+pub not_over : (moment : ℕ) (h : Held) → foremost (ended_at moment h) ≡ None → moment < last_moment
+not_over moment h is = ltb-true moment last_moment (is_less moment last_moment (halted h.vault.fault) is)
+
 -- where a step may begin there is time for its calls
 pub time_left : (moment : ℕ) (h : Held) → foremost (ended_at moment h) ≡ None → moment + 3 ≤ 2 ^ 62
-time_left moment h is = let l : moment < last_moment = ltb-true moment last_moment (is_less moment last_moment (halted h.vault.fault) is) in omega (arith, l)
+time_left moment h is = let l : moment < last_moment = not_over moment h is in omega (arith, l)
 
 -- where a step may begin no fault has halted the hall
 pub none_halted : (moment : ℕ) (h : Held) → foremost (ended_at moment h) ≡ None → h.vault.fault ≡ None

@@ -19,7 +19,7 @@ use Rattle.hall.specs.Steps.{Goes, IsTrusted, Steps, with_contents}
 use Rattle.hall.proofs.Stamping.{rise_over}
 
 -- a read leaves the bytes of objects
-read_contents : (actor object : ℕ) (kept : Digest) (from offset wanted : ℕ) (old new : Machine) (answer : Result (List ℕ) Refusal) → Reads actor object kept from offset wanted old new answer
+pub read_contents : (actor object : ℕ) (kept : Digest) (from offset wanted : ℕ) (old new : Machine) (answer : Result (List ℕ) Refusal) → Reads actor object kept from offset wanted old new answer
     → new.contents ≡ old.contents
 read_contents actor object kept from offset wanted old new (Ok bytes) r = r.1.2.contents
 read_contents actor object kept from offset wanted old new (Err e) (inl r) = r.1.contents

@@ -1,5 +1,5 @@
 -- Every transaction is forced, and has a stamp; or the log failed, and the hall halts.
-use Rattle.std.proofs.Common.{◌≡◌, inl, inr, ℕ, ◌+◌, ◌-◌, ◌≤◌, List, [], ◌∷◌, ◌++◌, length, take, replicate, Option, Some, None, sym, ap, subst, ◌∙◌, arith}
+use Rattle.std.proofs.Common.{◌≡◌, inl, inr, ℕ, ◌+◌, ◌-◌, ◌≤◌, List, [], ◌∷◌, ◌++◌, length, take, replicate, Option, Some, None, refl, sym, ap, subst, ◌∙◌, arith}
 use Rattle.std.specs.List.{AllByRecursion, flat_map}
 use Rattle.std.proofs.lemmas.Bool.{cases_lt}
 use Rattle.std.proofs.lemmas.List.{length-append, length-drop, length-replicate, take_all}
@@ -26,7 +26,7 @@ use Rattle.machine.specs.Machine.{durable, halting, stamped}
 use Rattle.machine.specs.State.{Core, Image, Machine, after, inventory, unforced}
 use Rattle.hall.specs.Covered.{IsVolume, NumbersAreDrawn, covered, inv_at, left_open}
 use Rattle.hall.specs.Good.{AllInProgress, HasTaken, IsKept, IsLawful, IsSafe, IsSoundWith, RecoversToOne, StandsOn}
-use Rattle.hall.specs.Held.{Held, IsCore}
+use Rattle.hall.specs.Held.{BegunImage, Held, IsCore}
 use Rattle.hall.specs.Seats.{all_stamped, with_vault}
 use Rattle.hall.proofs.Beside.{all_taken_beside, covered_beside, covered_since}
 use Rattle.hall.proofs.Covering.{all_each}
@@ -45,7 +45,7 @@ all_have_stamps moment c few =
 
 -- ---- files of tickets
 
-files_from : (c : Core) → NumbersAreDrawn c → AllByRecursion (λ t. AllByRecursion (λ s. 4 ≤ s.file) t.place.segments) c.tickets
+pub files_from : (c : Core) → NumbersAreDrawn c → AllByRecursion (λ t. AllByRecursion (λ s. 4 ≤ s.file) t.place.segments) c.tickets
 files_from c n =
     each_also (λ t. AllByRecursion (λ s. IsVolume c s.file) t.place.segments) (λ t. AllByRecursion (λ s. 4 ≤ s.file) t.place.segments) c.tickets
     (λ t all. each_also (λ s. IsVolume c s.file) (λ s. 4 ≤ s.file) t.place.segments (λ s v. v.0) all) n.files
@@ -91,6 +91,14 @@ either_one c database files is few (inr r) = (length c.journal, few, omega arith
 
 safe_stamped : (t : ℕ) (contents : ℕ → List ℕ) (c : Core) (count : ℕ) (image : ℕ → List ℕ) → IsSafe contents c count image → IsSafe contents (stamped t c) count image
 safe_stamped t contents c count image s = record { last = s.last; durable = s.durable; made = s.made; recovers = s.recovers; holds = s.holds }
+
+-- the state with this image in progress, this generation, and a log of this length
+abbrev pub imaged : Option Image → (generation long : ℕ) → Core → Core
+imaged i generation long c = record c { image = i; generation = generation; log_length = long }
+
+safe_imaged : (i : Option Image) (generation long : ℕ) (contents : ℕ → List ℕ) (c : Core) (count : ℕ) (image : ℕ → List ℕ) → IsSafe contents c count image
+    → IsSafe contents (imaged i generation long c) count image
+safe_imaged i generation long contents c count image s = record { last = s.last; durable = s.durable; made = s.made; recovers = s.recovers; holds = s.holds }
 
 safe_halting : (file faults : ℕ) (contents : ℕ → List ℕ) (c : Core) (count : ℕ) (image : ℕ → List ℕ) → IsSafe contents c count image → IsSafe contents (halting file faults c) count image
 safe_halting file faults contents c count image s = record { last = s.last; durable = s.durable; made = s.made; recovers = s.recovers; holds = s.holds }
@@ -149,7 +157,67 @@ module _ (m : Machine) (held : Held) (h new : History) (goes : GoesOn IsOurs h n
     image = λ none. absurd (some_none none);
   }
 
+  -- a checkpoint goes on, and nothing more is durable
+  pub further_kept : (next : State Inv) (i : Option Image) (generation long : ℕ) (counts : ℕ → ℕ) (moment : ℕ) → IsLeft (RecoversToEither meaning (durable m.core) held.vault.database) new
+      → IsHeld meaning next (durable m.core) new
+      → AllInProgress (imaged i generation long m.core) (with_vault next held) i new
+      → IsKept (record m { core = imaged i generation long m.core; moment = moment; counts = counts }) (with_vault next held) new
+  further_kept next i generation long counts moment left sure progress = record {
+    since = later;
+    first = first_over;
+    always = λ at image a b it. safe_imaged i generation long m.contents m.core (acknowledged at m.core.stamps) image (safe_over at image a b it);
+    left = λ files l. either_one m.core held.vault.database files is.database few (left files l);
+    sure = λ none. sure;
+    firm = covered_over;
+    tickets = taken_over;
+    image = λ none. progress;
+  }
+
   -- all is forced, and has the stamp of the moment that is now
+  module _ (t : ℕ) (is_now : now new ≡ t) (next : State Inv) (same : next.database ≡ held.vault.database) (good : IsGood meaning next new) where
+    last_firm : HasAll (InStore new) m.contents (inventory m.core)
+    last_firm = last_left (HasAll (InStore new) m.contents) m.core (all_each (InStore new) m.contents (left_open m.core) covered_over)
+
+    at_last : (moment : ℕ) (image : ℕ → List ℕ) → moment ≡ now new → ImageAt new moment image → IsSafe m.contents (stamped t m.core) (acknowledged moment (stamped t m.core).stamps) image
+    at_last moment image e at =
+        let here : ImageAt new (now new) image = subst (λ n. ImageAt new n image) e at in
+        let counted : acknowledged moment (stamped t m.core).stamps ≤ length (stamped t m.core).stamps = few_acknowledged moment (stamped t m.core).stamps in
+        let from : now h ≤ moment = let after : now h ≤ now new = goes_later IsOurs h new goes in omega (arith, after, e) in
+        let full = all_have_stamps t m.core few in
+        whole_safe m.contents (stamped t m.core) (acknowledged moment (stamped t m.core).stamps) image (omega (arith, counted, full))
+        (subst (λ v. RecoversWithin meaning image v) (same ∙ is.database) (good_image meaning next new image good here))
+        (last_left (HasAll (InImage image) m.contents) m.core (held_since moment image from (omega (arith, e)) at))
+
+    always_over : (moment : ℕ) (image : ℕ → List ℕ) → held.opened ≤ moment → moment ≤ now new → ImageAt new moment image
+        → IsSafe m.contents (stamped t m.core) (acknowledged moment (stamped t m.core).stamps) image
+    always_over moment image a b at = elim (cases_lt moment (now new)) as (λ _. IsSafe m.contents (stamped t m.core) (acknowledged moment (stamped t m.core).stamps) image) [
+      | inl l ↦ subst (λ n. IsSafe m.contents (stamped t m.core) n image) (sym (acknowledged_before (length (unforced m.core)) moment t m.core.stamps (omega (arith, l, is_now))))
+          (safe_stamped t m.contents m.core (acknowledged moment m.core.stamps) image (safe_over moment image a b at))
+      | inr g ↦ at_last moment image (omega (arith, b, g)) at
+    ]
+
+    -- whatever image is in progress then
+    pub stamped_kept : (i : Option Image) (generation long : ℕ) (b : Option BegunImage) (job : Option Job) (counts : ℕ → ℕ)
+        → (m.core.fault ≡ None → AllInProgress (imaged i generation long (stamped t m.core)) (record (all_stamped t (with_vault next held)) { image = b; job = job }) i new)
+        → IsKept (record m { core = imaged i generation long (stamped t m.core); moment = t; counts = counts }) (record (all_stamped t (with_vault next held)) { image = b; job = job }) new
+    stamped_kept i generation long b job counts progress = record {
+      since = later;
+      first = first_over;
+      always = λ at image from to it. safe_imaged i generation long m.contents (stamped t m.core) (acknowledged at (stamped t m.core).stamps) image (always_over at image from to it);
+      left = λ files l. (
+        length m.core.journal,
+        (let full = all_have_stamps t m.core few in omega (arith, full)),
+        omega arith,
+        subst (λ v. RecoversWithin meaning files v) (same ∙ is.database ∙ sym (whole_at m.core)) (good_is meaning next new good files l),
+      );
+      sure = λ none. subst (λ v. IsHeld meaning next v new) (same ∙ is.database ∙ sym (all_durable (stamped t m.core) (all_have_stamps t m.core few))) (good_held meaning next new good);
+      firm = subst (λ (l : List Inv). HaveAll (InStore new) m.contents (flat_map versions l)) (sym (left_alone (stamped t m.core) (all_have_stamps t m.core few)))
+          (each_covered (λ w. HasVersion (InStore new) (m.contents w.object) w) (inventory m.core ∷ []) (last_firm, tt));
+      tickets = taken_over;
+      image = progress;
+    }
+
+  -- all is forced, and the image in progress is the one before
   module _ (t : ℕ) (is_now : now new ≡ t) (good : IsGood meaning (all_forced held.vault) new)
       (pends : (snapshot : Inv) → IsPending meaning held.vault snapshot h → IsPending meaning (all_forced held.vault) snapshot new) where
     stands_over : (job : Option Job) (i : Image) → StandsOn m.core held.vault job i h → StandsOn (stamped t m.core) (all_forced held.vault) job i new
@@ -164,42 +232,7 @@ module _ (m : Machine) (held : Held) (h new : History) (goes : GoesOn IsOurs h n
       stands = stands_over held.job i p.stands;
     }
 
-    last_firm : HasAll (InStore new) m.contents (inventory m.core)
-    last_firm = last_left (HasAll (InStore new) m.contents) m.core (all_each (InStore new) m.contents (left_open m.core) covered_over)
-
-    at_last : (moment : ℕ) (image : ℕ → List ℕ) → moment ≡ now new → ImageAt new moment image → IsSafe m.contents (stamped t m.core) (acknowledged moment (stamped t m.core).stamps) image
-    at_last moment image e at =
-        let here : ImageAt new (now new) image = subst (λ n. ImageAt new n image) e at in
-        let counted : acknowledged moment (stamped t m.core).stamps ≤ length (stamped t m.core).stamps = few_acknowledged moment (stamped t m.core).stamps in
-        let from : now h ≤ moment = let after : now h ≤ now new = goes_later IsOurs h new goes in omega (arith, after, e) in
-        let full = all_have_stamps t m.core few in
-        whole_safe m.contents (stamped t m.core) (acknowledged moment (stamped t m.core).stamps) image (omega (arith, counted, full))
-        (subst (λ v. RecoversWithin meaning image v) is.database (good_image meaning (all_forced held.vault) new image good here))
-        (last_left (HasAll (InImage image) m.contents) m.core (held_since moment image from (omega (arith, e)) at))
-
-    always_over : (moment : ℕ) (image : ℕ → List ℕ) → held.opened ≤ moment → moment ≤ now new → ImageAt new moment image
-        → IsSafe m.contents (stamped t m.core) (acknowledged moment (stamped t m.core).stamps) image
-    always_over moment image a b at = elim (cases_lt moment (now new)) as (λ _. IsSafe m.contents (stamped t m.core) (acknowledged moment (stamped t m.core).stamps) image) [
-      | inl l ↦ subst (λ n. IsSafe m.contents (stamped t m.core) n image) (sym (acknowledged_before (length (unforced m.core)) moment t m.core.stamps (omega (arith, l, is_now))))
-          (safe_stamped t m.contents m.core (acknowledged moment m.core.stamps) image (safe_over moment image a b at))
-      | inr g ↦ at_last moment image (omega (arith, b, g)) at
-    ]
-
     pub forced_kept : (counts : ℕ → ℕ) → IsKept (record m { core = stamped t m.core; moment = t; counts = counts }) (all_stamped t (with_vault (all_forced held.vault) held)) new
-    forced_kept counts = record {
-      since = later;
-      first = first_over;
-      always = always_over;
-      left = λ files l. (
-        length m.core.journal,
-        (let full = all_have_stamps t m.core few in omega (arith, full)),
-        omega arith,
-        subst (λ v. RecoversWithin meaning files v) (is.database ∙ sym (whole_at m.core)) (good_is meaning (all_forced held.vault) new good files l),
-      );
-      sure = λ none. subst (λ v. IsHeld meaning (all_forced held.vault) v new) (is.database ∙ sym (all_durable (stamped t m.core) (all_have_stamps t m.core few)))
-          (good_held meaning (all_forced held.vault) new good);
-      firm = subst (λ (l : List Inv). HaveAll (InStore new) m.contents (flat_map versions l)) (sym (left_alone (stamped t m.core) (all_have_stamps t m.core few)))
-          (each_covered (λ w. HasVersion (InStore new) (m.contents w.object) w) (inventory m.core ∷ []) (last_firm, tt));
-      tickets = taken_over;
-      image = λ none. progress_over m.core.image (k.image none);
-    }
+    forced_kept counts =
+        stamped_kept t is_now (all_forced held.vault) refl good m.core.image m.core.generation m.core.log_length held.image held.job counts
+        (λ none. progress_over m.core.image (k.image none))

@@ -33,7 +33,7 @@ module _ (tickets : List Ticket) (file object number : ℕ) where
   progress_seated c held seats claims o n None h p = tt
   progress_seated c held seats claims o n (Some i) h p = record { since = p.since; durable = p.durable; stands = p.stands }
 
-  kept_seated : (m : Machine) (held : Held) (seats : List (ℕ × Seat)) (claims : Claims) (o n : ℕ) (h : History) → IsKept m held h → AllByRecursion (HasTaken h) tickets
+  pub kept_seated : (m : Machine) (held : Held) (seats : List (ℕ × Seat)) (claims : Claims) (o n : ℕ) (h : History) → IsKept m held h → AllByRecursion (HasTaken h) tickets
       → IsKept (seated_machine tickets file object number m) (seated_held seats claims o n held) h
   kept_seated m held seats claims o n h k taken = record {
     since = k.since;

@@ -26,7 +26,7 @@ AreBehind k ts = AllByRecursion (λ t. k < t.number) ts
 one_behind : (k : ℕ) (t u : Ticket) → t.number ≡ k → is_later t u ≡ true → k < u.number
 one_behind k t u n h = let l = leb-true (t.number + 1) u.number h in omega (arith, n, l)
 
-behind : (k : ℕ) (t : Ticket) (ts : List Ticket) → t.number ≡ k → list_all (is_later t) ts ≡ true → AreBehind k ts
+pub behind : (k : ℕ) (t : Ticket) (ts : List Ticket) → t.number ≡ k → list_all (is_later t) ts ≡ true → AreBehind k ts
 behind k t ts n h = each_also (λ u. is_later t u ≡ true) (λ u. k < u.number) ts (λ u l. one_behind k t u n l) (all_of (is_later t) ts h)
 
 -- ---- a ticket goes
@@ -42,10 +42,10 @@ stays actor k t h = elim (t.actor == actor) as (λ b. (t.actor == actor) ≡ b �
   | false ↦ λ p. among_one actor k t false false p h
 ] refl
 
-without_other : (actor k : ℕ) (t : Ticket) (ts : List Ticket) → (k == t.number) ≡ false → without actor (k ∷ []) (t ∷ ts) ≡ t ∷ without actor (k ∷ []) ts
+pub without_other : (actor k : ℕ) (t : Ticket) (ts : List Ticket) → (k == t.number) ≡ false → without actor (k ∷ []) (t ∷ ts) ≡ t ∷ without actor (k ∷ []) ts
 without_other actor k t ts h = ap (λ b. cond b (t ∷ without actor (k ∷ []) ts) (without actor (k ∷ []) ts)) (stays actor k t h)
 
-not_number : (k n : ℕ) → k < n → (k == n) ≡ false
+pub not_number : (k n : ℕ) → k < n → (k == n) ≡ false
 not_number k n l = ne_eqb k n (λ (h : k ≡ n). omega (arith, h, l))
 
 none_behind : (actor k : ℕ) (ts : List Ticket) → AreBehind k ts → without actor (k ∷ []) ts ≡ ts
@@ -66,10 +66,10 @@ own_actor actor s h = elim (s.actor == actor) as (λ b. (s.actor == actor) ≡ b
 ] refl h
 
 -- the key of a held ticket is the ticket's number
-key_is : (k : ℕ) (key : ℕ) (s : Seat) (t : Ticket) (b : Bool) → IsSeatOf key s t → is_at (nat_cmp k) key ≡ b → (k == t.number) ≡ b
+pub key_is : (k : ℕ) (key : ℕ) (s : Seat) (t : Ticket) (b : Bool) → IsSeatOf key s t → is_at (nat_cmp k) key ≡ b → (k == t.number) ≡ b
 key_is k key s t b is h = ap (λ n. k == n) is.number ∙ sym (same_number k key) ∙ h
 
-number_is : (k n : ℕ) → (k == n) ≡ true → n ≡ k
+pub number_is : (k n : ℕ) → (k == n) ≡ true → n ≡ k
 number_is k n h = sym (eqb-true k n h)
 
 pub seats_gone : (actor k : ℕ) (seats : List (ℕ × Seat)) (ts : List Ticket) → AreSeatsOf seats ts → all_later is_later ts ≡ true → is_some (own actor (row_at k seats)) ≡ true
@@ -125,7 +125,7 @@ matches_some k None (Some t) h = absurd h
 matches_some k (Some s) None h = absurd h
 matches_some k (Some s) (Some t) h = refl
 
-none_found : (actor k : ℕ) (ts : List Ticket) → AreBehind k ts → ticket k (own_tickets actor ts) ≡ None
+pub none_found : (actor k : ℕ) (ts : List Ticket) → AreBehind k ts → ticket k (own_tickets actor ts) ≡ None
 none_found actor k [] h = refl
 none_found actor k (t ∷ ts) h =
     let rest : ticket k (own_tickets actor ts) ≡ None = none_found actor k ts h.1 in
@@ -135,7 +135,7 @@ none_found actor k (t ∷ ts) h =
     ]
 
 -- the number of a ticket is tested from both sides alike
-turned : (k n : ℕ) (b : Bool) → (k == n) ≡ b → (n == k) ≡ b
+pub turned : (k n : ℕ) (b : Bool) → (k == n) ≡ b → (n == k) ≡ b
 turned k n true h = eq-eqb n k (number_is k n h)
 turned k n false h = ne_eqb n k (λ (e : n ≡ k). eqb-false k n h (sym e))
 

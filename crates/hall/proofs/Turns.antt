@@ -29,6 +29,7 @@ use Rattle.hall.specs.Opening.{GivesBack, IsNewHall, IsSound, IsWith, OpensFiles
 use Rattle.hall.specs.Plays.{Plays, Reopens, Restarts, RunsTurns, Stopped}
 use Rattle.hall.specs.Steps.{IsTrusted}
 use Rattle.hall.proofs.Exact.{exact, kept_by, still_trusted}
+use Rattle.hall.proofs.Imaging.{no_image}
 use Rattle.hall.proofs.Stamping.{rise_over}
 
 -- ---- what a stop left
@@ -128,7 +129,7 @@ module _ {S : Type 0} (told : S → Option History) (moment : S → ℕ) (faults
       next_file = sym is.core.space.next_file ∙ ap (λ c. c.next_file) fresh.claims ∙ ap (λ v. v.next_file) (sym is.core.base);
       next_object = is.core.next_object ∙ fresh.next_object ∙ ap (λ v. v.next_object) (sym is.core.base);
       next_ticket = is.core.next_ticket ∙ fresh.next_ticket;
-      image = is.core.image ∙ fresh.image;
+      image = no_image m.core.image (is.core.image ∙ fresh.image);
       fault = is.core.fault ∙ fresh.vault.2;
       contents = contents;
     };

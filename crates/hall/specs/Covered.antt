@@ -1,5 +1,5 @@
 -- The databases that a stop may bring back, the copies that are covered because of them, and when the space of tickets is clear of these.
-use Rattle.std.specs.Prelude.{◌≡◌, ℕ, ◌+◌, ◌<◌, ◌≤◌, ◌^◌, ◌==◌, ◌&&◌, ◌||◌, Bool, true, false, not, nat_le, is_none, if◌then◌else◌, List, [], ◌∷◌, ◌++◌, map, filter, take, length, None}
+use Rattle.std.specs.Prelude.{◌≡◌, ℕ, ◌+◌, ◌<◌, ◌≤◌, ◌^◌, ◌==◌, ◌&&◌, ◌||◌, Bool, true, false, not, nat_le, is_none, is_some, if◌then◌else◌, List, [], ◌∷◌, ◌++◌, map, filter, take, length, Option, None, Some}
 use Rattle.std.specs.List.{AllByRecursion, flat_map, list_all, sum_by}
 use Rattle.std.specs.Option.{option_map_or}
 use Rattle.kinds.specs.declared.segment.Segment.{Segment}
@@ -8,16 +8,17 @@ use Rattle.entries.specs.declared.change.Change.TheVariants as change
 use Rattle.entries.specs.declared.entry.Entry.{Entry}
 use Rattle.inventory_rows.specs.version_groups.Entries.{all_later}
 use Rattle.inventory_rows.specs.version_groups.declared.versions.Version.{Version}
+use Rattle.inventory_rows.specs.volume_rows.declared.volume.Volume.{Volume}
 use Rattle.inventory_rows.specs.pool_rows.PoolRows.{is_sequential}
 use Rattle.inventory_rows.specs.pool_tables.Rows.{row_at}
-use Rattle.inventory_rows.specs.Search.{segments_on, version, versions}
+use Rattle.inventory_rows.specs.Search.{pool, segments_on, version, versions}
 use Rattle.inventory_rows.specs.State.{Inv}
 use Rattle.inventory_rules.specs.Backups.{backup_at}
 use Rattle.inventory_rules.specs.Segments.{are_clear}
 use Rattle.inventory_rules.specs.Transactions.{effect}
 use Rattle.inventory_laws.specs.Rising.{is_reuse}
 use Rattle.machine.specs.Machine.{durable, left_by}
-use Rattle.machine.specs.State.{Core, Ticket, after, inventory, is_storing, object_of, unforced}
+use Rattle.machine.specs.State.{Core, Purpose, Ticket, after, copying, inventory, is_storing, object_of, storing, unforced}
 
 -- ---- databases
 
@@ -94,8 +95,11 @@ are_apart_in v a b =
     not (a.1.file == b.1.file)
     || (a.0.place.pool == b.0.place.pool && (are_clear sequential a.1 b.1 && (not sequential || a.0.actor == b.0.actor))))
 
--- A ticket took no more bytes than it is for, all of them where it is sealed, and its segments, none of them empty, have room for exactly these.
+-- A ticket took no more bytes than it is for, all of them where it is sealed, and its segments, none of them empty, have room for exactly these. An object has fewer than 2^44 bytes, and a
+-- ticket at most 2^23 segments, so that each has a number in its frame, and all their files can be synced within one step.
 pub record IsFilled (t : Ticket) : Type 0 where
+  pub small : t.size < 2 ^ 44
+  pub few : length t.place.segments ≤ 2 ^ 23
   pub within : length t.bytes ≤ t.size
   pub whole : t.is_sealed ≡ true → length t.bytes ≡ t.size
   pub room : sum_by (λ s. s.len) t.place.segments ≡ t.size
@@ -125,19 +129,49 @@ IsNew c object = (count : ℕ) → version object (inv_at count c) ≡ None
 abbrev pub IsDrawn : Core → ℕ → Type 0
 IsDrawn c object = (c.base.next_object ≤ object) × (object < c.next_object) × IsNew c object
 
--- a ticket's file is a volume's: one that is there, or a scratch volume's with a number that was drawn in this run; and no database backup's
+-- a database of the run had the object
+abbrev pub WasThere : Core → ℕ → Type 0
+WasThere c object = (count : ℕ) × (is_some (version object (inv_at count c)) ≡ true)
+
+-- the number of a new object was drawn in this run; an object that is copied was there
+abbrev pub IsObject : Core → Purpose → Type 0
+IsObject c (storing object) = IsDrawn c object
+IsObject c (copying object aim) = WasThere c object
+
+-- no database of the run had a volume with this file number
+abbrev pub IsNewFile : Core → ℕ → Type 0
+IsNewFile c file = (count : ℕ) → row_at file (inv_at count c).stores.volumes ≡ None
+
+-- a ticket's file is a volume's: one that is there, or a scratch volume's with a number that was drawn in this run and that no volume has had; and no database backup's
 abbrev pub IsVolume : Core → ℕ → Type 0
 IsVolume c file =
     (4 ≤ file) × (file < c.next_file) × (backup_at file (inventory c) ≡ None)
-    × (is_none (row_at file (inventory c).stores.volumes) ≡ true → c.base.next_file ≤ file)
+    × (is_none (row_at file (inventory c).stores.volumes) ≡ true → (c.base.next_file ≤ file) × IsNewFile c file)
 
--- The numbers that are drawn: those of tickets rise, and those of objects and files are distinct, not below what the base draws next, and below what is drawn next; each is below its bound.
+-- a volume that is there is of the pool; one that isn't is a scratch volume that no transaction of the run has made
+abbrev pub IsInPool : Core → (pool file : ℕ) → Option Volume → Type 0
+IsInPool c pool file None = IsNewFile c file
+IsInPool c pool file (Some volume) = volume.pool ≡ pool
+
+abbrev pub LiesIn : Core → (pool file : ℕ) → Type 0
+LiesIn c pool file = IsInPool c pool file (row_at file (inventory c).stores.volumes)
+
+-- the file number of a volume that went is given to no other in the run
+abbrev pub NoneComesBack : Core → Type 0
+NoneComesBack c =
+    (file i j k : ℕ) → i ≤ j → j ≤ k → is_some (row_at file (inv_at i c).stores.volumes) ≡ true → row_at file (inv_at j c).stores.volumes ≡ None → row_at file (inv_at k c).stores.volumes ≡ None
+
+-- The numbers that are drawn: those of tickets rise, and those of objects and files are distinct, not below what the base draws next, and below what is drawn next; each is below its bound. The pool of
+-- a ticket is there, its volumes are of that pool, and no volume's number is given to another one.
 pub record NumbersAreDrawn (c : Core) : Type 0 where
   pub tickets : all_later is_later c.tickets ≡ true
   pub below : AllByRecursion (λ t. t.number < c.next_ticket) c.tickets
-  pub objects : AllByRecursion (λ t. is_storing t.purpose ≡ true → IsDrawn c (object_of t.purpose)) c.tickets
+  pub objects : AllByRecursion (λ t. IsObject c t.purpose) c.tickets
   pub apart : all_later bring_others c.tickets ≡ true
+  pub pools : AllByRecursion (λ t. is_some (pool t.place.pool (inventory c)) ≡ true) c.tickets
   pub files : AllByRecursion (λ t. AllByRecursion (λ s. IsVolume c s.file) t.place.segments) c.tickets
+  pub lying : AllByRecursion (λ t. AllByRecursion (λ s. LiesIn c t.place.pool s.file) t.place.segments) c.tickets
+  pub none_back : NoneComesBack c
   pub next_file : (c.base.next_file ≤ (inventory c).next_file) × ((inventory c).next_file ≤ c.next_file)
   pub next_object : (c.base.next_object ≤ (inventory c).next_object) × ((inventory c).next_object ≤ c.next_object)
   pub bounds : (c.next_file < 2 ^ 32) × (c.next_object < 2 ^ 62) × (c.next_ticket < 2 ^ 62)

@@ -1,14 +1,14 @@
 -- What the hall holds in memory, and how that is a state of the machine.
-use Rattle.std.specs.Prelude.{◌≡◌, ℕ, ◌+◌, ◌-◌, Bool, true, false, List, [], ◌∷◌, length, Option, None, Some}
+use Rattle.std.specs.Prelude.{◌≡◌, ℕ, ◌+◌, ◌-◌, ◌<◌, ◌≤◌, ◌^◌, Bool, true, false, List, [], ◌∷◌, length, Option, None, Some}
 use Rattle.sha2.specs.Hashers.{Holds256}
 use Rattle.sha2.specs.Sha256.{sha256}
 use Rattle.kinds.specs.ValueForms.{digest_with}
 use Rattle.db_image.specs.declared.phase.Phase.{Phase}
-use Rattle.db_image.specs.declared.phase.Phase.TheVariants.{Begun, Written, Durable, Open, Failed}
-use Rattle.db_image.specs.Steps.{Job}
+use Rattle.db_image.specs.declared.phase.Phase.TheVariants as phase
+use Rattle.db_image.specs.Steps.{IsWithin, Job}
 use Rattle.inventory_rows.specs.State.{Inv}
 use Rattle.vault.specs.Files.{image_file}
-use Rattle.vault.specs.Pieces.{Pending}
+use Rattle.vault.specs.Pieces.{IsGoing, Pending}
 use Rattle.vault.specs.Vaults.{State}
 use Rattle.space.specs.Claims.{Claims}
 use Rattle.machine.specs.Machine.{space}
@@ -23,6 +23,13 @@ use Rattle.hall.specs.Placed.{IsSpace, places_of}
 
 -- ---- what is held
 
+-- An image in progress as it is held: whose it is, what it is of, the file that it goes to, and the number of the database that it is of.
+pub record BegunImage : Type 0 where
+  pub actor : ℕ
+  pub picture : Picture
+  pub file : ℕ
+  pub seq : ℕ
+
 -- What a hall holds beside its store: the database that it was opened with, and the moment then; the vault, with the database as it is, the run's transactions and a checkpoint in
 -- progress; the stamps, oldest first; the tickets, by number; the space that is held beside the copies, with the file number that is drawn next; the object and ticket numbers that are
 -- drawn next; and the image in progress, with what a database backup has still to write.
@@ -35,7 +42,7 @@ pub record Held : Type 0 where
   pub claims : Claims
   pub next_object : ℕ
   pub next_ticket : ℕ
-  pub image : Option Image
+  pub image : Option BegunImage
   pub job : Option Job
 
 -- a hall as a value: its store, and what it holds
@@ -75,30 +82,30 @@ AreSeatsOf [] [] = Unit {0}
 AreSeatsOf (e ∷ seats) (t ∷ tickets) = IsSeatOf e.0 e.1 t × AreSeatsOf seats tickets
 AreSeatsOf _ _ = ⊥
 
--- an image in progress that has a writer of its own is a backup, and any other is a checkpoint
-abbrev pub picture_of : Option Job → Picture
-picture_of None = checkpoint
-picture_of (Some job) = backup
-
--- an image in progress as it is held, and what a backup has still to write
-abbrev pub image_in : Option Seated → Option Image
+-- an image in progress as it is held
+abbrev pub image_in : Option Seated → Option BegunImage
 image_in None = None
-image_in (Some i) = Some (record { actor = i.actor; picture = picture_of i.backup; file = i.file; seq = i.seq; unwritten = i.unwritten; copied = i.copied })
+image_in (Some i) = Some (record { actor = i.actor; picture = checkpoint; file = i.file; seq = i.seq })
 
-abbrev pub job_in : Option Seated → Option Job
-job_in None = None
-job_in (Some i) = i.backup
+-- what is held of an image of the machine
+abbrev pub begun_of : Option Image → Option BegunImage
+begun_of None = None
+begun_of (Some i) = Some (record { actor = i.actor; picture = i.picture; file = i.file; seq = i.seq })
 
 -- how much of an image's payload isn't written yet
 abbrev pub unwritten_at : Phase → (len : ℕ) → ℕ
-unwritten_at Begun len = len
-unwritten_at (Written written) len = len - written
-unwritten_at Durable len = 0
-unwritten_at Open len = 0
-unwritten_at Failed len = 0
+unwritten_at phase.Begun len = len
+unwritten_at (phase.Written written) len = len - written
+unwritten_at phase.Durable len = 0
+unwritten_at phase.Open len = 0
+unwritten_at phase.Failed len = 0
 
--- a checkpoint in progress is the vault's
+-- A checkpoint in progress is the vault's: of the next generation, which is below its bound, with its payload partly written or all on the disk, and with as many of the later transactions as were copied.
 pub record IsCheckpoint (first generation : ℕ) (pending : Pending) (i : Image) : Type 0 where
+  pub few : generation + 1 < 2 ^ 62
+  pub going : IsGoing pending.job.phase
+  pub within : IsWithin pending.job.phase (length pending.job.payload)
+  pub ordered : pending.start ≤ pending.copied
   pub picture : i.picture ≡ checkpoint
   pub file : i.file ≡ image_file (generation + 1)
   pub seq : i.seq ≡ first + pending.start
@@ -119,19 +126,19 @@ IsImage first generation (Some pending) None (Some i) = IsCheckpoint first gener
 IsImage first generation None (Some job) (Some i) = IsBackup job i
 IsImage first generation _ _ _ = ⊥
 
--- What is held is this state of the machine. Of a hall that a fault has halted, neither the log's length nor an image in progress is looked at any more.
+-- What is held is this state of the machine. Of a hall that a fault has halted, neither how much is forced, nor the log's length, nor how far an image in progress is, is looked at any more.
 pub record IsCore (held : Held) (c : Core) : Type 0 where
   pub base : c.base ≡ held.base
   pub journal : c.journal ≡ held.vault.journal
   pub database : held.vault.database ≡ inventory c
   pub stamps : c.stamps ≡ held.stamps
-  pub forced : held.vault.forced ≡ length c.stamps
+  pub forced : held.vault.fault ≡ None → held.vault.forced ≡ length c.stamps
   pub tickets : AreSeatsOf held.seats c.tickets
   pub space : IsSpace (inventory c) (space c) held.claims
   pub next_object : c.next_object ≡ held.next_object
   pub next_ticket : c.next_ticket ≡ held.next_ticket
-  pub image : c.image ≡ held.image
-  pub is_image : held.vault.fault ≡ None → IsImage c.base.number held.vault.generation held.vault.pending held.job held.image
+  pub image : begun_of c.image ≡ held.image
+  pub is_image : held.vault.fault ≡ None → IsImage c.base.number held.vault.generation held.vault.pending held.job c.image
   pub generation : c.generation ≡ held.vault.generation
   pub log_length : held.vault.fault ≡ None → c.log_length ≡ held.vault.end
   pub fault : c.fault ≡ held.vault.fault

@@ -5,7 +5,7 @@ ghost use Rattle.store_api.specs.Runs.{GoesOn};
 ghost use Rattle.store_api.specs.Told.{Told};
 ghost use Rattle.vault.specs.Files.{IsOurs};
 ghost use Rattle.steps.specs.Events.{is_listed};
-ghost use Rattle.steps.specs.Events.Deed.{Ask, DropTicket, Force};
+ghost use Rattle.steps.specs.Events.Deed.{Ask, Commit, DropTicket, Force};
 ghost use Rattle.hall.specs.Steps.{Goes, Looks, Steps};
 
 use crate::parts::Parts;
@@ -13,7 +13,9 @@ use entries::Entry;
 use inventory::Inventory;
 use inventory_answers::{Answer, Query};
 use kinds::Refusal;
+use run_past::laws::the_rest_stays;
 use std::marker::Model;
+use steps::Asked;
 use store_api::Store;
 
 /// What is left of a hall that was closed: its store, the database that it was opened with, the transactions of the run, oldest first, the stamps of the first of these, and the store's
@@ -30,8 +32,8 @@ pub struct Closed<S: Store> {
 /// What all actors' steps are made on: a store, and what the hall holds beside it. Every value is good: it is a state of the machine (specs/Held) that keeps what it should (specs/Good).
 #[derive(Drop)]
 pub struct Hall<S: Store> {
-    store: S,
-    parts: Parts,
+    pub(crate) store: S,
+    pub(crate) parts: Parts,
 }
 
 impl<S: Store> Model for Hall<S> {
@@ -150,6 +152,34 @@ impl<S: Store> Hall<S> {
         self.parts.force(&mut self.store)
     }
 
+    /// Makes a transaction of what is asked, and answers its number; the tickets with these numbers are spent. It waits for a force: until then no stop leaves it. Refused with the foremost of
+    /// all that refuses it, with `Memory`, and then nothing changes, and with `LogFault` where a call on the log failed: then it is in doubt, and its tickets are spent. It makes one device
+    /// call at most.
+    pub fn commit(&mut self, actor: u32, asked: &Asked, numbers: &[u64]) -> Result<u64, Refusal>
+        ensures step { Steps S.told S.moment_of S.faults_of actor (Commit asked.now numbers.now result) self.old self.new }
+        ensures listed { is_listed (Commit asked.now numbers.now result) ≡ true }
+        ensures goes { Goes S.told self.old self.new }
+        ensures time { S.moment_of self.new.store ≤ S.moment_of self.old.store + 1 }
+        ensures later { S.moment_of self.old.store ≤ S.moment_of self.new.store }
+        ensures counts { NoneFell (S.faults_of self.old.store) (S.faults_of self.new.store) }
+        ensures files { Told (S.told self.old.store) (S.told self.new.store) (GoesOn IsOurs) }
+    {
+        if let Some(refusal) = self.parts.ended(self.store.moment()) {
+            return Err(refusal);
+        }
+        match self
+            .parts
+            .asked_entry(self.parts.past(), actor, asked, numbers)
+        {
+            Ok(entry) => {
+                self.parts.ascends();
+                the_rest_stays();
+                self.parts.join(&mut self.store, entry, numbers)
+            }
+            Err(refusal) => Err(refusal),
+        }
+    }
+
     /// What is left of a hall that is used no more: the live tickets and an image in progress go.
     pub fn close(self) -> Closed<S>
         ensures store { result.store ≡ self.store }
@@ -170,6 +200,7 @@ impl<S: Store> Hall<S> {
             next_object: _,
             next_ticket: _,
             image: _,
+            past: _,
         } = parts;
         Closed {
             store,

@@ -1,21 +1,31 @@
 // What the definitions mean, as laws. Each stands on a function that does nothing.
-ghost use Rattle.std.specs.Prelude.{◌≡◌, ◌+◌, ◌≤◌, ℕ, List, ◌∷◌, ◌++◌, None, Some, length};
+ghost use Rattle.std.specs.Prelude.{◌≡◌, ◌+◌, ◌≤◌, ℕ, true, List, ◌∷◌, ◌++◌, Err, None, Some, length};
 ghost use Rattle.std.specs.List.{AllByRecursion};
+ghost use Rattle.kinds.specs.Refusals.{foremost};
+ghost use Rattle.kinds.specs.declared.refusal.Refusal.{Refusal};
 ghost use Rattle.kinds.specs.declared.segment.Segment.{Segment};
 ghost use Rattle.store_api.specs.Disk.{History, now, ImageAt};
 ghost use Rattle.store_api.specs.Runs.{WroteWithin};
 ghost use Rattle.contents.specs.Contents.{HaveAll, Holds, InStore, IsKept as IsKeptBy};
-ghost use Rattle.steps.specs.Events.{Deed, event};
+ghost use Rattle.steps.specs.Events.{Deed, Event, event, is_listed};
+ghost use Rattle.steps.specs.Events.Deed.{Commit};
+ghost use Rattle.steps.specs.declared.asked.Asked.{Asked};
 ghost use Rattle.steps.specs.declared.step.Reply.{Reply};
-ghost use Rattle.machine.specs.Machine.{Made};
+ghost use Rattle.machine.specs.Fits.{Fits, History as Run};
+ghost use Rattle.machine.specs.Laws.{GoesWhereAimed, RefusesElsewhere};
+ghost use Rattle.machine.specs.Machine.{Made, asked_change};
 ghost use Rattle.machine.specs.State.{Core, Machine, Ticket, inventory};
+ghost use Rattle.machine.specs.Turns.{own_in};
 ghost use Rattle.hall.specs.declared.turn.Turn.{Turn};
+ghost use Rattle.hall.specs.Alone.{AreExact, Continues, Ran};
 ghost use Rattle.hall.specs.Beside.{IsBeside, IsKeptBut};
+ghost use Rattle.hall.specs.Commits.{change_asked, commit_causes};
 ghost use Rattle.hall.specs.Covered.{NumbersAreDrawn, SpaceIsClear, covered, left_open};
 ghost use Rattle.hall.specs.Good.{Is, IsKept, WasSound};
 ghost use Rattle.hall.specs.Held.{Hall, Held};
 ghost use Rattle.hall.specs.Placed.{hall_places};
 ghost use Rattle.hall.specs.Plays.{Plays, RunsTurns};
+ghost use Rattle.hall.specs.Seats.{ended_at};
 ghost use Rattle.hall.specs.Steps.{Goes, IsTrusted, Steps};
 
 use inventory::Inventory;
@@ -51,6 +61,30 @@ pub fn trusted_halls_are_safe<S: Store>()
 pub fn turns_are_exact<S: Store>()
     ensures { (turns : List Turn) (replies : List Reply) (old new : Hall S) (m : Machine) → IsTrusted (S.told old.store) old.held → Is S.told S.moment_of S.faults_of old m
         → Plays S.told S.moment_of S.faults_of turns replies old new → (last : Machine) × RunsTurns turns replies m last × Is S.told S.moment_of S.faults_of new last × IsTrusted (S.told new.store) new.held }
+{}
+
+/// Where the hall places objects is as the machine asks it of placing: it is refused for want of room, for room that others hold, and for numbers at their bounds alone, and an object goes
+/// into one of the pools that its aim walks.
+pub fn places_are_lawful()
+    ensures elsewhere { RefusesElsewhere hall_places }
+    ensures aimed { GoesWhereAimed hall_places }
+{}
+
+/// A commit is refused by the machine exactly with what refuses it over what the hall holds: behind a full run and a fault the foremost of the causes that specs/Commits lists, each of them one that a commit may
+/// be answered with; and the change that it asks for is the same.
+pub fn commits_are_refused_alike<S: Store>()
+    ensures refused { (actor : ℕ) (asked : Asked) (numbers : List ℕ) (hall : Hall S) (e : Refusal) → foremost (ended_at (S.moment_of hall.store) hall.held) ≡ None → foremost (commit_causes actor asked numbers hall.held) ≡ Some e
+        → Steps S.told S.moment_of S.faults_of actor (Commit asked numbers (Err e)) hall hall × (is_listed (Commit asked numbers (Err e)) ≡ true) }
+    ensures change { (actor : ℕ) (asked : Asked) (numbers : List ℕ) (hall : Hall S) (m : Machine) → Is S.told S.moment_of S.faults_of hall m → change_asked actor asked numbers hall.held ≡ asked_change actor asked numbers m.core }
+{}
+
+/// What one actor did on a hall that it has alone fits every history that goes on from there: each of its steps was made on the database of its number, and what joined by it stands in the history. So it is
+/// over whatever store, where nothing was read, and over one that tells its bytes and was sound when the hall was opened, of every run; what was read then are the objects' bytes.
+pub fn alone_fits<S: Store>()
+    ensures { (actor reached : ℕ) (events : List Event) (old new : Hall S) (m : Machine) → Is S.told S.moment_of S.faults_of old m
+        → AreExact (IsTrusted (S.told old.store) old.held) events → Ran S.told S.moment_of S.faults_of actor events old new → reached ≤ (inventory m.core).number
+        → (last : Machine) × Is S.told S.moment_of S.faults_of new last
+        × ((w : Run) → Continues last w → (n : ℕ) × (n ≤ (inventory last.core).number) × Fits w actor (own_in actor reached m.core) events (own_in actor n last.core)) }
 {}
 
 /// A ticket's frame is written, in part or whole, whether the call fails or not: all is kept that no stop may take from the hall, and what every other ticket took. A segment of a ticket is

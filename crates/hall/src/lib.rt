@@ -2,11 +2,21 @@
 //! they keep.
 #![tactic(auto)]
 
+mod asked;
+mod begin;
+mod changes;
+mod committing;
+mod drawing;
+mod frame_calls;
 mod hall;
+mod images;
 pub mod laws;
+mod noting;
 mod parts;
+mod reading;
 mod seat;
 mod seated;
+mod taking;
 mod turn;
 
 pub use hall::{Closed, Hall};

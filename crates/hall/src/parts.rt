@@ -14,6 +14,7 @@ use crate::seated::Seated;
 use inventory::Inventory;
 use inventory_answers::{Answer, Query, Rows};
 use kinds::Refusal;
+use run_past::RunPast;
 use space::Space;
 use std::alloc::Global;
 use std::collections::BTreeMap;
@@ -25,7 +26,8 @@ use vault::Vault;
 const LAST_MOMENT: u64 = (1 << 62) - (1 << 24);
 
 /// What a hall holds: the database that it was opened with, and the store's moment then; the vault; the stamps of this run's transactions, oldest first; the live tickets by number;
-/// the space that is held beside the copies; the object and ticket numbers that are drawn next; and the image in progress.
+/// the space that is held beside the copies; the object and ticket numbers that are drawn next; and the image in progress; and what the run's
+/// transactions tell.
 #[derive(Drop)]
 pub(crate) struct Parts {
     pub(crate) alloc: Global,
@@ -38,19 +40,21 @@ pub(crate) struct Parts {
     pub(crate) next_object: u64,
     pub(crate) next_ticket: u64,
     pub(crate) image: Option<Seated>,
+    pub(crate) past: RunPast,
 }
 
 impl Model for Parts {
-    ghost use Rattle.std.specs.Prelude.{◌≤◌, length};
+    ghost use Rattle.std.specs.Prelude.{None};
     ghost use Rattle.std.specs.Vec.{vec_capacity};
-    ghost use Rattle.hall.specs.Held.{Held, image_in, job_in};
+    ghost use Rattle.hall.specs.Held.{Held, image_in};
+    ghost use Rattle.hall.specs.Noted.{IsNoted};
 
     ghost Value = { Held };
 
-    ghost view = { λ p. record { base = p.base; opened = p.opened; vault = p.vault; stamps = p.stamps.items; seats = p.seats.entries; claims = p.space; next_object = p.next_object; next_ticket = p.next_ticket; image = image_in p.image; job = job_in p.image } };
+    ghost view = { λ p. record { base = p.base; opened = p.opened; vault = p.vault; stamps = p.stamps.items; seats = p.seats.entries; claims = p.space; next_object = p.next_object; next_ticket = p.next_ticket; image = image_in p.image; job = None } };
 
-    // There is room for the stamp of each transaction, so that forcing takes no memory.
-    ghost invariant = { λ p. length p.vault.journal ≤ vec_capacity p.stamps };
+    // There is room for the stamp of each transaction, so that forcing takes no memory; and what is told of the run is its journal's.
+    ghost invariant = { λ p. IsNoted p.base p.vault.database p.vault.journal p.vault.fault p.past (vec_capacity p.stamps) };
 }
 
 impl Parts {
@@ -93,7 +97,7 @@ impl Parts {
     }
 
     /// Each transaction that has no stamp gets this one, and nothing is held because of them any more. It takes no memory.
-    fn stamp(&mut self, moment: u64)
+    pub(crate) fn stamp(&mut self, moment: u64)
         requires { length self.old.stamps ≤ length self.old.vault.journal }
         ensures { self.new ≡ all_stamped moment self.old }
     {

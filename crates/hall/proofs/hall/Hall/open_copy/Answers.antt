@@ -1,0 +1,44 @@
+use Rattle.std.proofs.Common.{None, Some, Err, refl}
+use Rattle.steps.specs.Events.Deed.{OpenCopy}
+use Rattle.hall.proofs.Ended.{said_at}
+use Rattle.hall.proofs.OpensNew.{below_held}
+use Rattle.hall.proofs.OpensCopy.{copy_ended_listed, copy_good, copy_result_listed, copy_step, not_drawn_ended}
+use Rattle.hall.proofs.Stepping.{goes_seen, stays_seen}
+use Rattle.hall.proofs.hall.Hall.open_copy.Goals as goal
+
+pub returns-in-Some-clause-step : goal.returns-in-Some-clause-step
+returns-in-Some-clause-step g c =
+    let t = g.S.Store.told in
+    let m = g.S.Store.moment_of in
+    let f = g.S.Store.faults_of in
+    stays_seen t m f c.args.actor (OpenCopy c.args.object c.args.aim c.args.avoid (Err c.in-Some.refusal)) _ c.args.self.now c.self.view_is
+    (not_drawn_ended t m f c.args.actor c.args.object c.args.aim c.args.avoid (record { store = c.self.inside.store; held = c.self.inside.parts }) c.in-Some.refusal
+    (said_at c.moment.result (m c.self.inside.store) c.self.inside.parts c.ended.result (Some c.in-Some.refusal) c.moment.ensures c.ended.ensures c.in-Some.is))
+
+pub returns-in-Some-clause-listed : goal.returns-in-Some-clause-listed
+returns-in-Some-clause-listed g c =
+    copy_ended_listed c.moment.result c.self.inside.parts c.args.object c.args.aim c.args.avoid c.in-Some.refusal
+    (said_at c.moment.result c.moment.result c.self.inside.parts c.ended.result (Some c.in-Some.refusal) refl c.ended.ensures c.in-Some.is)
+
+pub open_copy-requires-clause-below : goal.open_copy-requires-clause-below
+open_copy-requires-clause-below g c = below_held g.S.Store.told g.S.Store.moment_of g.S.Store.faults_of (record { store = c.self.inside.store; held = c.self.inside.parts }) c.self.invariant
+
+pub invariant_of-self : goal.invariant_of-self
+invariant_of-self g c =
+    let m = g.S.Store.moment_of in
+    copy_good g.S.Store.told m g.S.Store.faults_of c.args.actor c.args.object c.args.aim c.args.avoid (record { store = c.self.inside.store; held = c.self.inside.parts })
+    (said_at c.moment.result (m c.self.inside.store) c.self.inside.parts c.ended.result None c.moment.ensures c.ended.ensures c.in_default.is)
+    c.open_copy.result c.open_copy.new.self c.open_copy.ensures.ok c.open_copy.ensures.same c.open_copy.ensures.err c.self.invariant
+
+pub returns-clause-step : goal.returns-clause-step
+returns-clause-step g c =
+    let t = g.S.Store.told in
+    let m = g.S.Store.moment_of in
+    let f = g.S.Store.faults_of in
+    goes_seen t m f c.args.actor (OpenCopy c.args.object c.args.aim c.args.avoid c.open_copy.result) _ c.args.self.now (record { store = c.self.inside.store; held = c.open_copy.new.self }) c.self.view_is
+    (copy_step t m f c.args.actor c.args.object c.args.aim c.args.avoid (record { store = c.self.inside.store; held = c.self.inside.parts })
+    (said_at c.moment.result (m c.self.inside.store) c.self.inside.parts c.ended.result None c.moment.ensures c.ended.ensures c.in_default.is)
+    c.open_copy.result c.open_copy.new.self c.open_copy.ensures.ok c.open_copy.ensures.same c.open_copy.ensures.err)
+
+pub returns-clause-listed : goal.returns-clause-listed
+returns-clause-listed g c = copy_result_listed c.args.actor c.args.object c.args.aim c.args.avoid c.self.inside.parts c.open_copy.result c.open_copy.ensures.err

@@ -1,0 +1,11 @@
+use Rattle.std.proofs.Common.{◌≡◌, ◌≤◌, ◌++◌, drop, length}
+use Rattle.machine.specs.Changes.{version_from}
+use Rattle.hall.specs.Commits.{zipped}
+use Rattle.hall.specs.Sights.{sight_of}
+use Rattle.hall.proofs.parts.Parts.versions_of.Given as goal
+
+abbrev pub invariant-items : goal.invariant-items
+invariant-items l = record {
+  made : l.out ++ zipped version_from (drop l.at l.items) (drop l.at l.numbers) (sight_of l.actor l.self) ≡ zipped version_from l.items l.numbers (sight_of l.actor l.self);
+  few : length l.out ≤ l.at;
+}
