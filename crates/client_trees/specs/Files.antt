@@ -1,5 +1,5 @@
 -- The files of a client, as a tree that tells them has them, and what calls make of them.
-use Rattle.std.specs.Prelude.{◌≡◌, ◌⊎◌, ℕ, ◌<◌, ◌≤◌, List, [], ◌++◌, length, map, take, drop, is_some, IsTrue, Option, Some, None, Result, OnOk, OnErr}
+use Rattle.std.specs.Prelude.{◌≡◌, ◌⊎◌, ℕ, ◌<◌, ◌≤◌, not, List, [], ◌++◌, length, map, filter, take, drop, is_some, IsTrue, Option, Some, None, Result, OnOk, OnErr}
 use Rattle.std.specs.BTreeMap.{is_at, insert_entry}
 use Rattle.std.specs.Cmp.Lexicographic.{slice_cmp}
 use Rattle.std.specs.List.Sorted.{IsStrictlySortedBy}
@@ -29,6 +29,10 @@ AreInOrder rows = IsStrictlySortedBy (slice_cmp nat_cmp) (map (λ (f : FileRow).
 abbrev pub file_at : List ℕ → Files → Option ClientFile
 file_at path files = lookup (is_at (slice_cmp nat_cmp path)) files
 
+-- the files at other paths, each with its path
+abbrev pub others : List ℕ → Files → Files
+others path files = filter (λ f. not (is_at (slice_cmp nat_cmp path) f.0)) files
+
 -- there is a file at the path
 abbrev pub IsThere : List ℕ → Files → Type 0
 IsThere path files = IsTrue (is_some (file_at path files))
@@ -53,6 +57,11 @@ finished path mtime files = altered (λ (f : ClientFile). record f { mtime = mti
 -- the files but the one at the path
 abbrev pub removed : List ℕ → Files → Files
 removed path files = remove_entry (is_at (slice_cmp nat_cmp path)) files
+
+-- where the tree tells its files, none stands at the path
+abbrev pub IsGone : List ℕ → Option Files → Type 0
+IsGone path None = Unit {0}
+IsGone path (Some files) = file_at path files ≡ None
 
 -- A call that is to change the files did, where it answered Ok; where it failed it did, or left them as they were.
 abbrev pub Leaves : {E : Type 0} → Result (Unit {0}) E → Option Files → Option Files → (Files → Files) → Type 0

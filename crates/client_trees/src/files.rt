@@ -1,5 +1,5 @@
 // Files in memory under their paths.
-ghost use Rattle.std.specs.Prelude.{◌≡◌, ◌<◌, ◌≤◌, ◌++◌, take, drop, [], length, map, is_some, IfOk, OnOk, OnErr};
+ghost use Rattle.std.specs.Prelude.{◌≡◌, ◌<◌, ◌≤◌, ◌++◌, take, drop, [], length, map, is_some, None, IfOk, OnOk, OnErr};
 ghost use Rattle.std.specs.BTreeMap.{insert_entry};
 ghost use Rattle.std.specs.Cmp.Lexicographic.{slice_cmp};
 ghost use Rattle.std.specs.Ordering.{nat_cmp};
@@ -137,7 +137,10 @@ pub(crate) fn set_time(files: &mut BTreeMap<Path, MemFile>, path: &Path, mtime: 
 
 /// Takes the file at the path away, where it is there.
 pub(crate) fn remove_at(files: &mut BTreeMap<Path, MemFile>, path: &Path)
-    ensures { files.new.entries ≡ removed path.now files.old.entries }
+    ensures value { files.new.entries ≡ removed path.now files.old.entries }
+    ensures gone { file_at path.now files.new.entries ≡ None }
 {
+    // their paths ascend
+    let _ = files.len();
     files.remove(path);
 }

@@ -1,5 +1,5 @@
 // The files of a client in memory.
-ghost use Rattle.std.specs.Prelude.{◌≡◌, ◌≤◌, ◌↔◌, ◌⊎◌, [], Some, Err, map, IfOk, OnOk, IsErr, IsTrue};
+ghost use Rattle.std.specs.Prelude.{◌≡◌, ◌≤◌, ◌↔◌, ◌⊎◌, [], None, Some, Err, map, IfOk, OnOk, IsErr, IsTrue};
 ghost use Rattle.std.specs.Io.{ReadsAtMost};
 ghost use Rattle.std.specs.Option.{option_copied};
 ghost use Rattle.tree_api.specs.Cause.{HasCause};
@@ -179,6 +179,7 @@ impl Tree for MemTree {
         ensures cause { HasCause self.old.faults self.new.faults result }
         ensures listed { IsErr result ↔ IsListed self.old }
         ensures state { Turns result self.old self.new (removed path.now self.old.files) }
+        ensures gone { OnOk result (file_at path.now self.new.files ≡ None) }
     {
         if self.counts_call() {
             return Err(self.fault());

@@ -2,7 +2,7 @@
 ghost use Rattle.std.specs.Prelude.{◌≡◌, ℕ, Option, map, IfOk, IfSome, OnOk};
 ghost use Rattle.std.specs.Io.{ReadsAtMost};
 ghost use Rattle.tree_api.specs.Cause.{HasCause};
-ghost use Rattle.client_trees.specs.Files.{Files, row_of, AreInOrder, created, finished, removed, Leaves, LeavesFront, IsThere, Gives};
+ghost use Rattle.client_trees.specs.Files.{Files, row_of, AreInOrder, created, finished, removed, Leaves, LeavesFront, IsGone, IsThere, Gives};
 ghost use Rattle.client_trees.specs.Listing.{HasListCause};
 
 use kinds::Path;
@@ -72,8 +72,9 @@ pub trait Tree {
         ensures files { Leaves result (files self.old) (files self.new) (finished path.now mtime) }
         ensures cause { HasCause (fault_count self.old) (fault_count self.new) result };
 
-    /// Takes the file away, where it is there.
+    /// Takes the file away, where it is there: none stands at the path then.
     fn remove(&mut self, path: &Path) -> Result<(), Failed>
         ensures files { Leaves result (files self.old) (files self.new) (removed path.now) }
+        ensures gone { OnOk result (IsGone path.now (files self.new)) }
         ensures cause { HasCause (fault_count self.old) (fault_count self.new) result };
 }

@@ -1,0 +1,4 @@
+pub mod Exact
+pub mod Filling
+pub mod Giving
+pub mod Whole

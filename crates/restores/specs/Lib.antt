@@ -1,0 +1,4 @@
+pub mod Chosen
+pub mod Given
+pub mod Restores
+pub mod Standing

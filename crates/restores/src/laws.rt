@@ -1,0 +1,17 @@
+// What the definitions mean, as laws. Each stands on a function that does nothing.
+ghost use Rattle.std.specs.Prelude.{◌≡◌, ℕ, List, Some};
+ghost use Rattle.steps.specs.Events.{Event};
+ghost use Rattle.client_files.specs.declared.outcome.Gave.{Gave};
+ghost use Rattle.client_trees.specs.Files.{Files, file_at};
+ghost use Rattle.restores.specs.Given.{Gives};
+ghost use Rattle.restores.specs.Standing.{AreApart, HaveFiles, IsNoneOf};
+ghost use Rattle.restores.specs.declared.choosing.RestoreLine.{RestoreLine};
+
+/// Where objects are restored to different paths of a tree that tells its files, each that was restored stands there at the end, of
+/// its size and with its digest and time, whatever came of the others; and at every other path the tree has what it had.
+pub fn restored_files_stand()
+    ensures files { (lines : List RestoreLine) (gave : List Gave) (before after : ℕ) (old new : Files) (events : List Event) → AreApart lines → Gives lines gave before after (Some old) (Some new) events
+        → HaveFiles lines gave new }
+    ensures others { (lines : List RestoreLine) (gave : List Gave) (before after : ℕ) (old new : Files) (events : List Event) (path : List ℕ) → IsNoneOf path lines
+        → Gives lines gave before after (Some old) (Some new) events → file_at path new ≡ file_at path old }
+{}
