@@ -7,6 +7,7 @@
 //!     benches entries [encode | decode | copy [COUNT]]
 //!     benches objects [COUNT [STEPS]]
 //!     benches words [LINES [split]]
+//!     benches space [random | sequential [VOLUMES [COUNT [ROOM]]]]
 #![tactic(auto)]
 
 mod codec;
@@ -14,6 +15,7 @@ mod extents;
 mod objects;
 mod paths;
 mod rules;
+mod spaces;
 mod words;
 
 use std::alloc::Global;
@@ -32,7 +34,28 @@ fn report_all(rt: &impl Print, alloc: Global) -> io::Result<()> {
     extents::report(rt, alloc, extents::USUAL_BLOCKS, extents::USUAL_COUNT)?;
     codec::report(rt, alloc, "encode", codec::USUAL_COUNT)?;
     objects::report(rt, alloc, objects::USUAL_COUNT, objects::ALL_STEPS)?;
-    words::report(rt, alloc, words::USUAL_LINES, false)
+    words::report(rt, alloc, words::USUAL_LINES, false)?;
+    report_space(rt, alloc, "random", [None, None, None])?;
+    report_space(rt, alloc, "sequential", [None, None, None])
+}
+
+/// The placing of objects in a pool of this kind.
+fn report_space(
+    rt: &impl Print,
+    alloc: Global,
+    kind: &str,
+    words: [Option<&str>; 3],
+) -> io::Result<()> {
+    let [volumes, count, room] = words;
+    let count = number(count, spaces::USUAL_COUNT);
+    spaces::report(
+        rt,
+        alloc,
+        kind == "sequential",
+        number(volumes, spaces::USUAL_VOLUMES),
+        count,
+        number(room, count),
+    )
 }
 
 /// What the arguments ask.
@@ -41,8 +64,9 @@ fn report(
     alloc: Global,
     name: &str,
     first: Option<&str>,
-    second: Option<&str>,
+    rest: [Option<&str>; 3],
 ) -> io::Result<()> {
+    let [second, _, _] = rest;
     match name {
         "paths" => paths::report(
             rt,
@@ -75,8 +99,11 @@ fn report(
             number(first, words::USUAL_LINES),
             second.is_some(),
         ),
+        "space" => report_space(rt, alloc, first.unwrap_or(""), rest),
         "" => report_all(rt, alloc),
-        _ => println!(rt; "usage: benches [paths | rules | extents | entries | objects | words]"),
+        _ => println!(rt;
+            "usage: benches [paths | rules | extents | entries | objects | words | space]"
+        ),
     }
 }
 
@@ -86,11 +113,17 @@ fn main(rt: HostRuntime) -> io::Result<()> {
     let name = words.next();
     let first = words.next();
     let second = words.next();
+    let third = words.next();
+    let fourth = words.next();
     report(
         &rt,
         rt.alloc(),
         name.as_ref().map_or("", |word| word.as_str()),
         first.as_ref().map(|word| word.as_str()),
-        second.as_ref().map(|word| word.as_str()),
+        [
+            second.as_ref().map(|word| word.as_str()),
+            third.as_ref().map(|word| word.as_str()),
+            fourth.as_ref().map(|word| word.as_str()),
+        ],
     )
 }

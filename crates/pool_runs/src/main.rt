@@ -23,7 +23,7 @@
 //!   `2:6@0+100`, the 100 bytes at 0 of file 6 in pool 2: `hold`; `space release TICKET`, `space note TRANSACTION PLACE..`, `space force`,
 //!   `space draw FILE`: the calls of these names.
 //! - `choose ACTOR SIZE AIM PREFER AVOID` with aims as `new=1`, `move=2` into a pool alone, `along=2` into a hierarchy, and `copy=4`:
-//!   `choose_by_walk`, each segment as a place.
+//!   `choose` of the index and `choose_by_walk`, each segment as a place.
 //! - `classes`, `pools`, `volumes`, and `show FILE`: the rows. A segment is shown as its object, offset and length, as `1@0+100`.
 //!
 //! The stored output was written by hand, from the rules of pools, volumes and blocks.

@@ -1,9 +1,10 @@
 //! What tickets hold, and where objects go, as lines ask for them.
 use crate::answer::{Answer, Fault, text};
 use crate::words::{large, number};
-use kinds::Segment;
+use kinds::{Refusal, Segment};
 use pool_rows::Pools;
 use space::{Aim, Claim, Placed, Places, Request, Space, choose_by_walk};
+use space_index::Index;
 use std::alloc::{AllocError, Global};
 
 /// `POOL:FILE@OFFSET+LEN`.
@@ -142,7 +143,25 @@ fn places_text(alloc: Global, places: &[Placed]) -> Result<String, AllocError> {
     Ok(out)
 }
 
-/// Where an object goes.
+/// Where an object goes, found by the index.
+fn by_index(
+    alloc: Global,
+    pools: &Pools,
+    space: &Space,
+    request: &Request,
+) -> Result<Places, Refusal> {
+    let index = Index::of(alloc, pools, space)?;
+    space_index::choose(alloc, pools, space, &index, request)
+}
+
+fn answer_text(alloc: Global, answered: Result<Places, Refusal>) -> Result<String, AllocError> {
+    match answered {
+        Ok(places) => places_text(alloc, places.as_slice()),
+        Err(refusal) => text(alloc, &Err(Fault::Refused(refusal))),
+    }
+}
+
+/// Where an object goes: what the index answers, and beside it what the walk does, where that is another answer.
 pub fn choose(
     alloc: Global,
     pools: &Pools,
@@ -153,8 +172,11 @@ pub fn choose(
         Ok(request) => request,
         Err(fault) => return text(alloc, &Err(fault)),
     };
-    match choose_by_walk(alloc, pools, space, &request) {
-        Ok(places) => places_text(alloc, places.as_slice()),
-        Err(refusal) => text(alloc, &Err(Fault::Refused(refusal))),
+    let walked = choose_by_walk(alloc, pools, space, &request);
+    let walked = answer_text(alloc, walked)?;
+    let mut out = answer_text(alloc, by_index(alloc, pools, space, &request))?;
+    if out.as_str() != walked.as_str() {
+        write!(out, ", by the walk {walked}")?;
     }
+    Ok(out)
 }

@@ -35,7 +35,8 @@ fn push_other(out: &mut Vec<Placed>, actor: u32, claim: &Claim) -> Result<(), Al
     Ok(())
 }
 
-fn own_places(alloc: Global, space: &Space, actor: u32) -> Result<Places, AllocError>
+/// What the actor's own tickets hold.
+pub fn own_places(alloc: Global, space: &Space, actor: u32) -> Result<Places, AllocError>
     ensures { IfOk result (λ places. places ≡ flat_map (λ t. if_own actor t.1) space.now.tickets) }
 {
     let mut out = Vec::new(alloc);
@@ -45,7 +46,8 @@ fn own_places(alloc: Global, space: &Space, actor: u32) -> Result<Places, AllocE
     Ok(Places::new(out))
 }
 
-fn other_places(alloc: Global, space: &Space, actor: u32) -> Result<Places, AllocError>
+/// What other actors' tickets hold.
+pub fn other_places(alloc: Global, space: &Space, actor: u32) -> Result<Places, AllocError>
     ensures { IfOk result (λ places. places ≡ flat_map (λ t. if_other actor t.1) space.now.tickets) }
 {
     let mut out = Vec::new(alloc);

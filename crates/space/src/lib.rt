@@ -21,11 +21,12 @@ pub use choosing::{
     choose_by_walk, filled, goes_to, may_take, no_place, pieces, placed_in, room, walked,
 };
 pub use claims::{Claim, Space};
-pub use counted::Counted;
+pub use counted::{Counted, other_places, own_places};
 pub use laws::{filled_space_is_enough, free_space_is_free};
 pub use piece::Piece;
 pub use places::{Placed, Places};
 pub use request::Request;
 pub use site::Site;
+pub use tails::{max_scratch, push_tails};
 pub use turn::Turn;
-pub use volumes::{is_held, is_writable, scratch_count, site_of, sites};
+pub use volumes::{claim_all, is_held, is_writable, scratch_count, site_of, sites};

@@ -64,7 +64,8 @@ fn push_tail(
     Ok(())
 }
 
-fn push_tails(
+/// The space behind the ends of those of these volumes that come in this turn.
+pub fn push_tails(
     out: &mut Vec<Piece>,
     turn: Turn,
     number: u32,
@@ -80,7 +81,8 @@ fn push_tails(
     Ok(())
 }
 
-fn max_scratch(pools: &Pools, number: u32) -> u64
+/// How many scratch volumes MAXSCRATCH allows the pool; none where it isn't there.
+pub fn max_scratch(pools: &Pools, number: u32) -> u64
     ensures value { result ≡ max_scratch (row_at number pools.now.pools) }
     ensures few { result < 2 ^ 16 }
 {

@@ -91,7 +91,8 @@ fn claim(pools: &Pools, place: &Placed, sites: &mut BTreeMap<u32, Site>) -> Resu
     Ok(())
 }
 
-fn claim_all(
+/// These places are claimed on their volumes, among these; a volume that isn't among them is a scratch volume that was drawn.
+pub fn claim_all(
     pools: &Pools,
     places: &[Placed],
     sites: &mut BTreeMap<u32, Site>,

@@ -31,11 +31,11 @@ use Rattle.space.specs.declared.claims.Claim.{Claim}
 use Rattle.space.specs.Claims.{Claims, held, released, noted, forced}
 use Rattle.space.specs.Volumes.{is_writable}
 use Rattle.space_index.specs.declared.standing.Standing.{Standing}
-use Rattle.space_index.specs.declared.index.Index.{Index}
+use Rattle.space_index.specs.declared.random.RandomIndex.{RandomIndex}
 use Rattle.space_index.specs.Counts.{reach}
-use Rattle.space_index.specs.Index.{Shape, shape_of, shape_by, shape_of_row, shape_at, segment_on, copies_reach, there_reach, places_reach, tickets_reach, freed_reach, claims_reach, times_at, and_segment, IsEntry, IsIndexBy, IsIndexOf, AreSame, with_access}
+use Rattle.space_index.specs.Index.{Shape, shape_of, shape_by, shape_of_row, shape_at, segment_on, copies_reach, there_reach, places_reach, tickets_reach, freed_reach, claims_reach, times_at, and_segment, IsEntry, IsIndexBy, IsRandomIndexOf, AreSame, with_access}
 use Rattle.space_index.specs.Updates.{and_places, ChangesAt, HasAccessOf, IsAccessOf, rows_with, nothing}
-use Rattle.space_index.proofs.Listing.{entry_same}
+use Rattle.space_index.proofs.Entries.{entry_same}
 
 -- ---- the same said of equal volumes and numbers
 
@@ -46,46 +46,46 @@ entry_unless times others None (Some e) (inl none) is = absurd is
 entry_unless times others (Some x) row (inl none) is = absurd cc
 
 -- it is the index of other volumes, where they are the same to it: what is said of one that it doesn't keep is nothing to it
-pub index_unless : (i : Index) (shapes others : ℕ → Option Shape) (times mores : ℕ → ℕ → ℕ) → ((f : ℕ) → shapes f ≡ others f) → ((f : ℕ) → (shapes f ≡ None) ⊎ ((k : ℕ) → times f k ≡ mores f k)) → IsIndexBy i shapes times → IsIndexBy i others mores
+pub index_unless : (i : RandomIndex) (shapes others : ℕ → Option Shape) (times mores : ℕ → ℕ → ℕ) → ((f : ℕ) → shapes f ≡ others f) → ((f : ℕ) → (shapes f ≡ None) ⊎ ((k : ℕ) → times f k ≡ mores f k)) → IsIndexBy i shapes times → IsIndexBy i others mores
 index_unless i shapes others times mores same counts is = record {
   entry = λ f. subst (λ (o : Option Shape). IsEntry (mores f) o (row_at f i.files.entries)) (same f) (entry_unless (times f) (mores f) (shapes f) (row_at f i.files.entries) (counts f) (is.entry f));
   listed = is.listed;
 }
 
-pub index_same : (i : Index) (shapes others : ℕ → Option Shape) (times mores : ℕ → ℕ → ℕ) → ((f : ℕ) → shapes f ≡ others f) → ((f k : ℕ) → times f k ≡ mores f k) → IsIndexBy i shapes times → IsIndexBy i others mores
+pub index_same : (i : RandomIndex) (shapes others : ℕ → Option Shape) (times mores : ℕ → ℕ → ℕ) → ((f : ℕ) → shapes f ≡ others f) → ((f k : ℕ) → times f k ≡ mores f k) → IsIndexBy i shapes times → IsIndexBy i others mores
 index_same i shapes others times mores same counts is = index_unless i shapes others times mores same (λ f. inr (counts f)) is
 
-pub counts_same : (i : Index) (shapes : ℕ → Option Shape) (times mores : ℕ → ℕ → ℕ) → ((f k : ℕ) → times f k ≡ mores f k) → IsIndexBy i shapes times → IsIndexBy i shapes mores
+pub counts_same : (i : RandomIndex) (shapes : ℕ → Option Shape) (times mores : ℕ → ℕ → ℕ) → ((f k : ℕ) → times f k ≡ mores f k) → IsIndexBy i shapes times → IsIndexBy i shapes mores
 counts_same i shapes times mores counts is = index_same i shapes shapes times mores (λ f. refl) counts is
 
 -- ---- places one after the other
 
-pub places_none : (i : Index) (shapes : ℕ → Option Shape) (times : ℕ → ℕ → ℕ) (places : List Placed) → IsIndexBy i shapes times → IsIndexBy i shapes (and_places (take 0 places) times)
+pub places_none : (i : RandomIndex) (shapes : ℕ → Option Shape) (times : ℕ → ℕ → ℕ) (places : List Placed) → IsIndexBy i shapes times → IsIndexBy i shapes (and_places (take 0 places) times)
 places_none i shapes times places is = counts_same i shapes times (and_places (take 0 places) times) (λ f k. omega arith) is
 
-pub places_more : (i : Index) (shapes : ℕ → Option Shape) (times : ℕ → ℕ → ℕ) (places : List Placed) (n : ℕ) (p : Placed) → n < length places → IsIndexBy i shapes (and_segment ((get_or places n p).segment) (and_places (take n places) times))
+pub places_more : (i : RandomIndex) (shapes : ℕ → Option Shape) (times : ℕ → ℕ → ℕ) (places : List Placed) (n : ℕ) (p : Placed) → n < length places → IsIndexBy i shapes (and_segment ((get_or places n p).segment) (and_places (take n places) times))
     → IsIndexBy i shapes (and_places (take (n + 1) places) times)
 places_more i shapes times places n p lt is =
     counts_same i shapes (and_segment ((get_or places n p).segment) (and_places (take n places) times)) (and_places (take (n + 1) places) times) (λ f k.
     omega (arith, sum_by_more (λ x. there_reach x.segment f k) places n p lt)) is
 
-pub places_left : (i : Index) (shapes : ℕ → Option Shape) (times : ℕ → ℕ → ℕ) (places : List Placed) (n : ℕ) (p : Placed) → n < length places → IsIndexBy i shapes (and_places (drop n places) times)
+pub places_left : (i : RandomIndex) (shapes : ℕ → Option Shape) (times : ℕ → ℕ → ℕ) (places : List Placed) (n : ℕ) (p : Placed) → n < length places → IsIndexBy i shapes (and_places (drop n places) times)
     → IsIndexBy i shapes (and_segment ((get_or places n p).segment) (and_places (drop (n + 1) places) times))
 places_left i shapes times places n p lt is =
     counts_same i shapes (and_places (drop n places) times) (and_segment ((get_or places n p).segment) (and_places (drop (n + 1) places) times)) (λ f k.
     omega (arith, sum_by-drop_more (λ x. there_reach x.segment f k) places n p lt)) is
 
-pub places_gone : (i : Index) (shapes : ℕ → Option Shape) (times : ℕ → ℕ → ℕ) → IsIndexBy i shapes (and_places [] times) → IsIndexBy i shapes times
+pub places_gone : (i : RandomIndex) (shapes : ℕ → Option Shape) (times : ℕ → ℕ → ℕ) → IsIndexBy i shapes (and_places [] times) → IsIndexBy i shapes times
 places_gone i shapes times is = counts_same i shapes (and_places [] times) times (λ f k. omega arith) is
 
 -- ---- tickets and transactions
 
-pub held_index : (i : Index) (s : PoolRows) (c : Claims) (number : ℕ) (claim : Claim) → row_at number c.tickets ≡ None → IsIndexBy i (shape_at s) (and_places claim.places (times_at s c)) → IsIndexOf i s (held number claim c)
+pub held_index : (i : RandomIndex) (s : PoolRows) (c : Claims) (number : ℕ) (claim : Claim) → row_at number c.tickets ≡ None → IsIndexBy i (shape_at s) (and_places claim.places (times_at s c)) → IsRandomIndexOf i s (held number claim c)
 held_index i s c number claim absent is =
     counts_same i (shape_at s) (and_places claim.places (times_at s c)) (times_at s (held number claim c)) (λ f k.
     omega (arith, sum_by-inserted (λ t. places_reach t.1.places f k) nat_cmp c.tickets number claim absent)) is
 
-pub noted_index : (i : Index) (s : PoolRows) (c : Claims) (number : ℕ) (places : List Placed) → row_at number c.freed ≡ None → IsIndexBy i (shape_at s) (and_places places (times_at s c)) → IsIndexOf i s (noted number places c)
+pub noted_index : (i : RandomIndex) (s : PoolRows) (c : Claims) (number : ℕ) (places : List Placed) → row_at number c.freed ≡ None → IsIndexBy i (shape_at s) (and_places places (times_at s c)) → IsRandomIndexOf i s (noted number places c)
 noted_index i s c number places absent is =
     counts_same i (shape_at s) (and_places places (times_at s c)) (times_at s (noted number places c)) (λ f k.
     omega (arith, sum_by-inserted (λ t. places_reach t.1 f k) nat_cmp c.freed number places absent)) is
@@ -93,7 +93,7 @@ noted_index i s c number places absent is =
 number_same : (number q : ℕ) → is_at (nat_cmp number) q ≡ true → q ≡ number
 number_same number q h = sym (at_is number q h)
 
-pub release_index : (i : Index) (s : PoolRows) (c : Claims) (number : ℕ) (claim : Claim) → row_at number c.tickets ≡ Some claim → IsIndexOf i s c → IsIndexBy i (shape_at s) (and_places claim.places (times_at s (released number c)))
+pub release_index : (i : RandomIndex) (s : PoolRows) (c : Claims) (number : ℕ) (claim : Claim) → row_at number c.tickets ≡ Some claim → IsRandomIndexOf i s c → IsIndexBy i (shape_at s) (and_places claim.places (times_at s (released number c)))
 release_index i s c number claim there is =
     counts_same i (shape_at s) (times_at s c) (and_places claim.places (times_at s (released number c))) (λ f k.
     omega (arith, sum_by-removed (λ t. places_reach t.1.places f k) (is_at (nat_cmp number)) number (number_same number) c.tickets claim there)) is
@@ -102,17 +102,17 @@ release_index i s c number claim there is =
 abbrev pub and_freed : List (ℕ × List Placed) → (ℕ → ℕ → ℕ) → ℕ → ℕ → ℕ
 and_freed freed times file block = times file block + freed_reach freed file block
 
-pub freed_first : (i : Index) (shapes : ℕ → Option Shape) (times : ℕ → ℕ → ℕ) (number : ℕ) (places : List Placed) (freed all : List (ℕ × List Placed)) → all ≡ (number, places) ∷ freed → IsIndexBy i shapes (and_freed all times)
+pub freed_first : (i : RandomIndex) (shapes : ℕ → Option Shape) (times : ℕ → ℕ → ℕ) (number : ℕ) (places : List Placed) (freed all : List (ℕ × List Placed)) → all ≡ (number, places) ∷ freed → IsIndexBy i shapes (and_freed all times)
     → IsIndexBy i shapes (and_places places (and_freed freed times))
 freed_first i shapes times number places freed all is-all is =
     counts_same i shapes (and_freed all times) (and_places places (and_freed freed times)) (λ f k.
     let whole : freed_reach all f k ≡ freed_reach ((number, places) ∷ freed) f k = ap (λ (l : List (ℕ × List Placed)). freed_reach l f k) is-all in
     omega (arith, whole, sum_by-cons (λ x. places_reach x.1 f k) (number, places) freed)) is
 
-pub forced_begin : (i : Index) (s : PoolRows) (c : Claims) → IsIndexOf i s c → IsIndexBy i (shape_at s) (and_freed c.freed (times_at s (forced c)))
+pub forced_begin : (i : RandomIndex) (s : PoolRows) (c : Claims) → IsRandomIndexOf i s c → IsIndexBy i (shape_at s) (and_freed c.freed (times_at s (forced c)))
 forced_begin i s c is = counts_same i (shape_at s) (times_at s c) (and_freed c.freed (times_at s (forced c))) (λ f k. omega arith) is
 
-pub forced_end : (i : Index) (shapes : ℕ → Option Shape) (times : ℕ → ℕ → ℕ) → IsIndexBy i shapes (and_freed [] times) → IsIndexBy i shapes times
+pub forced_end : (i : RandomIndex) (shapes : ℕ → Option Shape) (times : ℕ → ℕ → ℕ) → IsIndexBy i shapes (and_freed [] times) → IsIndexBy i shapes times
 forced_end i shapes times is = counts_same i shapes (and_freed [] times) times (λ f k. omega arith) is
 
 -- ---- rows
@@ -129,7 +129,7 @@ times_else : (file : ℕ) (s t : PoolRows) (c : Claims) → ChangesAt file s t �
 times_else file s t c changes q apart k = ap (λ (o : Option Volume). copies_reach q o k + claims_reach c q k) (sym (changes.others q apart))
 
 -- the volume is gone
-pub gone_index : (i : Index) (s t : PoolRows) (c : Claims) (file : ℕ) → ChangesAt file s t → row_at file t.volumes ≡ None → IsIndexBy i (shape_at t) (times_at s c) → IsIndexOf i t c
+pub gone_index : (i : RandomIndex) (s t : PoolRows) (c : Claims) (file : ℕ) → ChangesAt file s t → row_at file t.volumes ≡ None → IsIndexBy i (shape_at t) (times_at s c) → IsRandomIndexOf i t c
 gone_index i s t c file changes gone is =
     index_unless i (shape_at t) (shape_at t) (times_at s c) (times_at t c) (λ f. refl) (λ f. elim (cases_eq f file) [
       | inl same ↦ inl (ap (λ (n : ℕ). shape_at t n) same ∙ ap (shape_of_row t) gone)
@@ -163,7 +163,7 @@ access_reach access file k (Some v) (Some w) is = ap (λ (l : List (HeldSegment 
 pub access_shapes : (access : Access) (s t : PoolRows) (file : ℕ) → ChangesAt file s t → IsAccessOf access (row_at file s.volumes) (row_at file t.volumes) → option_map (with_access (is_writable access)) (shape_at s file) ≡ shape_at t file
 access_shapes access s t file changes is = access_row access s t (row_at file s.volumes) (row_at file t.volumes) changes.kinds is
 
-pub access_index : (i : Index) (s t : PoolRows) (c : Claims) (access : Access) (file : ℕ) → ChangesAt file s t → IsAccessOf access (row_at file s.volumes) (row_at file t.volumes) → IsIndexBy i (shape_at t) (times_at s c) → IsIndexOf i t c
+pub access_index : (i : RandomIndex) (s t : PoolRows) (c : Claims) (access : Access) (file : ℕ) → ChangesAt file s t → IsAccessOf access (row_at file s.volumes) (row_at file t.volumes) → IsIndexBy i (shape_at t) (times_at s c) → IsRandomIndexOf i t c
 access_index i s t c access file changes is index =
     counts_same i (shape_at t) (times_at s c) (times_at t c) (λ f k. elim (cases_eq f file) [
       | inl same ↦
@@ -236,15 +236,15 @@ same_Ok x y h = cc
 not_Ok : (e : Refusal) (y : PoolRows) → (let a : Result PoolRows Refusal = Err e in let b : Result PoolRows Refusal = Ok y in a ≡ b) → ⊥
 not_Ok e y h = cc
 
-put_row : (i : Index) (s t : PoolRows) (c : Claims) (x : Segment) (b : Bool) (h : HeldSegment) (o : Option Volume) → ((k : ℕ) → reach (segment_on x.file h) k ≡ reach x k) → row_at x.file s.volumes ≡ o
-    → with_volumes s (changed x.file (put b h) s.volumes o) ≡ Ok t → IsIndexBy i (shape_at s) (and_segment x (times_at s c)) → IsIndexOf i t c
+put_row : (i : RandomIndex) (s t : PoolRows) (c : Claims) (x : Segment) (b : Bool) (h : HeldSegment) (o : Option Volume) → ((k : ℕ) → reach (segment_on x.file h) k ≡ reach x k) → row_at x.file s.volumes ≡ o
+    → with_volumes s (changed x.file (put b h) s.volumes o) ≡ Ok t → IsIndexBy i (shape_at s) (and_segment x (times_at s c)) → IsRandomIndexOf i t c
 unfolding reach_of
 put_row i s t c x b h None reaches there made is = absurd (not_Ok NotFound t made)
 put_row i s t c x b h (Some v) reaches there made is =
     let w : Volume = put_on b h v in
     let shape = put_shape b h v in
     let new : PoolRows = record s { volumes = set_row x.file w s.volumes } in
-    subst (λ (u : PoolRows). IsIndexOf i u c) (same_Ok new t made)
+    subst (λ (u : PoolRows). IsRandomIndexOf i u c) (same_Ok new t made)
     (index_same i (shape_at s) (shape_at new) (and_segment x (times_at s c)) (times_at new c) (set_shapes s c x.file v w there shape.1 shape.0)
     (more_times s c x.file v w there x refl (λ k. more k shape.2)) is) where
       more : (k : ℕ) → (put_on b h v).segments ≡ with_segment h v.segments → weight_of (λ g. reach (segment_on x.file g) k) ((put_on b h v).segments) ≡ weight_of (λ g. reach (segment_on x.file g) k) v.segments + reach x k
@@ -254,11 +254,11 @@ put_row i s t c x b h (Some v) reaches there made is =
           ∙ ap (λ (n : ℕ). weight_of (λ g. reach (segment_on x.file g) k) v.segments + n) (reaches k)
 
 -- a segment of a copy came
-pub put_index : (i : Index) (s t : PoolRows) (c : Claims) (x : Segment) (object : ℕ) → put_segment object x s ≡ Ok t → IsIndexBy i (shape_at s) (and_segment x (times_at s c)) → IsIndexOf i t c
+pub put_index : (i : RandomIndex) (s t : PoolRows) (c : Claims) (x : Segment) (object : ℕ) → put_segment object x s ≡ Ok t → IsIndexBy i (shape_at s) (and_segment x (times_at s c)) → IsRandomIndexOf i t c
 put_index i s t c x object made is = put_row i s t c x (is_sequential_at x.file s) (held_of object x) (row_at x.file s.volumes) (λ k. refl) refl made is
 
-take_row : (i : Index) (s t : PoolRows) (c : Claims) (x : Segment) (b : Bool) (h : HeldSegment) (today : ℕ) (o : Option Volume) → ((k : ℕ) → reach (segment_on x.file h) k ≡ reach x k) → row_at x.file s.volumes ≡ o
-    → with_volumes s (changed x.file (take_of b h today) s.volumes o) ≡ Ok t → IsIndexOf i s c → IsIndexBy i (shape_at t) (and_segment x (times_at t c))
+take_row : (i : RandomIndex) (s t : PoolRows) (c : Claims) (x : Segment) (b : Bool) (h : HeldSegment) (today : ℕ) (o : Option Volume) → ((k : ℕ) → reach (segment_on x.file h) k ≡ reach x k) → row_at x.file s.volumes ≡ o
+    → with_volumes s (changed x.file (take_of b h today) s.volumes o) ≡ Ok t → IsRandomIndexOf i s c → IsIndexBy i (shape_at t) (and_segment x (times_at t c))
 unfolding reach_of
 take_row i s t c x b h today None reaches there made is = absurd (not_Ok NotFound t made)
 take_row i s t c x b h today (Some v) reaches there made is = by_held (is_held h v.segments) refl made where
@@ -278,7 +278,7 @@ take_row i s t c x b h today (Some v) reaches there made is = by_held (is_held h
   by_held false stands made = absurd (not_Ok NotFound t made)
 
 -- a segment of a copy goes
-pub take_ready : (i : Index) (s t : PoolRows) (c : Claims) (x : Segment) (object today : ℕ) → take_segment object x today s ≡ Ok t → IsIndexOf i s c → IsIndexBy i (shape_at t) (and_segment x (times_at t c))
+pub take_ready : (i : RandomIndex) (s t : PoolRows) (c : Claims) (x : Segment) (object today : ℕ) → take_segment object x today s ≡ Ok t → IsRandomIndexOf i s c → IsIndexBy i (shape_at t) (and_segment x (times_at t c))
 take_ready i s t c x object today made is = take_row i s t c x (is_sequential_at x.file s) (held_of object x) today (row_at x.file s.volumes) (λ k. refl) refl made is
 
 -- ---- a volume comes
@@ -293,7 +293,7 @@ come_times s t c file v there free k =
     omega (arith, now, free k)
 
 -- beside it nothing changes: where it was not there, what was said of it was nothing to the index
-pub come_index : (i : Index) (s t : PoolRows) (c : Claims) (file : ℕ) → ChangesAt file s t → row_at file s.volumes ≡ None → IsIndexOf i s c → IsIndexBy i (shape_at s) (times_at t c)
+pub come_index : (i : RandomIndex) (s t : PoolRows) (c : Claims) (file : ℕ) → ChangesAt file s t → row_at file s.volumes ≡ None → IsRandomIndexOf i s c → IsIndexBy i (shape_at s) (times_at t c)
 come_index i s t c file changes absent is =
     index_unless i (shape_at s) (shape_at s) (times_at s c) (times_at t c) (λ f. refl) (λ f. elim (cases_eq f file) [
       | inl same ↦ inl (ap (λ (n : ℕ). shape_at s n) same ∙ ap (shape_of_row s) absent)
@@ -301,7 +301,7 @@ come_index i s t c file changes absent is =
     ]) is
 
 -- a sequential one comes: it isn't kept
-pub sequential_index : (i : Index) (s t : PoolRows) (c : Claims) (file : ℕ) (v : Volume) → ChangesAt file s t → row_at file s.volumes ≡ None → row_at file t.volumes ≡ Some v → is_sequential v.pool t ≡ true → IsIndexOf i s c → IsIndexOf i t c
+pub sequential_index : (i : RandomIndex) (s t : PoolRows) (c : Claims) (file : ℕ) (v : Volume) → ChangesAt file s t → row_at file s.volumes ≡ None → row_at file t.volumes ≡ Some v → is_sequential v.pool t ≡ true → IsRandomIndexOf i s c → IsRandomIndexOf i t c
 sequential_index i s t c file v changes absent there kind is =
     index_unless i (shape_at s) (shape_at t) (times_at s c) (times_at t c)
     (λ f. elim (cases_eq f file) [
@@ -358,7 +358,7 @@ freed_pushed now number gone rest all places are first f k =
     let whole : freed_reach all f k ≡ freed_reach ((number, gone) ∷ rest) f k = ap (λ (l : List (ℕ × List Placed)). freed_reach l f k) first in
     omega (arith, them, whole, sum_by-cons (λ x. places_reach x.1 f k) (number, gone) rest)
 
-pub all_index : (i : Index) (s : PoolRows) (c : Claims) → IsIndexBy i (shape_at s) (λ f k. (times_at s nothing f k + tickets_reach c.tickets f k) + freed_reach c.freed f k) → IsIndexOf i s c
+pub all_index : (i : RandomIndex) (s : PoolRows) (c : Claims) → IsIndexBy i (shape_at s) (λ f k. (times_at s nothing f k + tickets_reach c.tickets f k) + freed_reach c.freed f k) → IsRandomIndexOf i s c
 all_index i s c is = counts_same i (shape_at s) (λ f k. (times_at s nothing f k + tickets_reach c.tickets f k) + freed_reach c.freed f k) (times_at s c) (λ f k. omega arith) is
 
 -- ---- the copies on a volume
@@ -374,7 +374,7 @@ copy_pushed file k h n rest all now whole first so_far =
 
 -- ---- what the index doesn't see
 
-pub stays_unkept : (i : Index) (s t : PoolRows) (c : Claims) (file : ℕ) → ChangesAt file s t → shape_at s file ≡ None → shape_at t file ≡ None → IsIndexOf i s c → IsIndexOf i t c
+pub stays_unkept : (i : RandomIndex) (s t : PoolRows) (c : Claims) (file : ℕ) → ChangesAt file s t → shape_at s file ≡ None → shape_at t file ≡ None → IsRandomIndexOf i s c → IsRandomIndexOf i t c
 stays_unkept i s t c file changes none none-after is =
     index_unless i (shape_at s) (shape_at t) (times_at s c) (times_at t c)
     (λ f. elim (cases_eq f file) [
@@ -386,7 +386,7 @@ stays_unkept i s t c file changes none none-after is =
       | inr apart ↦ inr (times_else file s t c changes f apart)
     ]) is
 
-pub stays_same : (i : Index) (s t : PoolRows) (c d : Claims) → t.volumes ≡ s.volumes → ((pool : ℕ) → is_sequential pool t ≡ is_sequential pool s) → d.tickets ≡ c.tickets → d.freed ≡ c.freed → IsIndexOf i s c → IsIndexOf i t d
+pub stays_same : (i : RandomIndex) (s t : PoolRows) (c d : Claims) → t.volumes ≡ s.volumes → ((pool : ℕ) → is_sequential pool t ≡ is_sequential pool s) → d.tickets ≡ c.tickets → d.freed ≡ c.freed → IsRandomIndexOf i s c → IsRandomIndexOf i t d
 stays_same i s t c d volumes kinds tickets freed is =
     index_same i (shape_at s) (shape_at t) (times_at s c) (times_at t d)
     (λ f. shape_kind s t (row_at f s.volumes) kinds ∙ ap (λ (l : List (ℕ × Volume)). shape_of_row t (row_at f l)) (sym volumes))

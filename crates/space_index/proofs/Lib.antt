@@ -1,8 +1,12 @@
 pub mod Counting
+pub mod Entries
 pub mod Fills
 pub mod Following
-pub mod Listing
+pub mod Listings
+pub mod Looked
 pub mod Numbers
+pub mod Parts
 pub mod Places
+pub mod Serving
 pub mod Uses
 pub mod Volumes

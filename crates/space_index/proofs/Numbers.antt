@@ -13,9 +13,10 @@ use Rattle.std.proofs.lemmas.List.{append-nil}
 use Rattle.std.proofs.lemmas.Map.Keys.{sorted_head, sorted_tail}
 use Rattle.pool_tables.specs.Rows.{row_at}
 use Rattle.pool_tables.proofs.Counting.{apart_at}
+use Rattle.space_index.specs.Listed.{given_at}
 
 -- the numbers ascend, from this one on
-pub Ascends : {V : Type 0} → ℕ → List (ℕ × V) → Type 0
+unfoldable pub Ascends : {V : Type 0} → ℕ → List (ℕ × V) → Type 0
 Ascends low [] = Unit {0}
 Ascends low (e ∷ rows) = (low ≤ e.0) × Ascends (e.0 + 1) rows
 
@@ -39,7 +40,19 @@ module _ {V : Type 0} where
   pub ascends_sorted : (rows : List (ℕ × V)) → IsStrictlySortedBy nat_cmp (keys_of rows) → Ascends 0 rows
   ascends_sorted rows sorted = ascends_from 0 rows (from_zero (keys_of rows)) sorted
 
-  ascends_lower : (low high : ℕ) (rows : List (ℕ × V)) → low ≤ high → Ascends high rows → Ascends low rows
+  all_above : (a low : ℕ) (rows : List (ℕ × V)) → a < low → Ascends low rows → AllByRecursion (λ y. nat_cmp a y ≡ Less) (keys_of rows)
+  unfolding Ascends
+  all_above a low [] lt is = tt
+  all_above a low (e ∷ rows) lt is = (less a e.0 (omega (arith, lt, is.0)), all_above a (e.0 + 1) rows (omega (arith, lt, is.0)) is.1) where
+    less : (a b : ℕ) → a < b → nat_cmp a b ≡ Less
+    less a b h = grind arith
+
+  pub sorted_ascends : (low : ℕ) (rows : List (ℕ × V)) → Ascends low rows → IsStrictlySortedBy nat_cmp (keys_of rows)
+  unfolding Ascends IsStrictlySortedBy
+  sorted_ascends low [] is = tt
+  sorted_ascends low (e ∷ rows) is = (all_above e.0 (e.0 + 1) rows (omega arith) is.1, sorted_ascends (e.0 + 1) rows is.1)
+
+  pub ascends_lower : (low high : ℕ) (rows : List (ℕ × V)) → low ≤ high → Ascends high rows → Ascends low rows
   unfolding Ascends
   ascends_lower low high [] le is = tt
   ascends_lower low high (e ∷ rows) le is = (omega (arith, le, is.0), is.1)
@@ -51,12 +64,12 @@ module _ {V : Type 0} where
   none_below low q (e ∷ rows) is lt =
       ap (λ (b : Bool). cond b (Some e.1) (row_at q rows)) (apart_at q e.0 (λ same. omega (arith, same, is.0, lt))) ∙ none_below (e.0 + 1) q rows is.1 (omega (arith, lt, is.0))
 
-  row_first : (e : ℕ × V) (rows : List (ℕ × V)) → row_at e.0 (e ∷ rows) ≡ Some e.1
+  pub row_first : (e : ℕ × V) (rows : List (ℕ × V)) → row_at e.0 (e ∷ rows) ≡ Some e.1
   row_first e rows = ap (λ (b : Bool). cond b (Some e.1) (row_at e.0 rows)) (itself e.0) where
     itself : (n : ℕ) → is_at (nat_cmp n) n ≡ true
     itself n = grind arith
 
-  row_later : (e : ℕ × V) (rows : List (ℕ × V)) (q : ℕ) → (q ≡ e.0 → ⊥) → row_at q (e ∷ rows) ≡ row_at q rows
+  pub row_later : (e : ℕ × V) (rows : List (ℕ × V)) (q : ℕ) → (q ≡ e.0 → ⊥) → row_at q (e ∷ rows) ≡ row_at q rows
   row_later e rows q other = ap (λ (b : Bool). cond b (Some e.1) (row_at q rows)) (apart_at q e.0 other)
 
   pub ascends_rest : (low : ℕ) (e : ℕ × V) (rows : List (ℕ × V)) → Ascends low (e ∷ rows) → Ascends (e.0 + 1) rows
@@ -68,38 +81,33 @@ module _ {V : Type 0} where
   bound [] = 0
   bound (e ∷ rows) = e.0 + 1 + bound rows
 
-  AreBelow : ℕ → List (ℕ × V) → Type 0
+  unfoldable pub AreBelow : ℕ → List (ℕ × V) → Type 0
   AreBelow high rows = AllByRecursion (λ e. e.0 < high) rows
 
-  below_higher : (high higher : ℕ) (rows : List (ℕ × V)) → high ≤ higher → AreBelow high rows → AreBelow higher rows
+  pub below_higher : (high higher : ℕ) (rows : List (ℕ × V)) → high ≤ higher → AreBelow high rows → AreBelow higher rows
   unfolding AreBelow
   below_higher high higher [] le is = tt
   below_higher high higher (e ∷ rows) le is = (omega (arith, is.0, le), below_higher high higher rows le is.1)
 
-  below_bound : (rows : List (ℕ × V)) → AreBelow (bound rows) rows
+  pub below_bound : (rows : List (ℕ × V)) → AreBelow (bound rows) rows
   unfolding AreBelow bound
   below_bound [] = tt
   below_bound (e ∷ rows) = (omega arith, below_higher (bound rows) (e.0 + 1 + bound rows) rows (omega arith) (below_bound rows))
 
 -- what stands under each number of a range, one after the other
-by_numbers : {A : Type 0} → (ℕ → List A) → ℕ → ℕ → List A
+unfoldable pub by_numbers : {A : Type 0} → (ℕ → List A) → ℕ → ℕ → List A
 by_numbers f low zero = []
 by_numbers f low (suc n) = f low ++ by_numbers f (low + 1) n
 
 module _ {A : Type 0} where
-  by_numbers_same : (f g : ℕ → List A) (low n : ℕ) → ((q : ℕ) → low ≤ q → f q ≡ g q) → by_numbers f low n ≡ by_numbers g low n
+  pub by_numbers_same : (f g : ℕ → List A) (low n : ℕ) → ((q : ℕ) → low ≤ q → f q ≡ g q) → by_numbers f low n ≡ by_numbers g low n
   unfolding by_numbers
   by_numbers_same f g low zero same = refl
   by_numbers_same f g low (suc n) same =
       ap (λ (l : List A). l ++ by_numbers f (low + 1) n) (same low (omega arith)) ∙ ap (λ (l : List A). g low ++ l) (by_numbers_same f g (low + 1) n (λ q le. same q (omega (arith, le))))
 
--- what a list gives under a number
-unfoldable pub given_at : {V A : Type 0} → (ℕ × V → List A) → ℕ → Option V → List A
-given_at g q None = []
-given_at g q (Some v) = g (q, v)
-
 module _ {V A : Type 0} (g : ℕ × V → List A) where
-  numbers_of : (n low high : ℕ) (rows : List (ℕ × V)) → Ascends low rows → AreBelow high rows → high ≡ low + n → flat_map g rows ≡ by_numbers (λ q. given_at g q (row_at q rows)) low n
+  pub numbers_of : (n low high : ℕ) (rows : List (ℕ × V)) → Ascends low rows → AreBelow high rows → high ≡ low + n → flat_map g rows ≡ by_numbers (λ q. given_at g q (row_at q rows)) low n
   unfolding by_numbers given_at Ascends AreBelow
   numbers_of zero low high [] is below sum = refl
   numbers_of zero low high (e ∷ rows) is below sum = absurd (omega (arith, is.0, below.0, sum))

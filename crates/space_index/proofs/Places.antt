@@ -22,12 +22,12 @@ use Rattle.space.specs.Claims.{Claims, counted}
 use Rattle.space.specs.Volumes.{is_writable}
 use Rattle.space.specs.Pieces.{run_piece, free_pieces, open_pieces, preferred_pieces as preferred_of, other_pieces as others_of, random_pieces, pieces, pieces_by, room}
 use Rattle.space_index.specs.declared.standing.Standing.{Standing}
-use Rattle.space_index.specs.declared.index.Index.{Index}
-use Rattle.space_index.specs.Listed.{some_room, rooms_at}
-use Rattle.space_index.specs.Index.{shape_of, shape_by, shape_of_row, times_at, IsStanding, IsEntry, room_of, room_in_pool, IsIndexOf}
+use Rattle.space_index.specs.declared.random.RandomIndex.{RandomIndex}
+use Rattle.space_index.specs.Listed.{some_room, rooms_at, given_at}
+use Rattle.space_index.specs.Index.{shape_of, shape_by, shape_of_row, times_at, IsStanding, IsEntry, room_of, room_in_pool, IsRandomIndexOf}
 use Rattle.space_index.specs.Choosing.{pieces_of, pieces_on, other_pieces, pieces_if, preferred_pieces, listed_pieces, listed_room}
 use Rattle.space_index.proofs.Fills.{room-runs}
-use Rattle.space_index.proofs.Numbers.{Ascends, ascends_sorted, given_at, same_by_numbers, weight_at, all_but, one_apart, all_rows, same_sums, only_one}
+use Rattle.space_index.proofs.Numbers.{Ascends, ascends_sorted, same_by_numbers, weight_at, all_but, one_apart, all_rows, same_sums, only_one}
 use Rattle.space_index.proofs.Uses.{used_are}
 
 -- ---- where a volume has no room it has no free run
@@ -54,7 +54,7 @@ if_empty : (b : Bool) → (let none : List Piece = [] in none ≡ (if b then non
 if_empty true = refl
 if_empty false = refl
 
-module _ (i : Index) (s : PoolRows) (c : Claims) (number avoid actor : ℕ) (is : IsIndexOf i s c) (random : is_sequential number s ≡ false) where
+module _ (i : RandomIndex) (s : PoolRows) (c : Claims) (number avoid actor : ℕ) (is : IsRandomIndexOf i s c) (random : is_sequential number s ≡ false) where
   rooms : List (ℕ × ℕ)
   rooms = rooms_at number i.pools.entries
 
@@ -157,11 +157,11 @@ module _ (i : Index) (s : PoolRows) (c : Claims) (number avoid actor : ℕ) (is 
 
 -- ---- room
 
-room-append : (xs ys : List Piece) → room (xs ++ ys) ≡ room xs + room ys
+pub room-append : (xs ys : List Piece) → room (xs ++ ys) ≡ room xs + room ys
 room-append [] ys = omega arith
 room-append (p ∷ xs) ys = omega (arith, room-append xs ys)
 
-room-flat_map : {V : Type 0} (f : ℕ × V → List Piece) (rows : List (ℕ × V)) → room (flat_map f rows) ≡ sum_by (λ e. room (f e)) rows
+pub room-flat_map : {V : Type 0} (f : ℕ × V → List Piece) (rows : List (ℕ × V)) → room (flat_map f rows) ≡ sum_by (λ e. room (f e)) rows
 room-flat_map f [] = refl
 room-flat_map f (e ∷ rows) = room-append (f e) (flat_map f rows) ∙ ap (λ (n : ℕ). room (f e) + n) (room-flat_map f rows) ∙ sym (sum_by-cons (λ x. room (f x)) e rows)
 
@@ -176,7 +176,7 @@ some_room_is n r is = elim (cases_eq n 0) [
 some_room_positive : (r : ℕ) → some_room 0 ≡ Some r → ⊥
 some_room_positive r h = cc
 
-module _ (i : Index) (s : PoolRows) (c : Claims) (number : ℕ) (is : IsIndexOf i s c) where
+module _ (i : RandomIndex) (s : PoolRows) (c : Claims) (number : ℕ) (is : IsRandomIndexOf i s c) where
   room_kept : (q r : ℕ) (p : Option Standing) → room_in_pool number p ≡ Some r → room (pieces_of q p) ≡ r
   room_kept q r None has = absurd (cc)
   room_kept q r (Some e) has = by_pool (e.pool == number) has where
@@ -236,13 +236,13 @@ pieces_random number prefer avoid next_file c s random = go (pool_capacity numbe
   go (Some capacity) h = absurd (false≢true (sym h))
 
 -- the free space by the index is that by the definition
-pub listed_pieces_are : (i : Index) (s : PoolRows) (c : Claims) (number prefer avoid next_file actor : ℕ) → IsIndexOf i s c → is_sequential number s ≡ false → IsStrictlySortedBy nat_cmp (keys_of s.volumes)
+pub listed_pieces_are : (i : RandomIndex) (s : PoolRows) (c : Claims) (number prefer avoid next_file actor : ℕ) → IsRandomIndexOf i s c → is_sequential number s ≡ false → IsStrictlySortedBy nat_cmp (keys_of s.volumes)
     → IsStrictlySortedBy nat_cmp (keys_of (rooms_at number i.pools.entries)) → listed_pieces i number prefer avoid ≡ pieces number prefer avoid next_file (counted actor c) s
 listed_pieces_are i s c number prefer avoid next_file actor is random volumes rows =
     listed_are i s c number avoid actor is random prefer (ascends_sorted s.volumes volumes) (ascends_sorted (rooms_at number i.pools.entries) rows) ∙ sym (pieces_random number prefer avoid next_file (counted actor c) s random)
 
 -- and so is its room
-pub listed_room_is : (i : Index) (s : PoolRows) (c : Claims) (number prefer avoid next_file actor : ℕ) → IsIndexOf i s c → is_sequential number s ≡ false → IsStrictlySortedBy nat_cmp (keys_of s.volumes)
+pub listed_room_is : (i : RandomIndex) (s : PoolRows) (c : Claims) (number prefer avoid next_file actor : ℕ) → IsRandomIndexOf i s c → is_sequential number s ≡ false → IsStrictlySortedBy nat_cmp (keys_of s.volumes)
     → IsStrictlySortedBy nat_cmp (keys_of (rooms_at number i.pools.entries)) → listed_room i number avoid ≡ room (pieces number prefer avoid next_file (counted actor c) s)
 listed_room_is i s c number prefer avoid next_file actor is random volumes rows =
     sym (room_listed i s c number is prefer avoid (ascends_sorted (rooms_at number i.pools.entries) rows)) ∙ ap room (listed_pieces_are i s c number prefer avoid next_file actor is random volumes rows)

@@ -13,7 +13,7 @@ use Rattle.space.specs.declared.claims.Claim.{Claim}
 use Rattle.space.specs.Claims.{Claims}
 use Rattle.space.specs.Volumes.{is_writable}
 use Rattle.space_index.specs.declared.standing.Standing.{Standing}
-use Rattle.space_index.specs.declared.index.Index.{Index}
+use Rattle.space_index.specs.declared.random.RandomIndex.{RandomIndex}
 use Rattle.space_index.specs.Counts.{reach, AreCounted}
 use Rattle.space_index.specs.Listed.{rooms_at, some_room}
 
@@ -105,13 +105,13 @@ abbrev pub AreListed : List (ℕ × Standing) → List (ℕ × List (ℕ × ℕ)
 AreListed files pools = (pool file : ℕ) → row_at file (rooms_at pool pools) ≡ room_in_pool pool (row_at file files)
 
 -- it is the index of these volumes, whose blocks so many segments use
-pub record IsIndexBy (i : Index) (shapes : ℕ → Option Shape) (times : ℕ → ℕ → ℕ) : Type 0 where
+pub record IsIndexBy (i : RandomIndex) (shapes : ℕ → Option Shape) (times : ℕ → ℕ → ℕ) : Type 0 where
   pub entry : (file : ℕ) → IsEntry (times file) (shapes file) (row_at file i.files.entries)
   pub listed : AreListed i.files.entries i.pools.entries
 
 -- The index is that of these rows, and of what is held beside them.
-abbrev pub IsIndexOf : Index → PoolRows → Claims → Type 0
-IsIndexOf i s c = IsIndexBy i (shape_at s) (times_at s c)
+abbrev pub IsRandomIndexOf : RandomIndex → PoolRows → Claims → Type 0
+IsRandomIndexOf i s c = IsIndexBy i (shape_at s) (times_at s c)
 
 -- ---- changes of the volumes
 

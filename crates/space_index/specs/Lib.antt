@@ -1,5 +1,7 @@
 pub mod Choosing
 pub mod Counts
 pub mod Index
+pub mod Sequential
+pub mod Tails
 pub mod Listed
 pub mod Updates

@@ -32,3 +32,8 @@ pub record HasRoom (pool file : ℕ) (room : Option ℕ) (old new : List (ℕ ×
   pub here : row_at file (rooms_at pool new) ≡ room
   pub files : (q : ℕ) → q ≢ file → row_at q (rooms_at pool new) ≡ row_at q (rooms_at pool old)
   pub pools : (p : ℕ) → p ≢ pool → rooms_at p new ≡ rooms_at p old
+
+-- what a list gives under a number
+unfoldable pub given_at : {V A : Type 0} → (ℕ × V → List A) → ℕ → Option V → List A
+given_at g q None = []
+given_at g q (Some v) = g (q, v)

@@ -1,27 +1,28 @@
 // Where an object goes, found by the index.
-ghost use Rattle.std.specs.Prelude.{◌≡◌, ◌-◌, ◌++◌, map, IfOk, OnOk};
+ghost use Rattle.std.specs.Prelude.{◌≡◌, ◌-◌, ◌++◌, true, Some, nat_le, map, IfOk, OnOk};
 ghost use Rattle.std.specs.List.{find};
 ghost use Rattle.std.specs.List.Sorted.{IsStrictlySortedBy};
 ghost use Rattle.std.specs.Map.{keys_of};
 ghost use Rattle.std.specs.Ordering.{nat_cmp};
 ghost use Rattle.kinds.specs.Answers.{Answers};
+ghost use Rattle.pool_rows.specs.PoolRows.{pool_capacity, is_sequential};
 ghost use Rattle.space.specs.Claims.{counted};
 ghost use Rattle.space.specs.Pieces.{pieces, run_piece, room, cut, filled};
 ghost use Rattle.extent_map.specs.Blocks.{room_in};
 ghost use Rattle.space.specs.Placing.{has_place, placed_in, choose};
-ghost use Rattle.space_index.specs.Index.{IsIndexOf};
+ghost use Rattle.space_index.specs.Tails.{AreTails, tail_at, IsIndexOf};
 ghost use Rattle.space_index.specs.Choosing.{pieces_on, other_pieces, preferred_pieces, listed_pieces, listed_room};
 ghost use Rattle.space_index.specs.Listed.{rooms_at};
 
 use crate::index::Index;
+use crate::random::RandomIndex;
 use crate::rooms::Rooms;
+use crate::sequential;
+use crate::tails::Tails;
 use extent_map::Run;
 use kinds::Refusal;
 use pool_rows::Pools;
-use space::{
-    Counted, Piece, Places, Request, Space, filled, may_take, no_place, pieces, placed_in, room,
-    walked,
-};
+use space::{Piece, Places, Request, Space, may_take, no_place, placed_in, walked};
 use std::alloc::{AllocError, Global};
 
 /// The front of a run, or all of it, as a piece of free space on a volume.
@@ -65,7 +66,7 @@ fn push_filled(out: &mut Vec<Piece>, rest: u64, file: u32, runs: &[Run]) -> Resu
 /// What so many bytes of data use of a volume, and how many bytes are left.
 fn push_volume(
     alloc: Global,
-    index: &Index,
+    index: &RandomIndex,
     out: &mut Vec<Piece>,
     rest: u64,
     file: u32,
@@ -84,7 +85,7 @@ fn push_volume(
 /// What is used of the preferred volume.
 fn push_preferred(
     alloc: Global,
-    index: &Index,
+    index: &RandomIndex,
     out: &mut Vec<Piece>,
     rooms: &Rooms,
     number: u32,
@@ -109,7 +110,7 @@ fn push_preferred(
 /// What is used of a volume that has room, where it is neither the preferred nor the avoided one.
 fn push_other(
     alloc: Global,
-    index: &Index,
+    index: &RandomIndex,
     out: &mut Vec<Piece>,
     rest: u64,
     request: &Request,
@@ -132,7 +133,7 @@ fn push_other(
 /// What is used of a pool of random access for so many bytes of data: time goes into the volumes and runs that are used, and two volumes more.
 fn listed_places(
     alloc: Global,
-    index: &Index,
+    index: &RandomIndex,
     request: &Request,
     number: u32,
 ) -> Result<Vec<Piece>, AllocError>
@@ -153,7 +154,7 @@ fn listed_places(
 }
 
 /// The room of a pool of random access, but for the avoided volume's: by what is kept, and no walk.
-fn listed_room(index: &Index, request: &Request, number: u32) -> u128
+fn listed_room(index: &RandomIndex, request: &Request, number: u32) -> u128
     ensures value { result ≡ listed_room index.now number request.now.avoid }
     ensures ordered { IsStrictlySortedBy nat_cmp (keys_of (rooms_at number index.now.pools.entries)) }
 {
@@ -170,20 +171,51 @@ fn listed_room(index: &Index, request: &Request, number: u32) -> u128
     }
 }
 
-/// The free space of a pool, found by a walk over all volumes, tickets and transactions.
-fn walked_pieces(
+/// The capacity of a sequential pool's volumes.
+fn capacity_of(pools: &Pools, number: u32) -> u64
+    requires { is_sequential number pools.now ≡ true }
+    ensures { pool_capacity number pools.now ≡ Some result }
+{
+    match pools.pool_capacity(number) {
+        Some(capacity) => capacity.bytes(),
+        None => 0,
+    }
+}
+
+/// Whether a sequential pool has room for what is asked for.
+fn has_sequential_room(
     alloc: Global,
     pools: &Pools,
     space: &Space,
+    index: &Tails,
+    request: &Request,
+    number: u32,
+) -> Result<bool, AllocError>
+    requires index { AreTails index.now (tail_at pools.now) }
+    requires sequential { is_sequential number pools.now ≡ true }
+    ensures { IfOk result (λ b. b ≡ nat_le request.now.size (room (pieces number request.now.prefer request.now.avoid space.now.next_file (counted request.now.actor space.now) pools.now))) }
+{
+    let capacity = capacity_of(pools, number);
+    let has = sequential::has_room(alloc, pools, space, index, request, number, capacity)?;
+    Ok(has)
+}
+
+/// What is used of the free space of a sequential pool.
+fn used_sequential(
+    alloc: Global,
+    pools: &Pools,
+    space: &Space,
+    index: &Tails,
     request: &Request,
     number: u32,
 ) -> Result<Vec<Piece>, AllocError>
-    ensures { IfOk result (λ v. v.items ≡ pieces number request.now.prefer request.now.avoid space.now.next_file (counted request.now.actor space.now) pools.now) }
+    requires index { AreTails index.now (tail_at pools.now) }
+    requires sequential { is_sequential number pools.now ≡ true }
+    ensures { IfOk result (λ v. v.items ≡ filled request.now.size (pieces number request.now.prefer request.now.avoid space.now.next_file (counted request.now.actor space.now) pools.now)) }
 {
-    let held = Counted::new(alloc, space, request.actor)?;
-    let next_file = space.next_file();
-    let free = pieces(alloc, pools, &held, request, next_file, number)?;
-    Ok(free)
+    let capacity = capacity_of(pools, number);
+    let used = sequential::used_pieces(alloc, pools, space, index, request, number, capacity)?;
+    Ok(used)
 }
 
 /// Whether a pool may take what is asked for and has room for it.
@@ -202,11 +234,11 @@ fn has_room(
         return Ok(false);
     }
     if pools.is_sequential(number) {
-        let free = walked_pieces(alloc, pools, space, request, number)?;
-        return Ok(u128::from(request.size) <= room(free.as_slice()));
+        let has = has_sequential_room(alloc, pools, space, &index.tails, request, number)?;
+        return Ok(has);
     }
     let _len = pools.volumes().len();
-    Ok(u128::from(request.size) <= listed_room(index, request, number))
+    Ok(u128::from(request.size) <= listed_room(&index.random, request, number))
 }
 
 /// The first of these pools that may take what is asked for and has room for it.
@@ -244,21 +276,22 @@ fn used_pieces(
     ensures { IfOk result (λ v. v.items ≡ filled request.now.size (pieces number request.now.prefer request.now.avoid space.now.next_file (counted request.now.actor space.now) pools.now)) }
 {
     if pools.is_sequential(number) {
-        let free = walked_pieces(alloc, pools, space, request, number)?;
-        let used = filled(alloc, request.size, free.as_slice())?;
+        let used = used_sequential(alloc, pools, space, &index.tails, request, number)?;
         return Ok(used);
     }
     let _len = pools.volumes().len();
-    let _room = listed_room(index, request, number);
-    let used = listed_places(alloc, index, request, number)?;
+    let _room = listed_room(&index.random, request, number);
+    let used = listed_places(alloc, &index.random, request, number)?;
     Ok(used)
 }
 
 /// Where an object goes: its segments, each with its pool, exactly as `choose_by_walk` of `space` answers. On pools of random access it takes
-/// time that grows with the logarithm of the volumes and blocks, and with the segments that it answers; a sequential pool is walked, and so
-/// is all where no pool has room. `NoSpace`, with the number of the pool that the aim goes to, where no pool of the hierarchy that may take
-/// the object has room; `Busy` where one would have, if other actors' tickets or the transactions that aren't forced yet were gone, with the
-/// least of these that holds space there; `InventoryFull` where a scratch volume is needed for which no file number is left; `Memory`.
+/// time that grows with the logarithm of the volumes and blocks, and with the segments that it answers. On sequential pools it takes time that
+/// grows with the logarithm of the volumes, with the segments that tickets hold in any pool, and with the FILLING and the EMPTY volumes that
+/// the object would need if the actor had no ticket. Where no pool has room all is walked. `NoSpace`, with the number of the pool that the aim
+/// goes to, where no pool of the hierarchy that may take the object has room; `Busy` where one would have, if other actors' tickets or the
+/// transactions that aren't forced yet were gone, with the least of these that holds space there; `InventoryFull` where a scratch volume is
+/// needed for which no file number is left; `Memory`.
 pub fn choose(
     alloc: Global,
     pools: &Pools,

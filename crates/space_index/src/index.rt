@@ -1,120 +1,176 @@
-//! The index: the blocks of each volume of random access, and which volumes of each pool have room.
+//! The index: where space is free on volumes of random access, and which volumes of sequential pools have room behind their ends.
 
-ghost use Rattle.std.specs.Prelude.{◌≡◌, ℕ, Some, None, Option, List, OnOk};
-ghost use Rattle.std.specs.Option.{option_map};
-ghost use Rattle.space_index.specs.declared.standing.Standing.{Standing};
-ghost use Rattle.space_index.specs.Index.{Shape, with_access, AreSame, AreListed, StaysListed, IsIndexBy, IsEntry, and_segment};
-ghost use Rattle.space_index.specs.Listed.{some_room, HasRoom};
+ghost use Rattle.std.specs.Prelude.{◌≡◌, ℕ, false, Some, None, Option, Ok, IfOk, OnOk};
+ghost use Rattle.pool_tables.specs.Rows.{row_at};
+ghost use Rattle.pool_rows.specs.PoolRows.{PoolRows, is_sequential};
+ghost use Rattle.pool_rows.specs.Segments.{put_segment, take_segment};
+ghost use Rattle.volume_rows.specs.declared.volume.Volume.{Volume};
+ghost use Rattle.space.specs.declared.site.Site.{Site};
+ghost use Rattle.space.specs.Claims.{Claims, held, released, noted, forced};
+ghost use Rattle.space_index.specs.Index.{shape_at, claims_reach};
+ghost use Rattle.space_index.specs.Tails.{AreElse, AreTails, tail_at, IsIndexWith, IsIndexOf};
+ghost use Rattle.space_index.specs.Updates.{ChangesAt, IsAccessOf};
 
-use crate::rooms::Rooms;
-use crate::standing::{Standing, put_at, set_access_at, take_at};
-use kinds::Segment;
+use crate::random::RandomIndex;
+use crate::tails::{Tails, tail_at};
+use kinds::{Access, Segment};
+use pool_rows::Pools;
+use space::{Claim, Places, Space};
 use std::alloc::{AllocError, Global};
-use std::collections::BTreeMap;
+use volume_rows::Volume;
 
-/// Where space is free on volumes of random access, kept beside the rows and beside what tickets hold. Contracts see of which rows and of
-/// what beside them it is the index. Where a call is refused for want of memory it is the index of nothing any more: make a new one.
+/// Where space is free, kept beside the rows and beside what tickets hold. Contracts see of which rows and of what beside them it is the
+/// index. Where a call is refused for want of memory it is the index of nothing any more: make a new one.
 #[derive(Drop)]
 pub struct Index {
-    pub(crate) alloc: Global,
-    /// The volumes of random access by file number.
-    pub(crate) files: BTreeMap<u32, Standing>,
-    /// By pool number, which of these volumes have room.
-    pub(crate) pools: BTreeMap<u32, Rooms>,
+    pub(crate) random: RandomIndex,
+    pub(crate) tails: Tails,
 }
 
-/// A volume of a pool has this room now.
-fn set_room(
-    alloc: Global,
-    pools: &mut BTreeMap<u32, Rooms>,
-    pool: u32,
-    file: u32,
-    room: u64,
-) -> Result<(), AllocError>
-    ensures { OnOk result (HasRoom pool file (some_room room) pools.old.entries pools.new.entries) }
+/// The sequential volumes of these rows.
+fn tails_of(alloc: Global, pools: &Pools) -> Result<Tails, AllocError>
+    ensures { IfOk result (λ t. AreTails t (tail_at pools.now)) }
 {
-    if let Some(rooms) = pools.get_mut(&pool) {
-        return rooms.set(file, room);
+    let mut tails = Tails::new(alloc);
+    let _len = pools.volumes().len();
+    'volumes: for (file, _) in pools.volumes() {
+        tails.set(*file, tail_at(pools, *file))?;
     }
-    let mut rooms = Rooms::new(alloc);
-    rooms.set(file, room)?;
-    pools.insert(pool, rooms)?;
-    Ok(())
-}
-
-/// The room of a volume that has changed, in its pool, is noted.
-fn relist(
-    alloc: Global,
-    files: &BTreeMap<u32, Standing>,
-    pools: &mut BTreeMap<u32, Rooms>,
-    file: u32,
-) -> Result<(), AllocError>
-    ensures { (before : List (ℕ × Standing)) → AreListed before pools.old.entries → StaysListed file before files.now.entries → OnOk result (AreListed files.now.entries pools.new.entries) }
-{
-    match files.get(&file) {
-        Some(standing) => {
-            set_room(alloc, pools, standing.pool, file, standing.room())?;
-            Ok(())
-        }
-        None => Ok(()),
-    }
+    Ok(tails)
 }
 
 impl Index {
-    /// No volumes. It takes no memory.
-    pub fn new(alloc: Global) -> Self
-        ensures { (times : ℕ → ℕ → ℕ) → IsIndexBy result (λ file. None) times }
+    /// The index of these rows and of what is held beside them. It takes time for all volumes, their blocks and copies, and for all that is held.
+    pub fn of(alloc: Global, pools: &Pools, space: &Space) -> Result<Self, AllocError>
+        ensures { IfOk result (λ i. IsIndexOf i pools.now space.now) }
     {
-        Index {
-            alloc,
-            files: BTreeMap::new(alloc),
-            pools: BTreeMap::new(alloc),
-        }
+        let tails = tails_of(alloc, pools)?;
+        let random = RandomIndex::of(alloc, pools, space)?;
+        Ok(Index { random, tails })
     }
 
-    /// A segment more uses blocks of its volume, where that is one of random access.
-    pub(crate) fn put(&mut self, segment: &Segment) -> Result<(), AllocError>
-        ensures { (shapes : ℕ → Option Shape) (times : ℕ → ℕ → ℕ) → IsIndexBy self.old shapes times → OnOk result (IsIndexBy self.new shapes (and_segment segment.now times)) }
+    // ---- tickets and transactions
+
+    /// A ticket gets its space, under a number that no ticket has.
+    pub fn hold(&mut self, claim: &Claim) -> Result<(), AllocError>
+        ensures { (s : PoolRows) (c : Claims) (sites : ℕ → Option Site) (number : ℕ) → IsIndexWith self.old s c sites → row_at number c.tickets ≡ None → OnOk result (IsIndexWith self.new s (held number claim.now c) sites) }
     {
-        put_at(&mut self.files, segment)?;
-        relist(self.alloc, &self.files, &mut self.pools, segment.file)?;
+        self.random.hold(claim)?;
         Ok(())
     }
 
-    /// A segment that used blocks of its volume, where that is one of random access, goes.
-    pub(crate) fn take(&mut self, segment: &Segment) -> Result<(), AllocError>
-        ensures { (shapes : ℕ → Option Shape) (times : ℕ → ℕ → ℕ) → IsIndexBy self.old shapes (and_segment segment.now times) → OnOk result (IsIndexBy self.new shapes times) }
+    /// A ticket gives its space back, or its segments have become a copy's.
+    pub fn release(&mut self, claim: &Claim) -> Result<(), AllocError>
+        ensures { (s : PoolRows) (c : Claims) (sites : ℕ → Option Site) (number : ℕ) → IsIndexWith self.old s c sites → row_at number c.tickets ≡ Some claim.now → OnOk result (IsIndexWith self.new s (released number c) sites) }
     {
-        take_at(&mut self.files, segment);
-        relist(self.alloc, &self.files, &mut self.pools, segment.file)?;
+        self.random.release(claim)?;
         Ok(())
     }
 
-    /// A volume of random access may be written from now on, or may not.
-    pub(crate) fn set_access(&mut self, file: u32, is_writable: bool) -> Result<(), AllocError>
-        ensures { (shapes others : ℕ → Option Shape) (times : ℕ → ℕ → ℕ) → IsIndexBy self.old shapes times → AreSame file shapes others → option_map (with_access is_writable) (shapes file) ≡ others file → OnOk result (IsIndexBy self.new others times) }
+    /// A transaction that isn't forced yet, under a number that none has, took these segments away.
+    pub fn note(&mut self, places: &Places) -> Result<(), AllocError>
+        ensures { (s : PoolRows) (c : Claims) (sites : ℕ → Option Site) (number : ℕ) → IsIndexWith self.old s c sites → row_at number c.freed ≡ None → OnOk result (IsIndexWith self.new s (noted number places.now c) sites) }
     {
-        set_access_at(&mut self.files, file, is_writable);
-        relist(self.alloc, &self.files, &mut self.pools, file)?;
+        self.random.note(places)?;
         Ok(())
     }
 
-    /// A volume of random access goes, or one that is not kept.
-    pub(crate) fn remove(&mut self, file: u32) -> Result<(), AllocError>
-        ensures { (shapes others : ℕ → Option Shape) (times : ℕ → ℕ → ℕ) → IsIndexBy self.old shapes times → AreSame file shapes others → others file ≡ None → OnOk result (IsIndexBy self.new others times) }
+    /// Every transaction is forced: `space` is as it was before. It takes time for the segments that they took away.
+    pub fn force(&mut self, space: &Space) -> Result<(), AllocError>
+        ensures { (s : PoolRows) (sites : ℕ → Option Site) → IsIndexWith self.old s space.now sites → OnOk result (IsIndexWith self.new s (forced space.now) sites) }
     {
-        if let Some(standing) = self.files.remove(&file) {
-            set_room(self.alloc, &mut self.pools, standing.pool, file, 0)?;
-        }
+        self.random.force(space)?;
         Ok(())
     }
 
-    /// A volume of random access comes that was not kept, with blocks that are used so often.
-    pub(crate) fn insert(&mut self, file: u32, standing: Standing) -> Result<(), AllocError>
-        ensures { (shapes others : ℕ → Option Shape) (times : ℕ → ℕ → ℕ) → IsIndexBy self.old shapes times → AreSame file shapes others → shapes file ≡ None → IsEntry (times file) (others file) (Some standing) → OnOk result (IsIndexBy self.new others times) }
+    // ---- rows
+
+    /// A segment of a copy comes. Its volume is to be looked at, once the transaction's other segments came and went.
+    pub fn put_copy(&mut self, segment: &Segment) -> Result<(), AllocError>
+        ensures { (s t : PoolRows) (c : Claims) (sites : ℕ → Option Site) (object : ℕ) → IsIndexWith self.old s c sites → put_segment object segment.now s ≡ Ok t → OnOk result (IsIndexWith self.new t c sites) }
     {
-        self.files.insert(file, standing)?;
-        relist(self.alloc, &self.files, &mut self.pools, file)?;
+        self.random.put_copy(segment)?;
+        Ok(())
+    }
+
+    /// A segment of a copy goes. Its volume is to be looked at, once the transaction's other segments came and went.
+    pub fn take_copy(&mut self, segment: &Segment) -> Result<(), AllocError>
+        ensures { (s t : PoolRows) (c : Claims) (sites : ℕ → Option Site) (object today : ℕ) → IsIndexWith self.old s c sites → take_segment object segment.now today s ≡ Ok t → OnOk result (IsIndexWith self.new t c sites) }
+    {
+        self.random.take_copy(segment)?;
+        Ok(())
+    }
+
+    /// A volume is listed as it stands in these rows.
+    pub fn look_at(&mut self, pools: &Pools, file: u32) -> Result<(), AllocError>
+        ensures { (s : PoolRows) (c : Claims) (sites others : ℕ → Option Site) → IsIndexWith self.old s c sites → AreElse file sites others → others file ≡ tail_at pools.now file → OnOk result (IsIndexWith self.new s c others) }
+    {
+        self.tails.set(file, tail_at(pools, file))?;
+        Ok(())
+    }
+
+    /// A segment of a copy came, and no other did: these are the rows behind it.
+    pub fn put_copy_in(&mut self, pools: &Pools, segment: &Segment) -> Result<(), AllocError>
+        ensures { (s : PoolRows) (c : Claims) (object : ℕ) → IsIndexOf self.old s c → put_segment object segment.now s ≡ Ok pools.now → OnOk result (IsIndexOf self.new pools.now c) }
+    {
+        self.put_copy(segment)?;
+        self.look_at(pools, segment.file)?;
+        Ok(())
+    }
+
+    /// A segment of a copy went, and no other did: these are the rows behind it.
+    pub fn take_copy_in(&mut self, pools: &Pools, segment: &Segment) -> Result<(), AllocError>
+        ensures { (s : PoolRows) (c : Claims) (object today : ℕ) → IsIndexOf self.old s c → take_segment object segment.now today s ≡ Ok pools.now → OnOk result (IsIndexOf self.new pools.now c) }
+    {
+        self.take_copy(segment)?;
+        self.look_at(pools, segment.file)?;
+        Ok(())
+    }
+
+    /// A volume goes.
+    pub fn remove_volume(&mut self, file: u32) -> Result<(), AllocError>
+        ensures { (s t : PoolRows) (c : Claims) → IsIndexOf self.old s c → ChangesAt file s t → row_at file t.volumes ≡ None → OnOk result (IsIndexOf self.new t c) }
+    {
+        self.random.remove_volume(file)?;
+        self.tails.set(file, None)?;
+        Ok(())
+    }
+
+    /// A volume's access changes, and no segment on it: these are the rows behind it.
+    pub fn set_volume_access(
+        &mut self,
+        pools: &Pools,
+        file: u32,
+        access: &Access,
+    ) -> Result<(), AllocError>
+        ensures { (s : PoolRows) (c : Claims) → IsIndexOf self.old s c → ChangesAt file s pools.now → IsAccessOf access.now (row_at file s.volumes) (row_at file pools.now.volumes) → OnOk result (IsIndexOf self.new pools.now c) }
+    {
+        self.random.set_volume_access(file, access)?;
+        self.look_at(pools, file)?;
+        Ok(())
+    }
+
+    /// A sequential volume comes, or changes: these are the rows behind it.
+    pub fn set_sequential_volume(&mut self, pools: &Pools, file: u32) -> Result<(), AllocError>
+        ensures { (s : PoolRows) (c : Claims) → IsIndexOf self.old s c → ChangesAt file s pools.now → shape_at s file ≡ None → shape_at pools.now file ≡ None → OnOk result (IsIndexOf self.new pools.now c) }
+    {
+        self.look_at(pools, file)?;
+        Ok(())
+    }
+
+    /// A volume of random access comes, on which nothing but its copies uses blocks: these are the rows behind it. It takes time for its
+    /// blocks and copies.
+    pub fn add_volume(
+        &mut self,
+        pools: &Pools,
+        file: u32,
+        volume: &Volume,
+    ) -> Result<(), AllocError>
+        ensures { (s : PoolRows) (c : Claims) → IsIndexOf self.old s c → ChangesAt file s pools.now → row_at file s.volumes ≡ None → row_at file pools.now.volumes ≡ Some volume.now → is_sequential volume.now.pool pools.now ≡ false → ((k : ℕ) → claims_reach c file k ≡ 0)
+            → OnOk result (IsIndexOf self.new pools.now c) }
+    {
+        self.random.add_volume(file, volume)?;
+        self.look_at(pools, file)?;
         Ok(())
     }
 }

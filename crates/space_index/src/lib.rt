@@ -2,16 +2,24 @@
 #![tactic(auto)]
 
 mod blocks;
+mod by_pool;
 mod choosing;
 mod index;
 mod laws;
+mod near;
+mod random;
 mod rooms;
+mod sequential;
 mod standing;
+mod tails;
 mod updates;
 
 pub use blocks::Blocks;
+pub use by_pool::{Home, Listing};
 pub use choosing::choose;
 pub use index::Index;
 pub use laws::{index_stays, rows_change_at};
+pub use random::RandomIndex;
 pub use rooms::Rooms;
 pub use standing::Standing;
+pub use tails::Tails;

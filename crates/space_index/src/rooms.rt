@@ -50,7 +50,8 @@ impl Rooms {
         self.total
     }
 
-    fn remove(&mut self, file: u32)
+    /// A volume has no room any more. It takes no memory.
+    pub fn remove(&mut self, file: u32)
         ensures { IsSetAt file None self.old self.new }
     {
         if let Some(room) = self.rooms.remove(&file) {

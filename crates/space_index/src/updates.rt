@@ -8,11 +8,11 @@ ghost use Rattle.space.specs.Claims.{Claims, held, released, noted, forced};
 ghost use Rattle.volume_rows.specs.declared.volume.Volume.{Volume};
 ghost use Rattle.volume_rows.specs.Holdings.{weight_of};
 ghost use Rattle.space_index.specs.Counts.{reach, AreCounted};
-ghost use Rattle.space_index.specs.Index.{Shape, IsIndexBy, IsIndexOf, segment_on, claims_reach, tickets_reach, freed_reach};
+ghost use Rattle.space_index.specs.Index.{Shape, IsIndexBy, IsRandomIndexOf, segment_on, claims_reach, tickets_reach, freed_reach};
 ghost use Rattle.space_index.specs.Updates.{and_places, ChangesAt, IsAccessOf, rows_with, nothing};
 
 use crate::blocks::Blocks;
-use crate::index::Index;
+use crate::random::RandomIndex;
 use crate::standing::Standing;
 use kinds::{Access, Segment};
 use pool_rows::Pools;
@@ -20,7 +20,7 @@ use space::{Claim, Placed, Places, Space, is_writable};
 use std::alloc::{AllocError, Global};
 use volume_rows::{HeldSegment, Holdings, Volume};
 
-impl Index {
+impl RandomIndex {
     /// Segments more use blocks of their volumes.
     fn put_all(&mut self, places: &[Placed]) -> Result<(), AllocError>
         ensures { (shapes : ℕ → Option Shape) (times : ℕ → ℕ → ℕ) → IsIndexBy self.old shapes times → OnOk result (IsIndexBy self.new shapes (and_places places.now times)) }
@@ -45,7 +45,7 @@ impl Index {
 
     /// A ticket gets its space, under a number that no ticket has.
     pub fn hold(&mut self, claim: &Claim) -> Result<(), AllocError>
-        ensures { (s : PoolRows) (c : Claims) (number : ℕ) → IsIndexOf self.old s c → row_at number c.tickets ≡ None → OnOk result (IsIndexOf self.new s (held number claim.now c)) }
+        ensures { (s : PoolRows) (c : Claims) (number : ℕ) → IsRandomIndexOf self.old s c → row_at number c.tickets ≡ None → OnOk result (IsRandomIndexOf self.new s (held number claim.now c)) }
     {
         self.put_all(claim.places.as_slice())?;
         Ok(())
@@ -53,7 +53,7 @@ impl Index {
 
     /// A ticket gives its space back, or its segments have become a copy's.
     pub fn release(&mut self, claim: &Claim) -> Result<(), AllocError>
-        ensures { (s : PoolRows) (c : Claims) (number : ℕ) → IsIndexOf self.old s c → row_at number c.tickets ≡ Some claim.now → OnOk result (IsIndexOf self.new s (released number c)) }
+        ensures { (s : PoolRows) (c : Claims) (number : ℕ) → IsRandomIndexOf self.old s c → row_at number c.tickets ≡ Some claim.now → OnOk result (IsRandomIndexOf self.new s (released number c)) }
     {
         self.take_all(claim.places.as_slice())?;
         Ok(())
@@ -61,7 +61,7 @@ impl Index {
 
     /// A transaction that isn't forced yet, under a number that none has, took these segments away.
     pub fn note(&mut self, places: &Places) -> Result<(), AllocError>
-        ensures { (s : PoolRows) (c : Claims) (number : ℕ) → IsIndexOf self.old s c → row_at number c.freed ≡ None → OnOk result (IsIndexOf self.new s (noted number places.now c)) }
+        ensures { (s : PoolRows) (c : Claims) (number : ℕ) → IsRandomIndexOf self.old s c → row_at number c.freed ≡ None → OnOk result (IsRandomIndexOf self.new s (noted number places.now c)) }
     {
         self.put_all(places.as_slice())?;
         Ok(())
@@ -69,7 +69,7 @@ impl Index {
 
     /// Every transaction is forced: `space` is as it was before. It takes time for the segments that they took away.
     pub fn force(&mut self, space: &Space) -> Result<(), AllocError>
-        ensures { (s : PoolRows) → IsIndexOf self.old s space.now → OnOk result (IsIndexOf self.new s (forced space.now)) }
+        ensures { (s : PoolRows) → IsRandomIndexOf self.old s space.now → OnOk result (IsRandomIndexOf self.new s (forced space.now)) }
     {
         'freed: for (_, places) in space.freed() {
             self.take_all(places.as_slice())?;
@@ -81,7 +81,7 @@ impl Index {
 
     /// A segment of a copy comes.
     pub fn put_copy(&mut self, segment: &Segment) -> Result<(), AllocError>
-        ensures { (s t : PoolRows) (c : Claims) (object : ℕ) → IsIndexOf self.old s c → put_segment object segment.now s ≡ Ok t → OnOk result (IsIndexOf self.new t c) }
+        ensures { (s t : PoolRows) (c : Claims) (object : ℕ) → IsRandomIndexOf self.old s c → put_segment object segment.now s ≡ Ok t → OnOk result (IsRandomIndexOf self.new t c) }
     {
         self.put(segment)?;
         Ok(())
@@ -89,7 +89,7 @@ impl Index {
 
     /// A segment of a copy goes.
     pub fn take_copy(&mut self, segment: &Segment) -> Result<(), AllocError>
-        ensures { (s t : PoolRows) (c : Claims) (object today : ℕ) → IsIndexOf self.old s c → take_segment object segment.now today s ≡ Ok t → OnOk result (IsIndexOf self.new t c) }
+        ensures { (s t : PoolRows) (c : Claims) (object today : ℕ) → IsRandomIndexOf self.old s c → take_segment object segment.now today s ≡ Ok t → OnOk result (IsRandomIndexOf self.new t c) }
     {
         self.take(segment)?;
         Ok(())
@@ -97,7 +97,7 @@ impl Index {
 
     /// A volume goes.
     pub fn remove_volume(&mut self, file: u32) -> Result<(), AllocError>
-        ensures { (s t : PoolRows) (c : Claims) → IsIndexOf self.old s c → ChangesAt file s t → row_at file t.volumes ≡ None → OnOk result (IsIndexOf self.new t c) }
+        ensures { (s t : PoolRows) (c : Claims) → IsRandomIndexOf self.old s c → ChangesAt file s t → row_at file t.volumes ≡ None → OnOk result (IsRandomIndexOf self.new t c) }
     {
         self.remove(file)?;
         Ok(())
@@ -105,7 +105,7 @@ impl Index {
 
     /// A volume's access changes, and no segment on it.
     pub fn set_volume_access(&mut self, file: u32, access: &Access) -> Result<(), AllocError>
-        ensures { (s t : PoolRows) (c : Claims) → IsIndexOf self.old s c → ChangesAt file s t → IsAccessOf access.now (row_at file s.volumes) (row_at file t.volumes) → OnOk result (IsIndexOf self.new t c) }
+        ensures { (s t : PoolRows) (c : Claims) → IsRandomIndexOf self.old s c → ChangesAt file s t → IsAccessOf access.now (row_at file s.volumes) (row_at file t.volumes) → OnOk result (IsRandomIndexOf self.new t c) }
     {
         self.set_access(file, is_writable(access))?;
         Ok(())
@@ -113,8 +113,8 @@ impl Index {
 
     /// A volume of random access comes, on which nothing but its copies uses blocks. It takes time for its blocks and copies.
     pub fn add_volume(&mut self, file: u32, volume: &Volume) -> Result<(), AllocError>
-        ensures { (s t : PoolRows) (c : Claims) → IsIndexOf self.old s c → ChangesAt file s t → row_at file s.volumes ≡ None → row_at file t.volumes ≡ Some volume.now → is_sequential volume.now.pool t ≡ false → ((k : ℕ) → claims_reach c file k ≡ 0)
-            → OnOk result (IsIndexOf self.new t c) }
+        ensures { (s t : PoolRows) (c : Claims) → IsRandomIndexOf self.old s c → ChangesAt file s t → row_at file s.volumes ≡ None → row_at file t.volumes ≡ Some volume.now → is_sequential volume.now.pool t ≡ false → ((k : ℕ) → claims_reach c file k ≡ 0)
+            → OnOk result (IsRandomIndexOf self.new t c) }
     {
         let count = (volume.capacity.bytes() / 4096) as u32;
         let mut blocks = Blocks::new(self.alloc, count)?;
@@ -132,7 +132,7 @@ impl Index {
 
     /// One row more of the volumes is looked at.
     fn add_row(&mut self, pools: &Pools, file: u32, volume: &Volume) -> Result<(), AllocError>
-        ensures { (xs : List (ℕ × Volume)) → IsIndexOf self.old (rows_with pools.now xs) nothing → row_at file xs ≡ None → OnOk result (IsIndexOf self.new (rows_with pools.now (xs ++ (file, volume.now) ∷ [])) nothing) }
+        ensures { (xs : List (ℕ × Volume)) → IsRandomIndexOf self.old (rows_with pools.now xs) nothing → row_at file xs ≡ None → OnOk result (IsRandomIndexOf self.new (rows_with pools.now (xs ++ (file, volume.now) ∷ [])) nothing) }
     {
         if pools.is_sequential(volume.pool) {
             return Ok(());
@@ -143,9 +143,9 @@ impl Index {
 
     /// The index of these rows, where nothing is held beside them.
     fn of_rows(alloc: Global, pools: &Pools) -> Result<Self, AllocError>
-        ensures { IfOk result (λ i. IsIndexOf i pools.now nothing) }
+        ensures { IfOk result (λ i. IsRandomIndexOf i pools.now nothing) }
     {
-        let mut index = Index::new(alloc);
+        let mut index = RandomIndex::new(alloc);
         let _len = pools.volumes().len();
         'volumes: for (file, volume) in pools.volumes() {
             index.add_row(pools, *file, volume)?;
@@ -173,9 +173,9 @@ impl Index {
 
     /// The index of these rows and of what is held beside them. It takes time for all volumes, their blocks and copies, and for all that is held.
     pub fn of(alloc: Global, pools: &Pools, space: &Space) -> Result<Self, AllocError>
-        ensures { IfOk result (λ i. IsIndexOf i pools.now space.now) }
+        ensures { IfOk result (λ i. IsRandomIndexOf i pools.now space.now) }
     {
-        let mut index = Index::of_rows(alloc, pools)?;
+        let mut index = RandomIndex::of_rows(alloc, pools)?;
         index.put_tickets(space)?;
         index.put_freed(space)?;
         Ok(index)

@@ -13,5 +13,5 @@ returns c =
     let s = c.args.pools.now in
     let claims = c.args.space.now in
     let sorted : IsStrictlySortedBy nat_cmp (keys_of s.volumes) = subst (λ (l : List (ℕ × Volume)). IsStrictlySortedBy nat_cmp (keys_of l)) c.volumes.ensures.value c.len-len.ensures.ordered in
-    has_by_room r claims.next_file c.args.number c.from-2.result c.listed_room.result (counted r.actor claims) s (search rules) c.from-2.ensures
-    (c.listed_room.ensures.value ∙ listed_room_is c.args.index.now s claims c.args.number r.prefer r.avoid claims.next_file r.actor c.requires (sym c.is_sequential.ensures ∙ c.if-is_sequential.false) sorted c.listed_room.ensures.ordered)
+    has_by_room r claims.next_file c.args.number c.from.result c.listed_room.result (counted r.actor claims) s (search rules) c.from.ensures
+    (c.listed_room.ensures.value ∙ listed_room_is c.args.index.now.random s claims c.args.number r.prefer r.avoid claims.next_file r.actor c.requires.random (sym c.is_sequential.ensures ∙ c.if-is_sequential.false) sorted c.listed_room.ensures.ordered)

@@ -14,4 +14,4 @@ returns c =
     let claims = c.args.space.now in
     let sorted : IsStrictlySortedBy nat_cmp (keys_of s.volumes) = subst (λ (l : List (ℕ × Volume)). IsStrictlySortedBy nat_cmp (keys_of l)) c.volumes.ensures.value c.len-len.ensures.ordered in
     c.in_ok-used-2.ensures
-    ∙ ap (filled r.size) (listed_pieces_are c.args.index.now s claims c.args.number r.prefer r.avoid claims.next_file r.actor c.requires (sym c.is_sequential.ensures ∙ c.if-is_sequential.false) sorted c.listed_room-room.ensures.ordered)
+    ∙ ap (filled r.size) (listed_pieces_are c.args.index.now.random s claims c.args.number r.prefer r.avoid claims.next_file r.actor c.requires.random (sym c.is_sequential.ensures ∙ c.if-is_sequential.false) sorted c.listed_room-room.ensures.ordered)

@@ -1,8 +1,10 @@
 use Rattle.std.proofs.Common.{ap}
-use Rattle.space_index.specs.Index.{shape_at, shape_of_row, times_at}
-use Rattle.space_index.proofs.Following.{gone_index, shapes_else}
+use Rattle.space_index.specs.Tails.{tail_of_row, tail_at}
+use Rattle.space_index.proofs.Listings.{tails_else}
 use Rattle.space_index.proofs.index.Index.remove_volume.Goals as goal
 
 pub returns : goal.returns
-returns c = λ s t claims is changes gone.
-    gone_index c.remove.new.self s t claims c.args.file changes gone (c.in_ok-remove.ensures (shape_at s) (shape_at t) (times_at s claims) is (shapes_else c.args.file s t changes) (ap (shape_of_row t) gone))
+returns c = λ s t claims is changes gone. record {
+  random = c.in_ok-remove_volume.ensures s t claims is.random changes gone;
+  tails = c.in_ok-set.ensures (tail_at s) (tail_at t) is.tails (tails_else c.args.file s t changes) (ap (tail_of_row t) gone);
+}

@@ -1,6 +1,4 @@
-use Rattle.space_index.specs.Index.{shape_at, times_at}
-use Rattle.space_index.proofs.Following.{take_ready}
 use Rattle.space_index.proofs.index.Index.take_copy.Goals as goal
 
 pub returns : goal.returns
-returns c = λ s t claims object today is made. c.in_ok-take.ensures (shape_at t) (times_at t claims) (take_ready c.args.self.now s t claims c.args.segment.now object today made is)
+returns c = λ s t claims sites object today is made. record { random = c.in_ok-take_copy.ensures s t claims object today is.random made; tails = is.tails }
