@@ -7,6 +7,6 @@ mod reading;
 mod restoring;
 mod sending;
 
-pub use outcome::{Came, Gave};
+pub use outcome::{Came, Gave, stopping};
 pub use restoring::{Stored, restore_file};
 pub use sending::send_file;

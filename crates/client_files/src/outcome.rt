@@ -28,7 +28,7 @@ pub enum Gave {
 }
 
 /// The refusal with which a call ends where a step answered this one. What a step can't answer there stands for want of memory.
-pub(crate) fn stopping(refusal: Refusal) -> Refusal
+pub fn stopping(refusal: Refusal) -> Refusal
     ensures { result ≡ stopping refusal }
 {
     match refusal.number() {

@@ -26,6 +26,7 @@ fn copy_bytes<P: Stepper, T: Tree>(
     ensures copies { Call P.did p.old p.new (λ events. Copies (file_of (T.files tree.old) path.now) ticket size (T.fault_count tree.old) (T.fault_count tree.new) events result) }
     ensures kept { T.files tree.new ≡ T.files tree.old }
     ensures rises { T.fault_count tree.old ≤ T.fault_count tree.new }
+    ensures long { length buffer.new ≡ length buffer.old }
 {
     let mut hasher = Sha256::new();
     let mut done = 0;
@@ -58,6 +59,7 @@ fn fill<P: Stepper, T: Tree>(
     ensures fills { Call P.did p.old p.new (λ events. Fills (file_of (T.files tree.old) path.now) ticket size (T.fault_count tree.old) (T.fault_count tree.new) events result) }
     ensures kept { T.files tree.new ≡ T.files tree.old }
     ensures rises { T.fault_count tree.old ≤ T.fault_count tree.new }
+    ensures long { length buffer.new ≡ length buffer.old }
 {
     let digest = match copy_bytes(p, tree, path, size, ticket, buffer) {
         Ok(digest) => digest,
@@ -98,6 +100,7 @@ fn spend<P: Stepper, T: Tree>(
     ensures spends { Call P.did p.old p.new (λ events. Spends (file_of (T.files tree.old) path.now) ticket size (T.fault_count tree.old) (T.fault_count tree.new) events result) }
     ensures kept { T.files tree.new ≡ T.files tree.old }
     ensures rises { T.fault_count tree.old ≤ T.fault_count tree.new }
+    ensures long { length buffer.new ≡ length buffer.old }
 {
     match fill(p, tree, path, size, ticket, buffer) {
         Ok(digest) => Ok(Came::Sealed(ticket, digest)),
@@ -118,6 +121,7 @@ fn open_and_spend<P: Stepper, T: Tree>(
     ensures sends { Call P.did p.old p.new (λ events. Sends (file_of (T.files tree.old) file.now.path) pool file.now.size (T.fault_count tree.old) (T.fault_count tree.new) events result) }
     ensures kept { T.files tree.new ≡ T.files tree.old }
     ensures rises { T.fault_count tree.old ≤ T.fault_count tree.new }
+    ensures long { length buffer.new ≡ length buffer.old }
 {
     match p.open_new(pool, file.size, 0) {
         Ok(ticket) => spend(p, tree, &file.path, file.size, ticket, buffer),
@@ -140,6 +144,7 @@ pub fn send_file<P: Stepper, T: Tree>(
     ensures sends { Call P.did p.old p.new (λ events. Sending (file_of (T.files tree.old) file.now.path) pool file.now.size (T.fault_count tree.old) (T.fault_count tree.new) events result) }
     ensures kept { T.files tree.new ≡ T.files tree.old }
     ensures rises { T.fault_count tree.old ≤ T.fault_count tree.new }
+    ensures long { length buffer.new ≡ length buffer.old }
 {
     open_and_spend(p, tree, file, pool, buffer)
 }

@@ -1,6 +1,7 @@
 -- How files are bound to the classes of a node's active policy set.
 use Rattle.std.specs.Prelude.{ℕ, List, Bool, true, false, Option, Some, None, option_and_then}
 use Rattle.std.specs.List.{find, list_any}
+use Rattle.std.specs.Option.{option_map}
 use Rattle.kinds.specs.Names.{is_same_name}
 use Rattle.kinds.specs.declared.rule.BackupRule.{BackupRule}
 use Rattle.kinds.specs.declared.rule.RuleFound.{RuleFound}
@@ -25,6 +26,10 @@ abbrev pub own_group : RuleFound → Option BackupRule
 own_group (found.Own rule) = Some rule
 own_group (found.Default rule) = None
 own_group (found.Grace days) = None
+
+-- the pool that takes the files of the class with this name, where the class has a copy group of its own
+abbrev pub destination : Rules → List ℕ → Option ℕ
+destination rules name = option_map (λ group. group.destination) (option_and_then (λ row. own_group row.rule) (class_row name rules.classes))
 
 -- the path is left out
 abbrev pub is_excluded : Bound → Bool

@@ -1,6 +1,6 @@
 ghost use Rattle.std.specs.Prelude.{◌≡◌};
 ghost use Rattle.std.specs.Option.{option_copied};
-ghost use Rattle.client_plan.specs.Classes.{class_row, has_class, own_group, is_excluded, is_left_out, bound_to, bound_under};
+ghost use Rattle.client_plan.specs.Classes.{class_row, has_class, own_group, destination, is_excluded, is_left_out, bound_to, bound_under};
 
 use choosers::{Binder, Bound, Classes};
 use inventory_work::{ClassRule, Rules};
@@ -48,6 +48,19 @@ impl ActiveClasses {
         ensures { option_copied result ≡ class_row name.now self.now.classes }
     {
         class_row(self.rules.classes.as_slice(), name)
+    }
+
+    /// The pool that takes the files of the class with this name, where the class has a copy group of its own.
+    pub fn destination(&self, name: &Name) -> Option<u32>
+        ensures { result ≡ destination self.now name.now }
+    {
+        match self.row(name) {
+            Some(row) => match own_group(row.rule) {
+                Some(group) => Some(group.destination),
+                None => None,
+            },
+            None => None,
+        }
     }
 
     /// The class of a path where this is the default class.

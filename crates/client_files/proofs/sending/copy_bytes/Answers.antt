@@ -27,6 +27,5 @@ pieces-preserved g c =
       within = reads.2;
       kept = c.next_piece.ensures.kept ∙ c.pieces.invariant.kept;
       rises = omega (arith, c.next_piece.ensures.rises, c.pieces.invariant.rises);
-      some = omega (arith, c.next_piece.ensures.long, c.pieces.invariant.some);
-      few = omega (arith, c.next_piece.ensures.long, c.pieces.invariant.few);
+      long = c.next_piece.ensures.long ∙ c.pieces.invariant.long;
     }

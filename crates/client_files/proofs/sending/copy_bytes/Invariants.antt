@@ -1,4 +1,4 @@
-use Rattle.std.proofs.Common.{◌≡◌, ◌≤◌, ◌-◌, ◌^◌, length}
+use Rattle.std.proofs.Common.{◌≡◌, ◌≤◌, ◌-◌, length}
 use Rattle.steps.specs.Calls.{Call}
 use Rattle.client_files.specs.Reading.{file_of}
 use Rattle.client_files.proofs.Filling.{Sent}
@@ -11,8 +11,7 @@ invariant-pieces g l = record {
   within : l.done ≤ l.fn.size;
   kept : g.T.Tree.files l.tree ≡ g.T.Tree.files l.fn.tree;
   rises : g.T.Tree.fault_count l.fn.tree ≤ g.T.Tree.fault_count l.tree;
-  some : 1 ≤ length l.buffer;
-  few : length l.buffer ≤ 2 ^ 16;
+  long : length l.buffer ≡ length l.fn.buffer;
 }
 
 abbrev pub decreases-pieces : goal.decreases-pieces
