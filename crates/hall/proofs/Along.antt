@@ -219,12 +219,17 @@ reuse_pool file (change.Reuse k) v old new is apart before after =
     reused_pool file v.stores.volumes old new apart before (ap (λ (n : ℕ). row_at file (reuse_volume n v.stores.volumes)) same ∙ after)
 reuse_pool file x v old new is apart before after = absurd (false≢true is)
 
-pool_kept : (file : ℕ) (v : Inv) (e : Entry) (old new : Volume) → IsStep file v e → row_at file v.stores.volumes ≡ Some old → row_at file (effect e.change v).stores.volumes ≡ Some new → new.pool ≡ old.pool
-pool_kept file v e old new s before after =
-    elim (is_reuse file e.change) as (λ b. is_reuse file e.change ≡ b → new.pool ≡ old.pool) [
-      | true ↦ λ is. reuse_pool file e.change v old new is (apart_front (keys_of v.stores.volumes) (keys_of v.backups) (facts_of v s.valid).files_apart) before after
-      | false ↦ λ isnt. (ends_later s.journal e.change v file old new s.valid s.legal isnt before after).pool
+-- a volume that is there before a transaction and behind it lies in the same pool
+pub pool_stays : (file : ℕ) (j : Journal) (x : Change) (v : Inv) (old new : Volume) → is_valid v ≡ true → causes j x v ≡ [] → row_at file v.stores.volumes ≡ Some old
+    → row_at file (effect x v).stores.volumes ≡ Some new → new.pool ≡ old.pool
+pool_stays file j x v old new valid legal before after =
+    elim (is_reuse file x) as (λ b. is_reuse file x ≡ b → new.pool ≡ old.pool) [
+      | true ↦ λ is. reuse_pool file x v old new is (apart_front (keys_of v.stores.volumes) (keys_of v.backups) (facts_of v valid).files_apart) before after
+      | false ↦ λ isnt. (ends_later j x v file old new valid legal isnt before after).pool
     ] refl
+
+pool_kept : (file : ℕ) (v : Inv) (e : Entry) (old new : Volume) → IsStep file v e → row_at file v.stores.volumes ≡ Some old → row_at file (effect e.change v).stores.volumes ≡ Some new → new.pool ≡ old.pool
+pool_kept file v e old new s before after = pool_stays file s.journal e.change v old new s.valid s.legal before after
 
 -- what is the same of a volume from one database to the last
 pub record IsSame (v w : Inv) (old new : Volume) : Type 0 where

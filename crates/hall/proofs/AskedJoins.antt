@@ -359,7 +359,7 @@ module _ (actor : ℕ) (numbers : List ℕ) (c : Core) where
     pieces asked.Placed x j ones is fits cause = as_placed j x (if_some_is _ (placed_change (inventory c) (spent actor numbers c)) x is) cause
 
   -- what is asked and isn't refused joins
-  pub joins_of : (asked : Asked) (x : Change) → NumbersAreDrawn c → asked_change actor asked numbers c ≡ Some x → commit_refused actor asked numbers s ≡ [] → held_refused x c ≡ [] → Joins actor x numbers c
+  pub joins_of : (asked : Asked) (x : Change) → NumbersAreDrawn c → asked_change actor asked numbers c ≡ Some x → commit_refused actor asked numbers s ≡ [] → held_refused x c ≡ [] → Joins actor x numbers c × (is_any_reuse x ≡ false)
   joins_of asked x n is fits held =
       let one = both_none (are_there numbers s) _ fits in
       let two = both_none (unless (name_once numbers && nat_le (length numbers) 256) bad_value) _ one.1 in
@@ -369,23 +369,24 @@ module _ (actor : ℕ) (numbers : List ℕ) (c : Core) where
       let free : IsFree (journal_of c.base c.journal) x (inventory c) = is_free (journal_of c.base c.journal) x (inventory c) legal in
       let ones = all_ones one.0 four.0 in
       let spends = all_spent ones in
-      let p = pieces n spends asked x (journal_of c.base c.journal) ones is three.0 free.causes in
-      record {
-        legal = legal;
-        plain = p.plain;
-        once = (and_parts (name_once numbers) (nat_le (length numbers) 256) (unless_holds (name_once numbers && nat_le (length numbers) 256) bad_value two.0)).0;
-        there = each_also (λ k. (t : Ticket) × IsOne k t) (λ k. is_some (ticket k (own_tickets actor c.tickets)) ≡ true) numbers (λ k h. ap is_some h.1.found) ones;
-        spends = spends;
-        objects = p.objects;
-        places = p.places;
-        pools = keeps_pools c x held;
-        volumes = keeps_volumes c (journal_of c.base c.journal) x held free.causes p.ordinary n.files;
-        image = keeps_image c x held p.ordinary;
-        files = p.files;
-        draws = p.draws;
-        bound = p.bound;
-        further = p.further;
-      }
+      let p = pieces n spends asked x (journal_of c.base c.journal) ones is three.0 free.causes in (
+        record {
+          legal = legal;
+          once = (and_parts (name_once numbers) (nat_le (length numbers) 256) (unless_holds (name_once numbers && nat_le (length numbers) 256) bad_value two.0)).0;
+          there = each_also (λ k. (t : Ticket) × IsOne k t) (λ k. is_some (ticket k (own_tickets actor c.tickets)) ≡ true) numbers (λ k h. ap is_some h.1.found) ones;
+          spends = spends;
+          objects = p.objects;
+          places = p.places;
+          pools = keeps_pools c x held;
+          volumes = keeps_volumes c (journal_of c.base c.journal) x held free.causes p.ordinary n.files;
+          image = keeps_image c x held p.ordinary;
+          files = p.files;
+          draws = p.draws;
+          bound = p.bound;
+          further = p.further;
+        },
+        p.plain,
+      )
     where
       none_listed : {A : Type 0} (o : Option A) (rest : List A) → listed o ++ rest ≡ [] → o ≡ None
       none_listed None rest h = refl

@@ -1,5 +1,5 @@
 -- The step that makes a transaction.
-use Rattle.std.proofs.Common.{◌≡◌, inr, ℕ, ◌+◌, ◌<◌, ◌≤◌, List, [], ◌++◌, Option, Some, None, Result, Ok, Err, refl, sym, ap, subst, ◌∙◌, arith}
+use Rattle.std.proofs.Common.{◌≡◌, inr, ℕ, ◌+◌, ◌<◌, ◌≤◌, false, List, [], ◌++◌, Option, Some, None, Result, Ok, Err, refl, sym, ap, subst, ◌∙◌, arith}
 use Rattle.std.specs.Prelude.{IfSome}
 use Rattle.std.specs.Option.{option_map_or}
 use Rattle.store_api.specs.Cause.{NoneFell, Rose}
@@ -18,6 +18,7 @@ use Rattle.vault.specs.Vaults.{State, Waits, in_doubt, with_waiting}
 use Rattle.machine.specs.Causes.{commit_refused}
 use Rattle.machine.specs.Machine.{asked_change, durable, ended, halting, held_refused, storing_contents}
 use Rattle.machine.specs.State.{Core, Machine, inventory, sight}
+use Rattle.hall.specs.Covered.{is_any_reuse}
 use Rattle.hall.specs.Good.{Is, IsKept, IsStamped, WasSound}
 use Rattle.hall.specs.Held.{Hall, Held, IsImage}
 use Rattle.hall.specs.Joined.{joined_held}
@@ -40,6 +41,7 @@ pub record MayCommit (actor : ℕ) (asked : Asked) (x : Change) (numbers : List 
   pub is : asked_change actor asked numbers m.core ≡ Some x
   pub none : foremost (ended m ++ (commit_refused actor asked numbers (sight actor m.core) ++ option_map_or (λ change. held_refused change m.core) (asked_change actor asked numbers m.core) [])) ≡ None
   pub joins : Joins actor x numbers m.core
+  pub plain : is_any_reuse x ≡ false
   pub takes : TakesAway x (inventory m.core)
 
 module _ {S : Type 0} (told : S → Option History) (moment : S → ℕ) (faults : S → ℕ → ℕ) (clock : (s : S) → IfSome (told s) (λ h. now h ≡ moment s)) (actor : ℕ) (asked : Asked) (x : Change) (numbers : List ℕ) (hall : Hall S) (store : S)
@@ -109,7 +111,7 @@ module _ {S : Type 0} (told : S → Option History) (moment : S → ℕ) (faults
           good = record {
             lawful = lawful_joined actor x numbers m.core is.good.lawful a.joins;
             stamped = subst (λ o. IsStamped o (moment store) (later_core m)) (sym (ap (λ (h : Held). h.opened) (joined_form actor x numbers hall.held m.core is.core is.good.lawful a.joins is.good.numbers few (with_waiting meaning hall.held.vault e))))
-                (stamped_joined actor x numbers m.core is.good.lawful a.joins hall.held.opened m.moment (moment store) (omega (arith, is.clock, since)) is.good.stamped);
+                (stamped_joined actor x numbers m.core is.good.lawful a.joins a.plain hall.held.opened m.moment (moment store) (omega (arith, is.clock, since)) is.good.stamped);
             space = space_joined actor x numbers m.core is.good.lawful a.joins is.good.numbers is.good.space few;
             numbers = numbers_joined actor x numbers m.core is.good.lawful a.joins is.good.numbers is.good.space;
             bytes = bytes_joined actor x numbers m.core m.contents is.good.lawful a.joins is.good.numbers is.good.space is.good.bytes;
@@ -183,7 +185,7 @@ module _ {S : Type 0} (told : S → Option History) (moment : S → ℕ) (faults
             good = record {
               lawful = (let g = lawful_joined actor x numbers m.core is.good.lawful a.joins in record { valid = g.valid; tied = g.tied; legal = g.legal });
               stamped = subst (λ o. IsStamped o (moment store) (halting file count (later_core m))) (sym (ap (λ (h : Held). h.opened) form))
-                  (let g = stamped_joined actor x numbers m.core is.good.lawful a.joins hall.held.opened m.moment (moment store) (omega (arith, is.clock, since)) is.good.stamped in
+                  (let g = stamped_joined actor x numbers m.core is.good.lawful a.joins a.plain hall.held.opened m.moment (moment store) (omega (arith, is.clock, since)) is.good.stamped in
                   record { few = g.few; rise = g.rise; waiting = λ no. absurd (no_fault no) });
               space = (let g = space_joined actor x numbers m.core is.good.lawful a.joins is.good.numbers is.good.space few in record { filled = g.filled; clear = g.clear; apart = g.apart });
               numbers = (let g = numbers_joined actor x numbers m.core is.good.lawful a.joins is.good.numbers is.good.space in

@@ -43,6 +43,7 @@ use Rattle.machine.specs.Machine.{asked_change, durable, ended, freed, held_refu
 use Rattle.machine.specs.State.{Core, Image, Machine, inventory, sight, unforced}
 use Rattle.vault.proofs.Goodness.{log_ours}
 use Rattle.hall.specs.Commits.{IsAsked, change_asked, commit_causes}
+use Rattle.hall.specs.Covered.{is_any_reuse}
 use Rattle.hall.specs.Good.{AllInProgress, Is, IsKept, WasSound}
 use Rattle.hall.specs.Held.{Hall, Held, IsCore}
 use Rattle.hall.specs.Joined.{RefusesJoin, drawn_by, joined_held, next_behind, taken_by, unjoined, without_seats}
@@ -79,6 +80,57 @@ ok_is_none e = absurd cc
 image_same : (x : Change) (held : Held) (c : Core) (o : Option Image) (h : History) → AllInProgress c held o h → AllInProgress c (unjoined x held) o h
 image_same x held c None h all = tt
 image_same x held c (Some i) h all = record { since = all.since; durable = all.durable; stands = all.stands }
+
+-- a hall in which a transaction didn't join for want of memory is in the state in which it was
+pub unjoined_is : {S : Type 0} (told : S → Option History) (moment : S → ℕ) (faults : S → ℕ → ℕ) (x : Change) (hall : Hall S) (m : Machine) → Is told moment faults hall m
+    → Is told moment faults (record { store = hall.store; held = unjoined x hall.held }) m
+unjoined_is {S} told moment faults x hall m is = record {
+  core = core_same is.core;
+  clock = is.clock;
+  counts = is.counts;
+  good = record {
+    lawful = is.good.lawful;
+    stamped = is.good.stamped;
+    space = is.good.space;
+    numbers = is.good.numbers;
+    bytes = is.good.bytes;
+    kept = kept_same (told hall.store) is.good.kept;
+  };
+}
+  where
+    kept_same : (o : Option History) → IfSome o (λ h. WasSound hall.held.base hall.held.opened h → IsKept m hall.held h) → IfSome o (λ h. WasSound hall.held.base hall.held.opened h → IsKept m (unjoined x hall.held) h)
+    kept_same None kept = tt
+    kept_same (Some h) kept = λ sound.
+        let k = kept sound in
+        record { since = k.since; first = k.first; always = k.always; left = k.left; sure = k.sure; firm = k.firm; tickets = k.tickets; image = λ fault. image_same x hall.held m.core m.core.image h (k.image fault) }
+
+    core_same : IsCore hall.held m.core → IsCore (unjoined x hall.held) m.core
+    core_same i =
+        let k : ℕ = hall.held.vault.database.number + 1 in
+        let list = freed (durable m.core) (unforced m.core) in
+        let below = subst (λ (v : Inv). AllByRecursion (λ (a : ℕ × Segment). a.0 < v.number + 1) (freed (durable m.core) (unforced m.core))) (sym i.database) (freed_below m.core) in
+        record {
+          base = i.base;
+          journal = i.journal;
+          database = i.database;
+          stamps = i.stamps;
+          forced = i.forced;
+          tickets = i.tickets;
+          space = record {
+            tickets = i.space.tickets;
+            noted = λ number s there. still_noted (inventory m.core) list k (taken_by x hall.held.vault.database) hall.held.claims.freed below number s there (i.space.noted number s there);
+            freed = λ number places p there within. i.space.freed number places p (none_new (inventory m.core) list k (taken_by x hall.held.vault.database) hall.held.claims.freed below number places there) within;
+            ascending = still_ascending (inventory m.core) list k (taken_by x hall.held.vault.database) hall.held.claims.freed below i.space.ascending;
+            next_file = i.space.next_file;
+          };
+          next_object = i.next_object;
+          next_ticket = i.next_ticket;
+          image = i.image;
+          is_image = i.is_image;
+          generation = i.generation;
+          log_length = i.log_length;
+          fault = i.fault;
+        }
 
 -- what the law says of the objects that a change doesn't touch
 abbrev pub RestStays : Type 0
@@ -122,13 +174,16 @@ module _ {S : Type 0} (told : S → Option History) (moment : S → ℕ) (faults
   asked_is : (m : Machine) → Is told moment faults hall m → asked_change actor asked numbers m.core ≡ Some x
   asked_is m is = sym (change_alike actor asked numbers hall.held m.core is.core) ∙ is_asked
 
-  joins : (m : Machine) → Is told moment faults hall m → Joins actor x numbers m.core
-  joins m is =
+  joined : (m : Machine) → Is told moment faults hall m → Joins actor x numbers m.core × (is_any_reuse x ≡ false)
+  joined m is =
       let all = none_of (ended m ++ (commit_refused actor asked numbers (sight actor m.core) ++ option_map_or (λ y. held_refused y m.core) (asked_change actor asked numbers m.core) []))
       (may_commit told moment faults actor asked numbers hall free none m is) in
       let behind = both_none (ended m) (commit_refused actor asked numbers (sight actor m.core) ++ option_map_or (λ y. held_refused y m.core) (asked_change actor asked numbers m.core) []) all in
       let parts = both_none (commit_refused actor asked numbers (sight actor m.core)) (option_map_or (λ y. held_refused y m.core) (asked_change actor asked numbers m.core) []) behind.1 in
       joins_of actor numbers m.core asked x is.good.numbers (asked_is m is) parts.0 (subst (λ o. option_map_or (λ y. held_refused y m.core) o [] ≡ []) (asked_is m is) parts.1)
+
+  joins : (m : Machine) → Is told moment faults hall m → Joins actor x numbers m.core
+  joins m is = (joined m is).0
 
   ascends_there : (m : Machine) → Is told moment faults hall m → AreAscending (inventory m.core)
   ascends_there m is = subst AreAscending is.core.database ascends
@@ -141,6 +196,7 @@ module _ {S : Type 0} (told : S → Option History) (moment : S → ℕ) (faults
         is = asked_is m is;
         none = may_commit told moment faults actor asked numbers hall free none m is;
         joins = joins m is;
+        plain = (joined m is).1;
         takes = takes_joined actor x numbers m.core is.good.lawful (ascending v (ascends_there m is)).rows (joins m is) is.good.space
             (λ quiet k a there. rest (journal_of m.core.base m.core.journal) x v k a valid (ascends_there m is) (joins m is).legal there (ap (list_any (λ (b : Version). is_at (nat_cmp b.object) k)) (none_stood x v quiet)));
       }
@@ -164,55 +220,8 @@ module _ {S : Type 0} (told : S → Option History) (moment : S → ℕ) (faults
     m,
     refl,
     record { number = refl; later = no_later m m.contents m refl refl; step = inl (inr refl, record { core = refl; contents = refl }) },
-    record {
-      core = core_same m is;
-      clock = is.clock;
-      counts = is.counts;
-      good = record {
-        lawful = is.good.lawful;
-        stamped = is.good.stamped;
-        space = is.good.space;
-        numbers = is.good.numbers;
-        bytes = is.good.bytes;
-        kept = kept_same m (told hall.store) is.good.kept;
-      };
-    },
+    unjoined_is told moment faults x hall m is,
   )
-    where
-      kept_same : (m : Machine) (o : Option History) → IfSome o (λ h. WasSound hall.held.base hall.held.opened h → IsKept m hall.held h) → IfSome o (λ h. WasSound hall.held.base hall.held.opened h → IsKept m (unjoined x hall.held) h)
-      kept_same m None kept = tt
-      kept_same m (Some h) kept = λ sound.
-          let k = kept sound in
-          record { since = k.since; first = k.first; always = k.always; left = k.left; sure = k.sure; firm = k.firm; tickets = k.tickets; image = λ fault. image_same x hall.held m.core m.core.image h (k.image fault) }
-
-      core_same : (m : Machine) → Is told moment faults hall m → IsCore (unjoined x hall.held) m.core
-      core_same m is =
-          let i = is.core in
-          let k : ℕ = hall.held.vault.database.number + 1 in
-          let list = freed (durable m.core) (unforced m.core) in
-          let below = subst (λ (v : Inv). AllByRecursion (λ (a : ℕ × Segment). a.0 < v.number + 1) (freed (durable m.core) (unforced m.core))) (sym i.database) (freed_below m.core) in
-          record {
-            base = i.base;
-            journal = i.journal;
-            database = i.database;
-            stamps = i.stamps;
-            forced = i.forced;
-            tickets = i.tickets;
-            space = record {
-              tickets = i.space.tickets;
-              noted = λ number s there. still_noted (inventory m.core) list k (taken_by x hall.held.vault.database) hall.held.claims.freed below number s there (i.space.noted number s there);
-              freed = λ number places p there within. i.space.freed number places p (none_new (inventory m.core) list k (taken_by x hall.held.vault.database) hall.held.claims.freed below number places there) within;
-              ascending = still_ascending (inventory m.core) list k (taken_by x hall.held.vault.database) hall.held.claims.freed below i.space.ascending;
-              next_file = i.space.next_file;
-            };
-            next_object = i.next_object;
-            next_ticket = i.next_ticket;
-            image = i.image;
-            is_image = i.is_image;
-            generation = i.generation;
-            log_length = i.log_length;
-            fault = i.fault;
-          }
 
   -- ---- all that may come of it
 

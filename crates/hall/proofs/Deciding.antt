@@ -9,6 +9,7 @@ use Rattle.kinds.specs.declared.change.ObjectChange.TheVariants as client
 use Rattle.kinds.specs.declared.change.DefineOrDelete.TheVariants as two
 use Rattle.kinds.specs.declared.change.Verb.TheVariants as verb
 use Rattle.kinds.specs.declared.refusal.Holder.{Holder}
+use Rattle.kinds.specs.declared.refusal.By.TheVariants as by
 use Rattle.kinds.specs.declared.refusal.Holder.TheVariants as holder
 use Rattle.kinds.specs.declared.refusal.Refusal.{Refusal}
 use Rattle.kinds.specs.declared.refusal.Refusal.TheVariants as refusal
@@ -71,26 +72,31 @@ own_place _ h = absurd (false≢true h)
 abbrev Late : List Refusal → Type 0
 Late es = AllByRecursion (λ e. 6 ≤ place_of e) es
 
-rested_late : (file delay today day : ℕ) → Late (refusal_of (rested file delay today day))
-rested_late file delay today day = go (nat_le delay (today - day)) where
-  go : (b : Bool) → Late (refusal_of (cond {A = Result (Unit {0}) Refusal} b (Ok tt) (Err (refusal.NotYet file (day + delay)))))
-  go true = tt
-  go false = (omega arith, tt)
+-- what holds of each cause that refuses the reuse of a volume
+module _ (P : Refusal → Type 0) (none : P refusal.NotFound) (used : (object : ℕ) → P (refusal.InUse (by.Object object))) (early : (file day : ℕ) → P (refusal.NotYet file day)) where
+  rested_all : (file delay today day : ℕ) → AllByRecursion P (refusal_of (rested file delay today day))
+  rested_all file delay today day = go (nat_le delay (today - day)) where
+    go : (b : Bool) → AllByRecursion P (refusal_of (cond {A = Result (Unit {0}) Refusal} b (Ok tt) (Err (refusal.NotYet file (day + delay)))))
+    go true = tt
+    go false = (early file (day + delay), tt)
 
-since_late : (file delay today : ℕ) (o : Option ℕ) → Late (refusal_of (reuse_since file delay today o))
-since_late file delay today None = (omega arith, tt)
-since_late file delay today (Some day) = rested_late file delay today day
+  since_all : (file delay today : ℕ) (o : Option ℕ) → AllByRecursion P (refusal_of (reuse_since file delay today o))
+  since_all file delay today None = (none, tt)
+  since_all file delay today (Some day) = rested_all file delay today day
 
-unless_used_late : (file delay today : ℕ) (v : Volume) (o : Option ℕ) → Late (refusal_of (reuse_unless_used file delay today v o))
-unless_used_late file delay today v None = since_late file delay today v.emptied
-unless_used_late file delay today v (Some object) = (omega arith, tt)
+  unless_used_all : (file delay today : ℕ) (v : Volume) (o : Option ℕ) → AllByRecursion P (refusal_of (reuse_unless_used file delay today v o))
+  unless_used_all file delay today v None = since_all file delay today v.emptied
+  unless_used_all file delay today v (Some object) = (used object, tt)
+
+  pub reuse_all : (file today : ℕ) (s : PoolRows) (o : Option Volume) → AllByRecursion P (refusal_of (reuse_row s file today o))
+  reuse_all file today s None = (none, tt)
+  reuse_all file today s (Some v) = go (not (is_sequential_at file s) || v.end == 0) where
+    go : (b : Bool) → AllByRecursion P (refusal_of (cond {A = Result (Unit {0}) Refusal} b (Err refusal.NotFound) (reuse_unless_used file (delay_of (row_at v.pool s.pools)) today v (least_object v.segments))))
+    go true = (none, tt)
+    go false = unless_used_all file (delay_of (row_at v.pool s.pools)) today v (least_object v.segments)
 
 reuse_late : (file today : ℕ) (s : PoolRows) (o : Option Volume) → Late (refusal_of (reuse_row s file today o))
-reuse_late file today s None = (omega arith, tt)
-reuse_late file today s (Some v) = go (not (is_sequential_at file s) || v.end == 0) where
-  go : (b : Bool) → Late (refusal_of (cond {A = Result (Unit {0}) Refusal} b (Err refusal.NotFound) (reuse_unless_used file (delay_of (row_at v.pool s.pools)) today v (least_object v.segments))))
-  go true = (omega arith, tt)
-  go false = unless_used_late file (delay_of (row_at v.pool s.pools)) today v (least_object v.segments)
+reuse_late file today s o = reuse_all (λ e. 6 ≤ place_of e) (omega arith) (λ object. omega arith) (λ file day. omega arith) file today s o
 
 late_own : (es : List Refusal) → are_own es ≡ true → Late es
 late_own es h = each_also (λ e. is_own e ≡ true) (λ e. 6 ≤ place_of e) es (λ e is. own_place e is) (all_of is_own es h)
@@ -108,7 +114,7 @@ module _ (P : Refusal → Type 0) (bad : P bad_value) (full : P refusal.Inventor
   valid_all (Some e) h true = (h e refl, tt)
   valid_all (Some e) h false = (h e refl, tt)
 
-  illegal_all : (j : Journal) (c : Change) (v : Inv) → AllByRecursion P (causes j c v) → AllByRecursion P (listed (refused j c v))
+  pub illegal_all : (j : Journal) (c : Change) (v : Inv) → AllByRecursion P (causes j c v) → AllByRecursion P (listed (refused j c v))
   unfolding refused
   illegal_all j c v all =
       valid_all (foremost (causes j c v ++ sizes_refused c v))

@@ -118,13 +118,17 @@ few_items v valid =
     each_joined (λ x. items_of_version x ≤ most_items) (versions_of v.clients.filespaces) (held_versions v.clients.held)
     (few_in_filespaces most_items v.clients.filespaces (omega (arith, fs, all))) (few_in_held most_items v.clients.held (omega (arith, hs, all)))
 
--- the calls for all copies of an object are fewer than 2^24
-pub few_calls : (v : Inv) (w : Version) (offset count : ℕ) → is_valid v ≡ true → version w.object v ≡ Some w → calls_for offset count w.copies < 2 ^ 24
-few_calls v w offset count valid found =
+-- the calls for all copies of an object are no more than a database has items
+pub calls_bounded : (v : Inv) (w : Version) (offset count : ℕ) → is_valid v ≡ true → version w.object v ≡ Some w → calls_for offset count w.copies ≤ most_items
+calls_bounded v w offset count valid found =
     let items : items_of_version w ≤ most_items = found_has (λ x. items_of_version x ≤ most_items) w.object (versions v) w (few_items v valid) found in
     let calls : calls_for offset count w.copies ≤ sum_by (λ (c : CopyRow). length c.segments) w.copies =
     sum_by-le-sum_by (λ (c : CopyRow). length (segments_in 0 offset count c.segments)) (λ (c : CopyRow). length c.segments) w.copies (λ c. few_in 0 offset count c.segments) in
     omega (arith, items, calls)
+
+-- and so fewer than 2^24
+pub few_calls : (v : Inv) (w : Version) (offset count : ℕ) → is_valid v ≡ true → version w.object v ≡ Some w → calls_for offset count w.copies < 2 ^ 24
+few_calls v w offset count valid found = let all : calls_for offset count w.copies ≤ most_items = calls_bounded v w offset count valid found in omega (arith, all)
 
 all_at : (P : Segment → Type 0) (xs : List Segment) (i : ℕ) (d : Segment) → i < length xs → AllByRecursion P xs → P (get_or xs i d)
 all_at P [] i d lt all = absurd (omega (arith, lt))

@@ -16,8 +16,6 @@ use Rattle.inventory_rows.specs.pool_tables.Rows.{row_at, with_row}
 use Rattle.inventory_rows.specs.State.{Inv}
 use Rattle.inventory_rules.specs.Run.{journal_of}
 use Rattle.inventory_rules.specs.Transactions.{effect}
-use Rattle.inventory_laws.specs.Rising.{EndsLater}
-use Rattle.inventory_laws.proofs.Rising.{ends_later}
 use Rattle.space.specs.declared.places.Placed.{Placed}
 use Rattle.vault.specs.Vaults.{State, in_doubt, with_waiting}
 use Rattle.machine.specs.Machine.{durable, file_drawn, freed, halting, record_length, space}
@@ -27,9 +25,9 @@ use Rattle.hall.specs.Good.{IsLawful}
 use Rattle.hall.specs.Held.{AreSeatsOf, Held, IsCore}
 use Rattle.hall.specs.Joined.{drawn_by, joined_held, next_behind, taken_by, taken_noted, with_drawn}
 use Rattle.hall.specs.Placed.{IsFreed, IsNoted, IsSpace}
+use Rattle.hall.proofs.Along.{pool_stays}
 use Rattle.hall.proofs.Databases.{after_parts}
 use Rattle.hall.proofs.JoinedFreed.{TakesAway, all_freed, all_noted, freed_before, rows_rise}
-use Rattle.hall.proofs.JoinedSpace.{not_reused}
 use Rattle.hall.proofs.Joining.{Joins, behind, durable_last, entry_of, free_of, inventory_last, last, unforced_last, valid_now}
 use Rattle.hall.proofs.Runs.{freed_by, freed_end}
 use Rattle.hall.proofs.Spending.{AreMine, all_claims_gone, all_seats_gone, freed_stay, mine_of, next_stays, seats_only}
@@ -85,9 +83,7 @@ module _ (actor : ℕ) (x : Change) (numbers : List ℕ) (held : Held) (c : Core
   still file volume there = go (row_at file (behind actor x numbers c).stores.volumes) refl where
     go : (o : Option Volume) → row_at file (behind actor x numbers c).stores.volumes ≡ o → IfSome o (λ new. volume.pool ≡ new.pool)
     go None at = tt
-    go (Some new) at =
-        let later : EndsLater volume new = ends_later (journal_of c.base c.journal) x now file volume new (valid_now c l) (free_of actor x numbers c l j).causes (not_reused file x j.plain) there at in
-        sym later.pool
+    go (Some new) at = sym (pool_stays file (journal_of c.base c.journal) x now volume new (valid_now c l) (free_of actor x numbers c l j).causes there at)
 
   -- the files on which what was freed lay are no new ones
   module _ (takes : TakesAway x now) (old_files : (number : ℕ) (s : Segment) → Contains (freed (durable c) (unforced c)) (number, s) → is_none (row_at s.file now.stores.volumes) ≡ true

@@ -121,7 +121,7 @@ module _ {V : Type 0} (k : ℕ) (new : V) where
 
 -- ---- numbers of what is freed
 
-number_behind : (x : Change) (v : Inv) → (effect x v).number ≡ v.number + 1
+pub number_behind : (x : Change) (v : Inv) → (effect x v).number ≡ v.number + 1
 unfolding effect
 number_behind x v = refl
 

@@ -84,12 +84,12 @@ module _ (actor : ℕ) (x : Change) (numbers : List ℕ) (c : Core) (l : IsLawfu
           (sym (ap (λ n. take n (last actor x numbers c).journal) is.1 ∙ (take-append-le (length c.journal) c.journal (entry_of actor x numbers c ∷ []) (omega arith) ∙ take_all (length c.journal) c.journal (omega arith))))
           (subst (λ (y : Entry). refused (journal_of c.base c.journal) y.change (inventory c) ≡ None) (sym is.0) j.legal)
 
-  pub stamped_joined : (opened moment later : ℕ) → moment ≤ later → IsStamped opened moment c → IsStamped opened later (last actor x numbers c)
-  stamped_joined opened moment later le s = record {
+  pub stamped_joined : is_any_reuse x ≡ false → (opened moment later : ℕ) → moment ≤ later → IsStamped opened moment c → IsStamped opened later (last actor x numbers c)
+  stamped_joined plain opened moment later le s = record {
     few = let more = long actor x numbers c in omega (arith, more, s.few);
     rise = rise_later opened moment later c.stamps s.rise le;
     waiting = λ none. subst (λ es. AllByRecursion (λ (e : Entry). is_any_reuse e.change ≡ false) es) (sym (unforced_last actor x numbers c s.few))
-        (each_appended (λ (e : Entry). is_any_reuse e.change ≡ false) (unforced c) (entry_of actor x numbers c ∷ []) (s.waiting none) (j.plain, tt));
+        (each_appended (λ (e : Entry). is_any_reuse e.change ≡ false) (unforced c) (entry_of actor x numbers c ∷ []) (s.waiting none) (plain, tt));
   }
 
 -- ---- what is kept over the run

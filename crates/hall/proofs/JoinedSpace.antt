@@ -24,15 +24,17 @@ use Rattle.inventory_laws.proofs.Origins.{contained_holds, each_contained}
 use Rattle.contents.proofs.Segments.{EachSegment, each_on}
 use Rattle.machine.specs.Machine.{all_segments, is_same_segment, left_by}
 use Rattle.machine.specs.State.{Core, Ticket, after, inventory, is_among, without}
-use Rattle.hall.specs.Covered.{IsClear, IsFilled, NumbersAreDrawn, SpaceIsClear, Written, all_space, are_apart_in, came, is_any_reuse, is_beside, is_unwritten, left_open, with_segments, written, written_before, written_over}
+use Rattle.hall.specs.Covered.{IsClear, IsFilled, NumbersAreDrawn, SpaceIsClear, Written, all_space, are_apart_in, came, is_beside, is_unwritten, left_open, with_segments, written, written_before, written_over}
 use Rattle.hall.specs.Good.{IsLawful}
 use Rattle.hall.proofs.ComeFrom.{all_on, back_copies, each_copy, segments_behind}
 use Rattle.hall.proofs.Databases.{last_left}
+use Rattle.hall.proofs.DrawnNext.{KeepsBackup}
 use Rattle.hall.proofs.Joining.{IsPlacedBy, Joins, Spent, behind, entry_of, inventory_last, last, left_last, valid_now}
 use Rattle.hall.proofs.Lists.{each_kept, later_kept, pairs_kept}
 use Rattle.hall.proofs.Pairs.{Pair, each_appended, each_filtered, each_flat, each_in, each_passing, each_two}
 use Rattle.hall.proofs.PoolsStay.{KeepsPool, pool_alike}
 use Rattle.hall.proofs.SamePool.{apart_parts, space_pairs}
+use Rattle.hall.proofs.VolumesStay.{KeepsVolume}
 
 -- ---- what was written
 
@@ -42,24 +44,13 @@ written_end file w v [] e plain = ap (λ b. if b then record { floor = 0; segmen
 written_end file w v (x ∷ es) e plain =
     written_end file (if is_reuse file x.change then record { floor = 0; segments = [] } else record { floor = w.floor; segments = w.segments ++ came file v (effect x.change v) }) (effect x.change v) es e plain
 
-pub not_reused : (file : ℕ) (x : Change) → is_any_reuse x ≡ false → is_reuse file x ≡ false
-not_reused file (change.Day day) h = refl
-not_reused file (change.Policy c) h = refl
-not_reused file (change.Object c) h = refl
-not_reused file (change.Pool c) h = refl
-not_reused file (change.Backup c) h = refl
-not_reused file (change.Hold c) h = refl
-not_reused file (change.Rebind c) h = refl
-not_reused file (change.Gone c) h = refl
-not_reused file (change.Move c) h = refl
-not_reused file (change.Copy c) h = refl
-not_reused file (change.DropCopies c) h = refl
-not_reused file (change.Expire c) h = refl
-not_reused file (change.Discard c) h = refl
-not_reused file (change.Reuse k) h = absurd (false≢true (sym h))
-not_reused file (change.DbBegin k after) h = refl
-not_reused file (change.DbEnd k) h = refl
-not_reused file (change.DbDelete k) h = refl
+-- a volume that is kept isn't reused
+not_reused : (file : ℕ) (x : Change) (v : Inv) → KeepsVolume file x v → is_reuse file x ≡ false
+not_reused file (change.Reuse k) v keeps = go (file == k) refl where
+  go : (b : Bool) → (file == k) ≡ b → (file == k) ≡ false
+  go true is = absurd (keeps (sym (eqb-true file k is)))
+  go false isnt = isnt
+not_reused file x v keeps = refl
 
 -- ---- two segments
 
@@ -176,24 +167,24 @@ module _ (actor : ℕ) (x : Change) (numbers : List ℕ) (c : Core) (l : IsLawfu
             (each_also (λ (e : ℕ × CopyRow). AllByRecursion (Contains (all_segments now)) e.1.segments) (λ (e : ℕ × CopyRow). AllByRecursion OldOrBeside e.1.segments) (copies now)
             (λ e all. each_also (Contains (all_segments now)) OldOrBeside e.1.segments (λ s there. inl (is_old s (all_segments now) there)) all) in_copies)
 
-    unwritten_then : HasPool u → (is_sequential u.place.pool now.stores ≡ true → is_unwritten r (written r.file c) ≡ true)
+    unwritten_then : HasPool u → KeepsVolume r.file x now → (is_sequential u.place.pool now.stores ≡ true → is_unwritten r (written r.file c) ≡ true)
         → is_sequential u.place.pool next.stores ≡ true → is_unwritten r (written r.file (last actor x numbers c)) ≡ true
-    unwritten_then has before q =
+    unwritten_then has keeps before q =
         let seq : is_sequential u.place.pool now.stores ≡ true = sym (sequential_so u has) ∙ q in
         let was = and_parts (nat_le (written r.file c).floor r.offset) (list_all (are_clear true r) (written r.file c).segments) (before seq) in
-        subst (λ w. is_unwritten r w ≡ true) (sym (written_end r.file (written_before r.file c.base) c.base c.journal (entry_of actor x numbers c) (not_reused r.file x j.plain)))
+        subst (λ w. is_unwritten r w ≡ true) (sym (written_end r.file (written_before r.file c.base) c.base c.journal (entry_of actor x numbers c) (not_reused r.file x now keeps)))
         (and_from (nat_le (written r.file c).floor r.offset) (list_all (are_clear true r) ((written r.file c).segments ++ came r.file now next)) was.0
         (all_from (are_clear true r) ((written r.file c).segments ++ came r.file now next)
         (each_appended (λ s. are_clear true r s ≡ true) (written r.file c).segments (came r.file now next)
         (all_of (are_clear true r) (written r.file c).segments was.1)
         (subst (λ q. AllByRecursion (λ s. are_clear q r s ≡ true) (came r.file now next)) seq came_beside))))
 
-    clear_then : HasPool u → IsClear c u.place.pool r → IsClear (last actor x numbers c) u.place.pool r
-    clear_then has clear = (
+    clear_then : HasPool u → KeepsVolume r.file x now → IsClear c u.place.pool r → IsClear (last actor x numbers c) u.place.pool r
+    clear_then has keeps clear = (
       subst (λ list. AllByRecursion (λ v. is_beside u.place.pool r v ≡ true) list) (sym (left_last actor x numbers c few))
           (each_appended (λ v. is_beside u.place.pool r v ≡ true) (left_open c) (next ∷ []) clear.0
           (beside_then has (last_left (λ v. is_beside u.place.pool r v ≡ true) c clear.0), tt)),
-      (λ q. unwritten_then has clear.1 (subst (λ v. is_sequential u.place.pool v.stores ≡ true) (inventory_last actor x numbers c) q)),
+      (λ q. unwritten_then has keeps clear.1 (subst (λ v. is_sequential u.place.pool v.stores ≡ true) (inventory_last actor x numbers c) q)),
     )
 
   -- ---- the space of all tickets
@@ -225,8 +216,11 @@ module _ (actor : ℕ) (x : Change) (numbers : List ℕ) (c : Core) (l : IsLawfu
   clear_ticket : (t : Ticket) → Contains c.tickets t → is_among actor numbers t ≡ false → AllByRecursion (InSpace t) t.place.segments → HasPool t → AllByRecursion (IsClear c t.place.pool) t.place.segments
       → AllByRecursion (IsClear (last actor x numbers c) t.place.pool) t.place.segments
   clear_ticket t there isnt apart has clear =
-      each_also (λ s. InSpace t s × IsClear c t.place.pool s) (IsClear (last actor x numbers c) t.place.pool) t.place.segments
-      (λ s h. clear_then t there isnt s h.0 has h.1) (each_two (InSpace t) (IsClear c t.place.pool) t.place.segments apart clear)
+      each_also (λ s. (KeepsVolume s.file x now × KeepsBackup s.file x) × (InSpace t s × IsClear c t.place.pool s)) (IsClear (last actor x numbers c) t.place.pool) t.place.segments
+      (λ s h. clear_then t there isnt s h.1.0 has h.0.0 h.1.1)
+      (each_two (λ s. KeepsVolume s.file x now × KeepsBackup s.file x) (λ s. InSpace t s × IsClear c t.place.pool s) t.place.segments
+      (contained_holds (λ (t : Ticket). AllByRecursion (λ s. KeepsVolume s.file x now × KeepsBackup s.file x) t.place.segments) c.tickets t there j.volumes)
+      (each_two (InSpace t) (IsClear c t.place.pool) t.place.segments apart clear))
 
   pub space_joined : SpaceIsClear (last actor x numbers c)
   space_joined = record {

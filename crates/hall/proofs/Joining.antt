@@ -1,5 +1,5 @@
 -- A transaction that may join: what the step's refusals rule out, and where what it brings comes from.
-use Rattle.std.proofs.Common.{◌≡◌, ◌⊎◌, ℕ, ◌+◌, ◌<◌, ◌≤◌, ◌^◌, suc, zero, true, false, List, [], ◌∷◌, ◌++◌, length, take, drop, None, is_some, refl, ap, ◌∙◌, arith}
+use Rattle.std.proofs.Common.{◌≡◌, ◌⊎◌, ℕ, ◌+◌, ◌<◌, ◌≤◌, ◌^◌, suc, zero, true, List, [], ◌∷◌, ◌++◌, length, take, drop, None, is_some, refl, ap, ◌∙◌, arith}
 use Rattle.std.specs.Prelude.{IfSome}
 use Rattle.std.specs.List.{AllByRecursion, Contains}
 use Rattle.std.proofs.lemmas.List.{drop-append-le, length-append, take-append-le, take_all}
@@ -18,7 +18,7 @@ use Rattle.inventory_laws.specs.Origins.{Known, new_objects, placed_segments}
 use Rattle.machine.specs.Changes.{all_tickets}
 use Rattle.machine.specs.Machine.{committed, durable, file_drawn}
 use Rattle.machine.specs.State.{Core, Ticket, after, inventory, is_among, is_storing, object_of, own_tickets, sight, ticket, unforced}
-use Rattle.hall.specs.Covered.{databases, inv_at, is_any_reuse, left_open}
+use Rattle.hall.specs.Covered.{databases, inv_at, left_open}
 use Rattle.hall.specs.Good.{IsLawful}
 use Rattle.hall.proofs.Databases.{last_left, left_lawful}
 use Rattle.hall.proofs.DrawnNext.{DrawsBelow, KeepsBackup}
@@ -56,7 +56,6 @@ IsDrawnFile actor numbers c file pool = (c.next_file ≤ file) ⊎ ((t : Ticket)
 
 pub record Joins (actor : ℕ) (x : Change) (numbers : List ℕ) (c : Core) : Type 0 where
   pub legal : refused (journal_of c.base c.journal) x (inventory c) ≡ None
-  pub plain : is_any_reuse x ≡ false
   pub once : name_once numbers ≡ true
   pub there : AllByRecursion (λ k. is_some (ticket k (own_tickets actor c.tickets)) ≡ true) numbers
   pub spends : AllByRecursion (Spent actor numbers c) (spent actor numbers c)

@@ -44,7 +44,7 @@ is_ordinary _ = true
 
 -- ---- held by tickets
 
-none_held : (test : Ticket → Bool) (ts : List Ticket) → held_by test ts ≡ [] → AllByRecursion (λ t. test t ≡ false) ts
+pub none_held : (test : Ticket → Bool) (ts : List Ticket) → held_by test ts ≡ [] → AllByRecursion (λ t. test t ≡ false) ts
 none_held test ts h = none_found test ts (go (find test ts) h) where
   go : (o : Option Ticket) → option_map_or (λ (t : Ticket). refusal.Busy (holder.Ticket t.number) ∷ []) o [] ≡ [] → o ≡ None
   go None h = refl

@@ -8,10 +8,14 @@ pub mod Beside
 pub mod Brought
 pub mod Calling
 pub mod Chosen
+pub mod Cleared
 pub mod Clearing
 pub mod ComeFrom
 pub mod Commits
 pub mod Committed
+pub mod CopyAnswers
+pub mod CopySteps
+pub mod CopyTakes
 pub mod Covering
 pub mod Databases
 pub mod Deciding
@@ -50,6 +54,7 @@ pub mod OpensNew
 pub mod Owning
 pub mod Pairs
 pub mod Passing
+pub mod PieceCopying
 pub mod PieceReads
 pub mod PieceSteps
 pub mod PlacesChosen
@@ -57,6 +62,8 @@ pub mod PoolsStay
 pub mod Refusing
 pub mod Remaining
 pub mod Replacing
+pub mod Reusable
+pub mod Reuses
 pub mod RowsLeave
 pub mod Runs
 pub mod SamePool

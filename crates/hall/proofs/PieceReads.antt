@@ -58,7 +58,7 @@ drop_front zero (x ∷ xs) ys h = absurd (omega (arith, h))
 drop_front (suc n) [] ys h = absurd (omega (arith, h))
 drop_front (suc n) (x ∷ xs) ys h = drop_front n xs ys (omega (arith, h))
 
-take_front : (n : ℕ) (xs ys : List ℕ) → length xs ≡ n → take n (xs ++ ys) ≡ xs
+pub take_front : (n : ℕ) (xs ys : List ℕ) → length xs ≡ n → take n (xs ++ ys) ≡ xs
 take_front zero [] ys h = refl
 take_front zero (x ∷ xs) ys h = absurd (omega (arith, h))
 take_front (suc n) [] ys h = absurd (omega (arith, h))
@@ -207,11 +207,11 @@ object_ends rose refused v object other from offset wanted (Err e) none same (in
 pub reads_looked : (found : Option Version) (offset : ℕ) (buffer : List ℕ) (result : Result ℕ Refusal) (old new : Option History) → Told old new (ReadsObject found offset buffer result) → Told old new (GoesOn (λ f. ⊥))
 reads_looked found offset buffer result old new read = told_map old new (ReadsObject found offset buffer result) (GoesOn (λ f. ⊥)) (λ h n r. r.goes) read
 
-lost_as : (before after : Machine) (from offset count : ℕ) (o : Option Version) → AreLost (RoseAt before.counts after.counts) (inventory before.core) from offset count o → IsLostFor before after from offset count o
+pub lost_as : (before after : Machine) (from offset count : ℕ) (o : Option Version) → AreLost (RoseAt before.counts after.counts) (inventory before.core) from offset count o → IsLostFor before after from offset count o
 lost_as before after from offset count None h = h
 lost_as before after from offset count (Some w) h = h
 
-as_lost : (before after : Machine) (from offset count : ℕ) (o : Option Version) → IsLostFor before after from offset count o → AreLost (RoseAt before.counts after.counts) (inventory before.core) from offset count o
+pub as_lost : (before after : Machine) (from offset count : ℕ) (o : Option Version) → IsLostFor before after from offset count o → AreLost (RoseAt before.counts after.counts) (inventory before.core) from offset count o
 as_lost before after from offset count None h = h
 as_lost before after from offset count (Some w) h = h
 

@@ -170,7 +170,7 @@ module _ {S : Type 0} (told : S → Option History) (moment : S → ℕ) (faults
             replaces told moment faults clock writes lies actor number hall store known.running counts since soon m is t it.3 R wrote calls (took bytes) (took_like bytes)
                 (filled_more t bytes unsealed room filled)
                 (front_new m.contents (inventory m.core) t.purpose t.size (t.bytes ++ bytes) (subst (λ p. is_storing p ≡ true) (sym it.2.purpose) known.new))
-                (λ h after w has. becomes_more actor number m.core t bytes count it.3 is.good.space filled unsealed h after w has) new.seats are,
+                (λ h after w kept has. becomes_more actor number m.core t bytes count it.3 is.good.space filled unsealed h after w has) new.seats are,
           ))
 
       lost_piece : (e : Refusal) (new : Held) → (let result : Result ℕ Refusal = Err e in Told (told hall.store) (told store) (WroteFor (row_at number hall.held.seats) bytes result))

@@ -172,7 +172,7 @@ asked_split asked.Placed numbers s = sym (append-nil (placed_unfit numbers s))
 
 -- ---- who holds what is taken away
 
-held_forgot : (test : Ticket → Bool) → ((t : Ticket) → test (forget t) ≡ test t) → (ts : List Ticket) → held_by test (map forget ts) ≡ held_by test ts
+pub held_forgot : (test : Ticket → Bool) → ((t : Ticket) → test (forget t) ≡ test t) → (ts : List Ticket) → held_by test (map forget ts) ≡ held_by test ts
 held_forgot test same [] = refl
 held_forgot test same (t ∷ ts) =
     ap (λ b. option_map_or (λ u. refusal.Busy (holder.Ticket u.number) ∷ []) (if b then Some (forget t) else find test (map forget ts)) []) (same t) ∙ go (test t) (held_forgot test same ts)

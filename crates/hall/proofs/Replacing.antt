@@ -155,7 +155,7 @@ module _ {S : Type 0} (told : S → Option History) (moment : S → ℕ) (faults
   kept_dropped (Some h) (Some new) r at kept = λ sound.
       kept_at (record m { core = dropping actor number m.core }) (without_seat number hall.held) (moment store) (faults store) new (still_kept h new at r kept sound)
 
-  good_dropped : IsGood (told store) (dropped_at actor number (moment store) (faults store) m) (without_seat number hall.held)
+  pub good_dropped : IsGood (told store) (dropped_at actor number (moment store) (faults store) m) (without_seat number hall.held)
   good_dropped =
       let g = good_gone actor number (told hall.store) m hall.held is.good in
       record {
@@ -193,7 +193,7 @@ module _ {S : Type 0} (told : S → Option History) (moment : S → ℕ) (faults
   -- ---- another one stands in its place
 
   module _ (f : Ticket → Ticket) (like : IsLike f) (filled : IsFilled (f t)) (front : IsFront m.contents (inventory m.core) (f t).purpose (f t).size (f t).bytes)
-      (becomes : (h new : History) → R h new → HasTaken h t → HasTaken new (f t)) (seats : List (ℕ × Seat)) where
+      (becomes : (h new : History) → R h new → IsKept m hall.held h → HasTaken h t → HasTaken new (f t)) (seats : List (ℕ × Seat)) where
     kept_replaced : (o n : Option History) → Told o n R → IfSome o (λ h. now h ≡ moment hall.store) → IfSome o (λ h. WasSound hall.held.base hall.held.opened h → IsKept m hall.held h)
         → IfSome n (λ h. WasSound hall.held.base hall.held.opened h → IsKept (replaced_at actor number f (moment store) (faults store) m) (record hall.held { seats = seats }) h)
     kept_replaced None None r at kept = tt
@@ -202,7 +202,8 @@ module _ {S : Type 0} (told : S → Option History) (moment : S → ℕ) (faults
     kept_replaced (Some h) (Some new) r at kept = λ sound.
         let gone : Machine = record m { core = dropping actor number m.core } in
         let k : IsKept gone (without_seat number hall.held) new = still_kept h new at r kept sound in
-        let own : HasTaken new (f t) = becomes h new r (own_has actor number t m.core.tickets among (HasTaken h) (was_kept h new at r kept sound).tickets) in
+        let was : IsKept m hall.held h = was_kept h new at r kept sound in
+        let own : HasTaken new (f t) = becomes h new r was (own_has actor number t m.core.tickets among (HasTaken h) was.tickets) in
         kept_at (record m { core = edited_core actor number f m.core }) (record hall.held { seats = seats }) (moment store) (faults store) new
         (kept_seated (edited actor number f m.core.tickets) m.core.next_file m.core.next_object m.core.next_ticket gone (without_seat number hall.held) seats hall.held.claims hall.held.next_object
         hall.held.next_ticket new k (each_put actor number t m.core.tickets among (HasTaken new) f k.tickets own))

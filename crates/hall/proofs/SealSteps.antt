@@ -148,7 +148,7 @@ module _ {S : Type 0} (told : S → Option History) (moment : S → ℕ) (faults
             },
             replaces told moment faults clock writes lies actor number hall store known.running counts since soon m is t it.3 R wrote calls sealed sealed_like
                 (filled_sealed t full filled) (own_has actor number t m.core.tickets it.3 _ is.good.bytes.fronts)
-                (λ h after w has. becomes_sealed {T = Unit {0}} {E = Refusal} t tt full filled h after w has) new.seats are,
+                (λ h after w kept has. becomes_sealed {T = Unit {0}} {E = Refusal} t tt full filled h after w has) new.seats are,
           ))
 
       lost_seal : (e : Refusal) (new : Held) → (let result : Result (Unit {0}) Refusal = Err e in Told (told hall.store) (told store) (SyncedFor (row_at number hall.held.seats) result))

@@ -15,7 +15,7 @@ use Rattle.vault.specs.Vaults.{State, all_forced, halted_at, with_pending}
 use Rattle.machine.specs.Machine.{durable, freed, halting, space, stamped}
 use Rattle.machine.specs.State.{Core, Image, Machine, inventory, unforced}
 use Rattle.hall.specs.Covered.{IsClear, NumbersAreDrawn, SpaceIsClear, is_any_reuse, is_beside}
-use Rattle.hall.specs.Good.{IsGood, IsKept, WasSound}
+use Rattle.hall.specs.Good.{HasBytes, IsGood, IsKept, IsLawful, Rise, WasSound}
 use Rattle.hall.specs.Held.{BegunImage, Held, IsCore, IsImage, begun_of}
 use Rattle.hall.specs.Placed.{IsSpace}
 use Rattle.hall.specs.Seats.{all_stamped, with_vault}
@@ -151,24 +151,43 @@ numbers_same stamps i generation long fault c n = record {
 
 -- ---- what is good
 
+-- What is good of a hall, but that none of the transactions that wait is the reuse of a volume.
+pub record IsNearlyGood (m : Machine) (held : Held) : Type 0 where
+  pub lawful : IsLawful m.core
+  pub few : length m.core.stamps ≤ length m.core.journal
+  pub rise : Rise held.opened m.moment m.core.stamps
+  pub space : SpaceIsClear m.core
+  pub numbers : NumbersAreDrawn m.core
+  pub bytes : HasBytes m.contents m.core
+
+pub nearly : (told : Option History) (m : Machine) (held : Held) → IsGood told m held → IsNearlyGood m held
+nearly told m held g = record { lawful = g.lawful; few = g.stamped.few; rise = g.stamped.rise; space = g.space; numbers = g.numbers; bytes = g.bytes }
+
 -- every transaction has a stamp, and whatever image is in progress
+pub nearly_stamped : (after : Option History) (m : Machine) (held : Held) (next : State Inv) (t : ℕ) (counts : ℕ → ℕ) (i : Option Image) (generation long : ℕ) (b : Option BegunImage) (job : Option Job)
+    → IsNearlyGood m held → m.moment ≤ t
+    → IfSome after (λ h. WasSound held.base held.opened h
+    → IsKept (record m { core = imaged i generation long (stamped t m.core); moment = t; counts = counts }) (record (all_stamped t (with_vault next held)) { image = b; job = job }) h)
+    → IsGood after (record m { core = imaged i generation long (stamped t m.core); moment = t; counts = counts }) (record (all_stamped t (with_vault next held)) { image = b; job = job })
+nearly_stamped after m held next t counts i generation long b job g since kept = record {
+  lawful = record { valid = g.lawful.valid; tied = g.lawful.tied; legal = g.lawful.legal };
+  stamped = record {
+    few = let all = all_have_stamps t m.core g.few in omega (arith, all);
+    rise = rise_more (length (unforced m.core)) held.opened m.moment t m.core.stamps g.rise since;
+    waiting = λ _. subst (λ es. AllByRecursion (λ e. is_any_reuse e.change ≡ false) es) (sym (none_waits (stamped t m.core) (all_have_stamps t m.core g.few))) tt;
+  };
+  space = clear_stamped t m.core i generation long g.few g.space;
+  numbers = numbers_same (stamped t m.core).stamps i generation long m.core.fault m.core g.numbers;
+  bytes = record { sized = g.bytes.sized; fronts = g.bytes.fronts };
+  kept = kept;
+}
+
 pub good_stamped : (before after : Option History) (m : Machine) (held : Held) (next : State Inv) (t : ℕ) (counts : ℕ → ℕ) (i : Option Image) (generation long : ℕ) (b : Option BegunImage) (job : Option Job)
     → IsGood before m held → m.moment ≤ t
     → IfSome after (λ h. WasSound held.base held.opened h
     → IsKept (record m { core = imaged i generation long (stamped t m.core); moment = t; counts = counts }) (record (all_stamped t (with_vault next held)) { image = b; job = job }) h)
     → IsGood after (record m { core = imaged i generation long (stamped t m.core); moment = t; counts = counts }) (record (all_stamped t (with_vault next held)) { image = b; job = job })
-good_stamped before after m held next t counts i generation long b job g since kept = record {
-  lawful = record { valid = g.lawful.valid; tied = g.lawful.tied; legal = g.lawful.legal };
-  stamped = record {
-    few = let all = all_have_stamps t m.core g.stamped.few in omega (arith, all);
-    rise = rise_more (length (unforced m.core)) held.opened m.moment t m.core.stamps g.stamped.rise since;
-    waiting = λ _. subst (λ es. AllByRecursion (λ e. is_any_reuse e.change ≡ false) es) (sym (none_waits (stamped t m.core) (all_have_stamps t m.core g.stamped.few))) tt;
-  };
-  space = clear_stamped t m.core i generation long g.stamped.few g.space;
-  numbers = numbers_same (stamped t m.core).stamps i generation long m.core.fault m.core g.numbers;
-  bytes = record { sized = g.bytes.sized; fronts = g.bytes.fronts };
-  kept = kept;
-}
+good_stamped before after m held next t counts i generation long b job g since kept = nearly_stamped after m held next t counts i generation long b job (nearly before m held g) since kept
 
 -- the image in progress went on
 pub good_further : (before after : Option History) (m : Machine) (held : Held) (next : State Inv) (t : ℕ) (counts : ℕ → ℕ) (i : Option Image) (generation long : ℕ) → IsGood before m held → m.moment ≤ t
@@ -184,14 +203,19 @@ good_further before after m held next t counts i generation long g since kept = 
 }
 
 -- a fault halted the hall
-pub good_halted : (before after : Option History) (m : Machine) (held : Held) (next : State Inv) (t : ℕ) (counts : ℕ → ℕ) (file count : ℕ) → IsGood before m held → m.moment ≤ t
+pub nearly_halted : (after : Option History) (m : Machine) (held : Held) (next : State Inv) (t : ℕ) (counts : ℕ → ℕ) (file count : ℕ) → IsNearlyGood m held → m.moment ≤ t
     → IfSome after (λ h. WasSound held.base held.opened h → IsKept (record m { core = halting file count m.core; moment = t; counts = counts }) (with_vault next held) h)
     → IsGood after (record m { core = halting file count m.core; moment = t; counts = counts }) (with_vault next held)
-good_halted before after m held next t counts file count g since kept = record {
+nearly_halted after m held next t counts file count g since kept = record {
   lawful = record { valid = g.lawful.valid; tied = g.lawful.tied; legal = g.lawful.legal };
-  stamped = record { few = g.stamped.few; rise = rise_later held.opened m.moment t m.core.stamps g.stamped.rise since; waiting = λ none. absurd cc };
+  stamped = record { few = g.few; rise = rise_later held.opened m.moment t m.core.stamps g.rise since; waiting = λ none. absurd cc };
   space = record { filled = g.space.filled; clear = g.space.clear; apart = g.space.apart };
   numbers = numbers_same m.core.stamps m.core.image m.core.generation m.core.log_length (Some (file, count)) m.core g.numbers;
   bytes = record { sized = g.bytes.sized; fronts = g.bytes.fronts };
   kept = kept;
 }
+
+pub good_halted : (before after : Option History) (m : Machine) (held : Held) (next : State Inv) (t : ℕ) (counts : ℕ → ℕ) (file count : ℕ) → IsGood before m held → m.moment ≤ t
+    → IfSome after (λ h. WasSound held.base held.opened h → IsKept (record m { core = halting file count m.core; moment = t; counts = counts }) (with_vault next held) h)
+    → IsGood after (record m { core = halting file count m.core; moment = t; counts = counts }) (with_vault next held)
+good_halted before after m held next t counts file count g since kept = nearly_halted after m held next t counts file count (nearly before m held g) since kept

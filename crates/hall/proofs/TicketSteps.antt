@@ -59,7 +59,7 @@ own_there actor (Some x) s h = elim (x.actor == actor) as (λ b. (x.actor == act
 
 -- ---- the hall tells the same as the machine
 
-of_alike : (k : ℕ) (o : Option Seat) (p : Option Ticket) (rule : Ticket → List Refusal) (mine : Seat → List Refusal) → Matches k o p → ((s : Seat) (t : Ticket) → IsSeatOf k s t → rule t ≡ mine s)
+pub of_alike : (k : ℕ) (o : Option Seat) (p : Option Ticket) (rule : Ticket → List Refusal) (mine : Seat → List Refusal) → Matches k o p → ((s : Seat) (t : Ticket) → IsSeatOf k s t → rule t ≡ mine s)
     → of_ticket rule p ≡ of_seat mine o
 of_alike k None None rule mine m same = refl
 of_alike k None (Some t) rule mine m same = absurd m

@@ -1,6 +1,7 @@
 pub mod Alone
 pub mod Beside
 pub mod Commits
+pub mod Copying
 pub mod Covered
 pub mod Drawn
 pub mod Frames
@@ -13,6 +14,7 @@ pub mod Opening
 pub mod Placed
 pub mod Plays
 pub mod Reading
+pub mod Reusing
 pub mod Seats
 pub mod Sights
 pub mod Steps

@@ -39,7 +39,7 @@ enum Needed {
 
 /// Where a ticket's space lies.
 #[derive(Clone, Copy)]
-enum Where {
+pub(crate) enum Where {
     /// In part at least on the volume with this file number.
     Volume(u32),
     /// In the storage pool with this number.
@@ -345,7 +345,7 @@ impl Parts {
     }
 
     /// The least ticket whose space lies there.
-    fn held_there(&self, here: Where) -> Option<Refusal>
+    pub(crate) fn held_there(&self, here: Where) -> Option<Refusal>
         ensures { result ≡ foremost (held_by (lies here) (tickets_of self.now.seats)) }
     {
         'seats: for (number, seat) in &self.seats {

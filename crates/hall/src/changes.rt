@@ -193,7 +193,8 @@ impl Parts {
         Ok(change)
     }
 
-    fn is_volume(&self, file: u32) -> bool
+    /// There is a volume with this file number.
+    pub(crate) fn is_volume(&self, file: u32) -> bool
         ensures { result ≡ is_some (row_at file self.now.vault.database.stores.volumes) }
     {
         let volumes = self.vault.database().tables().pools.volumes();

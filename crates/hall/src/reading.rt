@@ -25,6 +25,7 @@ ghost use Rattle.hall.specs.Steps.{Goes, Looks, Steps};
 
 use crate::hall::Hall;
 use crate::parts::Parts;
+use crate::taking::MOST_BYTES;
 use contents::read_piece;
 use inventory::Inventory;
 use inventory_rows::Tables;
@@ -34,9 +35,6 @@ use kinds::{Digest, Refusal, Segment, bad_value, sooner_of, unless};
 use placing::is_readable;
 use store_api::Store;
 use vault::laws::pending;
-
-/// How many bytes a piece has at most.
-const MOST_BYTES: usize = 1 << 16;
 
 // ---- counts of faults
 
@@ -74,7 +72,7 @@ fn tally_one<S: Store>(
 
 /// How often calls on the files of those of these segments that have bytes of the piece have failed, together; none where one lies on a volume that may not be read, or its file's count
 /// can't rise any more.
-fn tally<S: Store>(
+pub(crate) fn tally<S: Store>(
     store: &S,
     tables: &Tables,
     segments: &[Segment],
@@ -120,7 +118,7 @@ fn frames_are_bounded(tables: &Tables, segments: &[Segment])
 
 /// Reads the piece from this copy. `true` where none of its segments that have any of it is lost since this tally of them was made: where their volumes may be read, and none of their files'
 /// counts rose.
-fn read_one<S: Store>(
+pub(crate) fn read_one<S: Store>(
     store: &mut S,
     tables: &Tables,
     copy: &CopyRow,
@@ -191,7 +189,7 @@ fn read_any<S: Store>(
 // ---- an object
 
 /// How many bytes a piece has, of what an object of so many bytes has from this byte on.
-fn piece_length(wanted: usize, size: u64, offset: u64) -> usize
+pub(crate) fn piece_length(wanted: usize, size: u64, offset: u64) -> usize
     ensures { result ≡ piece_length wanted size offset }
 {
     size.saturating_sub(offset).min(wanted as u64) as usize

@@ -118,7 +118,7 @@ impl Seat {
 }
 
 /// The ticket with this number, which has to be held, took these bytes, and has so many then.
-fn take_at(seats: &mut BTreeMap<u64, Seat>, number: u64, bytes: &[u8]) -> u64
+pub(crate) fn take_at(seats: &mut BTreeMap<u64, Seat>, number: u64, bytes: &[u8]) -> u64
     requires { IsSomeThat (row_at number seats.old.entries) (λ s. s.count + length bytes.now < 2 ^ 64) }
     ensures { TookAt number bytes.now result seats.old.entries seats.new.entries }
 {
