@@ -1,0 +1,21 @@
+use Rattle.std.proofs.Common.{refl}
+use Rattle.steps.specs.Events.{is_listed}
+use Rattle.steps.specs.declared.image.ImageKind.TheVariants.{Checkpoint, Next}
+use Rattle.hall_turns.proofs.Valued.{of_kind}
+use Rattle.hall_turns.proofs.stepping.image.Goals as goal
+
+pub returns-in-Checkpoint-clause-step : goal.returns-in-Checkpoint-clause-step
+returns-in-Checkpoint-clause-step g c =
+    of_kind g.S.Store.told g.S.Store.moment_of g.S.Store.faults_of c.args.actor c.args.kind Checkpoint c.checkpoint.result c.args.hall.now c.checkpoint.new.self c.in-Checkpoint.is c.checkpoint.ensures.step
+
+pub returns-in-Backup-clause-listed : goal.returns-in-Backup-clause-listed
+unfolding is_listed
+returns-in-Backup-clause-listed g c = refl
+
+pub returns-in-Since-clause-listed : goal.returns-in-Since-clause-listed
+unfolding is_listed
+returns-in-Since-clause-listed g c = refl
+
+pub returns-in-Next-clause-step : goal.returns-in-Next-clause-step
+returns-in-Next-clause-step g c =
+    of_kind g.S.Store.told g.S.Store.moment_of g.S.Store.faults_of c.args.actor c.args.kind Next c.next_image.result c.args.hall.now c.next_image.new.self c.in-Next.is c.next_image.ensures.step
