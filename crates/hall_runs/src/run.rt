@@ -1,0 +1,139 @@
+//! A run over the lines.
+use crate::desk::Desk;
+use crate::fault::Fault;
+use crate::words::{longs, number};
+use crate::{replies, sweeps};
+use std::alloc::{AllocError, Global};
+use std::mem;
+
+/// What the lines are about: a store and its hall, the lines since the store was new, and those over which lines are made again.
+#[derive(Drop)]
+pub struct Run {
+    alloc: Global,
+    desk: Desk,
+    trial: Desk,
+    /// The lines that were made since the store was new.
+    lines: Vec<String>,
+    /// How many of them stood before the first that is swept.
+    mark: usize,
+    /// The moments at which calls fail.
+    failing: Vec<u64>,
+}
+
+/// The words of why a line has no answer.
+fn fault_text(alloc: Global, fault: &Fault) -> Result<String, AllocError> {
+    match fault {
+        Fault::NoCommand => String::from_str(alloc, "no command"),
+        Fault::Closed => String::from_str(alloc, "no hall is open"),
+        Fault::Refused(refusal) => replies::refusal(alloc, refusal),
+        Fault::NotOpened(refused) => format!(in alloc; "{refused:?}"),
+        Fault::Wrong(finding) => format!(in alloc; "{finding:?}"),
+        Fault::Found(call, choice, finding) => {
+            format!(in alloc; "call {call}, choice {choice}: {finding:?}")
+        }
+    }
+}
+
+impl Run {
+    /// A store that was not formatted.
+    pub fn new(alloc: Global) -> Run {
+        Run {
+            alloc,
+            desk: Desk::new(alloc),
+            trial: Desk::new(alloc),
+            lines: Vec::new(alloc),
+            mark: 0,
+            failing: Vec::new(alloc),
+        }
+    }
+
+    fn done(&self) -> Result<String, Fault> {
+        Ok(String::from_str(self.alloc, "done")?)
+    }
+
+    fn start_again(&mut self) -> Result<String, Fault> {
+        drop(mem::replace(&mut self.lines, Vec::new(self.alloc)));
+        self.mark = 0;
+        self.failing = Vec::new(self.alloc);
+        self.desk.begin(Vec::new(self.alloc))?;
+        self.done()
+    }
+
+    /// The lines to come are those that are swept.
+    fn begin(&mut self) -> Result<String, Fault> {
+        self.mark = self.lines.len();
+        self.done()
+    }
+
+    /// The calls that begin so many calls later fail: all lines are made again over a store that has these among the moments at which it fails.
+    fn fail(&mut self, calls: &[&str]) -> Result<String, Fault> {
+        let calls = longs(self.alloc, calls)?;
+        let lines = self.lines.as_slice();
+        let moment = sweeps::moment_behind(self.alloc, &mut self.trial, lines, &self.failing)?;
+        for call in &calls {
+            self.failing.push(moment.saturating_add(*call))?;
+        }
+        sweeps::make_all(self.alloc, &mut self.desk, lines, &self.failing)?;
+        self.done()
+    }
+
+    fn sweep(&mut self) -> Result<String, Fault> {
+        if !self.failing.is_empty() {
+            return Err(Fault::NoCommand);
+        }
+        sweeps::stop_each(
+            self.alloc,
+            &mut self.trial,
+            self.lines.as_slice(),
+            self.mark,
+        )
+    }
+
+    fn fail_each(&mut self) -> Result<String, Fault> {
+        if !self.failing.is_empty() {
+            return Err(Fault::NoCommand);
+        }
+        sweeps::fail_each(
+            self.alloc,
+            &mut self.trial,
+            self.lines.as_slice(),
+            self.mark,
+        )
+    }
+
+    fn faults(&self, file: &str) -> Result<String, Fault> {
+        let count = self.desk.faults(number(file)?);
+        Ok(format!(in self.alloc; "{count}")?)
+    }
+
+    /// What a line on the store and its hall is answered, which is kept.
+    fn keep(&mut self, line: &str) -> Result<String, Fault> {
+        self.lines.push(String::from_str(self.alloc, line)?)?;
+        self.desk.make(line)
+    }
+
+    fn answer(&mut self, line: &str) -> Result<String, Fault> {
+        let words: Vec<&str> = line.split_whitespace().collect(self.alloc)?;
+        match words.as_slice() {
+            ["new"] => self.start_again(),
+            ["begin"] => self.begin(),
+            ["fail", calls @ ..] => self.fail(calls),
+            ["sweep"] => self.sweep(),
+            ["fail_each"] => self.fail_each(),
+            ["state"] => self.desk.state(),
+            ["faults", file] => self.faults(file),
+            _ => self.keep(line),
+        }
+    }
+
+    /// What the line is answered. An empty line, and a comment, which begins with `#`, are given back.
+    pub fn line(&mut self, line: &str) -> Result<String, AllocError> {
+        if line.is_empty() || line.starts_with('#') {
+            return String::from_str(self.alloc, line);
+        }
+        match self.answer(line) {
+            Ok(text) => Ok(text),
+            Err(fault) => fault_text(self.alloc, &fault),
+        }
+    }
+}
