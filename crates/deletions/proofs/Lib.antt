@@ -1,0 +1,3 @@
+pub mod Gone
+pub mod Whole
+pub mod Working

@@ -1,0 +1,4 @@
+pub mod Causes
+pub mod Members
+pub mod Rows
+pub mod Working
