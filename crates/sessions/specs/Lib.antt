@@ -1,0 +1,9 @@
+pub mod Asking
+pub mod Changing
+pub mod Checkpoints
+pub mod Getting
+pub mod Homes
+pub mod InTurn
+pub mod Outcomes
+pub mod Putting
+pub mod Waiting

@@ -1,0 +1,27 @@
+// What the definitions mean for a history, as laws. Each stands on a function that does nothing.
+ghost use Rattle.std.specs.Prelude.{◌≡◌, ℕ, List, Result, None, Ok, false};
+ghost use Rattle.entries.specs.declared.change.Change.{Change};
+ghost use Rattle.machine.specs.Fits.{Fits, History, Own};
+ghost use Rattle.steps.specs.Events.{Event};
+ghost use Rattle.kinds.specs.declared.refusal.Refusal.{Refusal};
+ghost use Rattle.sessions.specs.Changing.{Changes, IsJournaled};
+ghost use Rattle.sessions.specs.Checkpoints.{Checkpoints, may_leave};
+ghost use Rattle.sessions.specs.Getting.{GetsAll, IsActiveVersion};
+ghost use Rattle.sessions.specs.declared.getting.FileRead.{FileRead};
+
+/// A change that was answered with a number is the transaction with this number in every history that its steps fit.
+pub fn answered_changes_are_journaled()
+    ensures { (w : History) (actor : ℕ) (old new : Own) (c : Change) (number : ℕ) (events : List Event) → Fits w actor old events new → Changes c events (Ok number) → IsJournaled w actor c number }
+{}
+
+/// Behind a checkpoint of an actor who had no image in progress it has none, unless the hall is halted, the run is full, or memory was wanted.
+pub fn no_image_is_left()
+    ensures { (w : History) (actor : ℕ) (old new : Own) (events : List Event) (result : Result ℕ Refusal) → Fits w actor old events new → old.image ≡ None → Checkpoints events result → may_leave result ≡ false
+        → new.image ≡ None }
+{}
+
+/// What is read of a path is its active version, in every history that the steps fit: the bytes are those of the version's object, where these are as many as the version is said to have.
+pub fn active_versions_are_read()
+    ensures { (w : History) (actor : ℕ) (old new : Own) (node filespace path : List ℕ) (events : List Event) (r : FileRead) → Fits w actor old events new → GetsAll node filespace path events r
+        → IsActiveVersion w node filespace path r }
+{}
