@@ -1,0 +1,11 @@
+pub mod Batched
+pub mod Committed
+pub mod Dropping
+pub mod Exact
+pub mod Exactly
+pub mod Filled
+pub mod Handled
+pub mod Lengths
+pub mod Quiet
+pub mod Rounding
+pub mod Settled

@@ -1,0 +1,7 @@
+use Rattle.std.proofs.Common.{◌≡◌, map, take}
+use Rattle.client_batches.specs.Listings.{named}
+use Rattle.client_batches.proofs.listing.ending.Given as goal
+
+-- the items so far are those of the lines so far
+abbrev pub invariant-lines : goal.invariant-lines
+invariant-lines l = l.items ≡ map named (take l.line-index l.lines)

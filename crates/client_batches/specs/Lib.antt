@@ -1,0 +1,9 @@
+pub mod Batches
+pub mod Commits
+pub mod Handling
+pub mod Items
+pub mod Listings
+pub mod Rounds
+pub mod Sends
+pub mod Tickets
+pub mod Verdicts
