@@ -1,0 +1,4 @@
+pub mod Beginning
+pub mod Exactly
+pub mod Questions
+pub mod Working

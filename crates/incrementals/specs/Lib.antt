@@ -1,0 +1,6 @@
+pub mod Answering
+pub mod Asking
+pub mod Filespaces
+pub mod Items
+pub mod Planning
+pub mod Process

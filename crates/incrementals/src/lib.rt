@@ -1,0 +1,13 @@
+//! The incremental backup of a filespace: what is asked, listed and planned, the plan carried out, and what is answered.
+#![tactic(auto)]
+
+mod answering;
+mod asking;
+mod filespaces;
+mod planning;
+mod process;
+
+pub use answering::{Failure, Outs, Pathed, Sent};
+pub use asking::{Basis, Ruled};
+pub use planning::Begun;
+pub use process::incremental;
