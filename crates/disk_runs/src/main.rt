@@ -35,6 +35,10 @@
 //! - `stream create PATH BYTES..`: the file is made, and the bytes are put once into a sink over it; `stream unwritable PATH BYTES..`:
 //!   the same where it is open for reading alone; `stream unread BYTES..`: into a pipe that nobody reads. Printed are how many bytes
 //!   were taken, and the sink's faults. `stream take PATH COUNT..`: pieces from a source over the file.
+//! - `client new CALL..`: the files of a client in memory, of which the calls with these numbers fail, counted from 0; `client list`: each
+//!   file's path, how many bytes it has, and its time; `client read PATH OFFSET COUNT`, as above; `client create PATH`; `client append
+//!   PATH BYTES..`; `client finish PATH TIME`; `client remove PATH`; `client faults`. And the same calls on the files of a client in the
+//!   folder `tree`, as `tree list`.
 //! - `system make PATH`: a folder; `system link TO PATH`; `system remove PATH`: a file or a link; `system clear PATH`: a folder with all
 //!   in it, where it is there; `system size PATH`: how many bytes a file has.
 //!
@@ -55,6 +59,7 @@ mod run;
 mod stops;
 mod streams;
 mod system;
+mod trees;
 mod within;
 mod words;
 

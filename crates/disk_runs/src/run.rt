@@ -5,12 +5,13 @@ use crate::mem_folder::MemFolder;
 use crate::memory::Memory;
 use crate::names::Names;
 use crate::streams::Streams;
+use crate::trees::Trees;
 use crate::words::words_of;
 use crate::{ends, frame, system};
 use std::alloc::AllocError;
 
 /// What the lines are about: a store in memory, one over a folder in memory, two in folders of the system, the files of a folder in memory
-/// and of one of the system, and a source and a sink in memory.
+/// and of one of the system, a source and a sink in memory, and the files of a client.
 #[derive(Drop)]
 pub struct Run {
     rt: HostRuntime,
@@ -20,6 +21,7 @@ pub struct Run {
     second: Folder,
     names: Names,
     streams: Streams,
+    trees: Trees,
 }
 
 impl Run {
@@ -34,6 +36,7 @@ impl Run {
             second: Folder::new(),
             names: Names::new(rt),
             streams: Streams::new(alloc),
+            trees: Trees::new(rt),
         }
     }
 
@@ -46,6 +49,8 @@ impl Run {
             ["folder", words @ ..] => self.folder.answer(self.rt.alloc(), words),
             ["files", words @ ..] => self.names.on_memory(self.rt.alloc(), words),
             ["real", words @ ..] => self.names.on_real(self.rt.alloc(), words),
+            ["client", words @ ..] => self.trees.on_memory(self.rt.alloc(), words),
+            ["tree", words @ ..] => self.trees.on_folder(self.rt.alloc(), words),
             _ => self.memory.answer(self.rt.alloc(), words),
         }
     }

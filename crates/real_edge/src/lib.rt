@@ -13,6 +13,6 @@ mod real;
 mod store;
 mod streams;
 
-pub use real::RealFiles;
+pub use real::{RealFiles, above_streams};
 pub use store::FolderStore;
 pub use streams::{StdSink, StdSource};

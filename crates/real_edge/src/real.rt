@@ -64,9 +64,9 @@ impl<R: System<File = File> + Alloc + Clone + Drop> RealFiles<R> {
     }
 }
 
-// The same open file under a descriptor above those of the standard streams: where one of these was closed when the program
-// began, what is meant for it must not land in a file.
-fn above_streams(file: File) -> io::Result<File> {
+/// The same open file under a descriptor above those of the standard streams: where one of these was closed when the program
+/// began, what is meant for it must not land in a file.
+pub fn above_streams(file: File) -> io::Result<File> {
     if file.as_raw_fd() <= 2 {
         file.try_clone()
     } else {
