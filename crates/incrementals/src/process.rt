@@ -214,7 +214,7 @@ fn back_up<P: Stepper, T: Tree>(
 ///
 /// It ends with `NotFound` where the node isn't there, or what it names went meanwhile; with `TreeFault` before any change where the listing failed; with `Busy` where a step of its own and then
 /// `wait` answer so; with `InventoryFull` where the filespace's number reaches its bound; with `LogFault`, `RunFull` or `Memory` where a step of its own answers so; and with `Memory` for want of
-/// its own. What it committed until then stays, and no ticket is left, unless that is with `LogFault` or `RunFull`.
+/// its own. What it committed until then stays, and the tickets of the batch that it was at are given back, unless that is with `LogFault` or `RunFull`.
 pub fn incremental<P: Stepper, T: Tree>(
     alloc: Global,
     p: &mut P,

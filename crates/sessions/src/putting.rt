@@ -300,8 +300,8 @@ fn put_under<P: Stepper, T: Tree>(
 }
 
 /// Stores one file of a client, as it was listed, in a filespace of its node, under the class that the list binds its path to, and answers its object's number. The filespace is
-/// defined where it isn't there. The buffer has 1 to 65,536 bytes. Where others hold the room that the file needs it waits and tries again. The caller holds no ticket, and none is
-/// left at the end, unless that is with `LogFault` or `RunFull`. `NotFound` where the node isn't there, or the pool or filespace went; `BadValue` with 0 where the path is left
+/// defined where it isn't there. The buffer has 1 to 65,536 bytes. Where others hold the room that the file needs it waits and tries again. A ticket that
+/// isn't committed is given back, unless that is with `LogFault` or `RunFull`. `NotFound` where the node isn't there, or the pool or filespace went; `BadValue` with 0 where the path is left
 /// out; `NoBackupGroup` where its class has no backup copy group, or no policy set is active; `NoSpace`, `WriteFault`, `TreeFault`, `Changed`, `TooLarge` and `InventoryFull` as
 /// `send_file` has them of a file; `RecordFull`; `Busy` where a step of its own and then `wait` answer so; and `LogFault`, `RunFull` or `Memory`.
 pub fn put_file<P: Stepper, T: Tree>(
