@@ -71,7 +71,7 @@ pub struct NewVersion {
     pub class: Name,
     /// How many bytes it has.
     pub size: ObjectSize,
-    /// When the file was changed last, in seconds.
+    /// When the file was changed last, in the unit of the tree that it comes from.
     pub mtime: u64,
     /// The digest of its bytes.
     pub digest: Digest,
@@ -158,7 +158,7 @@ pub struct NewHeldObject {
     pub description: Text,
     /// How many bytes it has.
     pub size: ObjectSize,
-    /// When the file was changed last, in seconds.
+    /// When the file was changed last, in the unit of the tree that it comes from.
     pub mtime: u64,
     /// The digest of its bytes.
     pub digest: Digest,

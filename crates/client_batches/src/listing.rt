@@ -29,7 +29,7 @@ pub struct SealedLine {
     pub path: Path,
     /// The management class under which it is to be kept.
     pub class: Name,
-    /// When it was changed last, in seconds.
+    /// When it was changed last, in the unit of its tree.
     pub mtime: u64,
     /// The SHA-256 of its bytes.
     pub digest: Digest,

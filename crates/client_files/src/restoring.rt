@@ -17,7 +17,7 @@ pub struct Stored {
     pub object: u64,
     /// How many bytes it has.
     pub size: u64,
-    /// When its file was changed last, in seconds.
+    /// When its file was changed last, in the unit of its tree.
     pub mtime: u64,
     /// The SHA-256 of its bytes.
     pub digest: Digest,

@@ -53,7 +53,7 @@ impl MemFile {
         &self.bytes
     }
 
-    /// When it was changed last, in seconds.
+    /// When it was changed last, in the unit of its tree.
     pub fn mtime(&self) -> u64
         ensures { result ≡ self.now.mtime }
     {

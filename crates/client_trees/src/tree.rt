@@ -15,7 +15,7 @@ pub struct FileRow {
     pub path: Path,
     /// How many bytes the file has.
     pub size: u64,
-    /// When it was changed last, in seconds.
+    /// When it was changed last, in the unit of its tree.
     pub mtime: u64,
 }
 
@@ -67,7 +67,7 @@ pub trait Tree {
         ensures there { OnOk result (IfSome (files self.old) (IsThere path.now)) }
         ensures cause { HasCause (fault_count self.old) (fault_count self.new) result };
 
-    /// Ends the writing of a file, and sets the time of its last change, in seconds.
+    /// Ends the writing of a file, and sets the time of its last change, in the unit of the tree.
     fn finish(&mut self, path: &Path, mtime: u64) -> Result<(), Failed>
         ensures files { Leaves result (files self.old) (files self.new) (finished path.now mtime) }
         ensures cause { HasCause (fault_count self.old) (fault_count self.new) result };

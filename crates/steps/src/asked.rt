@@ -11,7 +11,7 @@ pub struct Item {
     pub path: Path,
     /// The management class that the path is bound to.
     pub class: Name,
-    /// When the file was changed last, in seconds.
+    /// When the file was changed last, in the unit of the tree that it comes from.
     pub mtime: u64,
     /// The SHA-256 of the file's bytes, which has to be that of the ticket's.
     pub digest: Digest,
@@ -24,7 +24,7 @@ pub struct HeldItem {
     pub path: Path,
     /// What the client says of it.
     pub description: Text,
-    /// When the file was changed last, in seconds.
+    /// When the file was changed last, in the unit of the tree that it comes from.
     pub mtime: u64,
     /// The SHA-256 of the file's bytes, which has to be that of the ticket's.
     pub digest: Digest,
