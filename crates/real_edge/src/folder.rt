@@ -105,6 +105,15 @@ impl<F: Files + Drop> Folder<F> {
         }
     }
 
+    // Whether a file and its name are on the disk by what this run did: it has settled the file, which nothing has changed since its last
+    // sync, and no file was made since the last sync of the names.
+    pub fn is_clean(&self, file: u32) -> bool
+        ensures unchanged { IsTrue result → ¬ IsTrue (has self.now.changed.keys file) }
+        ensures synced { IsTrue result → IsTrue self.now.is_synced }
+    {
+        self.is_synced && is_marked(&self.settled, file) && !is_marked(&self.changed, file)
+    }
+
     // Makes a file durable, where it was changed since its last sync.
     pub fn sync_changed(&mut self, file: u32, handle: &F::Handle) -> Result<(), Failed>
         ensures told { Told (F.told self.old.files) (F.told self.new.files) (SyncsChanged F.label_of file handle.now result self.old self.new) }

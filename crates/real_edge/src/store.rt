@@ -28,7 +28,8 @@ use store_api::{Failed, Stop, Store};
 ///
 /// A file that is not there reads as empty, and a write makes it. It is synced when it is first opened in a run, since a run that
 /// was cut off may have left of it what no disk has, and the folder is synced with it where a file was made. A file of which a sync
-/// failed isn't used again: what it reads as may be what no stop leaves.
+/// failed isn't used again: what it reads as may be what no stop leaves. A sync of a file that this run has synced, and that no call has
+/// written or cut since, asks nothing of the system, also where the file isn't open any more; the moment counts it as any call.
 ///
 /// The folder is made and locked by the first call on the store, so a program that makes none leaves no folder behind.
 #[derive(Drop)]
@@ -484,7 +485,8 @@ fn sync_open<F: Files + Drop>(
     }
 }
 
-// Syncs a file and the folder's names. Nothing of a file that is missing can be taken away.
+// Syncs a file and the folder's names, without any call where that was done and nothing came since. Nothing of a file that is missing can
+// be taken away.
 fn sync_in<F: Files + Drop>(
     folder: &mut Folder<F>,
     ledger: &mut Ledger,
@@ -495,6 +497,9 @@ fn sync_in<F: Files + Drop>(
     ensures stay { StayLost (is_lost ledger.old) (is_lost ledger.new) }
     ensures told { Told (F.told folder.old.files) (F.told folder.new.files) (λ old new. (seen : ℕ → Standing) → Holds F.label_of true (desk_of folder.old) ledger.old old seen → After result (λ after. IsTrue (is_lost after file)) ledger.new (λ after. Holds F.label_of true (desk_of folder.new) after new (after_sync file result seen))) }
 {
+    if folder.is_clean(file) {
+        return Ok(());
+    }
     match reach(folder, ledger, file, false) {
         Ok(Some(handle)) => match sync_open(folder, file, handle) {
             Ok(()) => {}

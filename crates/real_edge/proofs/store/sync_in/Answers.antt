@@ -4,9 +4,13 @@ use Rattle.real_edge.specs.Holds.{has}
 use Rattle.real_edge.specs.Desks.{desk_of}
 use Rattle.real_edge.proofs.Keeps.{told_from, holds_worse}
 use Rattle.real_edge.proofs.OpenFiles.{told_joined}
-use Rattle.real_edge.proofs.Tellings.{told_three}
+use Rattle.real_edge.proofs.Tellings.{told_same, told_three}
 use Rattle.real_edge.proofs.Ends.{holds_settled, holds_missing, got_there, got_none}
 use Rattle.real_edge.proofs.store.sync_in.Goals as goal
+
+pub returns-then-is_clean-clause-told : goal.returns-then-is_clean-clause-told
+returns-then-is_clean-clause-told g c = told_same _ (g.F.Files.told c.args.folder.now.files) (λ old seen holds.
+    holds_settled g.F.Files.label_of (desk_of c.args.folder.now) c.args.ledger.now old c.args.file seen c.ranges.file.fits (c.is_clean.ensures.unchanged c.if-is_clean.true) (c.is_clean.ensures.synced c.if-is_clean.true) holds)
 
 pub returns-in-Ok-sync_names-clause-told : goal.returns-in-Ok-sync_names-clause-told
 returns-in-Ok-sync_names-clause-told g c = told_three (g.F.Files.told c.args.folder.now.files) (g.F.Files.told c.reach.new.folder.files) (g.F.Files.told c.sync_open.new.folder.files) (g.F.Files.told c.sync_names.new.folder.files) c.in-Ok-Some.ensures.told c.in-Ok.ensures.told c.in-Ok-sync_names.ensures.told (λ old mid done new reaches syncs names seen holds.
