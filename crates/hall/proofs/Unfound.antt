@@ -11,14 +11,14 @@ use Rattle.inventory_rows.specs.policy_domains.Rows.{DomainRow, row_of}
 use Rattle.inventory_rows.specs.pool_rows.PoolRows.{PoolRows, pool_named, volume_named}
 use Rattle.inventory_rows.specs.pool_tables.Rows.{named}
 use Rattle.inventory_work.specs.Copies.{has_pool, has_volume, missing, missing_in, on_pool, on_volume}
-use Rattle.inventory_work.specs.Found.{device_found, find_named, number_found}
+use Rattle.inventory_work.specs.Found.{device_found, filespace_asked, find_named, number_found}
 use Rattle.inventory_work.specs.Rules.{rules_in, rules_of}
 use Rattle.inventory_work.specs.Volumes.{eligible, eligible_in}
 use Rattle.inventory_work.specs.declared.search.Found.TheVariants as found
 use Rattle.inventory_work.specs.declared.search.Named.{Named}
 use Rattle.inventory_work.specs.declared.search.Named.TheVariants as thing
 use Rattle.inventory_answers.specs.Answered.{answered, rows_of}
-use Rattle.inventory_answers.specs.Clients.{filespace_asked, filespace_lines, filespaces_of, versions_at, versions_of}
+use Rattle.inventory_answers.specs.Clients.{filespace_lines, filespaces_of, path_versions_of, versions_at, versions_of, versions_under}
 use Rattle.inventory_answers.specs.Content.{content_lines, content_of, volume_at}
 use Rattle.inventory_answers.specs.Held.{held_lines, held_of}
 use Rattle.inventory_answers.specs.Look.{asked, node_asked, pool_asked, set_row, volume_asked}
@@ -62,18 +62,19 @@ number_there (Some n) = tt
 device_there : (class : List ℕ) (s : PoolRows) → IsFound (device_found class s)
 device_there class s = if_there (named class s.classes) (λ capacity. Ok (found.DevClass capacity)) (λ x. tt)
 
+filespace_there : (node name : List ℕ) (v : Inv) → IsFound (filespace_asked node name v.clients)
+filespace_there node name v = if_there (node_named node v.clients.nodes) (λ n. if_found (filespace_named n name v.clients.filespaces) Ok)
+    (λ n. if_there (filespace_named n name v.clients.filespaces) Ok (λ x. tt))
+
 named_there : (name : Named) (v : Inv) → IsFound (find_named name v)
 named_there (thing.Node name) v = number_there (node_named name v.clients.nodes)
 named_there (thing.DevClass name) v = device_there name v.stores
 named_there (thing.Pool name) v = number_there (pool_named name v.stores)
 named_there (thing.Volume name) v = number_there (volume_named name v.stores)
+named_there (thing.Filespace node name) v = on_there found.Number (filespace_asked node name v.clients) (filespace_there node name v)
 
 set_there : (domain set : List ℕ) (domains : List (List ℕ × DomainRow)) → IsFound (set_row domain set domains)
 set_there domain set domains = if_there (row_of domain domains) (λ row. if_found (row_of set row.sets) Ok) (λ row. if_there (row_of set row.sets) Ok (λ x. tt))
-
-filespace_there : (node name : List ℕ) (v : Inv) → IsFound (filespace_asked node name v.clients)
-filespace_there node name v = if_there (node_named node v.clients.nodes) (λ n. if_found (filespace_named n name v.clients.filespaces) Ok)
-    (λ n. if_there (filespace_named n name v.clients.filespaces) Ok (λ x. tt))
 
 rows_there : (q : Query) (v : Inv) → IsFound (rows_of q v)
 rows_there query.Today v = tt
@@ -82,6 +83,7 @@ rows_there (query.Sets domain) v = on_there rows.Sets (sets_of domain v.domains)
 rows_there (query.Classes domain set) v = on_there rows.Classes (classes_of domain set v.domains) (on_there (class_lines domain set) (set_row domain set v.domains) (set_there domain set v.domains))
 rows_there (query.Groups domain set) v = on_there rows.Groups (groups_of domain set v.domains v.stores)
     (on_there (group_lines domain set v.stores) (set_row domain set v.domains) (set_there domain set v.domains))
+rows_there (query.Validated domain set) v = tt
 rows_there query.Nodes v = tt
 rows_there (query.Filespaces node) v = on_there rows.Filespaces (filespaces_of node v.clients)
     (on_there (filespace_lines v.clients) (node_asked node v.clients) (asked_there (λ n. node_named n v.clients.nodes) node))
@@ -94,6 +96,7 @@ rows_there (query.Volumes volume name) v =
 rows_there (query.Content name) v = on_there rows.Content (content_of name v) (if_there (volume_at name v.stores) (λ volume. Ok (content_lines v volume)) (λ x. tt))
 rows_there query.History v = tt
 rows_there (query.Versions node name) v = on_there rows.Versions (versions_of node name v) (on_there (λ n. versions_at n v) (filespace_asked node name v.clients) (filespace_there node name v))
+rows_there (query.Path node name path) v = on_there rows.Versions (path_versions_of node name path v) (on_there (λ n. versions_under n path v) (filespace_asked node name v.clients) (filespace_there node name v))
 rows_there (query.Held filespace) v =
     on_there rows.Held (held_of filespace v) (where_true (is_some (filespace_at filespace v.clients.filespaces)) (held_lines v.today filespace v.clients.held))
 rows_there (query.Lookup name) v = on_there rows.Lookup (find_named name v) (named_there name v)

@@ -13,10 +13,10 @@ use Rattle.inventory_answers.specs.declared.reply.Rows.{Rows}
 use Rattle.inventory_answers.specs.declared.reply.Rows.TheVariants as rows
 use Rattle.inventory_answers.specs.declared.query.Query.{Query}
 use Rattle.inventory_answers.specs.declared.query.Query.TheVariants as query
-use Rattle.inventory_answers.specs.Clients.{node_lines, filespaces_of, versions_of}
+use Rattle.inventory_answers.specs.Clients.{node_lines, filespaces_of, versions_of, path_versions_of}
 use Rattle.inventory_answers.specs.Content.{content_of}
 use Rattle.inventory_answers.specs.Held.{held_of}
-use Rattle.inventory_answers.specs.Policy.{domain_lines, sets_of, classes_of, groups_of}
+use Rattle.inventory_answers.specs.Policy.{domain_lines, sets_of, classes_of, groups_of, activation_refusal}
 use Rattle.inventory_answers.specs.Stores.{device_lines, pools_of, volumes_of, backup_lines}
 
 -- the rows that a query asks for, or its refusal
@@ -26,6 +26,7 @@ rows_of query.Domains v = Ok (rows.Domains (domain_lines v.domains))
 rows_of (query.Sets domain) v = on_ok rows.Sets (sets_of domain v.domains)
 rows_of (query.Classes domain set) v = on_ok rows.Classes (classes_of domain set v.domains)
 rows_of (query.Groups domain set) v = on_ok rows.Groups (groups_of domain set v.domains v.stores)
+rows_of (query.Validated domain set) v = Ok (rows.Validated (activation_refusal domain set v.domains))
 rows_of query.Nodes v = Ok (rows.Nodes (node_lines v.clients))
 rows_of (query.Filespaces node) v = on_ok rows.Filespaces (filespaces_of node v.clients)
 rows_of query.Devices v = Ok (rows.Devices (device_lines v.stores))
@@ -34,6 +35,7 @@ rows_of (query.Volumes volume pool) v = on_ok rows.Volumes (volumes_of volume po
 rows_of (query.Content volume) v = on_ok rows.Content (content_of volume v)
 rows_of query.History v = Ok (rows.History (backup_lines v.backups))
 rows_of (query.Versions node filespace) v = on_ok rows.Versions (versions_of node filespace v)
+rows_of (query.Path node filespace path) v = on_ok rows.Versions (path_versions_of node filespace path v)
 rows_of (query.Held filespace) v = on_ok rows.Held (held_of filespace v)
 rows_of (query.Lookup named) v = on_ok rows.Lookup (find_named named v)
 rows_of (query.Rules node) v = on_ok rows.Rules (rules_of node v)

@@ -1,5 +1,5 @@
 -- The rows of client nodes, filespaces and versions.
-use Rattle.std.specs.Prelude.{ℕ, suc, Bool, List, [], ◌∷◌, map, length, Option, Result, Ok, if◌then◌else◌}
+use Rattle.std.specs.Prelude.{ℕ, suc, Bool, List, [], ◌∷◌, map, length, Option, Some, None, Result, if◌then◌else◌}
 use Rattle.std.specs.List.{flat_map, sum_by}
 use Rattle.kinds.specs.declared.refusal.Refusal.{Refusal}
 use Rattle.kinds.specs.declared.rule.RuleFound.{RuleFound}
@@ -7,11 +7,10 @@ use Rattle.copy_groups.specs.Retention.{is_owed}
 use Rattle.inventory_rows.specs.version_groups.declared.group.Group.{Group}
 use Rattle.inventory_rows.specs.version_groups.declared.groups.Filespace.{Filespace}
 use Rattle.inventory_rows.specs.version_groups.declared.versions.Version.{Version}
-use Rattle.inventory_rows.specs.version_groups.Entries.{on_ok, if_found}
+use Rattle.inventory_rows.specs.version_groups.Entries.{on_ok}
 use Rattle.inventory_rows.specs.version_groups.Versions.{has_active}
 use Rattle.inventory_rows.specs.object_rows.declared.place.Node.{Node}
-use Rattle.inventory_rows.specs.object_rows.Filespaces.{filespace_at, groups_in}
-use Rattle.inventory_rows.specs.object_rows.Names.{node_named, filespace_named}
+use Rattle.inventory_rows.specs.object_rows.Filespaces.{filespace_at, groups_in, group_at}
 use Rattle.inventory_rows.specs.object_rows.Rows.{Rows}
 use Rattle.inventory_rows.specs.Search.{rule_in}
 use Rattle.inventory_rows.specs.State.{Inv}
@@ -19,6 +18,7 @@ use Rattle.inventory_answers.specs.declared.lines.NodeLine.{NodeLine}
 use Rattle.inventory_answers.specs.declared.lines.FilespaceLine.{FilespaceLine}
 use Rattle.inventory_answers.specs.declared.lines.VersionLine.{VersionLine}
 use Rattle.inventory_answers.specs.Look.{name_of_node, node_asked, is_asked}
+use Rattle.inventory_work.specs.Found.{filespace_asked}
 use Rattle.inventory_work.specs.Lists.{only}
 
 -- a client node
@@ -99,11 +99,18 @@ version_lines filespace v groups = flat_map (λ g. group_versions (rule_in files
 abbrev pub versions_at : ℕ → Inv → List VersionLine
 versions_at filespace v = version_lines filespace v (groups_in (filespace_at filespace v.clients.filespaces))
 
--- the number of the filespace with this name of the node with that one, where both are there
-abbrev pub filespace_asked : List ℕ → List ℕ → Rows → Result ℕ Refusal
-filespace_asked node filespace rows =
-    if_found (node_named node rows.nodes) (λ n. if_found (filespace_named n filespace rows.filespaces) Ok)
-
 -- the versions of the filespace with this name of the node with that one, which have to be there
 abbrev pub versions_of : List ℕ → List ℕ → Inv → Result (List VersionLine) Refusal
 versions_of node filespace v = on_ok (λ n. versions_at n v) (filespace_asked node filespace v.clients)
+
+-- the versions of a path, newest first; none where it has no group
+abbrev pub versions_of_group : ℕ → List ℕ → Inv → Option Group → List VersionLine
+versions_of_group filespace path v None = []
+versions_of_group filespace path v (Some group) = group_versions (rule_in filespace group.class v) v.today path group
+
+abbrev pub versions_under : ℕ → List ℕ → Inv → List VersionLine
+versions_under filespace path v = versions_of_group filespace path v (group_at filespace path v.clients.filespaces)
+
+-- the versions of one path of the filespace with this name of the node with that one, which have to be there
+abbrev pub path_versions_of : (node filespace path : List ℕ) → Inv → Result (List VersionLine) Refusal
+path_versions_of node filespace path v = on_ok (λ n. versions_under n path v) (filespace_asked node filespace v.clients)

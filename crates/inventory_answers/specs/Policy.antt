@@ -1,10 +1,13 @@
 -- The rows of policy domains, policy sets, management classes and copy groups.
-use Rattle.std.specs.Prelude.{ℕ, List, [], ◌∷◌, map, is_some, Result, Ok}
+use Rattle.std.specs.Prelude.{ℕ, List, [], ◌∷◌, map, is_some, Option, Result, Ok}
 use Rattle.std.specs.List.{flat_map}
 use Rattle.std.specs.Option.{option_map_or}
+use Rattle.std.specs.Result.{result_err}
+use Rattle.kinds.specs.declared.change.PolicyChange.TheVariants as policy
 use Rattle.kinds.specs.declared.refusal.Refusal.{Refusal}
 use Rattle.kinds.specs.declared.rule.BackupRule.{BackupRule}
 use Rattle.inventory_rows.specs.policy_domains.declared.classes.ManagementClass.{ManagementClass}
+use Rattle.inventory_rows.specs.policy_domains.Changes.{after}
 use Rattle.inventory_rows.specs.policy_domains.Rows.{SetRow, DomainRow, active_set, row_of}
 use Rattle.inventory_rows.specs.version_groups.Entries.{on_ok, if_found}
 use Rattle.inventory_rows.specs.pool_rows.PoolRows.{PoolRows}
@@ -59,3 +62,7 @@ group_lines domain set s row = flat_map (group_lines_of domain set s) row.classe
 -- the backup copy groups of a set, which has to be there
 abbrev pub groups_of : List ℕ → List ℕ → List (List ℕ × DomainRow) → PoolRows → Result (List GroupLine) Refusal
 groups_of domain set domains s = on_ok (group_lines domain set s) (set_row domain set domains)
+
+-- how a set's activation would be refused, where it would
+abbrev pub activation_refusal : (domain set : List ℕ) → List (List ℕ × DomainRow) → Option Refusal
+activation_refusal domain set domains = result_err (after (policy.Activate domain set) domains)

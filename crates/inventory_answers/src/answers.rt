@@ -3,10 +3,10 @@ ghost use Rattle.kinds.specs.Answers.{Answers};
 ghost use Rattle.inventory_rows.specs.State.{inv_of};
 ghost use Rattle.inventory_answers.specs.Answered.{rows_of, answered};
 
-use crate::clients::{filespaces_of, node_lines, versions_of};
+use crate::clients::{filespaces_of, node_lines, path_versions_of, versions_of};
 use crate::content::content_of;
 use crate::held::held_of;
-use crate::policy::{classes_of, domain_lines, groups_of, sets_of};
+use crate::policy::{activation_refusal, classes_of, domain_lines, groups_of, sets_of};
 use crate::query::Query;
 use crate::reply::{Answer, Rows};
 use crate::stores::{backup_lines, device_lines, pools_of, volumes_of};
@@ -33,6 +33,9 @@ fn rows_of(alloc: Global, tables: &Tables, query: &Query) -> Result<Rows, Refusa
         Query::Groups { domain, set } => {
             Ok(Rows::Groups(groups_of(alloc, domains, pools, domain, set)?))
         }
+        Query::Validated { domain, set } => {
+            Ok(Rows::Validated(activation_refusal(domains, domain, set)))
+        }
         Query::Nodes => Ok(Rows::Nodes(node_lines(alloc, objects)?)),
         Query::Filespaces { node } => Ok(Rows::Filespaces(filespaces_of(alloc, objects, node)?)),
         Query::Devices => Ok(Rows::Devices(device_lines(alloc, pools)?)),
@@ -45,6 +48,11 @@ fn rows_of(alloc: Global, tables: &Tables, query: &Query) -> Result<Rows, Refusa
         Query::Versions { node, filespace } => {
             Ok(Rows::Versions(versions_of(alloc, tables, node, filespace)?))
         }
+        Query::Path {
+            node,
+            filespace,
+            path,
+        } => Ok(Rows::Versions(path_versions_of(alloc, tables, node, filespace, path)?)),
         Query::Held { filespace } => Ok(Rows::Held(held_of(alloc, tables, *filespace)?)),
         Query::Lookup { named } => Ok(Rows::Lookup(find_named(tables, named)?)),
         Query::Rules { node } => Ok(Rows::Rules(rules_of(alloc, tables, *node)?)),

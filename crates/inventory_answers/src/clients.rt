@@ -1,9 +1,11 @@
 // Client nodes, filespaces and versions.
-ghost use Rattle.std.specs.Prelude.{◌≡◌, [], ◌∷◌};
+ghost use Rattle.std.specs.Prelude.{◌≡◌, ℕ, List, [], ◌∷◌, filter};
 ghost use Rattle.kinds.specs.Answers.{Answers, AnswersBy};
-ghost use Rattle.inventory_rows.specs.State.{inv_of};
+ghost use Rattle.inventory_rows.specs.object_rows.Places.{PathsAscend};
+ghost use Rattle.inventory_rows.specs.version_groups.Groups.{at_path};
+ghost use Rattle.inventory_rows.specs.State.{Inv, inv_of};
 ghost use Rattle.inventory_work.specs.Lists.{Writes};
-ghost use Rattle.inventory_answers.specs.Clients.{node_line, active_files, filespace_asked, version_line_at, node_lines, files_in, versions_in, filespace_line, filespace_lines_of, filespace_lines, filespaces_of, version_line, lines_from, group_versions, version_lines, versions_at, versions_of};
+ghost use Rattle.inventory_answers.specs.Clients.{node_line, active_files, version_line_at, node_lines, files_in, versions_in, filespace_line, filespace_lines_of, filespace_lines, filespaces_of, version_line, lines_from, group_versions, version_lines, versions_at, versions_of, versions_under, path_versions_of};
 
 use crate::lines::{FilespaceLine, NodeLine, VersionLine};
 use crate::look::{is_asked, name_of_node, node_asked, plus};
@@ -11,7 +13,7 @@ use copy_groups::is_owed;
 use inventory_rows::object_rows::{Node, Objects};
 use inventory_rows::version_groups::{Filespace, Group, Version};
 use inventory_rows::{Tables, rule_in};
-use inventory_work::Listed;
+use inventory_work::{Listed, filespace_asked};
 use kinds::{Day, FilespaceName, Name, NodeName, Path, Refusal, RuleFound};
 use std::alloc::Global;
 use std::collections::BTreeMap;
@@ -210,22 +212,6 @@ fn versions_at(
     }
 }
 
-fn filespace_asked(
-    objects: &Objects,
-    node: &NodeName,
-    filespace: &FilespaceName,
-) -> Result<u32, Refusal>
-    ensures { result ≡ filespace_asked node.now filespace.now objects.now }
-{
-    match objects.node_named(node) {
-        None => Err(Refusal::NotFound),
-        Some(node) => match objects.filespace_named(node, filespace) {
-            None => Err(Refusal::NotFound),
-            Some(number) => Ok(number),
-        },
-    }
-}
-
 /// The versions of the files of a filespace.
 pub(crate) fn versions_of(
     alloc: Global,
@@ -240,3 +226,43 @@ pub(crate) fn versions_of(
         Err(refusal) => Err(refusal),
     }
 }
+
+fn versions_under(
+    alloc: Global,
+    tables: &Tables,
+    filespace: u32,
+    path: &Path,
+) -> Result<Listed<VersionLine>, Refusal>
+    ensures { AnswersBy (λ lines. lines) result (versions_under filespace path.now (inv_of tables.now)) }
+{
+    let mut lines = Vec::new(alloc);
+    match tables.objects.group(filespace, path) {
+        Some(group) => {
+            let rule = rule_in(tables, filespace, &group.class);
+            write_group(&mut lines, &rule, tables.today, path, group)?;
+        }
+        None => {}
+    }
+    Ok(Listed::from_vec(lines))
+}
+
+/// The versions of one path of a filespace. It looks the path up, and walks no other.
+pub(crate) fn path_versions_of(
+    alloc: Global,
+    tables: &Tables,
+    node: &NodeName,
+    filespace: &FilespaceName,
+    path: &Path,
+) -> Result<Listed<VersionLine>, Refusal>
+    ensures { Answers result (path_versions_of node.now filespace.now path.now (inv_of tables.now)) }
+{
+    match filespace_asked(&tables.objects, node, filespace) {
+        Ok(number) => versions_under(alloc, tables, number, path),
+        Err(refusal) => Err(refusal),
+    }
+}
+
+/// What is answered for one path is what the answer for its filespace has of that path, where the paths of each filespace stand in ascending order, each once.
+pub fn path_lines_are_the_paths()
+    ensures { (v : Inv) (n : ℕ) (path : List ℕ) → PathsAscend v.clients.filespaces → filter (λ l. at_path path l.path) (versions_at n v) ≡ versions_under n path v }
+{}

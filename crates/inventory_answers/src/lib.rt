@@ -13,6 +13,7 @@ mod reply;
 mod stores;
 
 pub use answers::answer;
+pub use clients::path_lines_are_the_paths;
 pub use content::segments_are_counted;
 pub use lines::{
     BackupLine, ClassLine, ContentLine, DeviceLine, DomainLine, FilespaceLine, GroupLine, HeldLine,

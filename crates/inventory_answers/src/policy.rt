@@ -3,7 +3,7 @@ ghost use Rattle.std.specs.Prelude.{◌≡◌, is_some};
 ghost use Rattle.kinds.specs.Answers.{Answers, AnswersBy};
 ghost use Rattle.inventory_rows.specs.policy_domains.Rows.{active_set};
 ghost use Rattle.inventory_work.specs.Lists.{Writes};
-ghost use Rattle.inventory_answers.specs.Policy.{domain_line, domain_lines, set_line, set_lines, sets_of, class_line, class_lines, classes_of, group_line, group_lines_of, group_lines, groups_of};
+ghost use Rattle.inventory_answers.specs.Policy.{domain_line, domain_lines, set_line, set_lines, sets_of, class_line, class_lines, classes_of, group_line, group_lines_of, group_lines, groups_of, activation_refusal};
 
 use crate::lines::{ClassLine, DomainLine, GroupLine, SetLine};
 use crate::look::{active_name, domain_row, name_of_pool, set_row};
@@ -193,5 +193,17 @@ pub(crate) fn groups_of(
     match set_row(domains, domain, set) {
         Ok(row) => group_lines(alloc, pools, domain, set, row),
         Err(refusal) => Err(refusal),
+    }
+}
+
+/// How a set's activation would be refused, where it would: `NotFound` where the domain or the set isn't there, else `NoDefaultClass` where the set has
+/// no default class. It takes no memory.
+#[tactic(auto, using(crate::proofs::Validating::not_refused))]
+pub(crate) fn activation_refusal(domains: &Domains, domain: &Name, set: &Name) -> Option<Refusal>
+    ensures { result ≡ activation_refusal domain.now set.now domains.now }
+{
+    match domains.validate(domain, set) {
+        Ok(()) => None,
+        Err(refusal) => Some(refusal),
     }
 }

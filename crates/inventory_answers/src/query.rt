@@ -1,5 +1,5 @@
 use inventory_work::Named;
-use kinds::{FilespaceName, Name, NodeName};
+use kinds::{FilespaceName, Name, NodeName, Path};
 
 /// What is asked of the database.
 #[derive(Drop)]
@@ -19,6 +19,11 @@ pub enum Query {
     },
     /// The backup copy groups of a policy set.
     Groups {
+        domain: Name,
+        set: Name,
+    },
+    /// Whether a policy set may be activated.
+    Validated {
         domain: Name,
         set: Name,
     },
@@ -49,6 +54,12 @@ pub enum Query {
     Versions {
         node: NodeName,
         filespace: FilespaceName,
+    },
+    /// The versions of one path of a filespace.
+    Path {
+        node: NodeName,
+        filespace: FilespaceName,
+        path: Path,
     },
     /// The objects that are held in the filespace with this number.
     Held {

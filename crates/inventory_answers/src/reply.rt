@@ -3,7 +3,7 @@ use crate::lines::{
     NodeLine, PoolLine, SetLine, VersionLine, VolumeLine,
 };
 use inventory_work::{CopyLine, Found, Listed, MissingLine, Rules, UnretainedLine};
-use kinds::Day;
+use kinds::{Day, Refusal};
 
 /// The rows that answer a query, one variant for each.
 #[derive(Drop)]
@@ -31,7 +31,7 @@ pub enum Rows {
     Content(Listed<ContentLine>),
     /// By file number.
     History(Listed<BackupLine>),
-    /// By path, the newest first.
+    /// By path, the newest first; all of one path for the query of one.
     Versions(Listed<VersionLine>),
     /// By object.
     Held(Listed<HeldLine>),
@@ -51,6 +51,8 @@ pub enum Rows {
     Emptied(Listed<u32>),
     /// In bytes; always 0 here.
     LogBytes(u64),
+    /// How the set's activation would be refused, where it would: `NotFound` or `NoDefaultClass`.
+    Validated(Option<Refusal>),
 }
 
 /// What the database answers.

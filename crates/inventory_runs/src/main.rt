@@ -8,10 +8,10 @@
 //! - `past OBJECT CHANGED REMOVED`: what the journal tells from here on of an object: the numbers of the transactions that changed it and
 //!   that removed it, each a number or `-`; and that the latter emptied each path that has no version. Of all else it tells nothing.
 //! - A query, which is answered with the number and the day, and then its rows, or why it is refused: `today`, `domains`, `sets DOMAIN`,
-//!   `classes DOMAIN SET`, `groups DOMAIN SET`, `nodes`, `filespaces NODE`, `devices`, `pools POOL`, `volumes VOLUME POOL`,
-//!   `content VOLUME`, `history`, `versions NODE FILESPACE`, `held NUMBER` (that of a filespace), `lookup KIND NAME` with `node`, `class`, `pool` or `volume`; and by
-//!   numbers `rules NODE`, `onpool POOL`, `onvolume FILE`, `missing PRIMARY COPY`, `eligible POOL THRESHOLD`, `unretained`, `emptied`
-//!   and `log`. A dash stands for a name that isn't given.
+//!   `classes DOMAIN SET`, `groups DOMAIN SET`, `validated DOMAIN SET`, `nodes`, `filespaces NODE`, `devices`, `pools POOL`, `volumes VOLUME POOL`,
+//!   `content VOLUME`, `history`, `versions NODE FILESPACE`, `path NODE FILESPACE PATH`, `held NUMBER` (that of a filespace), `lookup KIND NAME` with
+//!   `node`, `class`, `pool` or `volume`, and `lookup filespace NODE FILESPACE`; and by numbers `rules NODE`, `onpool POOL`, `onvolume FILE`,
+//!   `missing PRIMARY COPY`, `eligible POOL THRESHOLD`, `unretained`, `emptied` and `log`. A dash stands for a name that isn't given.
 //! - What a client's session looks up, by numbers: `place POOL SIZE`, where a file goes; `segments POOL SIZE`, how many segments it has; `readable
 //!   FILE`; `reads FILE..`, whether a copy with a segment on each of these volumes can be read; `default NODE`, its default class with its
 //!   destination; `active FILESPACE PATH`, the object of the active version. `none` where there is none.

@@ -1,7 +1,7 @@
 //! The queries that words ask.
 use inventory_answers::Query;
 use inventory_work::Named;
-use kinds::{FilespaceName, Name, NodeName, Refusal};
+use kinds::{FilespaceName, Name, NodeName, Path, Refusal};
 use std::alloc::{AllocError, Global};
 
 /// Why words ask nothing.
@@ -141,6 +141,33 @@ fn versions(alloc: Global, of: &str, space: &str) -> Result<Query, Fault> {
     Ok(Query::Versions { node, filespace })
 }
 
+/// The number of a node's filespace.
+fn lookup_filespace(alloc: Global, of: &str, space: &str) -> Result<Query, Fault> {
+    let node = node(alloc, of)?;
+    let filespace = filespace(alloc, space)?;
+    Ok(Query::Lookup {
+        named: Named::Filespace { node, filespace },
+    })
+}
+
+/// The versions of one path.
+fn path(alloc: Global, of: &str, space: &str, word: &str) -> Result<Query, Fault> {
+    let node = node(alloc, of)?;
+    let filespace = filespace(alloc, space)?;
+    let path = Path::read(alloc, word.as_bytes())?;
+    Ok(Query::Path {
+        node,
+        filespace,
+        path,
+    })
+}
+
+fn validated(alloc: Global, domain: &str, set: &str) -> Result<Query, Fault> {
+    let domain = name(alloc, domain)?;
+    let set = name(alloc, set)?;
+    Ok(Query::Validated { domain, set })
+}
+
 fn volumes(alloc: Global, volume: &str, pool: &str) -> Result<Query, Fault> {
     let volume = name_or_none(alloc, volume)?;
     let pool = name_or_none(alloc, pool)?;
@@ -167,6 +194,7 @@ fn of_names(alloc: Global, what: &str, one: &str, two: &str) -> Result<Query, Fa
         "classes" => classes(alloc, one, two),
         "groups" => groups(alloc, one, two),
         "versions" => versions(alloc, one, two),
+        "validated" => validated(alloc, one, two),
         "volumes" => volumes(alloc, one, two),
         "lookup" => lookup(alloc, one, two),
         "missing" => missing(one, two),
@@ -181,6 +209,8 @@ pub fn query_of(alloc: Global, words: &[&str]) -> Result<Query, Fault> {
         [what] => of_word(what),
         [what, word] => of_name(alloc, what, word),
         [what, one, two] => of_names(alloc, what, one, two),
+        ["lookup", "filespace", one, two] => lookup_filespace(alloc, one, two),
+        ["path", one, two, word] => path(alloc, one, two, word),
         _ => Err(Fault::NoCommand),
     }
 }

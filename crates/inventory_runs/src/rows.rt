@@ -3,6 +3,7 @@ use crate::words::Row;
 use crate::work_rows::{put_found, put_rules};
 use inventory_answers::{Answer, Rows};
 use inventory_work::Listed;
+use kinds::Refusal;
 use std::alloc::{AllocError, Global};
 
 /// Puts each row on a line of its own.
@@ -27,7 +28,12 @@ fn put_count(out: &mut String, bytes: &u64) -> Result<(), AllocError> {
     write!(out, ", {bytes} bytes")
 }
 
-/// Puts the rows of the queries of the server's own processes.
+fn put_refused(out: &mut String, refused: &Option<Refusal>) -> Result<(), AllocError> {
+    let refused = *refused;
+    write!(out, ", refused={refused:?}")
+}
+
+/// Puts the rows of the queries of the server's own processes and of clients' sessions.
 fn put_work(out: &mut String, rows: &Rows) -> Result<(), AllocError> {
     match rows {
         Rows::Lookup(found) => put_found(out, found),
@@ -39,6 +45,7 @@ fn put_work(out: &mut String, rows: &Rows) -> Result<(), AllocError> {
         Rows::Unretained(lines) => put_all(out, lines),
         Rows::Emptied(files) => put_files(out, files),
         Rows::LogBytes(bytes) => put_count(out, bytes),
+        Rows::Validated(refused) => put_refused(out, refused),
         _ => Ok(()),
     }
 }

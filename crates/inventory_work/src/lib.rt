@@ -15,5 +15,5 @@ pub use expiring::unretained;
 pub use lines::{ClassRule, CopyLine, MissingLine, Rules, UnretainedLine};
 pub use listed::Listed;
 pub use rules::rules_of;
-pub use search::{Found, Named, find_named};
+pub use search::{Found, Named, filespace_asked, find_named};
 pub use volumes::{eligible, emptied};

@@ -32,6 +32,7 @@ printed_rows line (rows.Eligible files) = []
 printed_rows line (rows.Unretained objects) = []
 printed_rows line (rows.Emptied files) = []
 printed_rows line (rows.LogBytes bytes) = []
+printed_rows line (rows.Validated refusal) = []
 
 -- how many rows are printed of an answer
 abbrev pub row_count : Rows → ℕ
@@ -58,3 +59,4 @@ row_count (rows.Eligible files) = 0
 row_count (rows.Unretained objects) = 0
 row_count (rows.Emptied files) = 0
 row_count (rows.LogBytes bytes) = 0
+row_count (rows.Validated refusal) = 0

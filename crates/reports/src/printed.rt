@@ -35,7 +35,8 @@ fn put_printed(text: &mut Vec<u8>, line: u32, rows: &Rows) -> Result<(), Refusal
         | Rows::Eligible(_)
         | Rows::Unretained(_)
         | Rows::Emptied(_)
-        | Rows::LogBytes(_) => Ok(()),
+        | Rows::LogBytes(_)
+        | Rows::Validated(_) => Ok(()),
     }
 }
 
@@ -77,6 +78,7 @@ pub fn row_count(rows: &Rows) -> u64
         | Rows::Eligible(_)
         | Rows::Unretained(_)
         | Rows::Emptied(_)
-        | Rows::LogBytes(_) => 0,
+        | Rows::LogBytes(_)
+        | Rows::Validated(_) => 0,
     }
 }
