@@ -19,7 +19,8 @@ use Rattle.hall.specs.Alone.{AreExact, Continues, Ran, is_read}
 use Rattle.hall.specs.Good.{Is}
 use Rattle.hall.specs.Held.{Hall}
 use Rattle.hall.specs.Placed.{hall_places}
-use Rattle.hall.specs.Steps.{IsTrusted, Steps, with_contents}
+use Rattle.machine.specs.Alone.{with_contents}
+use Rattle.hall.specs.Steps.{IsTrusted, Steps}
 use Rattle.hall.proofs.Exact.{exact, still_trusted}
 use Rattle.hall.proofs.Remaining.{bytes_stay, had_before, had_now}
 

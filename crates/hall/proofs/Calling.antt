@@ -11,7 +11,7 @@ use Rattle.machine.specs.Machine.{Later}
 use Rattle.machine.specs.State.{Machine}
 use Rattle.hall.specs.Good.{Is, IsKept, WasSound}
 use Rattle.hall.specs.Held.{Hall, Held}
-use Rattle.hall.specs.Steps.{with_contents}
+use Rattle.machine.specs.Alone.{with_contents}
 use Rattle.hall.proofs.Stamping.{rise_over}
 
 module _ {S : Type 0} (told : S → Option History) (moment : S → ℕ) (faults : S → ℕ → ℕ) (hall : Hall S) (store : S) where

@@ -34,7 +34,8 @@ use Rattle.hall.specs.Good.{Is, IsFront}
 use Rattle.hall.specs.Held.{AreSeatsOf, Hall, Held, IsCore, IsSeatOf, purpose_of}
 use Rattle.hall.specs.Seats.{ended_at, own_seat, without_seat}
 use Rattle.hall.specs.Reading.{AreLost}
-use Rattle.hall.specs.Steps.{Steps, with_contents}
+use Rattle.machine.specs.Alone.{with_contents}
+use Rattle.hall.specs.Steps.{Steps}
 use Rattle.hall.specs.Taken.{IsSomeThat, TookMore}
 use Rattle.inventory_rows.specs.version_groups.Entries.{all_later}
 use Rattle.hall.proofs.Behind.{has_space, segments_are}

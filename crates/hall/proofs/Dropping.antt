@@ -16,7 +16,8 @@ use Rattle.hall.specs.Covered.{IsClear, IsFilled, NumbersAreDrawn, SpaceIsClear,
 use Rattle.hall.specs.Good.{HasTaken, Is, IsFront, IsGood}
 use Rattle.hall.specs.Held.{Hall, Held, IsCore}
 use Rattle.hall.specs.Seats.{ended_at, own_seat, without_seat}
-use Rattle.hall.specs.Steps.{Steps, with_contents}
+use Rattle.machine.specs.Alone.{with_contents}
+use Rattle.hall.specs.Steps.{Steps}
 use Rattle.hall.proofs.Ended.{ended_first, ended_has, ended_is, next_answers, of_absent, of_there}
 use Rattle.hall.proofs.Lists.{each_kept, later_kept, pairs_kept}
 use Rattle.hall.proofs.Seating.{good_seated}

@@ -15,7 +15,8 @@ use Rattle.machine.specs.State.{Machine, inventory}
 use Rattle.hall.specs.Good.{Is, IsKept, WasSound}
 use Rattle.hall.specs.Held.{Hall, Held}
 use Rattle.hall.specs.Placed.{hall_places}
-use Rattle.hall.specs.Steps.{Goes, IsTrusted, Steps, with_contents}
+use Rattle.machine.specs.Alone.{with_contents}
+use Rattle.hall.specs.Steps.{Goes, IsTrusted, Steps}
 use Rattle.hall.proofs.Stamping.{rise_over}
 
 -- a read leaves the bytes of objects

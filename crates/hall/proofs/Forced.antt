@@ -21,7 +21,8 @@ use Rattle.machine.specs.State.{Machine}
 use Rattle.hall.specs.Good.{Is}
 use Rattle.hall.specs.Held.{Hall, Held}
 use Rattle.hall.specs.Seats.{all_stamped, ended_at, with_vault}
-use Rattle.hall.specs.Steps.{Steps, with_contents}
+use Rattle.machine.specs.Alone.{with_contents}
+use Rattle.hall.specs.Steps.{Steps}
 use Rattle.hall.proofs.Calling.{kept_by, later_run}
 use Rattle.hall.proofs.Dropping.{no_later}
 use Rattle.hall.proofs.Ended.{ended_has, ended_is, none_halted}

@@ -46,7 +46,8 @@ use Rattle.hall.specs.Good.{Is, IsFront}
 use Rattle.hall.specs.Held.{Hall, Held, IsSeatOf}
 use Rattle.hall.specs.Placed.{hall_places, request}
 use Rattle.hall.specs.Seats.{ended_at}
-use Rattle.hall.specs.Steps.{AreBytes, IsTrusted, Steps, behind, with_contents}
+use Rattle.machine.specs.Alone.{behind, with_contents, AreBytes}
+use Rattle.hall.specs.Steps.{IsTrusted, Steps}
 use Rattle.hall.proofs.Dropping.{no_later}
 use Rattle.hall.proofs.Ended.{ended_first, ended_has, ended_is, first_answers, next_answers, none_halted}
 use Rattle.hall.proofs.MoreTickets.{fresh_ticket}

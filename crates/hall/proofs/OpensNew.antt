@@ -41,7 +41,8 @@ use Rattle.hall.specs.Good.{Is, IsFront, IsGood, IsLawful}
 use Rattle.hall.specs.Held.{AreSeatsOf, Hall, Held, IsCore, IsSeatOf}
 use Rattle.hall.specs.Placed.{claim_of, hall_places, request}
 use Rattle.hall.specs.Seats.{ended_at}
-use Rattle.hall.specs.Steps.{AreBytes, IsTrusted, Steps, behind, with_contents}
+use Rattle.machine.specs.Alone.{behind, with_contents, AreBytes}
+use Rattle.hall.specs.Steps.{IsTrusted, Steps}
 use Rattle.hall.proofs.Along.{each_at, each_draws, run_valid}
 use Rattle.hall.proofs.Apart.{both_joined}
 use Rattle.hall.proofs.Databases.{last_left, left_lawful}

@@ -38,7 +38,8 @@ use Rattle.hall.specs.Good.{Is, IsKept, WasSound}
 use Rattle.hall.specs.Held.{Hall, Held, IsCore}
 use Rattle.hall.specs.Reading.{AreLost, EndsBy, EndsRead, ReadsAny, ReadsObject, seen_by_all}
 use Rattle.hall.specs.Seats.{ended_at}
-use Rattle.hall.specs.Steps.{IsTrusted, Steps, with_contents}
+use Rattle.machine.specs.Alone.{with_contents}
+use Rattle.hall.specs.Steps.{IsTrusted, Steps}
 use Rattle.hall.proofs.Covering.{all_each}
 use Rattle.hall.proofs.Databases.{last_left}
 use Rattle.hall.proofs.Dropping.{no_later}

@@ -21,7 +21,7 @@ use Rattle.hall.specs.Frames.{WroteIn}
 use Rattle.hall.specs.Good.{HasTaken, Is, IsFront, IsGood, IsKept, WasSound}
 use Rattle.hall.specs.Held.{AreSeatsOf, Hall, Held, IsCore, IsSeatOf}
 use Rattle.hall.specs.Seats.{own_seat, without_seat}
-use Rattle.hall.specs.Steps.{with_contents}
+use Rattle.machine.specs.Alone.{with_contents}
 use Rattle.hall.specs.Taken.{DroppedOne}
 use Rattle.hall.proofs.Behind.{segments_are}
 use Rattle.hall.proofs.Dropping.{core_gone, good_gone}

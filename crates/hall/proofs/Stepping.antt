@@ -8,7 +8,8 @@ use Rattle.steps.specs.Events.{Deed}
 use Rattle.machine.specs.State.{Machine}
 use Rattle.hall.specs.Good.{Is}
 use Rattle.hall.specs.Held.{Hall, Held}
-use Rattle.hall.specs.Steps.{Goes, Looks, Steps, behind}
+use Rattle.machine.specs.Alone.{behind}
+use Rattle.hall.specs.Steps.{Goes, Looks, Steps}
 
 module _ {S : Type 0} (told : S → Option History) (moment : S → ℕ) (faults : S → ℕ → ℕ) (actor : ℕ) (deed : Deed) where
   pub still_good : (old new : Hall S) → Steps told moment faults actor deed old new → ((m : Machine) × Is told moment faults old m) → (m : Machine) × Is told moment faults new m

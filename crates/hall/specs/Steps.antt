@@ -4,9 +4,9 @@ use Rattle.store_api.specs.Disk.{History}
 use Rattle.store_api.specs.Runs.{GoesOn}
 use Rattle.store_api.specs.Told.{Told}
 use Rattle.steps.specs.Events.{Deed, event, reply_of, step_of}
-use Rattle.steps.specs.Events.Deed.{ReadPiece}
 use Rattle.steps.specs.declared.step.Reply.{Reply}
 use Rattle.steps.specs.declared.step.Step.{Step}
+use Rattle.machine.specs.Alone.{AreBytes, behind, with_contents}
 use Rattle.machine.specs.Machine.{Made}
 use Rattle.machine.specs.State.{Machine, inventory}
 use Rattle.hall.specs.Good.{Is, WasSound}
@@ -17,21 +17,6 @@ use Rattle.hall.specs.Placed.{hall_places}
 abbrev pub IsTrusted : Option History → Held → Type 0
 IsTrusted None held = ⊥
 IsTrusted (Some h) held = WasSound held.base held.opened h
-
--- the same machine with these bytes of its objects
-abbrev pub with_contents : (ℕ → List ℕ) → Machine → Machine
-with_contents contents m = record m { contents = contents }
-
--- The bytes of objects of which a step speaks are the machine's. Those that are read are so where the store tells its bytes and was sound when the hall was opened; of another store they are
--- whatever was read, and each read by itself.
-abbrev pub AreBytes : (trusted : Type 0) → Deed → (contents seen : ℕ → List ℕ) → Type 0
-AreBytes trusted (ReadPiece object kept from offset wanted answer) contents seen = trusted → seen ≡ contents
-AreBytes trusted _ contents seen = seen ≡ contents
-
--- behind a read the machine's bytes are what they were
-abbrev pub behind : Deed → (contents : ℕ → List ℕ) → Machine → Machine
-behind (ReadPiece object kept from offset wanted answer) contents m = with_contents contents m
-behind _ contents m = m
 
 -- From each state of the machine in which the hall was, an actor's step led to one in which it is, by the machine's case.
 abbrev pub Steps : {S : Type 0} → (told : S → Option History) → (moment : S → ℕ) → (faults : S → ℕ → ℕ) → (actor : ℕ) → Deed → Hall S → Hall S → Type 0

@@ -15,7 +15,8 @@ use Rattle.steps.specs.declared.image.ImageKind.{ImageKind}
 use Rattle.steps.specs.declared.image.ImageReply.{ImageReply}
 use Rattle.steps.specs.Events.Deed.{Image, ReadPiece}
 use Rattle.hall.specs.Held.{Hall}
-use Rattle.hall.specs.Steps.{Steps, with_contents}
+use Rattle.machine.specs.Alone.{with_contents}
+use Rattle.hall.specs.Steps.{Steps}
 
 no_later : (m : Machine) → Later m m
 no_later m = record {

@@ -1,3 +1,4 @@
+pub mod Alone
 pub mod Causes
 pub mod Changes
 pub mod Fits
