@@ -95,7 +95,7 @@ module _ {S : Type 0} (told : S → Option History) (moment : S → ℕ) (faults
       )
 
     nothing : (new : Hall S) (m : Machine) → Is told moment faults new m → Ended [] new m
-    nothing new m is = (m, is, λ w goes. (refl, goes.bytes))
+    nothing new m is = (m, is, λ w goes. ((refl, λ object there. goes.bytes object (had_now m.core object there)), goes.bytes))
 
     trusted_run : (events : List Event) (old new : Hall S) (m : Machine) → Is told moment faults old m → IsTrusted (told old.store) old.held → Ran told moment faults actor events old new
         → Ended events new m

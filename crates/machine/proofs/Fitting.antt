@@ -18,7 +18,7 @@ use Rattle.inventory_rules.specs.Versions.{of_version}
 use Rattle.steps.specs.Events.{Deed, Event}
 use Rattle.steps.specs.Events.Deed.{OpenNew, OpenCopy, WritePiece, CopyPiece, Seal, Commit, DropTicket, ReadPiece, Ask, Image, Reuse, Force}
 use Rattle.machine.specs.Causes.{copying_refused, most_bytes, object_gone, of_ticket, ticket_in_use}
-use Rattle.machine.specs.Fits.{Fits, History, Joined, JoinsAt, ImageAfter, Own, Step, TicketsAfter, entries_to, inv, number_after, sight_at}
+use Rattle.machine.specs.Fits.{Fits, History, IsStored, Joined, JoinsAt, ImageAfter, Own, Step, TicketsAfter, entries_to, inv, number_after, sight_at}
 use Rattle.machine.specs.Laws.{GoesWhereAimed, RefusesElsewhere}
 use Rattle.machine.specs.Machine.{Made, Places, next_count, read_count}
 use Rattle.machine.specs.Pieces.{piece}
@@ -30,6 +30,7 @@ use Rattle.machine.proofs.Elsewhere.{append-none, none-held}
 use Rattle.machine.proofs.Histories.{after-number}
 use Rattle.machine.proofs.Moves.{Moved, entries_of, moves}
 use Rattle.machine.proofs.Runs.{fits-none, fits-step}
+use Rattle.machine.proofs.Stored.{stores}
 
 -- ---- what the actor sees
 
@@ -166,11 +167,11 @@ goes-before places aimed actor e old new w made goes =
       journal = goes.journal ∙ ap (λ (js : List Entry). js ++ goes.rest) m.journal ∙ append_assoc old.core.journal (entries_of actor m.joined) goes.rest;
     }
 
-step-fits : (places : Places) → RefusesElsewhere places → GoesWhereAimed places → (w : History) (actor reached : ℕ) (e : Event) (old new : Machine) → Made places actor e old new → Agrees w old → GoesOn new.core w
-    → reached ≤ (inventory old.core).number
+step-fits : (places : Places) → RefusesElsewhere places → GoesWhereAimed places → (w : History) (actor reached : ℕ) (e : Event) (old new : Machine) → Made places actor e old new → Agrees w old → Agrees w new
+    → GoesOn new.core w → reached ≤ (inventory old.core).number
     → (last : ℕ) × (last ≤ (inventory new.core).number) × Step w actor (own_in actor reached old.core) e (own_in actor last new.core)
 unfolding goes-before
-step-fits places elsewhere aimed w actor reached e old new made agrees goes l =
+step-fits places elsewhere aimed w actor reached e old new made agrees behind_it goes l =
     let m : Moved actor old.contents e.deed old.core new.core = moves places aimed actor e.deed old new made.step in
     let before : GoesOn old.core w = goes-before places aimed actor e old new w made goes in
     let says : Says actor old.contents (sight actor old.core) e.deed = made-says places elsewhere actor e.deed old new made.step in
@@ -191,6 +192,7 @@ step-fits places elsewhere aimed w actor reached e old new made agrees goes l =
         joined = m.joined;
         joins = subst (λ (s : Sight). Joined s e.deed m.joined) (sym same) m.joins;
         joins_at = joins-at w actor old.core e.n m.joined goes.rest before.base before.journal made.number;
+        stored = subst (λ (s : Sight). IsStored w.contents s e.deed) (sym same) (stores places w actor e.deed old new made.step behind_it);
         has = record {
           reached = refl;
           tickets = subst (λ (s : Sight). TicketsAfter actor w.contents s e.deed (own_tickets actor new.core.tickets)) (sym same) (tickets-agree w actor old e.deed (own_tickets actor new.core.tickets) agrees says m.tickets);
@@ -202,8 +204,13 @@ step-fits places elsewhere aimed w actor reached e old new made agrees goes l =
 -- ---- runs
 
 runs-before : (places : Places) → GoesWhereAimed places → (w : History) (old new : Machine) (turns : List Turn) → Runs places w old turns new → GoesOn new.core w → GoesOn old.core w
-runs-before places aimed w old new [] runs goes = subst (λ (m : Machine). GoesOn m.core w) runs goes
+runs-before places aimed w old new [] runs goes = subst (λ (m : Machine). GoesOn m.core w) runs.0 goes
 runs-before places aimed w old new (t ∷ turns) runs goes = goes-before places aimed t.actor t.did old runs.0 w runs.1 (runs-before places aimed w runs.0 new turns runs.3 goes)
+
+-- where a run begins the history agrees
+runs-agree : (places : Places) (w : History) (old new : Machine) (turns : List Turn) → Runs places w old turns new → Agrees w old
+runs-agree places w old new [] runs = runs.1
+runs-agree places w old new (t ∷ turns) runs = runs.2
 
 abbrev own_with : ℕ → List Ticket → Option Picture → Own
 own_with reached tickets image = record { reached = reached; tickets = tickets; image = image }
@@ -226,7 +233,7 @@ pub turns-fit : (places : Places) → RefusesElsewhere places → GoesWhereAimed
     → reached ≤ (inventory old.core).number
     → (last : ℕ) × (last ≤ (inventory new.core).number) × Fits w actor (own_in actor reached old.core) (events_of actor turns) (own_in actor last new.core)
 turns-fit places elsewhere aimed w actor reached old new [] runs goes l =
-    subst (λ (m : Machine). (last : ℕ) × (last ≤ (inventory m.core).number) × Fits w actor (own_in actor reached old.core) [] (own_in actor last m.core)) (sym runs)
+    subst (λ (m : Machine). (last : ℕ) × (last ≤ (inventory m.core).number) × Fits w actor (own_in actor reached old.core) [] (own_in actor last m.core)) (sym runs.0)
     (reached, l, fits-none w actor (own_in actor reached old.core))
 turns-fit places elsewhere aimed w actor reached old new (t ∷ turns) runs goes l =
     let next : Machine = runs.0 in
@@ -234,7 +241,7 @@ turns-fit places elsewhere aimed w actor reached old new (t ∷ turns) runs goes
     elim (t.actor == actor) as (λ b. (t.actor == actor) ≡ b → (last : ℕ) × (last ≤ (inventory new.core).number) × Fits w actor (own_in actor reached old.core) (if b then t.did ∷ events_of actor turns else events_of actor turns) (own_in actor last new.core)) [
       | true ↦ λ e.
           (let made : Made places actor t.did old next = subst (λ (a : ℕ). Made places a t.did old next) (eqb-true t.actor actor e) runs.1 in
-          let s = step-fits places elsewhere aimed w actor reached t.did old next made runs.2 between l in
+          let s = step-fits places elsewhere aimed w actor reached t.did old next made runs.2 (runs-agree places w next new turns runs.3) between l in
           let r = turns-fit places elsewhere aimed w actor s.0 next new turns runs.3 goes s.1 in
           (r.0, r.1, fits-step w actor (own_in actor reached old.core) (own_in actor s.0 next.core) (own_in actor r.0 new.core) t.did (events_of actor turns) s.2 r.2))
       | false ↦ λ e.

@@ -27,7 +27,7 @@ change-legal actor s (Some d) c is h =
     let same : d ≡ c = cc in
     subst (λ (x : Change). refused s.journal x s.inventory ≡ None) same (listed-none (refused s.journal d s.inventory) (append-none (change_illegal d s) _ h).0)
 
-commit-legal : (actor : ℕ) (asked : Asked) (numbers : List ℕ) (s : Sight) (c : Change) → change_of asked numbers s ≡ Some c → foremost (commit_refused actor asked numbers s) ≡ None
+pub commit-legal : (actor : ℕ) (asked : Asked) (numbers : List ℕ) (s : Sight) (c : Change) → change_of asked numbers s ≡ Some c → foremost (commit_refused actor asked numbers s) ≡ None
     → refused s.journal c s.inventory ≡ None
 commit-legal actor asked numbers s c is h =
     let all = none-held (commit_refused actor asked numbers s) h in

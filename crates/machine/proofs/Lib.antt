@@ -1,4 +1,5 @@
 pub mod Answering
+pub mod Arriving
 pub mod Cases
 pub mod Elsewhere
 pub mod Fitting
@@ -8,4 +9,5 @@ pub mod Mild
 pub mod Moves
 pub mod Pictures
 pub mod Runs
+pub mod Stored
 pub mod Tickets

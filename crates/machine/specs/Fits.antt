@@ -17,8 +17,8 @@ use Rattle.steps.specs.declared.image.ImageReply.{ImageReply}
 use Rattle.steps.specs.declared.image.ImageReply.TheVariants as reply
 use Rattle.steps.specs.Events.{Event, Deed}
 use Rattle.steps.specs.Events.Deed.{OpenNew, OpenCopy, WritePiece, CopyPiece, Seal, Commit, DropTicket, Image, Reuse}
-use Rattle.machine.specs.Changes.{change_of}
-use Rattle.machine.specs.Machine.{next_count, size_of}
+use Rattle.machine.specs.Changes.{all_tickets, change_of}
+use Rattle.machine.specs.Machine.{next_count, size_of, storing_contents}
 use Rattle.machine.specs.Pieces.{piece}
 use Rattle.machine.specs.Says.{OfTicket, Says}
 use Rattle.machine.specs.State.{Image as Picture, Picture as PictureKind, Place, Purpose, Sight, Ticket, after, backup, checkpoint, copying, object_of, storing, sealing, taking, without}
@@ -184,10 +184,17 @@ pub record Has (actor : ℕ) (contents : ℕ → List ℕ) (s : Sight) (deed : D
   pub tickets : TicketsAfter actor contents s deed own.tickets
   pub image : ImageAfter s deed own.image
 
+-- ---- what is stored
+
+-- Behind a commit that was answered the objects have the bytes that storing its tickets leaves them: each that a ticket of it stored has that ticket's, the first's where several stored one object.
+abbrev pub IsStored : (contents : ℕ → List ℕ) → Sight → Deed → Type 0
+IsStored contents s (Commit asked numbers (Ok number)) = (object : ℕ) → contents object ≡ storing_contents (all_tickets numbers s) contents object
+IsStored contents s _ = Unit {0}
+
 -- ---- one event, and several
 
--- An event fits: it comes no earlier than the actor's last, within the history, its reply says what holds there, what joined by it stands in the history, and it leaves the actor with what
--- it has then.
+-- An event fits: it comes no earlier than the actor's last, within the history, its reply says what holds there, what joined by it stands in the history, what it stored are the bytes of the
+-- history's objects, and it leaves the actor with what it has then.
 pub record Step (w : History) (actor : ℕ) (old : Own) (e : Event) (new : Own) : Type 0 where
   pub since : old.reached ≤ e.n
   pub begun : w.base.number ≤ e.n
@@ -197,6 +204,7 @@ pub record Step (w : History) (actor : ℕ) (old : Own) (e : Event) (new : Own) 
   pub joined : Option Change
   pub joins : Joined (sight_at w old e.n next_file) e.deed joined
   pub joins_at : JoinsAt w actor e.n joined
+  pub stored : IsStored w.contents (sight_at w old e.n next_file) e.deed
   pub has : Has actor w.contents (sight_at w old e.n next_file) e.deed (number_after e.n joined) new
 
 -- These events fit one after the other, and lead from what the actor has to what it has then.

@@ -16,9 +16,9 @@ pub record Turn : Type 0 where
 abbrev pub Agrees : History → Machine → Type 0
 Agrees w m = (object : ℕ) → is_some (version object (inventory m.core)) ≡ true → w.contents object ≡ m.contents object
 
--- the machine makes these steps, one after the other
+-- the machine makes these steps, one after the other, and before and behind each of them the kept objects have the history's bytes
 abbrev pub Runs : Places → History → Machine → List Turn → Machine → Type 0
-Runs places w old [] new = new ≡ old
+Runs places w old [] new = (new ≡ old) × Agrees w old
 Runs places w old (t ∷ turns) new = (next : Machine) × Made places t.actor t.did old next × Agrees w old × Runs places w next turns new
 
 -- what one actor did
