@@ -1,4 +1,5 @@
 pub mod Exact
 pub mod Filling
 pub mod Giving
+pub mod Ticketed
 pub mod Whole
