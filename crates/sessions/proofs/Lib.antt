@@ -1,3 +1,4 @@
+pub mod BackedUp
 pub mod Causes
 pub mod Changed
 pub mod Checkpointed

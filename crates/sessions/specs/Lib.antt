@@ -1,4 +1,5 @@
 pub mod Asking
+pub mod BackedUp
 pub mod Changing
 pub mod Checkpoints
 pub mod Getting

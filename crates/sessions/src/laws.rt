@@ -1,12 +1,17 @@
 // What the definitions mean for a history, as laws. Each stands on a function that does nothing.
-ghost use Rattle.std.specs.Prelude.{◌≡◌, ℕ, List, Result, None, Ok, false};
+ghost use Rattle.std.specs.Prelude.{◌≡◌, ℕ, List, [], Option, Result, None, Ok, false};
+ghost use Rattle.choosers.specs.declared.rule.Rule.{Rule};
+ghost use Rattle.client_trees.specs.Files.{ClientFile};
+ghost use Rattle.client_trees.specs.declared.tree.FileRow.{FileRow};
 ghost use Rattle.entries.specs.declared.change.Change.{Change};
 ghost use Rattle.machine.specs.Fits.{Fits, History, Own};
 ghost use Rattle.steps.specs.Events.{Event};
 ghost use Rattle.kinds.specs.declared.refusal.Refusal.{Refusal};
+ghost use Rattle.sessions.specs.BackedUp.{IsPut, LeavesNone};
 ghost use Rattle.sessions.specs.Changing.{Changes, IsJournaled};
 ghost use Rattle.sessions.specs.Checkpoints.{Checkpoints, may_leave};
 ghost use Rattle.sessions.specs.Getting.{GetsAll, IsActiveVersion};
+ghost use Rattle.sessions.specs.Putting.{Puts};
 ghost use Rattle.sessions.specs.declared.getting.FileRead.{FileRead};
 
 /// A change that was answered with a number is the transaction with this number in every history that its steps fit.
@@ -24,4 +29,13 @@ pub fn no_image_is_left()
 pub fn active_versions_are_read()
     ensures { (w : History) (actor : ℕ) (old new : Own) (node filespace path : List ℕ) (events : List Event) (r : FileRead) → Fits w actor old events new → GetsAll node filespace path events r
         → IsActiveVersion w node filespace path r }
+{}
+
+/// A file that was put by an actor that had no ticket is there, in every history that the steps fit: one of their transactions, which they acknowledge, makes it the newest version of its path
+/// under the class that the path is bound to, and the version's object has the file's bytes, its size and its SHA-256. However it ends, no ticket is left, unless the hall is halted or the run is full.
+pub fn put_files_have_their_bytes()
+    ensures stored { (w : History) (actor : ℕ) (old new : Own) (node filespace : List ℕ) (choice : List Rule) (given : Option ClientFile) (file : FileRow) (events : List Event) (object : ℕ) → Fits w actor old events new
+        → old.tickets ≡ [] → Puts node filespace choice given file events (Ok object) → IsPut w actor node choice given file events }
+    ensures spent { (w : History) (actor : ℕ) (old new : Own) (node filespace : List ℕ) (choice : List Rule) (given : Option ClientFile) (file : FileRow) (events : List Event) (result : Result ℕ Refusal)
+        → Fits w actor old events new → old.tickets ≡ [] → Puts node filespace choice given file events result → LeavesNone result new.tickets }
 {}
