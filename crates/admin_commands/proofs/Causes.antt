@@ -47,9 +47,9 @@ use Rattle.admin_commands.specs.declared.work.Work.{Work}
 use Rattle.admin_commands.specs.declared.work.Work.TheVariants as work
 use Rattle.admin_commands.specs.Found.{behind, number_found, device_found, next_found, next_among, domain_named, set_named, archive_of, group_of, node_named, filespace_named, device_named, pool_named, pool_called, the_pool, the_volume}
 use Rattle.admin_commands.specs.Policy.{group_changed, new_rule, other_rule, destination_for, update_rule, archive_changed, new_archive, other_archive, update_archive_rule}
-use Rattle.admin_commands.specs.Stores.{class_deleted, pool_changed, new_settings, collocates_disk, is_definition, other_settings, is_ordered, next_for, update_settings, update_found, capacity_for, new_volume, access_changed, may_move, moved, moved_from, move_data}
+use Rattle.admin_commands.specs.Stores.{class_deleted, pool_changed, new_settings, collocates_disk, is_definition, other_settings, is_ordered, next_for, update_settings, update_found, capacity_for, new_volume, access_changed, delete_volume, volume_deleted, may_move, moved, moved_from, move_data}
 use Rattle.admin_commands.specs.Orders.{policies, clients, show, run, run_found, run_filespace, run_in, policy_work, class_work, node_work, pool_work, volume_work, file_work, database_work, work_of}
-use Rattle.admin_commands.specs.Own.{Comes, lacks_or, if_there, lacks_pool_named, lacks_class_named, lacks_next, lacks_device, lacks_move, lacks_policy, lacks_class, lacks_node, lacks_pool, lacks_volume, lacks_file, lacks_database, lacks, misfits_class, misfits_pool, misfits_volume, misfits}
+use Rattle.admin_commands.specs.Own.{Comes, lacks_or, if_there, lacks_pool_named, lacks_class_named, lacks_next, lacks_device, lacks_deleted, lacks_move, lacks_policy, lacks_class, lacks_node, lacks_pool, lacks_volume, lacks_file, lacks_database, lacks, misfits_class, misfits_pool, misfits_volume, misfits}
 
 -- the answer is this refusal
 abbrev is_said : Refusal → Result Work Refusal → Bool
@@ -201,13 +201,19 @@ pool_lacks (UpdatePool u) answers =
     refl
 pool_lacks _ answers = refl
 
+deleted_none : (discards : Bool) (volume : List ℕ) (answers : List Answer) → is_said NotFound (if discards then run_found answers else delete_volume volume answers) ≡ lacks_deleted discards answers
+deleted_none true volume answers = run_none answers
+deleted_none false volume answers =
+    found_or (the_volume answers) (λ old. if_found (pool_called old.pool (behind answers)) (λ p. volume_deleted volume p.number old)) (λ v. is_none (pool_called v.pool (behind answers))) (λ old.
+    found_last (pool_called old.pool (behind answers)) (λ p. volume_deleted volume p.number old) (λ p. refl))
+
 volume_lacks : (c : VolumeCommand) (answers : List Answer) → is_said NotFound (volume_work c answers) ≡ lacks_volume c answers
 volume_lacks (AuditVolume a) answers = run_none answers
 volume_lacks (DefineVolume d) answers =
     found_or (the_pool answers) (λ p. if_found (device_named p.class (behind answers)) (λ device. new_volume d.volume p.number (capacity_for device.capacity d.format_size))) (λ p. is_none (device_named p.class (behind answers))) (λ p.
     found_last (device_named p.class (behind answers)) (λ device. new_volume d.volume p.number (capacity_for device.capacity d.format_size)) (λ device.
     volume_none d.volume p.number (capacity_for device.capacity d.format_size)))
-volume_lacks (DeleteVolume d) answers = run_none answers
+volume_lacks (DeleteVolume d) answers = deleted_none d.discard_data d.volume answers
 volume_lacks (MoveData m) answers = move_none m.pool answers
 volume_lacks (RestoreVolume v) answers = run_none answers
 volume_lacks (UpdateVolume u) answers =
@@ -359,13 +365,19 @@ pool_misfits (UpdatePool u) answers =
     (found_bad (the_pool answers) (λ old. update_found u old (behind answers)) (λ old. collocates_disk u old || if_there (next_for u.next old.settings.next (behind answers)) (λ next. not (is_pool (other_settings u old.settings next)))) (λ old. update_bad u old (behind answers)))
 pool_misfits _ answers = refl
 
+deleted_good : (discards : Bool) (volume : List ℕ) (answers : List Answer) → is_said bad_value (if discards then run_found answers else delete_volume volume answers) ≡ false
+deleted_good true volume answers = run_good answers
+deleted_good false volume answers =
+    found_good (the_volume answers) (λ old. if_found (pool_called old.pool (behind answers)) (λ p. volume_deleted volume p.number old)) (λ old.
+    found_good (pool_called old.pool (behind answers)) (λ p. volume_deleted volume p.number old) (λ p. refl))
+
 volume_misfits : (c : VolumeCommand) (answers : List Answer) → is_said bad_value (volume_work c answers) ≡ misfits_volume c answers
 volume_misfits (AuditVolume a) answers = run_good answers
 volume_misfits (DefineVolume d) answers =
     found_bad (the_pool answers) (λ p. if_found (device_named p.class (behind answers)) (λ device. new_volume d.volume p.number (capacity_for device.capacity d.format_size))) (λ p. if_there (device_named p.class (behind answers)) (λ device. is_none (capacity_for device.capacity d.format_size))) (λ p.
     found_bad (device_named p.class (behind answers)) (λ device. new_volume d.volume p.number (capacity_for device.capacity d.format_size)) (λ device. is_none (capacity_for device.capacity d.format_size)) (λ device.
     volume_bad d.volume p.number (capacity_for device.capacity d.format_size)))
-volume_misfits (DeleteVolume d) answers = run_good answers
+volume_misfits (DeleteVolume d) answers = deleted_good d.discard_data d.volume answers
 volume_misfits (MoveData m) answers = move_good m.pool answers
 volume_misfits (RestoreVolume v) answers = run_good answers
 volume_misfits (UpdateVolume u) answers =

@@ -44,7 +44,7 @@ use Rattle.admin_commands.specs.declared.work.Work.{Work}
 use Rattle.admin_commands.specs.declared.work.Work.TheVariants as work
 use Rattle.admin_commands.specs.Found.{behind, number_found, device_found, next_found, domain_named, set_named, archive_of, group_of, node_named, filespace_named, device_named, pool_named, pool_called, the_pool, the_volume}
 use Rattle.admin_commands.specs.Policy.{group_changed, new_rule, other_rule, destination_for, update_rule, archive_changed, new_archive, other_archive, update_archive_rule}
-use Rattle.admin_commands.specs.Stores.{class_deleted, pool_changed, new_settings, collocates_disk, is_definition, other_settings, is_ordered, next_for, update_settings, update_found, capacity_for, new_volume, access_changed, may_move, moved, moved_from, move_data}
+use Rattle.admin_commands.specs.Stores.{class_deleted, pool_changed, new_settings, collocates_disk, is_definition, other_settings, is_ordered, next_for, update_settings, update_found, capacity_for, new_volume, access_changed, delete_volume, volume_deleted, may_move, moved, moved_from, move_data}
 use Rattle.admin_commands.specs.Orders.{policies, clients, show, run, run_found, run_filespace, run_in, policy_work, class_work, node_work, pool_work, volume_work, file_work, database_work, work_of}
 use Rattle.admin_commands.specs.Own.{IsSound, IsClosed}
 
@@ -154,13 +154,19 @@ pools_own (UpdatePool u) answers =
     (inl refl)
 pools_own _ answers = tt
 
+deleted_own : (discards : Bool) (volume : List ℕ) (answers : List Answer) → IsSound (if discards then run_found answers else delete_volume volume answers)
+deleted_own true volume answers = run_own answers
+deleted_own false volume answers =
+    found_own (the_volume answers) (λ old. if_found (pool_called old.pool (behind answers)) (λ p. volume_deleted volume p.number old)) (λ old.
+    found_own (pool_called old.pool (behind answers)) (λ p. volume_deleted volume p.number old) (λ p. tt))
+
 volumes_own : (c : VolumeCommand) (answers : List Answer) → IsSound (volume_work c answers)
 volumes_own (AuditVolume a) answers = run_own answers
 volumes_own (DefineVolume d) answers =
     found_own (the_pool answers) (λ p. if_found (device_named p.class (behind answers)) (λ device. new_volume d.volume p.number (capacity_for device.capacity d.format_size))) (λ p.
     found_own (device_named p.class (behind answers)) (λ device. new_volume d.volume p.number (capacity_for device.capacity d.format_size)) (λ device.
     volume_own d.volume p.number (capacity_for device.capacity d.format_size)))
-volumes_own (DeleteVolume d) answers = run_own answers
+volumes_own (DeleteVolume d) answers = deleted_own d.discard_data d.volume answers
 volumes_own (MoveData m) answers = move_own m.pool answers
 volumes_own (RestoreVolume v) answers = run_own answers
 volumes_own (UpdateVolume u) answers =

@@ -46,7 +46,7 @@ use Rattle.admin_commands.specs.declared.work.Work.{Work}
 use Rattle.admin_commands.specs.declared.work.Work.TheVariants as work
 use Rattle.admin_commands.specs.Found.{behind, number_found, device_found, next_found, domain_named, set_named, archive_of, group_of, node_named, filespace_named, device_named, pool_named, pool_called, the_pool, the_volume}
 use Rattle.admin_commands.specs.Policy.{group_changed, new_rule, other_rule, destination_for, update_rule, archive_changed, new_archive, other_archive, update_archive_rule}
-use Rattle.admin_commands.specs.Stores.{class_deleted, pool_changed, new_settings, collocates_disk, is_definition, other_settings, is_ordered, next_for, update_settings, update_found, capacity_for, new_volume, access_changed, may_move, moved, moved_from, move_data}
+use Rattle.admin_commands.specs.Stores.{class_deleted, pool_changed, new_settings, collocates_disk, is_definition, other_settings, is_ordered, next_for, update_settings, update_found, capacity_for, new_volume, access_changed, delete_volume, volume_deleted, may_move, moved, moved_from, move_data}
 use Rattle.admin_commands.specs.Orders.{policies, clients, show, run, run_found, run_filespace, run_in, policy_work, class_work, node_work, pool_work, volume_work, file_work, database_work, work_of}
 use Rattle.admin_commands.specs.Own.{Comes, ends_there, parts, leaves_from, leaves, breaks_hierarchy}
 
@@ -173,13 +173,19 @@ pools_not (UpdatePool u) answers =
     refl
 pools_not _ answers = refl
 
+deleted_not : (discards : Bool) (volume : List ℕ) (answers : List Answer) → is_said (if discards then run_found answers else delete_volume volume answers) ≡ false
+deleted_not true volume answers = run_not answers
+deleted_not false volume answers =
+    found_not (the_volume answers) (λ old. if_found (pool_called old.pool (behind answers)) (λ p. volume_deleted volume p.number old)) (λ old.
+    found_not (pool_called old.pool (behind answers)) (λ p. volume_deleted volume p.number old) (λ p. refl))
+
 volumes_not : (c : VolumeCommand) (answers : List Answer) → is_said (volume_work c answers) ≡ breaks_hierarchy (commands.Volume c) answers
 volumes_not (AuditVolume a) answers = run_not answers
 volumes_not (DefineVolume d) answers =
     found_not (the_pool answers) (λ p. if_found (device_named p.class (behind answers)) (λ device. new_volume d.volume p.number (capacity_for device.capacity d.format_size))) (λ p.
     found_not (device_named p.class (behind answers)) (λ device. new_volume d.volume p.number (capacity_for device.capacity d.format_size)) (λ device.
     volume_not d.volume p.number (capacity_for device.capacity d.format_size)))
-volumes_not (DeleteVolume d) answers = run_not answers
+volumes_not (DeleteVolume d) answers = deleted_not d.discard_data d.volume answers
 volumes_not (MoveData m) answers = move_said m.pool answers
 volumes_not (RestoreVolume v) answers = run_not answers
 volumes_not (UpdateVolume u) answers =

@@ -33,11 +33,12 @@ use Rattle.admin_words.specs.declared.command.FileCommand.{FileCommand}
 use Rattle.admin_words.specs.declared.command.FileCommand.TheVariants.{ArchiveFiles, Erase, Get, Incremental, Put, RestoreFiles, RetrieveFiles, Write}
 use Rattle.admin_words.specs.declared.command.DatabaseCommand.{DatabaseCommand}
 use Rattle.admin_words.specs.declared.command.DatabaseCommand.TheVariants.{BackupDatabase, Checkpoint, Day, DeleteHistory, ExpireInventory, QueryHistory}
+use Rattle.admin_words.specs.declared.volumes.VolumeDeletion.{VolumeDeletion}
 use Rattle.admin_commands.specs.declared.work.Work.{Work}
 use Rattle.admin_commands.specs.declared.work.Work.TheVariants as work
 use Rattle.admin_commands.specs.Found.{number_found, device_found, domain_named, set_named, node_named, filespace_named}
 use Rattle.admin_commands.specs.Policy.{define_group, update_group, delete_group, define_archive, update_archive, delete_archive}
-use Rattle.admin_commands.specs.Stores.{is_definition, is_ordered, delete_dev_class, define_pool, update_pool, delete_pool, migrate, reclaim, back_up_pool, define_volume, update_volume, move_data}
+use Rattle.admin_commands.specs.Stores.{is_definition, is_ordered, delete_dev_class, define_pool, update_pool, delete_pool, migrate, reclaim, back_up_pool, define_volume, update_volume, delete_volume, move_data}
 
 -- ---- look-ups
 
@@ -76,6 +77,10 @@ if_next (Some (Some name)) = query.Pools None ∷ []
 abbrev pub for_move : List ℕ → Option (List ℕ) → List Query
 for_move name None = volume name ∷ []
 for_move name (Some to) = volume_row name ∷ query.Pools None ∷ []
+
+-- a volume that is deleted: its number where its data is discarded, and else its row, with the pools
+abbrev pub deletion_needs : VolumeDeletion → List Query
+deletion_needs d = if d.discard_data then volume d.volume ∷ [] else volume_row d.volume ∷ query.Pools None ∷ []
 
 -- a pool that is defined; nothing, where its values don't go together
 abbrev pub define_needs : PoolDefinition → List Query
@@ -135,7 +140,7 @@ pool_needs (UpdatePool u) = update_needs u
 abbrev pub volume_needs : VolumeCommand → List Query
 volume_needs (AuditVolume a) = volume a.volume ∷ []
 volume_needs (DefineVolume d) = pool_row d.pool ∷ query.Devices ∷ []
-volume_needs (DeleteVolume d) = volume d.volume ∷ []
+volume_needs (DeleteVolume d) = deletion_needs d
 volume_needs (MoveData m) = for_move m.volume m.pool
 volume_needs (QueryContent v) = []
 volume_needs (QueryVolume q) = []
@@ -206,6 +211,10 @@ run_set name answers = if_found (set_named name answers) (λ set. run [])
 abbrev pub show_held : List ℕ → List Answer → Result Work Refusal
 show_held name answers = if_found (filespace_named name answers) (λ f. show (query.Held f.number))
 
+-- DELETE VOLUME: over its file number where its data is discarded, and else the change by which it is taken off its pool
+abbrev pub deletion_work : VolumeDeletion → List Answer → Result Work Refusal
+deletion_work d answers = if d.discard_data then run_found answers else delete_volume d.volume answers
+
 -- over nothing; a device class that is named has to be there
 abbrev pub run_in : Option (List ℕ) → List Answer → Result Work Refusal
 run_in None answers = run []
@@ -268,7 +277,7 @@ pool_work (UpdatePool u) answers = update_pool u answers
 abbrev pub volume_work : VolumeCommand → List Answer → Result Work Refusal
 volume_work (AuditVolume a) answers = run_found answers
 volume_work (DefineVolume d) answers = define_volume d answers
-volume_work (DeleteVolume d) answers = run_found answers
+volume_work (DeleteVolume d) answers = deletion_work d answers
 volume_work (MoveData m) answers = move_data m.pool answers
 volume_work (QueryContent v) answers = show (query.Content v.volume)
 volume_work (QueryVolume q) answers = show (query.Volumes q.volume q.pool)

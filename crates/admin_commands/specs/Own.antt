@@ -104,6 +104,11 @@ lacks_move None answers = is_none (number_found answers)
 lacks_move (Some name) answers =
     lacks_or (the_volume answers) (λ v. is_none (pool_called v.pool (behind answers)) || is_none (pool_named name (behind answers)))
 
+-- a volume that is to be deleted, with its data or without
+abbrev pub lacks_deleted : Bool → List Answer → Bool
+lacks_deleted true answers = is_none (number_found answers)
+lacks_deleted false answers = lacks_or (the_volume answers) (λ v. is_none (pool_called v.pool (behind answers)))
+
 abbrev pub lacks_policy : PolicyCommand → List Answer → Bool
 lacks_policy (DeleteDomain d) answers = is_none (domain_named d.domain answers)
 lacks_policy (ValidateSet s) answers = is_none (set_named s.set answers)
@@ -139,7 +144,7 @@ lacks_pool _ answers = false
 abbrev pub lacks_volume : VolumeCommand → List Answer → Bool
 lacks_volume (AuditVolume a) answers = is_none (number_found answers)
 lacks_volume (DefineVolume d) answers = lacks_or (the_pool answers) (λ p. is_none (device_named p.class (behind answers)))
-lacks_volume (DeleteVolume d) answers = is_none (number_found answers)
+lacks_volume (DeleteVolume d) answers = lacks_deleted d.discard_data answers
 lacks_volume (MoveData m) answers = lacks_move m.pool answers
 lacks_volume (RestoreVolume v) answers = is_none (number_found answers)
 lacks_volume (UpdateVolume u) answers = lacks_or (the_volume answers) (λ v. is_none (pool_called v.pool (behind answers)))

@@ -161,6 +161,15 @@ abbrev pub update_volume : VolumeUpdate → List Answer → Result Work Refusal
 update_volume u answers =
     if_found (the_volume answers) (λ old. if_found (pool_called old.pool (behind answers)) (λ p. access_changed u p.number old))
 
+-- a volume is taken off its pool; the change has what stands there
+abbrev pub volume_deleted : List ℕ → ℕ → VolumeLine → Result Work Refusal
+volume_deleted volume pool old = Ok (work.Commit (change.Pool (store.Volume verb.Delete volume pool old.file old.capacity old.access)))
+
+-- DELETE VOLUME, without discarding data
+abbrev pub delete_volume : List ℕ → List Answer → Result Work Refusal
+delete_volume volume answers =
+    if_found (the_volume answers) (λ old. if_found (pool_called old.pool (behind answers)) (λ p. volume_deleted volume p.number old))
+
 -- data may move from a pool to another where both are primary
 abbrev pub may_move : PoolLine → PoolLine → Bool
 may_move own to = own.number == to.number || (is_primary_kind own.kind && is_primary_kind to.kind)

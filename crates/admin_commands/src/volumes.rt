@@ -2,8 +2,8 @@
 ghost use Rattle.std.specs.Prelude.{◌≡◌, None};
 ghost use Rattle.kinds.specs.Answers.{Answers, AnswersBy};
 ghost use Rattle.inventory_answers.specs.declared.query.Query.TheVariants as query;
-ghost use Rattle.admin_commands.specs.Orders.{volume_needs, volume_work, show};
-ghost use Rattle.admin_commands.specs.Stores.{mebibytes, capacity_for, new_volume, define_volume, access_changed, update_volume, may_move, moved, moved_from, move_data};
+ghost use Rattle.admin_commands.specs.Orders.{deletion_needs, deletion_work, volume_needs, volume_work, show};
+ghost use Rattle.admin_commands.specs.Stores.{mebibytes, capacity_for, new_volume, define_volume, access_changed, update_volume, delete_volume, volume_deleted, may_move, moved, moved_from, move_data};
 
 use crate::found::{
     behind, device_named, number_found, pool_called, pool_named, the_pool, the_volume,
@@ -12,12 +12,25 @@ use crate::looks::{for_move, one, pool_row, two, volume, volume_row};
 use crate::pools::run_found;
 use crate::work::{Work, run, run_two};
 use admin_words::command::VolumeCommand;
-use admin_words::volumes::{NamedVolume, VolumeDefinition, VolumeQuery, VolumeUpdate};
+use admin_words::volumes::{
+    NamedVolume, VolumeDefinition, VolumeDeletion, VolumeQuery, VolumeUpdate,
+};
 use entries::Change;
 use inventory_answers::{Answer, PoolLine, Query, VolumeLine};
 use inventory_rows::is_primary_kind;
 use kinds::{Access, Capacity, Name, PoolChange, Refusal, Verb, bad_value};
 use std::alloc::Global;
+
+/// A volume that is deleted: its number where its data is discarded, and else its row, with the pools.
+fn deletion_needs(alloc: Global, it: &VolumeDeletion) -> Result<Vec<Query>, Refusal>
+    ensures { AnswersBy (λ v. v.items) result (deletion_needs it.now) }
+{
+    if it.discard_data {
+        one(alloc, volume(&it.volume)?)
+    } else {
+        two(alloc, volume_row(&it.volume)?, Query::Pools { pool: None })
+    }
+}
 
 pub(crate) fn volume_needs(alloc: Global, command: &VolumeCommand) -> Result<Vec<Query>, Refusal>
     ensures { AnswersBy (λ v. v.items) result (volume_needs command.now) }
@@ -25,7 +38,7 @@ pub(crate) fn volume_needs(alloc: Global, command: &VolumeCommand) -> Result<Vec
     match command {
         VolumeCommand::AuditVolume(it) => one(alloc, volume(&it.volume)?),
         VolumeCommand::DefineVolume(it) => two(alloc, pool_row(&it.pool)?, Query::Devices),
-        VolumeCommand::DeleteVolume(it) => one(alloc, volume(&it.volume)?),
+        VolumeCommand::DeleteVolume(it) => deletion_needs(alloc, it),
         VolumeCommand::MoveData(it) => for_move(alloc, &it.volume, &it.pool),
         VolumeCommand::QueryContent(_) => Ok(Vec::new(alloc)),
         VolumeCommand::QueryVolume(_) => Ok(Vec::new(alloc)),
@@ -107,6 +120,41 @@ fn update_volume(it: &VolumeUpdate, answers: &[Answer]) -> Result<Work, Refusal>
             None => Err(Refusal::NotFound),
             Some(line) => access_changed(it, line.number, old),
         },
+    }
+}
+
+fn volume_deleted(volume: &Name, pool: u32, old: &VolumeLine) -> Result<Work, Refusal>
+    ensures { Answers result (volume_deleted volume.now pool old.now) }
+{
+    Ok(Work::Commit(Change::Pool(PoolChange::Volume {
+        verb: Verb::Delete,
+        volume: volume.clone()?,
+        pool,
+        file: old.file,
+        capacity: old.capacity,
+        access: old.access,
+    })))
+}
+
+fn delete_volume(volume: &Name, answers: &[Answer]) -> Result<Work, Refusal>
+    ensures { Answers result (delete_volume volume.now answers.now) }
+{
+    match the_volume(answers) {
+        None => Err(Refusal::NotFound),
+        Some(old) => match pool_called(behind(answers), &old.pool) {
+            None => Err(Refusal::NotFound),
+            Some(line) => volume_deleted(volume, line.number, old),
+        },
+    }
+}
+
+fn deletion_work(alloc: Global, it: &VolumeDeletion, answers: &[Answer]) -> Result<Work, Refusal>
+    ensures { Answers result (deletion_work it.now answers.now) }
+{
+    if it.discard_data {
+        run_found(alloc, answers)
+    } else {
+        delete_volume(&it.volume, answers)
     }
 }
 
@@ -201,7 +249,7 @@ pub(crate) fn volume_work(
     match command {
         VolumeCommand::AuditVolume(_) => run_found(alloc, answers),
         VolumeCommand::DefineVolume(it) => define_volume(it, answers),
-        VolumeCommand::DeleteVolume(_) => run_found(alloc, answers),
+        VolumeCommand::DeleteVolume(it) => deletion_work(alloc, it, answers),
         VolumeCommand::MoveData(it) => move_data(alloc, &it.pool, answers),
         VolumeCommand::QueryContent(it) => show_content(it),
         VolumeCommand::QueryVolume(it) => show_volumes(it),
