@@ -1,0 +1,4 @@
+pub mod Answered
+pub mod Looked
+pub mod Pieces
+pub mod Worked

@@ -1,0 +1,108 @@
+-- A command's work, part by part.
+use Rattle.std.proofs.Common.{◌≡◌, ◌⊎◌, inl, inr, ℕ, List, [], ◌++◌, Option, Some, Result, Ok, Err, refl, sym, ap, subst, ◌∙◌}
+use Rattle.kinds.specs.Answers.{Answers}
+use Rattle.kinds.specs.declared.refusal.Refusal.{Refusal}
+use Rattle.kinds.specs.declared.refusal.Refusal.TheVariants.{Memory, TreeFault}
+use Rattle.choosers.specs.declared.rule.Rule.{Rule}
+use Rattle.client_files.specs.Reading.{file_of}
+use Rattle.client_trees.proofs.Calls.{at-appended, at-created, at-finished}
+use Rattle.client_trees.specs.Files.{ClientFile, Files, appended, created, file_at, finished}
+use Rattle.client_trees.specs.declared.tree.FileRow.{FileRow}
+use Rattle.inventory_answers.specs.declared.query.Query.TheVariants as query
+use Rattle.inventory_answers.specs.declared.reply.Answer.{Answer}
+use Rattle.inventory_rows.specs.version_groups.Entries.{on_ok}
+use Rattle.admin_words.specs.declared.command.Command.{Command}
+use Rattle.admin_words.specs.declared.files.FilePut.{FilePut}
+use Rattle.admin_words.specs.declared.policy.NamedSet.{NamedSet}
+use Rattle.admin_commands.specs.declared.work.Work.{Work}
+use Rattle.entries.specs.declared.change.Change.{Change}
+use Rattle.reports.specs.declared.shown.Shown.{Shown}
+use Rattle.sessions.specs.Changing.{Changing}
+use Rattle.sessions.specs.InTurn.{OrMemory}
+use Rattle.sessions.specs.Putting.{Puts}
+use Rattle.steps.proofs.Joining.{call_of_none, does_made, so_call}
+use Rattle.steps.specs.Calls.{Call, Does as DoesStep, Made}
+use Rattle.steps.specs.Events.{Event}
+use Rattle.steps.specs.Events.Deed.{Ask}
+use Rattle.command_steps.specs.Doing.{Does, DoesOwn, DoesWork, Gives, PutsText, Told, Validates, validated_by, within_memory}
+use Rattle.command_steps.specs.Owns.{Own, file_put, last_of, row_put}
+use Rattle.command_steps.specs.declared.outcome.Outcome.{Outcome}
+use Rattle.command_steps.specs.declared.outcome.Outcome.TheVariants.{Said}
+
+-- an answer that becomes an outcome
+pub given : {S A : Type 0} (did : S → List Event → S → Type 0) (p q : S) (Calls : List Event → Result A Refusal → Type 0) (shape : A → Outcome) (answer : Result A Refusal) (result : Result Outcome Refusal)
+    → Call did p q (λ events. Calls events answer) → result ≡ on_ok shape answer → Call did p q (λ events. Gives Calls shape events result)
+given did p q Calls shape answer result a is = so_call did (λ events. Calls events answer) (λ events. Gives Calls shape events result) p q a (λ xs f. (answer, f, is))
+
+pub gives-ok : {S A : Type 0} (did : S → List Event → S → Type 0) (p q : S) (Calls : List Event → Result A Refusal → Type 0) (shape : A → Outcome) (x : A) → Call did p q (λ events. Calls events (Ok x))
+    → Call did p q (λ events. Gives Calls shape events (Ok (shape x)))
+gives-ok did p q Calls shape x a = given did p q Calls shape (Ok x) (Ok (shape x)) a refl
+
+pub gives-err : {S A : Type 0} (did : S → List Event → S → Type 0) (p q : S) (Calls : List Event → Result A Refusal → Type 0) (shape : A → Outcome) (e : Refusal) → Call did p q (λ events. Calls events (Err e))
+    → Call did p q (λ events. Gives Calls shape events (Err e))
+gives-err did p q Calls shape e a = given did p q Calls shape (Err e) (Err e) a refl
+
+pub made : {S : Type 0} (did : S → List Event → S → Type 0) (p q : S) (change : Change) (number : ℕ) (line : Shown) → line ≡ last_of change → Call did p q (λ events. Changing change events (Ok number))
+    → Call did p q (λ events. Gives (Changing change) (λ seq. Said (last_of change)) events (Ok (Said line)))
+made did p q change number line is a = given did p q (Changing change) (λ seq. Said (last_of change)) (Ok number) (Ok (Said line)) a (ap (λ (l : Shown). Ok (Said l)) is)
+
+pub validates : {S : Type 0} (did : S → List Event → S → Type 0) (p q : S) (set : NamedSet) (answer : Result Answer Refusal) (result : Result Outcome Refusal)
+    → Call did p q (λ events. OrMemory (Told (query.Validated set.domain set.set)) events answer) → result ≡ validated_by answer → Call did p q (λ events. Validates set events result)
+validates did p q set answer result a is =
+    so_call did (λ events. OrMemory (Told (query.Validated set.domain set.set)) events answer) (λ events. Validates set events result) p q a (λ xs f. (answer, f, is))
+
+-- the one file of a tree that was made for it
+pub file-of : (put : FilePut) (first second third : Files) → first ≡ created put.path [] → second ≡ appended put.path put.text first → third ≡ finished put.path put.mtime second
+    → file_at put.path third ≡ Some (file_put put)
+file-of put first second third made more time =
+    let empty : ClientFile = record { bytes = []; mtime = 0 } in
+    let text : ClientFile = record { bytes = put.text; mtime = 0 } in
+    let one : file_at put.path first ≡ Some empty = ap (file_at put.path) made ∙ at-created put.path empty [] in
+    let two : file_at put.path second ≡ Some text = ap (file_at put.path) more ∙ at-appended put.path put.text first empty one in
+    ap (file_at put.path) time ∙ at-finished put.path put.mtime second text two
+
+-- a fault of the tree isn't answered
+within-said : (answer result : Result ℕ Refusal) → result ≡ within_memory answer → ((result ≡ answer) × (result ≡ Err TreeFault → ⊥)) ⊎ ((answer ≡ Err TreeFault) × (result ≡ Err Memory))
+within-said (Ok number) result is = inl (is, λ fault. cc)
+within-said (Err TreeFault) result is = inr (refl, is)
+within-said (Err e) result is = inl (is, λ fault. cc)
+
+-- the text of a PUT that was put as that file
+puts-as : (choice : List Rule) (put : FilePut) (row : FileRow) (files : Files) (events : List Event) (answer said : Result ℕ Refusal) → row ≡ row_put put → file_at put.path files ≡ Some (file_put put) → answer ≡ said
+    → Puts put.node put.filespace choice (file_of (Some files) row.path) row events answer → Puts put.node put.filespace choice (Some (file_put put)) (row_put put) events said
+puts-as choice put row files events answer said is there same h =
+    subst (λ (it : Result ℕ Refusal). Puts put.node put.filespace choice (Some (file_put put)) (row_put put) events it) same
+    (subst (λ (it : Option ClientFile). Puts put.node put.filespace choice it (row_put put) events answer) there
+    (subst (λ (r : FileRow). Puts put.node put.filespace choice (file_of (Some files) r.path) r events answer) is h))
+
+text-put : (choice : List Rule) (put : FilePut) (row : FileRow) (files : Files) (events : List Event) (answer result : Result ℕ Refusal) → row ≡ row_put put → file_at put.path files ≡ Some (file_put put)
+    → ((result ≡ answer) × (result ≡ Err TreeFault → ⊥)) ⊎ ((answer ≡ Err TreeFault) × (result ≡ Err Memory))
+    → Puts put.node put.filespace choice (file_of (Some files) row.path) row events answer → PutsText choice put events result
+text-put choice put row files events answer result is there (inl said) h = inl (puts-as choice put row files events answer result is there (sym said.0) h, said.1)
+text-put choice put row files events answer result is there (inr said) h = inr (puts-as choice put row files events answer (Err TreeFault) is there said.0 h, said.1)
+
+pub puts-text : {S : Type 0} (did : S → List Event → S → Type 0) (p q : S) (choice : List Rule) (put : FilePut) (row : FileRow) (files : Files) (answer result : Result ℕ Refusal) → row ≡ row_put put
+    → file_at put.path files ≡ Some (file_put put) → result ≡ within_memory answer → Call did p q (λ events. Puts put.node put.filespace choice (file_of (Some files) row.path) row events answer)
+    → Call did p q (λ events. PutsText choice put events result)
+puts-text did p q choice put row files answer result is there said a =
+    so_call did (λ events. Puts put.node put.filespace choice (file_of (Some files) row.path) row events answer) (λ events. PutsText choice put events result) p q a
+    (λ xs f. text-put choice put row files xs answer result is there (within-said answer result said) f)
+
+-- ---- work that is done, or refused before it begins
+
+pub owned : {S : Type 0} (did : S → List Event → S → Type 0) (p q : S) (choice : List Rule) (own said : Own) (numbers : List ℕ) (result : Result Outcome Refusal) → own ≡ said
+    → Call did p q (λ events. DoesOwn choice own numbers events result) → Call did p q (λ events. DoesOwn choice said numbers events result)
+owned did p q choice own said numbers result is a = subst (λ (it : Own). Call did p q (λ events. DoesOwn choice it numbers events result)) is a
+
+pub worked : {S : Type 0} (did : S → List Event → S → Type 0) (p q : S) (choice : List Rule) (c : Command) (work : Work) (said : Result Work Refusal) (result : Result Outcome Refusal) → said ≡ Ok work
+    → Call did p q (λ events. Does choice c work events result) → Call did p q (λ events. OrMemory (DoesWork choice c said) events result)
+worked did p q choice c work said result is a =
+    subst (λ (it : Result Work Refusal). Call did p q (λ events. OrMemory (DoesWork choice c it) events result)) (sym is)
+    (so_call did (λ events. Does choice c work events result) (λ events. OrMemory (DoesWork choice c (Ok work)) events result) p q a (λ xs f. inl f))
+
+pub declined : {S : Type 0} (did : S → List Event → S → Type 0) (p : S) (choice : List Rule) (c : Command) (said : Result Work Refusal) (e : Refusal) → did p [] p → (e ≡ Memory) ⊎ (said ≡ Err e)
+    → Call did p p (λ events. OrMemory (DoesWork choice c said) events (Err e))
+declined did p choice c said e stays (inl memory) = call_of_none did (λ events. OrMemory (DoesWork choice c said) events (Err e)) p p stays (inr (refl, ap Err memory))
+declined did p choice c said e stays (inr is) =
+    subst (λ (it : Result Work Refusal). Call did p p (λ events. OrMemory (DoesWork choice c it) events (Err e))) (sym is)
+    (call_of_none did (λ events. OrMemory (DoesWork choice c (Err e)) events (Err e)) p p stays (inl (refl, refl)))

@@ -1,0 +1,89 @@
+-- How what came of a command is answered.
+use Rattle.std.specs.Prelude.{◌≡◌, ◌⊎◌, ℕ, ◌+◌, ◌-◌, ◌*◌, ◌/◌, List, [], ◌++◌, length, take, drop, codes, Option, Some, None, Result, Ok, Err}
+use Rattle.std.specs.List.{range_with_len, flat_map}
+use Rattle.hex.specs.Hex.{encode_lower}
+use Rattle.kinds.specs.declared.refusal.Refusal.{Refusal}
+use Rattle.kinds.specs.declared.refusal.Refusal.TheVariants as refused
+use Rattle.inventory_answers.specs.declared.reply.Answer as rows
+use Rattle.reports.specs.Lines.{shown_line, refused_line}
+use Rattle.reports.specs.Pieces.{numbered}
+use Rattle.reports.specs.Printed.{printed_rows, row_count}
+use Rattle.reports.specs.declared.shown.Shown.TheVariants as shown
+use Rattle.script_loop.specs.Reply.{Answer}
+use Rattle.script_loop.specs.Tally.{no_tally}
+use Rattle.script_loop.specs.declared.ends.Halt.{Halt}
+use Rattle.script_loop.specs.declared.ends.Halt.TheVariants as halt
+use Rattle.sessions.specs.declared.getting.FileRead.{FileRead}
+use Rattle.command_steps.specs.declared.outcome.Outcome.{Outcome}
+use Rattle.command_steps.specs.declared.outcome.Outcome.TheVariants.{Read, Rows, Said}
+
+-- ---- a file's bytes
+
+-- how many bytes a DATA line shows
+unfoldable pub data_width : ℕ
+data_width = 64
+
+-- the piece of some bytes that the DATA line with this number shows, counted from 0, where a line shows `most` bytes or the rest
+unfoldable pub piece_of : ℕ → List ℕ → ℕ → List ℕ
+piece_of most bytes number = take most (drop (most * number) bytes)
+
+-- how many DATA lines some bytes take
+unfoldable pub pieces : ℕ → List ℕ → ℕ
+pieces most bytes = (length bytes + (most - 1)) / most
+
+-- the DATA line of a piece, which the script's line n causes
+unfoldable pub data_line : (n : ℕ) → ℕ → List ℕ → ℕ → List ℕ
+data_line n most bytes number = numbered n (codes "DATA " ++ encode_lower (piece_of most bytes number))
+
+-- the DATA lines of some bytes
+abbrev pub data_lines : (n : ℕ) → ℕ → List ℕ → List ℕ
+data_lines n most bytes = flat_map (data_line n most bytes) (range_with_len 0 (pieces most bytes))
+
+-- ---- printed lines
+
+-- the lines of a file that was read
+abbrev pub file_lines : (n : ℕ) → FileRead → List ℕ
+file_lines n file = data_lines n data_width file.bytes ++ shown_line n (shown.Read file.object file.size)
+
+-- the lines of a query's rows
+abbrev pub row_lines : (n : ℕ) → rows.Answer → List ℕ
+row_lines n answer = printed_rows n answer.rows ++ shown_line n (shown.Rows (row_count answer.rows))
+
+-- the lines of what a command in line n came to
+abbrev pub outcome_lines : (n : ℕ) → Outcome → List ℕ
+outcome_lines n (Said line) = shown_line n line
+outcome_lines n (Read file) = file_lines n file
+outcome_lines n (Rows answer) = row_lines n answer
+
+-- ---- answers
+
+-- the answer to a comment
+abbrev pub nothing : Answer
+nothing = record { text = []; tally = no_tally }
+
+-- the answer of a command that was done, with these printed lines
+abbrev pub done : List ℕ → Answer
+done text = record { text = text; tally = record { commands = 1; refused = 0; failed = 0 } }
+
+-- the answer of a command in line n that was refused so
+abbrev pub refusal : (n : ℕ) → Refusal → Answer
+refusal n why = record { text = refused_line n why; tally = record { commands = 1; refused = 1; failed = 0 } }
+
+-- how a refusal ends the run, where it does: the fault of a log or an image, a full run, want of memory
+abbrev pub halt_by : Refusal → Option Halt
+halt_by (refused.LogFault file count) = Some (halt.LogFault file)
+halt_by refused.RunFull = Some halt.RunFull
+halt_by refused.Memory = Some halt.Memory
+halt_by _ = None
+
+-- a line that is refused so is answered by that refusal, whatever it is, or memory is wanted for its printed line
+abbrev pub IsRefused : (n : ℕ) → Refusal → Result (Answer × Option Refusal) Halt → Type 0
+IsRefused n why (Ok reply) = reply ≡ (refusal n why, Some why)
+IsRefused n why (Err how) = how ≡ halt.Memory
+
+-- What came of a command is answered, beside why it was refused; or it ends the run, for want of memory also where there is none for the printed lines.
+abbrev pub Ends : (n : ℕ) → Result Outcome Refusal → Result (Answer × Option Refusal) Halt → Type 0
+Ends n (Ok it) (Ok reply) = reply ≡ (done (outcome_lines n it), None)
+Ends n (Ok it) (Err how) = how ≡ halt.Memory
+Ends n (Err e) (Ok reply) = (halt_by e ≡ None) × (reply ≡ (refusal n e, Some e))
+Ends n (Err e) (Err how) = (halt_by e ≡ Some how) ⊎ (how ≡ halt.Memory)

@@ -1,0 +1,105 @@
+-- What a command does, step by step, whoever makes the steps.
+use Rattle.std.specs.Prelude.{◌≡◌, ◌⊎◌, ℕ, List, [], ◌∷◌, ◌++◌, None, Some, Result, Ok, Err}
+use Rattle.kinds.specs.declared.refusal.Refusal.{Refusal}
+use Rattle.kinds.specs.declared.refusal.Refusal.TheVariants.{Memory, TreeFault, UnknownWord}
+use Rattle.choosers.specs.declared.rule.Rule.{Rule}
+use Rattle.inventory_rows.specs.version_groups.Entries.{on_ok}
+use Rattle.inventory_answers.specs.declared.query.Query.{Query}
+use Rattle.inventory_answers.specs.declared.query.Query.TheVariants as query
+use Rattle.inventory_answers.specs.declared.reply.Answer as rows
+use Rattle.inventory_answers.specs.declared.reply.Rows as reply
+use Rattle.inventory_answers.specs.declared.reply.Rows.TheVariants as kind
+use Rattle.admin_words.specs.declared.command.Command.{Command}
+use Rattle.admin_words.specs.declared.files.FilePut.{FilePut}
+use Rattle.admin_words.specs.declared.policy.NamedSet.{NamedSet}
+use Rattle.admin_commands.specs.Orders.{needs, work_of}
+use Rattle.admin_commands.specs.declared.work.Work.{Work}
+use Rattle.admin_commands.specs.declared.work.Work.TheVariants.{Commit, Show, Run}
+use Rattle.reports.specs.declared.shown.Shown.TheVariants.{Done, Stored}
+use Rattle.sessions.specs.Changing.{Changing}
+use Rattle.sessions.specs.Checkpoints.{Checkpointing}
+use Rattle.sessions.specs.Getting.{Gets}
+use Rattle.sessions.specs.InTurn.{InTurn, OrMemory}
+use Rattle.sessions.specs.Putting.{Puts}
+use Rattle.sessions.specs.declared.getting.FileRead.{FileRead}
+use Rattle.steps.specs.Calls.{IsStep, Made, Then}
+use Rattle.steps.specs.Events.{Event}
+use Rattle.steps.specs.Events.Deed.{Ask}
+use Rattle.command_steps.specs.Owns.{Own, checkpoint, file_put, get, last_of, none_yet, own_of, put, row_put, validate}
+use Rattle.command_steps.specs.declared.outcome.Outcome.{Outcome}
+use Rattle.command_steps.specs.declared.outcome.Outcome.TheVariants.{Read, Rows, Said}
+
+-- ---- look-ups
+
+-- each query was asked by a step, one after the other, and these are the answers
+abbrev pub Asked : List Query → List rows.Answer → List Event → Type 0
+Asked [] [] events = events ≡ []
+Asked (q ∷ queries) (a ∷ answers) events = Then (λ xs. IsStep (Ask q (Ok a)) xs) (λ ys. Asked queries answers ys) events
+Asked _ _ events = ⊥
+
+-- All were answered. Or the first of them were, and the next was refused so; or memory was wanted, for an answer or before a step.
+abbrev pub AsksAll : List Query → List Event → Result (List rows.Answer) Refusal → Type 0
+AsksAll queries events (Ok answers) = Asked queries answers events
+AsksAll queries events (Err e) =
+    (front : List Query) × (answers : List rows.Answer)
+    × (((q : Query) × (rest : List Query) × (queries ≡ front ++ (q ∷ rest)) × Then (λ xs. Asked front answers xs) (λ ys. Made (Ask q (Err e)) ys) events)
+    ⊎ ((rest : List Query) × (queries ≡ front ++ rest) × Asked front answers events × (e ≡ Memory)))
+
+-- ---- work
+
+-- what a call answered becomes an outcome, or it was refused so
+abbrev pub Gives : {A : Type 0} → (Calls : List Event → Result A Refusal → Type 0) → (A → Outcome) → List Event → Result Outcome Refusal → Type 0
+Gives {A = A} Calls shape events result = (answer : Result A Refusal) × Calls events answer × (result ≡ on_ok shape answer)
+
+-- the query was asked by a step, or memory was wanted before it
+abbrev pub Told : Query → List Event → Result rows.Answer Refusal → Type 0
+Told q events answer = Made (Ask q answer) events
+
+-- The set may be activated, or is refused so as its activation would be. Rows of another kind stand for want of memory.
+abbrev pub validity : reply.Rows → Result Outcome Refusal
+validity (kind.Validated None) = Ok (Said Done)
+validity (kind.Validated (Some e)) = Err e
+validity _ = Err Memory
+
+abbrev pub validated_by : Result rows.Answer Refusal → Result Outcome Refusal
+validated_by (Ok answer) = validity answer.rows
+validated_by (Err e) = Err e
+
+-- whether a policy set may be activated is asked
+abbrev pub Validates : NamedSet → List Event → Result Outcome Refusal → Type 0
+Validates set events result =
+    (answer : Result rows.Answer Refusal) × OrMemory (Told (query.Validated set.domain set.set)) events answer × (result ≡ validated_by answer)
+
+-- what was answered over a tree in memory, of which a fault is want of memory
+abbrev pub within_memory : Result ℕ Refusal → Result ℕ Refusal
+within_memory (Err TreeFault) = Err Memory
+within_memory answer = answer
+
+-- The text of a PUT is sent as the one file of a client. Where a call on the tree in memory that has this file failed, memory was wanted.
+abbrev pub PutsText : List Rule → FilePut → List Event → Result ℕ Refusal → Type 0
+PutsText choice p events result =
+    (Puts p.node p.filespace choice (Some (file_put p)) (row_put p) events result × (result ≡ Err TreeFault → ⊥))
+    ⊎ (Puts p.node p.filespace choice (Some (file_put p)) (row_put p) events (Err TreeFault) × (result ≡ Err Memory))
+
+-- work of a command's own, over the numbers of the things that it names; what isn't done so far is refused like an unknown word
+abbrev pub DoesOwn : List Rule → Own → List ℕ → List Event → Result Outcome Refusal → Type 0
+DoesOwn choice (validate set) numbers events result = Validates set events result
+DoesOwn choice (put p) numbers events result = Gives (OrMemory (PutsText choice p)) (λ object. Said (Stored object)) events result
+DoesOwn choice (get g) numbers events result = Gives (OrMemory (Gets g.node g.filespace g.path)) Read events result
+DoesOwn choice checkpoint numbers events result = Gives Checkpointing (λ seq. Said Done) events result
+DoesOwn choice none_yet numbers events result = (events ≡ []) × (result ≡ Err (UnknownWord 1))
+
+-- A command whose work is this does it: its change is committed, its query answered, or its own work done.
+abbrev pub Does : List Rule → Command → Work → List Event → Result Outcome Refusal → Type 0
+Does choice c (Commit what) events result = Gives (Changing what) (λ number. Said (last_of what)) events result
+Does choice c (Show q) events result = Gives (Told q) Rows events result
+Does choice c (Run numbers) events result = DoesOwn choice (own_of c) numbers events result
+
+-- it is done, or refused before it begins
+abbrev pub DoesWork : List Rule → Command → Result Work Refusal → List Event → Result Outcome Refusal → Type 0
+DoesWork choice c (Ok work) events result = Does choice c work events result
+DoesWork choice c (Err why) events result = (events ≡ []) × (result ≡ Err why)
+
+-- A command: its look-ups are asked, and by their answers its work is done, or it is refused. Memory may be wanted before either.
+abbrev pub Doing : List Rule → Command → List Event → Result Outcome Refusal → Type 0
+Doing choice c events result = InTurn (OrMemory (AsksAll (needs c))) (λ answers. OrMemory (DoesWork choice c (work_of c answers))) events result

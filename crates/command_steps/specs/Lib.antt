@@ -1,0 +1,6 @@
+pub mod Answering
+pub mod Answers
+pub mod Doing
+pub mod Lines
+pub mod Owns
+pub mod Reading

@@ -1,0 +1,76 @@
+-- What a line of the script asks.
+use Rattle.std.specs.Prelude.{Bool, true, false, not, if◌then◌else◌, List, ℕ, Result, Ok, Err}
+use Rattle.kinds.specs.declared.refusal.Refusal.{Refusal}
+use Rattle.kinds.specs.declared.refusal.Refusal.TheVariants.{UnknownWord}
+use Rattle.command_words.specs.Comments.{is_comment}
+use Rattle.admin_words.specs.Line.{command}
+use Rattle.admin_words.specs.declared.command.Command.{Command}
+use Rattle.admin_words.specs.declared.command.Command.TheVariants as commands
+use Rattle.admin_words.specs.declared.command.NodeCommand.{NodeCommand}
+use Rattle.admin_words.specs.declared.command.NodeCommand.TheVariants.{DeleteFilespace}
+use Rattle.admin_words.specs.declared.command.PoolCommand.{PoolCommand}
+use Rattle.admin_words.specs.declared.command.PoolCommand.TheVariants.{BackupPool, MigrateAll, MigratePool, ReclaimPool, RestorePool}
+use Rattle.admin_words.specs.declared.command.VolumeCommand.{VolumeCommand}
+use Rattle.admin_words.specs.declared.command.VolumeCommand.TheVariants.{AuditVolume, DeleteVolume, MoveData, RestoreVolume, ReuseVolumes}
+use Rattle.admin_words.specs.declared.command.FileCommand.{FileCommand}
+use Rattle.admin_words.specs.declared.command.FileCommand.TheVariants.{Get, Put}
+use Rattle.admin_words.specs.declared.command.DatabaseCommand.{DatabaseCommand}
+use Rattle.admin_words.specs.declared.command.DatabaseCommand.TheVariants.{BackupDatabase, DeleteHistory, ExpireInventory}
+
+-- the commands of each family that the server does so far
+abbrev pub does_node : NodeCommand → Bool
+does_node (DeleteFilespace f) = false
+does_node _ = true
+
+abbrev pub does_pool : PoolCommand → Bool
+does_pool (BackupPool b) = false
+does_pool MigrateAll = false
+does_pool (MigratePool m) = false
+does_pool (ReclaimPool r) = false
+does_pool (RestorePool p) = false
+does_pool _ = true
+
+abbrev pub does_volume : VolumeCommand → Bool
+does_volume (AuditVolume a) = false
+does_volume (DeleteVolume d) = not d.discard_data
+does_volume (MoveData m) = false
+does_volume (RestoreVolume v) = false
+does_volume ReuseVolumes = false
+does_volume _ = true
+
+abbrev pub does_file : FileCommand → Bool
+does_file (Get g) = true
+does_file (Put p) = true
+does_file _ = false
+
+abbrev pub does_database : DatabaseCommand → Bool
+does_database (BackupDatabase b) = false
+does_database (DeleteHistory h) = false
+does_database ExpireInventory = false
+does_database _ = true
+
+-- whether the server does a command so far; every other one is refused like an unknown word
+abbrev pub is_done : Command → Bool
+is_done (commands.Policy c) = true
+is_done (commands.Class c) = true
+is_done (commands.Node c) = does_node c
+is_done (commands.Pool c) = does_pool c
+is_done (commands.Volume c) = does_volume c
+is_done (commands.File c) = does_file c
+is_done (commands.Database c) = does_database c
+is_done (commands.Block c) = false
+
+-- what a line is: a comment; a line that is refused as it stands; or a command that is to be done
+pub data Line : Type 0 where
+  comment : Line
+  refused : (why : Refusal) → Line
+  asks : (command : Command) → Line
+
+-- the line of a command that was read, or was not
+abbrev pub read_as : Result Command Refusal → Line
+read_as (Ok c) = if is_done c then asks c else refused (UnknownWord 1)
+read_as (Err why) = refused why
+
+-- what a line outside blocks is
+abbrev pub line_of : List ℕ → Line
+line_of line = if is_comment line then comment else read_as (command line false)

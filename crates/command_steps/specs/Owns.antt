@@ -1,0 +1,62 @@
+-- Work of a command that is no one change and no one query.
+use Rattle.std.specs.Prelude.{List, length, ℕ}
+use Rattle.kinds.specs.declared.change.PoolChange.TheVariants as store
+use Rattle.kinds.specs.declared.change.Verb.TheVariants as verb
+use Rattle.client_trees.specs.Files.{ClientFile}
+use Rattle.client_trees.specs.declared.tree.FileRow.{FileRow}
+use Rattle.entries.specs.declared.change.Change.{Change}
+use Rattle.entries.specs.declared.change.Change.TheVariants as change
+use Rattle.admin_words.specs.declared.command.Command.{Command}
+use Rattle.admin_words.specs.declared.command.Command.TheVariants as commands
+use Rattle.admin_words.specs.declared.command.DatabaseCommand.{DatabaseCommand}
+use Rattle.admin_words.specs.declared.command.DatabaseCommand.TheVariants.{Checkpoint}
+use Rattle.admin_words.specs.declared.command.FileCommand.{FileCommand}
+use Rattle.admin_words.specs.declared.command.FileCommand.TheVariants.{Get, Put}
+use Rattle.admin_words.specs.declared.command.PolicyCommand.{PolicyCommand}
+use Rattle.admin_words.specs.declared.command.PolicyCommand.TheVariants.{ValidateSet}
+use Rattle.admin_words.specs.declared.files.FileGet.{FileGet}
+use Rattle.admin_words.specs.declared.files.FilePut.{FilePut}
+use Rattle.admin_words.specs.declared.policy.NamedSet.{NamedSet}
+use Rattle.reports.specs.declared.shown.Shown.{Shown}
+use Rattle.reports.specs.declared.shown.Shown.TheVariants.{DeletedVolume, Done, Reused}
+
+-- VALIDATE of a policy set, PUT, GET, CHECKPOINT; and what isn't done so far
+pub data Own : Type 0 where
+  validate : (set : NamedSet) → Own
+  put : (file : FilePut) → Own
+  get : (file : FileGet) → Own
+  checkpoint : Own
+  none_yet : Own
+
+abbrev pub policy_own : PolicyCommand → Own
+policy_own (ValidateSet s) = validate s
+policy_own _ = none_yet
+
+abbrev pub file_own : FileCommand → Own
+file_own (Put p) = put p
+file_own (Get g) = get g
+file_own _ = none_yet
+
+abbrev pub database_own : DatabaseCommand → Own
+database_own Checkpoint = checkpoint
+database_own _ = none_yet
+
+abbrev pub own_of : Command → Own
+own_of (commands.Policy c) = policy_own c
+own_of (commands.File c) = file_own c
+own_of (commands.Database c) = database_own c
+own_of _ = none_yet
+
+-- the file that a PUT stores, and its row as a client would list it
+abbrev pub file_put : FilePut → ClientFile
+file_put p = record { bytes = p.text; mtime = p.mtime }
+
+abbrev pub row_put : FilePut → FileRow
+row_put p = record { path = p.path; size = length p.text; mtime = p.mtime }
+
+-- the last line of a change: of a new day with how many volumes are used again, of which there are none as long as no command takes copies away; of a volume that is
+-- taken off its pool, on which nothing lay
+abbrev pub last_of : Change → Shown
+last_of (change.Day day) = Reused 0
+last_of (change.Pool (store.Volume verb.Delete name pool file capacity access)) = DeletedVolume 0 0
+last_of c = Done

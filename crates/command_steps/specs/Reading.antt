@@ -1,0 +1,20 @@
+-- The code's values of what a line is, and of work of a command's own.
+use Rattle.command_steps.specs.Lines.{Line, asks, comment, refused}
+use Rattle.command_steps.specs.Owns as owns
+use Rattle.command_steps.specs.declared.lines.Line as code
+use Rattle.command_steps.specs.declared.lines.Line.TheVariants.{Asks, Comment, Refused}
+use Rattle.command_steps.specs.declared.own.Own.{Own}
+use Rattle.command_steps.specs.declared.own.Own.TheVariants.{Checkpoint, Get, NoneYet, Put, Validate}
+
+-- what the code's value stands for
+abbrev pub line_view : code.Line → Line
+line_view Comment = comment
+line_view (Refused why) = refused why
+line_view (Asks command) = asks command
+
+abbrev pub own_view : Own → owns.Own
+own_view (Validate set) = owns.validate set.now
+own_view (Put file) = owns.put file.now
+own_view (Get file) = owns.get file.now
+own_view Checkpoint = owns.checkpoint
+own_view NoneYet = owns.none_yet

@@ -1,0 +1,400 @@
+// What a command does.
+ghost use Rattle.std.specs.Prelude.{◌≡◌, ◌≤◌, ◌^◌, Some, length, IfErr, IfOk};
+ghost use Rattle.kinds.specs.declared.refusal.Refusal.TheVariants.{Memory};
+ghost use Rattle.entries.specs.declared.change.Change.TheVariants.{Pool};
+ghost use Rattle.client_trees.specs.Files.{file_at};
+ghost use Rattle.inventory_answers.specs.declared.query.Query.TheVariants as query;
+ghost use Rattle.admin_commands.specs.Orders.{work_of};
+ghost use Rattle.reports.specs.declared.shown.Shown.TheVariants as shown;
+ghost use Rattle.sessions.specs.Changing.{Changing};
+ghost use Rattle.sessions.specs.Checkpoints.{Checkpointing};
+ghost use Rattle.sessions.specs.Getting.{Gets};
+ghost use Rattle.sessions.specs.InTurn.{OrMemory};
+ghost use Rattle.steps.specs.Calls.{Call};
+ghost use Rattle.command_steps.specs.Doing.{Does, DoesOwn, DoesWork, Doing, Gives, PutsText, Told, Validates, validated_by, validity, within_memory};
+ghost use Rattle.command_steps.specs.Owns.{file_put, last_of, own_of, row_put};
+ghost use Rattle.command_steps.specs.declared.outcome.Outcome.TheVariants as outcome;
+
+use crate::looking::look_up;
+use crate::outcome::Outcome;
+use crate::own::{Own, own_of};
+use admin_commands::{Work, work_of};
+use admin_words::Command;
+use admin_words::files::{FileGet, FilePut};
+use admin_words::policy::NamedSet;
+use choosers::Binder;
+use client_trees::{FileRow, MemTree, Tree};
+use entries::Change;
+use inventory_answers::{Answer, Query, Rows};
+use kinds::{Name, PoolChange, Refusal, Verb};
+use reports::Shown;
+use sessions::{checkpoint, commit_change, put_file, read_file, show};
+use std::alloc::Global;
+use steps::Stepper;
+
+// ---- changes and queries
+
+fn last_of_pool(change: &PoolChange) -> Shown
+    ensures { result ≡ last_of (Pool change.now) }
+{
+    match change {
+        PoolChange::Volume {
+            verb: Verb::Delete,
+            ..
+        } => Shown::DeletedVolume {
+            discarded: 0,
+            dropped: 0,
+        },
+        _ => Shown::Done,
+    }
+}
+
+/// The last line of a change.
+fn last_of(change: &Change) -> Shown
+    ensures { result ≡ last_of change.now }
+{
+    match change {
+        Change::Day { day: _ } => Shown::Reused { reused: 0 },
+        Change::Pool(change) => last_of_pool(change),
+        _ => Shown::Done,
+    }
+}
+
+/// Commits a change.
+fn make<P: Stepper>(p: &mut P, change: Change) -> Result<Outcome, Refusal>
+    ensures { Call P.did p.old p.new (λ events. Gives (Changing change) (λ number. outcome.Said (last_of change)) events result) }
+{
+    let shown = last_of(&change);
+    match commit_change(p, change) {
+        Ok(_) => Ok(Outcome::Said(shown)),
+        Err(refusal) => {
+            drop(shown);
+            Err(refusal)
+        }
+    }
+}
+
+/// Asks what is shown.
+fn ask<P: Stepper>(p: &mut P, query: &Query) -> Result<Outcome, Refusal>
+    ensures { Call P.did p.old p.new (λ events. Gives (Told query.now) outcome.Rows events result) }
+{
+    match show(p, query) {
+        Ok(answer) => Ok(Outcome::Rows(answer)),
+        Err(refusal) => Err(refusal),
+    }
+}
+
+// ---- work of a command's own
+
+fn validity(rows: Rows) -> Result<Outcome, Refusal>
+    ensures { result ≡ validity rows }
+{
+    match rows {
+        Rows::Validated(None) => Ok(Outcome::Said(Shown::Done)),
+        Rows::Validated(Some(refusal)) => Err(refusal),
+        other => {
+            drop(other);
+            Err(Refusal::Memory)
+        }
+    }
+}
+
+fn validated_by(answer: Result<Answer, Refusal>) -> Result<Outcome, Refusal>
+    ensures { result ≡ validated_by answer }
+{
+    match answer {
+        Ok(answer) => validity(answer.rows),
+        Err(refusal) => Err(refusal),
+    }
+}
+
+fn ask_validated<P: Stepper>(p: &mut P, domain: Name, set: Name) -> Result<Answer, Refusal>
+    ensures { Call P.did p.old p.new (λ events. Told (query.Validated domain set) events result) }
+{
+    let query = Query::Validated { domain, set };
+    let answer = show(p, &query);
+    drop(query);
+    answer
+}
+
+/// Asks how a policy set's activation would be refused.
+fn ask_validity<P: Stepper>(p: &mut P, set: &NamedSet) -> Result<Answer, Refusal>
+    ensures { Call P.did p.old p.new (λ events. OrMemory (Told (query.Validated set.now.domain set.now.set)) events result) }
+{
+    match set.domain.clone() {
+        Ok(domain) => match set.set.clone() {
+            Ok(set) => ask_validated(p, domain, set),
+            Err(_) => Err(Refusal::Memory),
+        },
+        Err(_) => Err(Refusal::Memory),
+    }
+}
+
+/// Asks whether a policy set may be activated.
+fn validate<P: Stepper>(p: &mut P, set: &NamedSet) -> Result<Outcome, Refusal>
+    ensures { Call P.did p.old p.new (λ events. Validates set.now events result) }
+{
+    validated_by(ask_validity(p, set))
+}
+
+/// A client's tree in memory, with the one file of a PUT. A call on it that failed is want of memory, the one refusal.
+fn tree_of(alloc: Global, file: &FilePut) -> Result<MemTree, Refusal>
+    ensures there { IfOk result (λ tree. file_at file.now.path tree.files ≡ Some (file_put file.now)) }
+    ensures memory { IfErr result (λ e. e ≡ Memory) }
+{
+    let mut tree = MemTree::new(alloc);
+    match tree.create(&file.path) {
+        Ok(()) => match tree.append(&file.path, file.text.as_bytes()) {
+            Ok(()) => match tree.finish(&file.path, file.mtime) {
+                Ok(()) => Ok(tree),
+                Err(_) => Err(Refusal::Memory),
+            },
+            Err(_) => Err(Refusal::Memory),
+        },
+        Err(_) => Err(Refusal::Memory),
+    }
+}
+
+/// A PUT's file as a client would list it. Its one refusal is want of memory.
+fn row_of(file: &FilePut) -> Result<FileRow, Refusal>
+    ensures row { IfOk result (λ row. row ≡ row_put file.now) }
+    ensures memory { IfErr result (λ e. e ≡ Memory) }
+{
+    Ok(FileRow {
+        path: file.path.clone()?,
+        size: file.text.as_bytes().len() as u64,
+        mtime: file.mtime,
+    })
+}
+
+/// What was answered, where a fault of the tree in memory is want of memory.
+fn within_memory(answer: Result<u64, Refusal>) -> Result<u64, Refusal>
+    ensures { result ≡ within_memory answer }
+{
+    match answer {
+        Err(Refusal::TreeFault) => Err(Refusal::Memory),
+        other => other,
+    }
+}
+
+/// Stores this row's file, which stands in this tree, and answers its object's number.
+fn put_row<P: Stepper>(
+    alloc: Global,
+    p: &mut P,
+    binder: &Binder,
+    buffer: &mut [u8],
+    file: &FilePut,
+    mut tree: MemTree,
+    row: &FileRow,
+) -> Result<u64, Refusal>
+    requires some { 1 ≤ length buffer.old }
+    requires few { length buffer.old ≤ 2 ^ 16 }
+    requires there { file_at file.now.path tree.files ≡ Some (file_put file.now) }
+    requires row { row.now ≡ row_put file.now }
+    ensures puts { Call P.did p.old p.new (λ events. PutsText binder.now file.now events result) }
+    ensures long { length buffer.new ≡ length buffer.old }
+{
+    let answer = put_file(
+        alloc,
+        p,
+        &mut tree,
+        &file.node,
+        &file.filespace,
+        row,
+        binder,
+        buffer,
+    );
+    drop(tree);
+    within_memory(answer)
+}
+
+/// Stores the text of a PUT, and answers its object's number.
+fn put_text<P: Stepper>(
+    alloc: Global,
+    p: &mut P,
+    binder: &Binder,
+    buffer: &mut [u8],
+    file: &FilePut,
+) -> Result<u64, Refusal>
+    requires some { 1 ≤ length buffer.old }
+    requires few { length buffer.old ≤ 2 ^ 16 }
+    ensures puts { Call P.did p.old p.new (λ events. OrMemory (PutsText binder.now file.now) events result) }
+    ensures long { length buffer.new ≡ length buffer.old }
+{
+    match tree_of(alloc, file) {
+        Ok(tree) => match row_of(file) {
+            Ok(row) => put_row(alloc, p, binder, buffer, file, tree, &row),
+            Err(refusal) => {
+                drop(tree);
+                Err(refusal)
+            }
+        },
+        Err(refusal) => Err(refusal),
+    }
+}
+
+/// Stores the text of a PUT.
+fn put<P: Stepper>(
+    alloc: Global,
+    p: &mut P,
+    binder: &Binder,
+    buffer: &mut [u8],
+    file: &FilePut,
+) -> Result<Outcome, Refusal>
+    requires some { 1 ≤ length buffer.old }
+    requires few { length buffer.old ≤ 2 ^ 16 }
+    ensures puts { Call P.did p.old p.new (λ events. Gives (OrMemory (PutsText binder.now file.now)) (λ object. outcome.Said (shown.Stored object)) events result) }
+    ensures long { length buffer.new ≡ length buffer.old }
+{
+    match put_text(alloc, p, binder, buffer, file) {
+        Ok(object) => Ok(Outcome::Said(Shown::Stored { object })),
+        Err(refusal) => Err(refusal),
+    }
+}
+
+/// Reads the file of a GET.
+fn get_file<P: Stepper>(
+    alloc: Global,
+    p: &mut P,
+    buffer: &mut [u8],
+    file: &FileGet,
+) -> Result<sessions::FileRead, Refusal>
+    requires some { 1 ≤ length buffer.old }
+    requires few { length buffer.old ≤ 2 ^ 16 }
+    ensures gets { Call P.did p.old p.new (λ events. OrMemory (Gets file.now.node file.now.filespace file.now.path) events result) }
+    ensures long { length buffer.new ≡ length buffer.old }
+{
+    match file.node.clone() {
+        Ok(node) => match file.filespace.clone() {
+            Ok(filespace) => read_file(alloc, p, node, filespace, &file.path, buffer),
+            Err(_) => Err(Refusal::Memory),
+        },
+        Err(_) => Err(Refusal::Memory),
+    }
+}
+
+/// Reads the file of a GET.
+fn get<P: Stepper>(
+    alloc: Global,
+    p: &mut P,
+    buffer: &mut [u8],
+    file: &FileGet,
+) -> Result<Outcome, Refusal>
+    requires some { 1 ≤ length buffer.old }
+    requires few { length buffer.old ≤ 2 ^ 16 }
+    ensures gets { Call P.did p.old p.new (λ events. Gives (OrMemory (Gets file.now.node file.now.filespace file.now.path)) outcome.Read events result) }
+    ensures long { length buffer.new ≡ length buffer.old }
+{
+    match get_file(alloc, p, buffer, file) {
+        Ok(file) => Ok(Outcome::Read(file)),
+        Err(refusal) => Err(refusal),
+    }
+}
+
+/// Makes a checkpoint.
+fn keep<P: Stepper>(p: &mut P) -> Result<Outcome, Refusal>
+    ensures { Call P.did p.old p.new (λ events. Gives Checkpointing (λ seq. outcome.Said shown.Done) events result) }
+{
+    match checkpoint(p) {
+        Ok(_) => Ok(Outcome::Said(Shown::Done)),
+        Err(refusal) => Err(refusal),
+    }
+}
+
+/// Does what is no one change and no one query, over the numbers of the things that the command names.
+fn run_own<P: Stepper>(
+    alloc: Global,
+    p: &mut P,
+    binder: &Binder,
+    buffer: &mut [u8],
+    command: &Command,
+    numbers: &[u32],
+) -> Result<Outcome, Refusal>
+    requires some { 1 ≤ length buffer.old }
+    requires few { length buffer.old ≤ 2 ^ 16 }
+    ensures does { Call P.did p.old p.new (λ events. DoesOwn binder.now (own_of command.now) numbers.now events result) }
+    ensures long { length buffer.new ≡ length buffer.old }
+{
+    let _numbers = numbers;
+    match own_of(command) {
+        Own::Validate(set) => validate(p, set),
+        Own::Put(file) => put(alloc, p, binder, buffer, file),
+        Own::Get(file) => get(alloc, p, buffer, file),
+        Own::Checkpoint => keep(p),
+        Own::NoneYet => Err(Refusal::UnknownWord(1)),
+    }
+}
+
+// ---- a command
+
+/// Does a command's work.
+fn do_work<P: Stepper>(
+    alloc: Global,
+    p: &mut P,
+    binder: &Binder,
+    buffer: &mut [u8],
+    command: &Command,
+    work: Work,
+) -> Result<Outcome, Refusal>
+    requires some { 1 ≤ length buffer.old }
+    requires few { length buffer.old ≤ 2 ^ 16 }
+    ensures does { Call P.did p.old p.new (λ events. Does binder.now command.now work events result) }
+    ensures long { length buffer.new ≡ length buffer.old }
+{
+    match work {
+        Work::Commit(change) => make(p, change),
+        Work::Show(query) => {
+            let outcome = ask(p, &query);
+            drop(query);
+            outcome
+        }
+        Work::Run(numbers) => {
+            let outcome = run_own(alloc, p, binder, buffer, command, numbers.as_slice());
+            drop(numbers);
+            outcome
+        }
+    }
+}
+
+/// Does the work of a command, by the answers to its look-ups.
+fn work_on<P: Stepper>(
+    alloc: Global,
+    p: &mut P,
+    binder: &Binder,
+    buffer: &mut [u8],
+    command: &Command,
+    answers: &[Answer],
+) -> Result<Outcome, Refusal>
+    requires some { 1 ≤ length buffer.old }
+    requires few { length buffer.old ≤ 2 ^ 16 }
+    ensures does { Call P.did p.old p.new (λ events. OrMemory (DoesWork binder.now command.now (work_of command.now answers.now)) events result) }
+    ensures long { length buffer.new ≡ length buffer.old }
+{
+    match work_of(alloc, command, answers) {
+        Ok(work) => do_work(alloc, p, binder, buffer, command, work),
+        Err(refusal) => Err(refusal),
+    }
+}
+
+/// Does a command: its look-ups, and by their answers its work.
+pub(crate) fn do_command<P: Stepper>(
+    alloc: Global,
+    p: &mut P,
+    binder: &Binder,
+    buffer: &mut [u8],
+    command: &Command,
+) -> Result<Outcome, Refusal>
+    requires some { 1 ≤ length buffer.old }
+    requires few { length buffer.old ≤ 2 ^ 16 }
+    ensures does { Call P.did p.old p.new (λ events. Doing binder.now command.now events result) }
+    ensures long { length buffer.new ≡ length buffer.old }
+{
+    match look_up(alloc, p, command) {
+        Ok(answers) => {
+            let outcome = work_on(alloc, p, binder, buffer, command, answers.as_slice());
+            drop(answers);
+            outcome
+        }
+        Err(refusal) => Err(refusal),
+    }
+}

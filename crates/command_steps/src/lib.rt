@@ -1,0 +1,14 @@
+//! What a line of a script does, step by step, whoever makes the steps, and how it is answered.
+#![tactic(auto)]
+
+mod answering;
+mod doing;
+mod lines;
+mod looking;
+mod outcome;
+mod own;
+mod reply;
+mod text;
+
+pub use answering::answer_line;
+pub use outcome::Outcome;

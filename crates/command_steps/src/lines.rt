@@ -1,0 +1,114 @@
+// What a line of the script is.
+ghost use Rattle.std.specs.Prelude.{◌≡◌, ◌<◌, ◌-◌, ◌^◌, false, length, IfOk, IfErr};
+ghost use Rattle.kinds.specs.declared.refusal.Refusal.TheVariants.{Memory};
+ghost use Rattle.command_steps.specs.Lines.{does_node, does_pool, does_volume, does_file, does_database, is_done, line_of};
+ghost use Rattle.command_steps.specs.Reading.{line_view};
+
+use admin_words::command::{DatabaseCommand, FileCommand, NodeCommand, PoolCommand, VolumeCommand};
+use admin_words::{Command, read_line};
+use command_words::is_comment;
+use kinds::Refusal;
+use std::alloc::Global;
+
+/// What a line is.
+#[derive(Drop)]
+pub(crate) enum Line {
+    /// No command.
+    Comment,
+    /// A line that is refused as it stands.
+    Refused(Refusal),
+    /// A command that the server does.
+    Asks(Command),
+}
+
+fn does_node(command: &NodeCommand) -> bool
+    ensures { result ≡ does_node command.now }
+{
+    match command {
+        NodeCommand::DeleteFilespace(_) => false,
+        _ => true,
+    }
+}
+
+fn does_pool(command: &PoolCommand) -> bool
+    ensures { result ≡ does_pool command.now }
+{
+    match command {
+        PoolCommand::BackupPool(_)
+        | PoolCommand::MigrateAll
+        | PoolCommand::MigratePool(_)
+        | PoolCommand::ReclaimPool(_)
+        | PoolCommand::RestorePool(_) => false,
+        _ => true,
+    }
+}
+
+fn does_volume(command: &VolumeCommand) -> bool
+    ensures { result ≡ does_volume command.now }
+{
+    match command {
+        VolumeCommand::DeleteVolume(it) => !it.discard_data,
+        VolumeCommand::AuditVolume(_)
+        | VolumeCommand::MoveData(_)
+        | VolumeCommand::RestoreVolume(_)
+        | VolumeCommand::ReuseVolumes => false,
+        _ => true,
+    }
+}
+
+fn does_file(command: &FileCommand) -> bool
+    ensures { result ≡ does_file command.now }
+{
+    match command {
+        FileCommand::Get(_) | FileCommand::Put(_) => true,
+        _ => false,
+    }
+}
+
+fn does_database(command: &DatabaseCommand) -> bool
+    ensures { result ≡ does_database command.now }
+{
+    match command {
+        DatabaseCommand::BackupDatabase(_)
+        | DatabaseCommand::DeleteHistory(_)
+        | DatabaseCommand::ExpireInventory => false,
+        _ => true,
+    }
+}
+
+/// Whether the server does a command so far.
+fn is_done(command: &Command) -> bool
+    ensures { result ≡ is_done command.now }
+{
+    match command {
+        Command::Policy(_) | Command::Class(_) => true,
+        Command::Node(it) => does_node(it),
+        Command::Pool(it) => does_pool(it),
+        Command::Volume(it) => does_volume(it),
+        Command::File(it) => does_file(it),
+        Command::Database(it) => does_database(it),
+        Command::Block(_) => false,
+    }
+}
+
+/// What a line outside blocks is. Its one refusal is want of memory.
+pub(crate) fn line_of(alloc: Global, line: &[u8]) -> Result<Line, Refusal>
+    requires { length line.now < 2 ^ 32 - 1 }
+    ensures said { IfOk result (λ it. line_view it ≡ line_of line.now) }
+    ensures memory { IfErr result (λ e. e ≡ Memory) }
+{
+    if is_comment(line) {
+        return Ok(Line::Comment);
+    }
+    match read_line(alloc, line, false) {
+        Ok(command) => {
+            if is_done(&command) {
+                Ok(Line::Asks(command))
+            } else {
+                Ok(Line::Refused(Refusal::UnknownWord(1)))
+            }
+        }
+        Err(Refusal::Memory) => Err(Refusal::Memory),
+        Err(refusal) => Ok(Line::Refused(refusal)),
+    }
+}

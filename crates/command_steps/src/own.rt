@@ -1,0 +1,64 @@
+// Work that is no one change and no one query.
+ghost use Rattle.std.specs.Prelude.{◌≡◌};
+ghost use Rattle.command_steps.specs.Owns.{policy_own, file_own, database_own, own_of};
+ghost use Rattle.command_steps.specs.Reading.{own_view};
+
+use admin_words::Command;
+use admin_words::command::{DatabaseCommand, FileCommand, PolicyCommand};
+use admin_words::files::{FileGet, FilePut};
+use admin_words::policy::NamedSet;
+
+/// Work of a command's own.
+#[derive(Clone, Copy)]
+pub(crate) enum Own<'a> {
+    /// VALIDATE of a policy set.
+    Validate(&'a NamedSet),
+    /// PUT.
+    Put(&'a FilePut),
+    /// GET.
+    Get(&'a FileGet),
+    /// CHECKPOINT.
+    Checkpoint,
+    /// What isn't done so far.
+    NoneYet,
+}
+
+fn policy_own(command: &PolicyCommand) -> Own<'_>
+    ensures { own_view result ≡ policy_own command.now }
+{
+    match command {
+        PolicyCommand::ValidateSet(set) => Own::Validate(set),
+        _ => Own::NoneYet,
+    }
+}
+
+fn file_own(command: &FileCommand) -> Own<'_>
+    ensures { own_view result ≡ file_own command.now }
+{
+    match command {
+        FileCommand::Put(file) => Own::Put(file),
+        FileCommand::Get(file) => Own::Get(file),
+        _ => Own::NoneYet,
+    }
+}
+
+fn database_own(command: &DatabaseCommand) -> Own<'_>
+    ensures { own_view result ≡ database_own command.now }
+{
+    match command {
+        DatabaseCommand::Checkpoint => Own::Checkpoint,
+        _ => Own::NoneYet,
+    }
+}
+
+/// The work of a command's own.
+pub(crate) fn own_of(command: &Command) -> Own<'_>
+    ensures { own_view result ≡ own_of command.now }
+{
+    match command {
+        Command::Policy(it) => policy_own(it),
+        Command::File(it) => file_own(it),
+        Command::Database(it) => database_own(it),
+        _ => Own::NoneYet,
+    }
+}

@@ -1,0 +1,67 @@
+// The replies to a command.
+ghost use Rattle.std.specs.Prelude.{◌≡◌, Err};
+ghost use Rattle.command_steps.specs.Answers.{Ends, IsRefused, halt_by};
+
+use crate::outcome::Outcome;
+use crate::text::outcome_lines;
+use kinds::Refusal;
+use reports::print_refused;
+use script_loop::{Halt, Reply};
+use std::alloc::Global;
+
+/// How a refusal ends the run, where it does.
+fn halt_by(refusal: Refusal) -> Option<Halt>
+    ensures { result ≡ halt_by refusal }
+{
+    match refusal {
+        Refusal::LogFault { file, count: _ } => Some(Halt::LogFault(file)),
+        Refusal::RunFull => Some(Halt::RunFull),
+        Refusal::Memory => Some(Halt::Memory),
+        _ => None,
+    }
+}
+
+/// The reply to a line that is refused so, whatever the refusal is.
+pub(crate) fn refused_so(
+    alloc: Global,
+    line: u32,
+    why: Refusal,
+) -> Result<(Reply, Option<Refusal>), Halt>
+    ensures { IsRefused line why result }
+{
+    match print_refused(alloc, line, &why) {
+        Ok(text) => Ok((Reply::refused(text), Some(why))),
+        Err(_) => Err(Halt::Memory),
+    }
+}
+
+/// The reply to a command in this line that is refused, where the refusal doesn't end the run.
+fn refused(alloc: Global, line: u32, why: Refusal) -> Result<(Reply, Option<Refusal>), Halt>
+    ensures { Ends line (Err why) result }
+{
+    match halt_by(why) {
+        Some(how) => Err(how),
+        None => refused_so(alloc, line, why),
+    }
+}
+
+/// The reply to what came of a command in this line.
+pub(crate) fn ends(
+    alloc: Global,
+    line: u32,
+    said: Result<Outcome, Refusal>,
+) -> Result<(Reply, Option<Refusal>), Halt>
+    ensures { Ends line said result }
+{
+    match said {
+        Ok(outcome) => {
+            let text = outcome_lines(alloc, line, &outcome);
+            drop(outcome);
+            match text {
+                Ok(text) => Ok((Reply::command(text), None)),
+                Err(_) => Err(Halt::Memory),
+            }
+        }
+        Err(why) => refused(alloc, line, why),
+    }
+}
