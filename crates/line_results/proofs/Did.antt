@@ -1,0 +1,319 @@
+-- What the steps of a command come to, put together: its look-ups, and then its work.
+use Rattle.std.proofs.Common.{◌≡◌, ◌⊎◌, inl, inr, ℕ, List, [], Result, Ok, Err, refl, sym, ap, subst, ◌∙◌}
+use Rattle.std.proofs.lemmas.Bool.{and_parts}
+use Rattle.std.specs.Result.{result_err}
+use Rattle.kinds.specs.declared.change.PolicyChange.TheVariants as policy
+use Rattle.kinds.specs.declared.refusal.Refusal.{Refusal}
+use Rattle.kinds.specs.declared.refusal.Refusal.TheVariants as refused
+use Rattle.choosers.specs.declared.rule.Rule.{Rule}
+use Rattle.entries.specs.declared.entry.Entry.{Entry}
+use Rattle.inventory_rows.specs.policy_domains.Changes.{after}
+use Rattle.inventory_rows.specs.version_groups.Entries.{on_ok}
+use Rattle.inventory_answers.specs.Answered.{answered}
+use Rattle.inventory_answers.specs.declared.query.Query.{Query}
+use Rattle.inventory_answers.specs.declared.query.Query.TheVariants as query
+use Rattle.inventory_answers.specs.declared.reply.Answer as rows
+use Rattle.inventory_answers.specs.declared.reply.Rows.TheVariants as kind
+use Rattle.command_words.specs.Reading.{◌>>=◌}
+use Rattle.admin_words.specs.declared.command.Command.{Command}
+use Rattle.admin_words.specs.declared.files.FileGet.{FileGet}
+use Rattle.admin_words.specs.declared.files.FilePut.{FilePut}
+use Rattle.admin_words.specs.declared.policy.NamedSet.{NamedSet}
+use Rattle.admin_commands.specs.Orders.{needs, work_of}
+use Rattle.admin_commands.specs.declared.work.Work.{Work}
+use Rattle.admin_commands.specs.declared.work.Work.TheVariants.{Commit, Show, Run}
+use Rattle.reports.specs.declared.shown.Shown.TheVariants.{Done, Stored}
+use Rattle.sessions.specs.Getting.{Gets as GetsBy}
+use Rattle.sessions.specs.InTurn.{OrMemory}
+use Rattle.sessions.specs.declared.getting.FileRead.{FileRead}
+use Rattle.steps.specs.Events.{Event}
+use Rattle.machine.specs.Alone.{Alone}
+use Rattle.machine.specs.Causes.{is_plain}
+use Rattle.machine.specs.Machine.{Places}
+use Rattle.machine.specs.State.{Core, Machine}
+use Rattle.command_steps.specs.Doing.{DoesOwn as DoesOwnBy, DoesWork, Doing, PutsText, Validates, validated_by, validity}
+use Rattle.command_steps.specs.Owns.{Own, checkpoint, get, last_of as last_line, none_yet, own_of, put, validate}
+use Rattle.command_steps.specs.declared.outcome.Outcome.{Outcome}
+use Rattle.command_steps.specs.declared.outcome.Outcome.TheVariants.{Read, Rows, Said}
+use Rattle.line_results.specs.Commands.{Comes, Does, DoesOwn, IsFull, IsRefusedAsRead, IsStopped, Tells, answers_to, validated, work_over}
+use Rattle.line_results.specs.Files.{Gets, Puts}
+use Rattle.line_results.specs.Resting.{HasSizes, IsAtRest, IsLate, Leaves, SameImage, database}
+use Rattle.line_results.proofs.Asked.{EndsBy, Looked, asked-step, last-of, looked, unstopped}
+use Rattle.line_results.proofs.Changed.{changes}
+use Rattle.line_results.proofs.Checkpointed.{checkpoints}
+use Rattle.line_results.proofs.Earlier.{does-since}
+use Rattle.line_results.proofs.Leaving.{rest-as, sizes-as, still-leaves}
+use Rattle.line_results.proofs.Mild.{is_common}
+use Rattle.line_results.proofs.Needs.{IsPlainWork, needs-unlogged, put-asks, work-plain}
+use Rattle.line_results.proofs.Runs.{AreLast, Became, alone-none, alone-parts, became-same, late-on}
+use Rattle.line_results.proofs.Since.{leaves-since}
+
+-- ---- what a PUT and a GET come to, as it stands elsewhere
+
+abbrev pub PutsAs : (trusted : Type 0) → Places → List Rule → Type 0
+PutsAs trusted places choice =
+    (p : FilePut) (old new : Machine) (events : List Event) (answer : Result ℕ Refusal) → IsAtRest old.core → HasSizes old → OrMemory (PutsText choice p) events answer → Alone trusted places 0 events old new
+    → (added : List Entry) × Puts places choice p old new answer added × SameImage old new × Leaves answer added old new
+
+abbrev pub GetsAs : (trusted : Type 0) → Places → Type 0
+GetsAs trusted places =
+    (g : FileGet) (old new : Machine) (events : List Event) (answer : Result FileRead Refusal) → IsAtRest old.core → HasSizes old → OrMemory (GetsBy g.node g.filespace g.path) events answer → Alone trusted places 0 events old new
+    → Gets trusted g old new answer × Became old.core old new × (IsLate old → IsStopped answer)
+
+-- ---- results by a function of an answer
+
+leaves-through : (A B : Type 0) (f : A → B) (answer : Result A Refusal) (added : List Entry) (old new : Machine) → Leaves answer added old new → Leaves (on_ok f answer) added old new
+leaves-through A B f (Ok x) added old new l = record { adds = l.adds; onward = l.onward; log = l.log; rests = l.rests; durable = l.durable }
+leaves-through A B f (Err e) added old new l = record { adds = l.adds; onward = l.onward; log = l.log; rests = l.rests; durable = l.durable }
+
+leaves-on : (A B : Type 0) (f : A → B) (answer : Result A Refusal) (result : Result B Refusal) (added : List Entry) (old new : Machine) → result ≡ on_ok f answer → Leaves answer added old new
+    → Leaves result added old new
+leaves-on A B f answer result added old new is l = subst (λ (r : Result B Refusal). Leaves r added old new) (sym is) (leaves-through A B f answer added old new l)
+
+stopped-as : (B : Type 0) (e : Refusal) (result : Result B Refusal) → result ≡ Err e → AreLast e → IsStopped result
+stopped-as B e result is (inl h) = inl (is ∙ ap Err h)
+stopped-as B e result is (inr h) = inr (is ∙ ap Err h)
+
+stopped-on : (A B : Type 0) (f : A → B) (answer : Result A Refusal) (result : Result B Refusal) → result ≡ on_ok f answer → IsStopped answer → IsStopped result
+stopped-on A B f (Ok x) result is s = absurd (unstopped A x s)
+stopped-on A B f (Err e) result is s = stopped-as B e result is (last-of A e s)
+
+tells : (told result : Result Outcome Refusal) (old new : Machine) → (result ≡ told) ⊎ EndsBy old new result → Became old.core old new → Tells told old new result []
+tells told result old new h b = (h, refl, ap (λ (x : Core). x.generation) b.core, b.contents)
+
+-- ---- work of a command's own
+
+pub record OwnDid (trusted : Type 0) (places : Places) (choice : List Rule) (own : Own) (old new : Machine) (result : Result Outcome Refusal) : Type 0 where
+  pub added : List Entry
+  pub does : DoesOwn trusted places choice own old new result added
+  pub leaves : Leaves result added old new
+  pub late : IsLate old → IsStopped result ⊎ (((own ≡ none_yet) × (result ≡ Err (refused.UnknownWord 1))) ⊎ ((p : FilePut) × (own ≡ put p)))
+
+validity-is : {X : Type 0} (r : Result X Refusal) → validity (kind.Validated (result_err r)) ≡ on_ok (λ done. Said Done) (on_ok (λ (x : X). tt {0}) r)
+validity-is (Ok x) = refl
+validity-is (Err e) = refl
+
+validated-ends : (answer : Result rows.Answer Refusal) (result : Result Outcome Refusal) (old new : Machine) → result ≡ validated_by answer → EndsBy old new answer → EndsBy old new result
+validated-ends answer result old new is (e, same, ends) = (e, is ∙ ap validated_by same, ends)
+
+validated-stopped : (answer : Result rows.Answer Refusal) (result : Result Outcome Refusal) → result ≡ validated_by answer → IsStopped answer → IsStopped result
+validated-stopped (Ok a) result is s = absurd (unstopped rows.Answer a s)
+validated-stopped (Err e) result is s = stopped-as Outcome e result is (last-of rows.Answer e s)
+
+validated-told : (set : NamedSet) (answer : Result rows.Answer Refusal) (result : Result Outcome Refusal) (old new : Machine) → result ≡ validated_by answer
+    → (answer ≡ answered (query.Validated set.domain set.set) (database old)) ⊎ EndsBy old new answer → (result ≡ on_ok (λ done. Said Done) (validated set (database old))) ⊎ EndsBy old new result
+validated-told set answer result old new is (inl same) = inl (is ∙ ap validated_by same ∙ validity-is (after (policy.Activate set.domain set.set) (database old).domains))
+validated-told set answer result old new is (inr ends) = inr (validated-ends answer result old new is ends)
+
+wanted-ends : (B : Type 0) (result : Result B Refusal) (old new : Machine) → result ≡ Err refused.Memory → EndsBy old new result
+wanted-ends B result old new is = (refused.Memory, is, tt)
+
+module _ (trusted : Type 0) (places : Places) (choice : List Rule) (puts : PutsAs trusted places choice) (gets : GetsAs trusted places) where
+  validate-did : (set : NamedSet) (events : List Event) (result : Result Outcome Refusal) (old new : Machine) → IsAtRest old.core → Validates set events result → Alone trusted places 0 events old new
+      → OwnDid trusted places choice (validate set) old new result
+  validate-did set events result old new rest (answer, inl made, is) f =
+      let t = asked-step trusted places (query.Validated set.domain set.set) answer events old new refl rest made f in
+      record {
+        added = [];
+        does = tells (on_ok (λ done. Said Done) (validated set (database old))) result old new (validated-told set answer result old new is t.told) t.still;
+        leaves = still-leaves result old new rest t.still;
+        late = λ l. inl (validated-stopped answer result is (t.late l));
+      }
+  validate-did set events result old new rest (answer, inr (none, wanted), is) f =
+      let b = became-same old new (alone-none trusted places 0 events old new none f) in
+      let stop : result ≡ Err refused.Memory = is ∙ ap validated_by wanted in
+      record {
+        added = [];
+        does = tells (on_ok (λ done. Said Done) (validated set (database old))) result old new (inr (wanted-ends Outcome result old new stop)) b;
+        leaves = still-leaves result old new rest b;
+        late = λ l. inl (inr stop);
+      }
+
+  own-did : (own : Own) (numbers : List ℕ) (events : List Event) (result : Result Outcome Refusal) (old new : Machine) → IsAtRest old.core → HasSizes old → DoesOwnBy choice own numbers events result
+      → Alone trusted places 0 events old new → OwnDid trusted places choice own old new result
+  own-did (validate set) numbers events result old new rest sizes h f = validate-did set events result old new rest h f
+  own-did (put p) numbers events result old new rest sizes (answer, called, is) f =
+      let r = puts p old new events answer rest sizes called f in
+      record {
+        added = r.0;
+        does = (answer, r.1, is, r.2);
+        leaves = leaves-on ℕ Outcome (λ object. Said (Stored object)) answer result r.0 old new is r.3;
+        late = λ l. inr (inr (p, refl));
+      }
+  own-did (get g) numbers events result old new rest sizes (answer, called, is) f =
+      let r = gets g old new events answer rest sizes called f in
+      record {
+        added = [];
+        does = (answer, r.0, is, refl, ap (λ (x : Core). x.generation) r.1.core, r.1.contents);
+        leaves = still-leaves result old new rest r.1;
+        late = λ l. inl (stopped-on FileRead Outcome Read answer result is (r.2 l));
+      }
+  own-did checkpoint numbers events result old new rest sizes (answer, called, is) f =
+      let r = checkpoints trusted places events answer old new rest called.order f in
+      record {
+        added = [];
+        does = (answer, r.came, is, refl, r.bytes);
+        leaves = leaves-on ℕ Outcome (λ seq. Said Done) answer result [] old new is r.leaves;
+        late = λ l. inl (stopped-on ℕ Outcome (λ seq. Said Done) answer result is (r.late l));
+      }
+  own-did none_yet numbers events result old new rest sizes (none, is) f =
+      let b = became-same old new (alone-none trusted places 0 events old new none f) in
+      record {
+        added = [];
+        does = tells (Err (refused.UnknownWord 1)) result old new (inl is) b;
+        leaves = still-leaves result old new rest b;
+        late = λ l. inr (inl (refl, is));
+      }
+
+-- ---- work
+
+-- it is refused without a step
+abbrev IsUndone : Command → Result Work Refusal → Result Outcome Refusal → Type 0
+IsUndone c w result =
+    ((why : Refusal) × (w ≡ Err why) × (result ≡ Err why))
+    ⊎ ((numbers : List ℕ) × (w ≡ Ok (Run numbers)) × (own_of c ≡ none_yet) × (result ≡ Err (refused.UnknownWord 1)))
+
+pub record WorkDid (trusted : Type 0) (places : Places) (choice : List Rule) (c : Command) (w : Result Work Refusal) (old new : Machine) (result : Result Outcome Refusal) : Type 0 where
+  pub added : List Entry
+  pub does : Does trusted places choice c w old new result added
+  pub leaves : Leaves result added old new
+  pub late : IsLate old → needs c ≡ [] → IsStopped result ⊎ IsUndone c w result
+
+own-late : (c : Command) (numbers : List ℕ) (result : Result Outcome Refusal) → needs c ≡ []
+    → IsStopped result ⊎ (((own_of c ≡ none_yet) × (result ≡ Err (refused.UnknownWord 1))) ⊎ ((p : FilePut) × (own_of c ≡ put p))) → IsStopped result ⊎ IsUndone c (Ok (Run numbers)) result
+own-late c numbers result none (inl s) = inl s
+own-late c numbers result none (inr (inl (own, is))) = inr (inr (numbers, refl, own, is))
+own-late c numbers result none (inr (inr (p, own))) = absurd (put-asks c p own none)
+
+shown-told : (q : Query) (answer : Result rows.Answer Refusal) (result : Result Outcome Refusal) (old new : Machine) → result ≡ on_ok Rows answer → (answer ≡ answered q (database old)) ⊎ EndsBy old new answer
+    → (result ≡ on_ok Rows (answered q (database old))) ⊎ EndsBy old new result
+shown-told q answer result old new is (inl same) = inl (is ∙ ap (λ (r : Result rows.Answer Refusal). on_ok Rows r) same)
+shown-told q answer result old new is (inr (e, same, ends)) = inr (e, is ∙ ap (λ (r : Result rows.Answer Refusal). on_ok Rows r) same, ends)
+
+module _ (trusted : Type 0) (places : Places) (choice : List Rule) (puts : PutsAs trusted places choice) (gets : GetsAs trusted places) where
+  work-did : (c : Command) (w : Result Work Refusal) (events : List Event) (result : Result Outcome Refusal) (old new : Machine) → IsPlainWork w → IsAtRest old.core → HasSizes old → DoesWork choice c w events result
+      → Alone trusted places 0 events old new → WorkDid trusted places choice c w old new result
+  work-did c (Err why) events result old new plain rest sizes (none, is) f =
+      let b = became-same old new (alone-none trusted places 0 events old new none f) in
+      record { added = []; does = tells (Err why) result old new (inl is) b; leaves = still-leaves result old new rest b; late = λ l n. inr (inl (why, refl, is)) }
+  work-did c (Ok (Commit what)) events result old new plain rest sizes (answer, called, is) f =
+      let r = changes trusted places what events answer old new (and_parts (is_plain what) (is_common what) plain).0 rest called.order f in
+      record {
+        added = r.added;
+        does = (answer, r.commits, is, r.image, r.bytes);
+        leaves = leaves-on ℕ Outcome (λ number. Said (last_line what)) answer result r.added old new is r.leaves;
+        late = λ l n. inl (stopped-on ℕ Outcome (λ number. Said (last_line what)) answer result is (r.late l));
+      }
+  work-did c (Ok (Show q)) events result old new plain rest sizes (answer, made, is) f =
+      let t = asked-step trusted places q answer events old new plain rest made f in
+      record {
+        added = [];
+        does = tells (on_ok Rows (answered q (database old))) result old new (shown-told q answer result old new is t.told) t.still;
+        leaves = still-leaves result old new rest t.still;
+        late = λ l n. inl (stopped-on rows.Answer Outcome Rows answer result is (t.late l));
+      }
+  work-did c (Ok (Run numbers)) events result old new plain rest sizes h f =
+      let r = own-did trusted places choice puts gets (own_of c) numbers events result old new rest sizes h f in
+      record { added = r.added; does = r.does; leaves = r.leaves; late = λ l n. own-late c numbers result n (r.late l) }
+
+-- ---- a command
+
+pub record CommandDid (trusted : Type 0) (places : Places) (choice : List Rule) (c : Command) (old new : Machine) (result : Result Outcome Refusal) : Type 0 where
+  pub added : List Entry
+  pub comes : Comes trusted places choice c old new result added
+  pub leaves : Leaves result added old new
+
+-- the run ended before its work was known
+begins-not : (trusted : Type 0) (places : Places) (choice : List Rule) (c : Command) (old new : Machine) (result : Result Outcome Refusal) → IsAtRest old.core → EndsBy old new result → Became old.core old new
+    → IsFull c old result → CommandDid trusted places choice c old new result
+begins-not trusted places choice c old new result rest (e, is, ends) b full = record {
+  added = [];
+  comes = (inl (e, is, ends, refl, ap (λ (x : Core). x.generation) b.core, b.contents), full);
+  leaves = still-leaves result old new rest b;
+}
+
+abbrev refused_list : Refusal → Result (List rows.Answer) Refusal
+refused_list e = Err e
+
+abbrev error_in : Result (List rows.Answer) Refusal → Refusal
+error_in (Ok x) = refused.Memory
+error_in (Err e) = e
+
+same-err : (e f : Refusal) → refused_list e ≡ refused_list f → e ≡ f
+same-err e f h = ap error_in h
+
+-- a look-up is refused
+not-looked : (trusted : Type 0) (places : Places) (choice : List Rule) (c : Command) (old new : Machine) (e : Refusal) (result : Result Outcome Refusal) → IsAtRest old.core → result ≡ Err e
+    → Looked (needs c) old new (Err e) → CommandDid trusted places choice c old new result
+not-looked trusted places choice c old new e result rest is h =
+    let full : IsFull c old result = λ l. inl (elim (h.late l) as (λ _. IsStopped result) [
+      | inl s ↦ stopped-as Outcome e result is (last-of (List rows.Answer) e s)
+      | inr n ↦ (let odd : Err e ≡ Ok [] = n.1 in absurd cc)
+    ]) in
+    elim h.told as (λ _. CommandDid trusted places choice c old new result) [
+      | inl same ↦ (let w : work_over c (database old) ≡ Err e = ap (λ (r : Result (List rows.Answer) Refusal). r >>= λ answers. work_of c answers) (sym same) in
+          record {
+            added = [];
+            comes = (inr (subst (λ (r : Result Work Refusal). Does trusted places choice c r old new result []) (sym w) (tells (Err e) result old new (inl is) h.still)), full);
+            leaves = still-leaves result old new rest h.still;
+          })
+      | inr ends ↦ (let f : Refusal = ends.0 in let same : e ≡ f = same-err e f ends.1 in
+          begins-not trusted places choice c old new result rest (f, is ∙ ap Err same, ends.2) h.still full)
+    ]
+
+-- the look-ups were answered
+answers-are : (queries : List Query) (answers : List rows.Answer) (old mid : Machine) → (Ok answers ≡ answers_to queries (database old)) ⊎ EndsBy old mid (Ok answers) → Ok answers ≡ answers_to queries (database old)
+answers-are queries answers old mid (inl h) = h
+answers-are queries answers old mid (inr (e, h, r)) = absurd cc
+
+abbrev as_list : List rows.Answer → Result (List rows.Answer) Refusal
+as_list answers = Ok answers
+
+abbrev list_in : Result (List rows.Answer) Refusal → List rows.Answer
+list_in (Ok answers) = answers
+list_in (Err e) = []
+
+late-answers : (c : Command) (answers : List rows.Answer) → IsStopped (as_list answers) ⊎ ((needs c ≡ []) × (as_list answers ≡ as_list [])) → (needs c ≡ []) × (answers ≡ [])
+late-answers c answers (inl s) = absurd (unstopped (List rows.Answer) answers s)
+late-answers c answers (inr (none, is)) = (none, ap list_in is)
+
+undone-read : (c : Command) (answers : List rows.Answer) (result : Result Outcome Refusal) → needs c ≡ [] → answers ≡ [] → IsStopped result ⊎ IsUndone c (work_of c answers) result
+    → IsStopped result ⊎ IsRefusedAsRead c result
+undone-read c answers result none is (inl s) = inl s
+undone-read c answers result none is (inr (inl (why, w, said))) = inr (none, inl (why, subst (λ (all : List rows.Answer). work_of c all ≡ Err why) is w, said))
+undone-read c answers result none is (inr (inr (numbers, w, own, said))) = inr (none, inr (numbers, subst (λ (all : List rows.Answer). work_of c all ≡ Ok (Run numbers)) is w, own, said))
+
+was-done : (trusted : Type 0) (places : Places) (choice : List Rule) (c : Command) (answers : List rows.Answer) (old mid new : Machine) (result : Result Outcome Refusal) → Looked (needs c) old mid (Ok answers)
+    → WorkDid trusted places choice c (work_of c answers) mid new result → CommandDid trusted places choice c old new result
+was-done trusted places choice c answers old mid new result h w =
+    let same : Ok answers ≡ answers_to (needs c) (database old) = answers-are (needs c) answers old mid h.told in
+    let work : work_of c answers ≡ work_over c (database old) = ap (λ (r : Result (List rows.Answer) Refusal). r >>= λ answers. work_of c answers) same in
+    let full : IsFull c old result = λ l. (let n = late-answers c answers (h.late l) in undone-read c answers result n.0 n.1 (w.late (late-on old mid h.still.onward l) n.0)) in
+    record {
+      added = w.added;
+      comes = (
+        inr (subst (λ (r : Result Work Refusal). Does trusted places choice c r old new result w.added) work (does-since trusted places choice result w.added old mid new h.still c (work_of c answers) w.does)),
+        full,
+      );
+      leaves = leaves-since result w.added old mid new h.still w.leaves;
+    }
+
+module _ (trusted : Type 0) (places : Places) (choice : List Rule) (puts : PutsAs trusted places choice) (gets : GetsAs trusted places) where
+  pub command-did : (c : Command) (events : List Event) (result : Result Outcome Refusal) (old new : Machine) → IsAtRest old.core → HasSizes old → Doing choice c events result → Alone trusted places 0 events old new
+      → CommandDid trusted places choice c old new result
+  command-did c events result old new rest sizes (inl (e, inl asked, is)) f =
+      not-looked trusted places choice c old new e result rest is (looked trusted places (needs c) events (Err e) old new (needs-unlogged c) rest asked f)
+  command-did c events result old new rest sizes (inl (e, inr (none, wanted), is)) f =
+      let stop : result ≡ Err refused.Memory = is ∙ ap Err (same-err e refused.Memory wanted) in
+      begins-not trusted places choice c old new result rest (wanted-ends Outcome result old new stop) (became-same old new (alone-none trusted places 0 events old new none f)) (λ l. inl (inr stop))
+  command-did c events result old new rest sizes (inr (answers, (xs, ys, cut, inr (none, wanted), next))) f = absurd cc
+  command-did c events result old new rest sizes (inr (answers, (xs, ys, cut, inl asked, inl work))) f =
+      let parts = alone-parts trusted places 0 events xs ys old new cut f in
+      let h = looked trusted places (needs c) xs (Ok answers) old parts.0 (needs-unlogged c) rest asked parts.1 in
+      was-done trusted places choice c answers old parts.0 new result h
+      (work-did trusted places choice puts gets c (work_of c answers) ys result parts.0 new (work-plain c answers) (rest-as parts.0.core old.core h.still.core rest) (sizes-as old parts.0 h.still sizes) work parts.2)
+  command-did c events result old new rest sizes (inr (answers, (xs, ys, cut, inl asked, inr (none, wanted)))) f =
+      let parts = alone-parts trusted places 0 events xs ys old new cut f in
+      let h = looked trusted places (needs c) xs (Ok answers) old parts.0 (needs-unlogged c) rest asked parts.1 in
+      let same : new ≡ parts.0 = alone-none trusted places 0 ys parts.0 new none parts.2 in
+      begins-not trusted places choice c old new result rest (wanted-ends Outcome result old new wanted) (subst (λ (m : Machine). Became old.core old m) (sym same) h.still) (λ l. inl (inr wanted))

@@ -1,0 +1,146 @@
+-- What a command's work comes to from a later state, which differs in its counts and its moment alone, it comes to from the earlier one.
+use Rattle.std.proofs.Common.{◌≡◌, ◌⊎◌, inl, inr, ℕ, List, [], ◌∷◌, length, Option, None, Some, Result, Ok, Err, subst}
+use Rattle.std.specs.List.{AllByRecursion}
+use Rattle.kinds.specs.declared.refusal.Refusal.{Refusal}
+use Rattle.kinds.specs.declared.refusal.Refusal.TheVariants as refused
+use Rattle.kinds.specs.declared.segment.Segment.{Segment}
+use Rattle.choosers.specs.declared.rule.Rule.{Rule}
+use Rattle.entries.specs.declared.entry.Entry.{Entry}
+use Rattle.inventory_rows.specs.object_rows.Names.{filespace_named, node_named}
+use Rattle.inventory_rows.specs.version_groups.declared.copies.CopyRow.{CopyRow}
+use Rattle.inventory_rows.specs.version_groups.declared.versions.Version.{Version}
+use Rattle.inventory_rows.specs.State.{Inv}
+use Rattle.inventory_work.specs.Rules.{rules_of}
+use Rattle.inventory_work.specs.declared.lines.Rules.{Rules}
+use Rattle.admin_words.specs.declared.command.Command.{Command}
+use Rattle.admin_words.specs.declared.files.FileGet.{FileGet}
+use Rattle.admin_words.specs.declared.files.FilePut.{FilePut}
+use Rattle.admin_commands.specs.declared.work.Work.{Work}
+use Rattle.admin_commands.specs.declared.work.Work.TheVariants.{Commit, Show, Run}
+use Rattle.machine.specs.Machine.{Places}
+use Rattle.machine.specs.Pieces.{IsCopyLost, IsLost, IsUnavailable, asked_copies}
+use Rattle.machine.specs.State.{Machine, Place}
+use Rattle.sessions.specs.Homes.{home_of}
+use Rattle.sessions.specs.declared.getting.FileRead.{FileRead}
+use Rattle.sessions.specs.declared.homes.Home.{Home}
+use Rattle.command_steps.specs.Owns.{Own, checkpoint, get, none_yet, own_of, put, validate}
+use Rattle.command_steps.specs.declared.outcome.Outcome.{Outcome}
+use Rattle.line_results.specs.Commands.{Does, DoesOwn, Tells, drawn}
+use Rattle.line_results.specs.Files.{Gets, GetsNot, GetsOf, GetsUnder, Puts, PutsBy, PutsHome, PutsOf, PutsUnder, Shows, ShowsFound, Stores, StoresAt, StoresBy, active_at, why_no_place}
+use Rattle.line_results.specs.Resting.{Breaks, EndsRun, RoseFrom, database}
+use Rattle.line_results.proofs.Runs.{Became, is-as, onward-then, rose-from}
+use Rattle.line_results.proofs.Since.{came-as, commits-as, ends-as, later_of, on-later}
+
+ended-as : (told result : Result Outcome Refusal) (old mid new : Machine) → Became old.core old mid → (result ≡ told) ⊎ ((e : Refusal) × (result ≡ Err e) × EndsRun (later_of old mid) new e)
+    → (result ≡ told) ⊎ ((e : Refusal) × (result ≡ Err e) × EndsRun old new e)
+ended-as told result old mid new b (inl is) = inl is
+ended-as told result old mid new b (inr (e, is, ends)) = inr (e, is, ends-as old mid new e b ends)
+
+tells-as : (told result : Result Outcome Refusal) (added : List Entry) (old mid new : Machine) → Became old.core old mid → Tells told (later_of old mid) new result added → Tells told old new result added
+tells-as told result added old mid new b h = (ended-as told result old mid new b h.0, h.1, h.2, h.3)
+
+breaks-as : {A : Type 0} (result : Result A Refusal) (added : List Entry) (old mid new : Machine) → Became old.core old mid → Breaks (later_of old mid) new result added → Breaks old new result added
+breaks-as (Ok x) added old mid new b h = h
+breaks-as (Err e) added old mid new b h = (ends-as old mid new e b h.0, h.1)
+
+-- ---- a PUT
+
+module _ (places : Places) (choice : List Rule) (p : FilePut) (result : Result ℕ Refusal) (old mid new : Machine) (b : Became old.core old mid) where
+  stores-at-as : (class : List ℕ) (filespace : ℕ) (place : Place) (added : List Entry) → StoresAt p class filespace place (later_of old mid) new result added → StoresAt p class filespace place old new result added
+  stores-at-as class filespace place added (inl (file, is, has, rose, none, same)) = inl (file, is, has, rose-from old (later_of old mid) new file (on-later old mid b) rose, none, same)
+  stores-at-as class filespace place added (inr (commits, next, stored)) = inr (commits-as _ result added old mid new b commits, next, stored)
+
+  stores-by-as : (why : Option Refusal) (placed : Result Place Refusal) (class : List ℕ) (filespace : ℕ) (added : List Entry) → StoresBy why p class filespace placed (later_of old mid) new result added
+      → StoresBy why p class filespace placed old new result added
+  stores-by-as (Some e) placed class filespace added h = h
+  stores-by-as None (Ok place) class filespace added h = stores-at-as class filespace place added h
+  stores-by-as None (Err e) class filespace added h = h
+
+  stores-as : (home : Home) (filespace : ℕ) (added : List Entry) → Stores places p home filespace (later_of old mid) new result added → Stores places p home filespace old new result added
+  stores-as home filespace added (inl (breaks, same)) = inl (breaks-as result added old mid new b breaks, same)
+  stores-as home filespace added (inr (placed, is, stored)) = inr (placed, is, stores-by-as (why_no_place home.pool (length p.text) old.core placed) placed home.class filespace added stored)
+
+  under-as : (found : Option ℕ) (home : Home) (added : List Entry) → PutsUnder places found p home (later_of old mid) new result added → PutsUnder places found p home old new result added
+  under-as (Some filespace) home added h = stores-as home filespace added h
+  under-as None home added (inl (e, is, commits, same)) = inl (e, is, commits-as {A = Unit {0}} _ (Err e) added old mid new b commits, same)
+  under-as None home added (inr (next, more, legal, (moment, core, contents, onward), behind, is, stored)) =
+      inr (next, more, legal, (moment, core, contents, onward-then old (later_of old mid) next (on-later old mid b) onward), behind, is, stored)
+
+  home-as : (home : Result Home Refusal) (added : List Entry) → PutsHome places p home (later_of old mid) new result added → PutsHome places p home old new result added
+  home-as (Err e) added h = h
+  home-as (Ok home) added h = under-as (filespace_named home.node p.filespace (database old).clients.filespaces) home added h
+
+  by-as : (node : ℕ) (rules : Result Rules Refusal) (added : List Entry) → PutsBy places choice p node rules (later_of old mid) new result added → PutsBy places choice p node rules old new result added
+  by-as node (Err e) added h = h
+  by-as node (Ok rules) added h = home-as (home_of node rules choice p.path) added h
+
+  of-as : (found : Option ℕ) (added : List Entry) → PutsOf places choice p found (later_of old mid) new result added → PutsOf places choice p found old new result added
+  of-as None added h = h
+  of-as (Some node) added h = by-as node (rules_of node (database old)) added h
+
+  puts-as : (added : List Entry) → Puts places choice p (later_of old mid) new result added → Puts places choice p old new result added
+  puts-as added (inl (breaks, same)) = inl (breaks-as result added old mid new b breaks, same)
+  puts-as added (inr h) = inr (of-as (node_named p.node (database old).clients.nodes) added h)
+
+-- ---- a GET
+
+module _ (trusted : Type 0) (old mid new : Machine) (b : Became old.core old mid) where
+  lost-as : (v : Inv) (offset count : ℕ) (s : Segment) → IsLost (RoseFrom (later_of old mid) new) v s → IsLost (RoseFrom old new) v s
+  lost-as v offset count s (inl h) = inl h
+  lost-as v offset count s (inr rose) = inr (rose-from old (later_of old mid) new s.file (on-later old mid b) rose)
+
+  copy-as : (v : Inv) (offset count : ℕ) (copy : CopyRow) → IsCopyLost (RoseFrom (later_of old mid) new) v offset count copy → IsCopyLost (RoseFrom old new) v offset count copy
+  copy-as v offset count copy (s, has, lost) = (s, has, lost-as v offset count s lost)
+
+  copies-as : (v : Inv) (offset count : ℕ) (copies : List CopyRow) → AllByRecursion (IsCopyLost (RoseFrom (later_of old mid) new) v offset count) copies → AllByRecursion (IsCopyLost (RoseFrom old new) v offset count) copies
+  copies-as v offset count [] h = h
+  copies-as v offset count (copy ∷ copies) h = (copy-as v offset count copy h.0, copies-as v offset count copies h.1)
+
+  shown-as : (w : Version) (e : Refusal)
+      → ((e ≡ refused.Unavailable) × (offset : ℕ) × (count : ℕ) × IsUnavailable (RoseFrom (later_of old mid) new) (database old) 0 offset count w) ⊎ EndsRun (later_of old mid) new e
+      → ((e ≡ refused.Unavailable) × (offset : ℕ) × (count : ℕ) × IsUnavailable (RoseFrom old new) (database old) 0 offset count w) ⊎ EndsRun old new e
+  shown-as w e (inl (is, offset, count, lost)) = inl (is, offset, count, copies-as (database old) offset count (asked_copies 0 w.copies) lost)
+  shown-as w e (inr ends) = inr (ends-as old mid new e b ends)
+
+  shows-as : (w : Version) (result : Result FileRead Refusal) → Shows trusted w (later_of old mid) new result → Shows trusted w old new result
+  shows-as w (Ok file) h = h
+  shows-as w (Err e) h = (λ sound. shown-as w e (h.0 sound), λ how is. ends-as old mid new e b (h.1 how is))
+
+  found-as : (found : Option Version) (result : Result FileRead Refusal) → ShowsFound trusted found (later_of old mid) new result → ShowsFound trusted found old new result
+  found-as None result h = h
+  found-as (Some w) result h = shows-as w result h
+
+  got-under-as : (found : Option ℕ) (path : List ℕ) (result : Result FileRead Refusal) → GetsUnder trusted found path (later_of old mid) new result → GetsUnder trusted found path old new result
+  got-under-as None path result h = h
+  got-under-as (Some filespace) path result h = found-as (active_at filespace path (database old)) result h
+
+  got-of-as : (found : Option ℕ) (g : FileGet) (result : Result FileRead Refusal) → GetsOf trusted found g (later_of old mid) new result → GetsOf trusted found g old new result
+  got-of-as None g result h = h
+  got-of-as (Some node) g result h = got-under-as (filespace_named node g.filespace (database old).clients.filespaces) g.path result h
+
+  got-not-as : (result : Result FileRead Refusal) → GetsNot (later_of old mid) new result → GetsNot old new result
+  got-not-as (Ok file) h = h
+  got-not-as (Err e) h = ends-as old mid new e b h
+
+  pub gets-as : (g : FileGet) (result : Result FileRead Refusal) → Gets trusted g (later_of old mid) new result → Gets trusted g old new result
+  gets-as g result (inl h) = inl (got-not-as result h)
+  gets-as g result (inr h) = inr (got-of-as (node_named g.node (database old).clients.nodes) g result h)
+
+-- ---- work
+
+module _ (trusted : Type 0) (places : Places) (choice : List Rule) (result : Result Outcome Refusal) (added : List Entry) (old mid new : Machine) (b : Became old.core old mid) where
+  own-as : (own : Own) → DoesOwn trusted places choice own (later_of old mid) new result added → DoesOwn trusted places choice own old new result added
+  own-as (validate set) h = tells-as _ result added old mid new b h
+  own-as (put p) (answer, puts, is, image) = (answer, puts-as places choice p answer old mid new b added puts, is, image)
+  own-as (get g) (answer, gets, is, none, image, bytes) = (answer, gets-as trusted old mid new b g answer gets, is, none, image, bytes)
+  own-as checkpoint (answer, came, is, none, bytes) = (answer, came-as answer old mid new b came, is, none, bytes)
+  own-as none_yet h = tells-as _ result added old mid new b h
+
+  does-as : (c : Command) (w : Result Work Refusal) → Does trusted places choice c w (later_of old mid) new result added → Does trusted places choice c w old new result added
+  does-as c (Err why) h = tells-as (Err why) result added old mid new b h
+  does-as c (Ok (Commit what)) (answer, commits, is, image, bytes) = (answer, commits-as (drawn what old) answer added old mid new b commits, is, image, bytes)
+  does-as c (Ok (Show q)) h = tells-as _ result added old mid new b h
+  does-as c (Ok (Run numbers)) h = own-as (own_of c) h
+
+  pub does-since : (c : Command) (w : Result Work Refusal) → Does trusted places choice c w mid new result added → Does trusted places choice c w old new result added
+  does-since c w h = does-as c w (subst (λ (m : Machine). Does trusted places choice c w m new result added) (is-as old.core old mid b) h)

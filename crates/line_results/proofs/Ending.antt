@@ -1,0 +1,387 @@
+-- A command ends the run by a fault, a full run or want of memory alone.
+use Rattle.std.proofs.Common.{◌≡◌, ◌⊎◌, inl, inr, ℕ, ◌+◌, ◌^◌, ◌&&◌, nat_le, nat_lt, is_some, Bool, true, false, if◌then◌else◌, List, [], ◌∷◌, ◌++◌, length, Option, None, Some, Result, Ok, Err, refl, sym, ap, subst, ◌∙◌}
+use Rattle.std.proofs.lemmas.Bool.{and_parts}
+use Rattle.std.specs.List.{AllByRecursion}
+use Rattle.kinds.specs.Refusals.{bad_value, unless}
+use Rattle.kinds.specs.declared.change.ObjectChange.TheVariants as client
+use Rattle.kinds.specs.declared.change.DefineOrDelete.TheVariants as two
+use Rattle.kinds.specs.declared.change.PolicyChange.TheVariants as policy
+use Rattle.kinds.specs.declared.change.PoolChange.TheVariants as store
+use Rattle.kinds.specs.declared.change.Verb.TheVariants as verb
+use Rattle.kinds.specs.declared.refusal.Refusal.{Refusal}
+use Rattle.kinds.specs.declared.refusal.Refusal.TheVariants as refused
+use Rattle.choosers.specs.declared.rule.Rule.{Rule}
+use Rattle.choosers.specs.Rules.{class_of}
+use Rattle.client_plan.specs.Classes.{destination, has_class, is_left_out}
+use Rattle.entries.specs.EntryForm.{entry as entry_form}
+use Rattle.entries.specs.declared.change.Change.{Change}
+use Rattle.entries.specs.declared.change.Change.TheVariants as change
+use Rattle.entries.specs.declared.entry.Entry.{Entry}
+use Rattle.inventory_rows.specs.object_rows.Filespaces.{filespace_at}
+use Rattle.inventory_rows.specs.object_rows.Names.{filespace_named, node_named}
+use Rattle.inventory_rows.specs.object_rows.Rows.{Rows as Clients}
+use Rattle.inventory_rows.specs.policy_domains.Changes.{after}
+use Rattle.inventory_rows.specs.policy_domains.Rows.{DomainRow, row_of}
+use Rattle.inventory_rows.specs.pool_rows.PoolRows.{PoolRows, pool_named, volume_named}
+use Rattle.inventory_rows.specs.pool_tables.Rows.{named}
+use Rattle.inventory_rows.specs.version_groups.Entries.{if_found, on_ok}
+use Rattle.inventory_rows.specs.version_groups.declared.versions.Version.{Version}
+use Rattle.inventory_rows.specs.Search.{domain_of_node, is_primary}
+use Rattle.inventory_rows.specs.State.{Inv}
+use Rattle.inventory_rules.specs.Transactions.{refused as refused_change}
+use Rattle.inventory_work.specs.Copies.{has_pool, has_volume, missing, missing_in, on_pool, on_volume}
+use Rattle.inventory_work.specs.Found.{filespace_asked, find_named}
+use Rattle.inventory_work.specs.Rules.{rules_in, rules_of}
+use Rattle.inventory_work.specs.Volumes.{eligible, eligible_in}
+use Rattle.inventory_work.specs.declared.lines.Rules.{Rules}
+use Rattle.inventory_work.specs.declared.search.Found.TheVariants as found
+use Rattle.inventory_work.specs.declared.search.Named.{Named}
+use Rattle.inventory_work.specs.declared.search.Named.TheVariants as thing
+use Rattle.inventory_answers.specs.Answered.{answered, rows_of}
+use Rattle.inventory_answers.specs.Clients.{filespace_lines, filespaces_of, path_versions_of, versions_at, versions_of, versions_under}
+use Rattle.inventory_answers.specs.Content.{content_lines, content_of, volume_at}
+use Rattle.inventory_answers.specs.Held.{held_lines, held_of}
+use Rattle.inventory_answers.specs.Look.{asked, node_asked, pool_asked, set_row, volume_asked}
+use Rattle.inventory_answers.specs.Policy.{class_lines, classes_of, group_lines, groups_of, set_lines, sets_of}
+use Rattle.inventory_answers.specs.Stores.{pool_lines, pools_of, volumes_asked, volumes_of}
+use Rattle.inventory_answers.specs.declared.query.Query.{Query}
+use Rattle.inventory_answers.specs.declared.query.Query.TheVariants as query
+use Rattle.inventory_answers.specs.declared.reply.Answer as rows
+use Rattle.inventory_answers.specs.declared.reply.Rows.TheVariants as kind
+use Rattle.command_words.specs.Reading.{◌>>=◌}
+use Rattle.admin_words.specs.declared.command.Command.{Command}
+use Rattle.admin_words.specs.declared.files.FileGet.{FileGet}
+use Rattle.admin_words.specs.declared.files.FilePut.{FilePut}
+use Rattle.admin_commands.specs.Orders.{needs, work_of}
+use Rattle.admin_commands.specs.declared.work.Work.{Work}
+use Rattle.admin_commands.specs.declared.work.Work.TheVariants.{Commit, Show, Run}
+use Rattle.reports.specs.declared.shown.Shown.TheVariants.{Done, Stored}
+use Rattle.script_loop.specs.declared.ends.Halt.{Halt}
+use Rattle.steps.specs.Events.{has_number}
+use Rattle.machine.proofs.Elsewhere.{append-all, foremost-all, unless-all}
+use Rattle.machine.specs.Causes.{change_illegal, change_refused, is_plain, listed, new_refused}
+use Rattle.machine.specs.Changes.{filled}
+use Rattle.machine.specs.Machine.{IsPlaced, Places, can_place_new, placing_refused}
+use Rattle.machine.specs.State.{Core, Machine, Place, inventory, sight}
+use Rattle.sessions.specs.Homes.{home_at, home_in, home_of, home_under}
+use Rattle.sessions.specs.declared.getting.FileRead.{FileRead}
+use Rattle.sessions.specs.declared.homes.Home.{Home}
+use Rattle.command_steps.specs.Answers.{halt_by}
+use Rattle.command_steps.specs.Owns.{Own, checkpoint, get, last_of, none_yet, own_of, put, validate}
+use Rattle.command_steps.specs.declared.outcome.Outcome.{Outcome}
+use Rattle.command_steps.specs.declared.outcome.Outcome.TheVariants.{Read, Rows, Said}
+use Rattle.line_results.specs.Commands.{Comes, Does, DoesOwn, answers_to, drawn, validated, work_over}
+use Rattle.line_results.specs.Files.{Checkpoints, Gets, GetsOf, GetsUnder, IsPlacedIn, Puts, PutsBy, PutsHome, PutsOf, PutsUnder, ShowsFound, Stores, StoresAt, StoresBy, active_at, backed_up, filespace_defined, why_no_place}
+use Rattle.line_results.specs.Resting.{Commits, EndsNoRun, EndsRun, database, why_not}
+use Rattle.line_results.proofs.Mild.{IsMild, is_common, m-after, m-found, m-if, m-on, m-refused, mild-err}
+use Rattle.line_results.proofs.Needs.{IsPlainWork, work-plain}
+use Rattle.line_results.proofs.Runs.{ends-since}
+
+-- ---- queries
+
+m-set-row : (domain set : List ℕ) (domains : List (List ℕ × DomainRow)) → IsMild (set_row domain set domains)
+m-set-row domain set domains = m-found (row_of domain domains) (λ row. if_found (row_of set row.sets) Ok) (λ row. m-found (row_of set row.sets) Ok (λ it. tt))
+
+m-asked : (find : List ℕ → Option ℕ) (name : Option (List ℕ)) → IsMild (asked find name)
+m-asked find None = tt
+m-asked find (Some name) = m-found (find name) (λ number. Ok (Some number)) (λ number. tt)
+
+m-volumes : (s : PoolRows) (volume pool : Result (Option ℕ) Refusal) → IsMild volume → IsMild pool → IsMild (volumes_asked volume pool s)
+m-volumes s (Err e) pool h k = h
+m-volumes s (Ok file) (Err e) h k = k
+m-volumes s (Ok file) (Ok pool) h k = tt
+
+m-filespace : (node filespace : List ℕ) (clients : Clients) → IsMild (filespace_asked node filespace clients)
+m-filespace node filespace clients =
+    m-found (node_named node clients.nodes) (λ n. if_found (filespace_named n filespace clients.filespaces) Ok) (λ n. m-found (filespace_named n filespace clients.filespaces) Ok (λ it. tt))
+
+m-named : (name : Named) (v : Inv) → IsMild (find_named name v)
+m-named (thing.Node name) v = m-found (node_named name v.clients.nodes) (λ n. Ok (found.Number n)) (λ n. tt)
+m-named (thing.DevClass name) v = m-found (named name v.stores.classes) (λ capacity. Ok (found.DevClass capacity)) (λ n. tt)
+m-named (thing.Pool name) v = m-found (pool_named name v.stores) (λ n. Ok (found.Number n)) (λ n. tt)
+m-named (thing.Volume name) v = m-found (volume_named name v.stores) (λ n. Ok (found.Number n)) (λ n. tt)
+m-named (thing.Filespace node filespace) v = m-on found.Number (filespace_asked node filespace v.clients) (m-filespace node filespace v.clients)
+
+m-rules : (node : ℕ) (v : Inv) → IsMild (rules_of node v)
+m-rules node v = m-found (domain_of_node node v) (λ domain. Ok (rules_in domain v.domains)) (λ domain. tt)
+
+m-there : {A : Type 0} (b : Bool) (x : A) → IsMild (if b then Ok x else Err refused.NotFound)
+m-there true x = tt
+m-there false x = refl
+
+m-rows-of : (q : Query) (v : Inv) → IsMild (rows_of q v)
+m-rows-of query.Today v = tt
+m-rows-of query.Domains v = tt
+m-rows-of (query.Sets domain) v = m-on kind.Sets (sets_of domain v.domains) (m-found (row_of domain v.domains) (λ row. Ok (set_lines domain row)) (λ row. tt))
+m-rows-of (query.Classes domain set) v = m-on kind.Classes (classes_of domain set v.domains) (m-on (class_lines domain set) (set_row domain set v.domains) (m-set-row domain set v.domains))
+m-rows-of (query.Groups domain set) v = m-on kind.Groups (groups_of domain set v.domains v.stores) (m-on (group_lines domain set v.stores) (set_row domain set v.domains) (m-set-row domain set v.domains))
+m-rows-of (query.Validated domain set) v = tt
+m-rows-of query.Nodes v = tt
+m-rows-of (query.Filespaces node) v = m-on kind.Filespaces (filespaces_of node v.clients) (m-on (filespace_lines v.clients) (node_asked node v.clients) (m-asked (λ n. node_named n v.clients.nodes) node))
+m-rows-of query.Devices v = tt
+m-rows-of (query.Pools pool) v = m-on kind.Pools (pools_of pool v.stores) (m-on (λ number. pool_lines number v.stores) (pool_asked pool v.stores) (m-asked (λ n. pool_named n v.stores) pool))
+m-rows-of (query.Volumes volume pool) v =
+    m-on kind.Volumes (volumes_of volume pool v.stores)
+    (m-volumes v.stores (volume_asked volume v.stores) (pool_asked pool v.stores) (m-asked (λ n. volume_named n v.stores) volume) (m-asked (λ n. pool_named n v.stores) pool))
+m-rows-of (query.Content volume) v = m-on kind.Content (content_of volume v) (m-found (volume_at volume v.stores) (λ it. Ok (content_lines v it)) (λ it. tt))
+m-rows-of query.History v = tt
+m-rows-of (query.Versions node filespace) v = m-on kind.Versions (versions_of node filespace v) (m-on (λ n. versions_at n v) (filespace_asked node filespace v.clients) (m-filespace node filespace v.clients))
+m-rows-of (query.Path node filespace path) v = m-on kind.Versions (path_versions_of node filespace path v) (m-on (λ n. versions_under n path v) (filespace_asked node filespace v.clients) (m-filespace node filespace v.clients))
+m-rows-of (query.Held filespace) v = m-on kind.Held (held_of filespace v) (m-if (is_some (filespace_at filespace v.clients.filespaces)) (Ok (held_lines v.today filespace v.clients.held)) (Err refused.NotFound) tt refl)
+m-rows-of (query.Lookup name) v = m-on kind.Lookup (find_named name v) (m-named name v)
+m-rows-of (query.Rules node) v = m-on kind.Rules (rules_of node v) (m-rules node v)
+m-rows-of (query.OnPool pool) v = m-on kind.OnPool (on_pool pool v) (m-there (has_pool pool v) _)
+m-rows-of (query.OnVolume file) v = m-on kind.OnVolume (on_volume file v) (m-there (has_volume file v) _)
+m-rows-of (query.Missing primary copy) v = m-on kind.Missing (missing primary copy v) (m-if (has_pool primary v && has_pool copy v) (Ok (missing_in primary copy v)) (Err refused.NotFound) tt refl)
+m-rows-of (query.Eligible pool threshold) v = m-on kind.Eligible (eligible pool threshold v) (m-if (has_pool pool v) (Ok (eligible_in pool threshold v.stores)) (Err refused.NotFound) tt refl)
+m-rows-of query.Unretained v = tt
+m-rows-of query.Emptied v = tt
+m-rows-of query.LogBytes v = tt
+
+m-answered : (q : Query) (v : Inv) → IsMild (answered q v)
+m-answered q v = m-on (λ it. record { n = v.number; today = v.today; rows = it }) (rows_of q v) (m-rows-of q v)
+
+m-then : {A B : Type 0} (r : Result A Refusal) (f : A → Result B Refusal) → IsMild r → ((x : A) → IsMild (f x)) → IsMild (r >>= f)
+m-then (Ok x) f h k = k x
+m-then (Err e) f h k = h
+
+m-answers : (queries : List Query) (v : Inv) → IsMild (answers_to queries v)
+m-answers [] v = tt
+m-answers (q ∷ queries) v =
+    m-then (answered q v) (λ first. answers_to queries v >>= λ others. Ok (first ∷ others)) (m-answered q v)
+    (λ first. m-then (answers_to queries v) (λ others. Ok (first ∷ others)) (m-answers queries v) (λ others. tt))
+
+-- ---- work
+
+m-plain : (w : Result Work Refusal) → IsPlainWork w → IsMild w
+m-plain (Ok (Commit what)) h = tt
+m-plain (Ok (Show q)) h = tt
+m-plain (Ok (Run numbers)) h = tt
+m-plain (Err why) h = h
+
+m-work : (c : Command) (v : Inv) → IsMild (work_over c v)
+m-work c v = m-then (answers_to (needs c) v) (λ answers. work_of c answers) (m-answers (needs c) v) (λ answers. m-plain (work_of c answers) (work-plain c answers))
+
+-- the change that a command asks for is a common one
+abbrev IsCommonWork : Result Work Refusal → Type 0
+IsCommonWork (Ok (Commit what)) = is_common what ≡ true
+IsCommonWork _ = Unit {0}
+
+c-plain : (w : Result Work Refusal) → IsPlainWork w → IsCommonWork w
+c-plain (Ok (Commit what)) h = (and_parts (is_plain what) (is_common what) h).1
+c-plain (Ok (Show q)) h = tt
+c-plain (Ok (Run numbers)) h = tt
+c-plain (Err why) h = tt
+
+c-then : (r : Result (List rows.Answer) Refusal) (f : List rows.Answer → Result Work Refusal) → ((x : List rows.Answer) → IsCommonWork (f x)) → IsCommonWork (r >>= f)
+c-then (Ok x) f h = h x
+c-then (Err e) f h = tt
+
+c-work : (c : Command) (v : Inv) → IsCommonWork (work_over c v)
+c-work c v = c-then (answers_to (needs c) v) (λ answers. work_of c answers) (λ answers. c-plain (work_of c answers) (work-plain c answers))
+
+-- ---- changes
+
+filled-common : (next_file : ℕ) (v : Inv) (c : Change) → is_common c ≡ true → is_common (filled next_file v c) ≡ true
+filled-common next_file v (change.Pool (store.Volume verb.Define name pool file capacity access)) h = refl
+filled-common next_file v (change.Object (client.Filespace two.Define node name filespace)) h = refl
+filled-common next_file v c h = h
+
+m-listed : (o : Option Refusal) → ((e : Refusal) → o ≡ Some e → halt_by e ≡ None) → AllByRecursion (λ x. halt_by x ≡ None) (listed o)
+m-listed None h = tt
+m-listed (Some e) h = (h e refl, tt)
+
+pub why-mild : (c : Change) (core : Core) (e : Refusal) → is_common c ≡ true → why_not c core ≡ Some e → halt_by e ≡ None
+why-mild c core e is h =
+    foremost-all (λ x. halt_by x ≡ None) (change_refused 0 (Some c) (sight 0 core))
+    (append-all (λ x. halt_by x ≡ None) (change_illegal c (sight 0 core)) _
+    (m-listed (refused_change (sight 0 core).journal c (inventory core)) (λ f at. m-refused (sight 0 core).journal c (inventory core) f is at))
+    (unless-all (λ x. halt_by x ≡ None) (nat_le (length (entry_form.spell (record { actor = 0; change = c }))) (2 ^ 24)) refused.RecordFull refl)) e h
+
+-- ---- what ends the run
+
+-- a refusal that ends the run
+abbrev IsEnd : Refusal → Halt → Type 0
+IsEnd e how = halt_by e ≡ Some how
+
+not-end : (e : Refusal) (how : Halt) → halt_by e ≡ None → halt_by e ≡ Some how → ⊥
+not-end e how none h = let odd : None ≡ Some how = sym none ∙ h in cc
+
+commits-end : (A : Type 0) (c : Change) (e : Refusal) (how : Halt) (old new : Machine) (added : List Entry) → is_common c ≡ true → Commits {A = A} c old new (Err e) added → halt_by e ≡ Some how → EndsRun old new e
+commits-end A c e how old new added is (inl (why, none)) h = absurd (not-end e how (why-mild c old.core e is why) h)
+commits-end A c e how old new added is (inr (ends, rest)) h = ends
+
+-- ---- results
+
+abbrev number_error : Result ℕ Refusal → Refusal
+number_error (Ok number) = refused.Memory
+number_error (Err e) = e
+
+abbrev no_number : Refusal → Result ℕ Refusal
+no_number e = Err e
+
+abbrev file_error : Result FileRead Refusal → Refusal
+file_error (Ok file) = refused.Memory
+file_error (Err e) = e
+
+abbrev no_file : Refusal → Result FileRead Refusal
+no_file e = Err e
+
+abbrev outcome_error : Result Outcome Refusal → Refusal
+outcome_error (Ok it) = refused.Memory
+outcome_error (Err e) = e
+
+abbrev no_outcome : Refusal → Result Outcome Refusal
+no_outcome e = Err e
+
+on-err : {A : Type 0} (f : A → Outcome) (answer : Result A Refusal) (e : Refusal) → on_ok f answer ≡ no_outcome e → (x : Refusal) × (answer ≡ Err x) × (x ≡ e)
+on-err f (Ok x) e h = absurd cc
+on-err f (Err x) e h = (x, refl, ap outcome_error h)
+
+-- ---- a PUT
+
+number-mild : (e : Refusal) → has_number (40 ∷ 41 ∷ 50 ∷ []) e ≡ false → halt_by e ≡ None
+number-mild (refused.LogFault file count) h = absurd cc
+number-mild refused.RunFull h = absurd cc
+number-mild refused.Memory h = absurd cc
+number-mild e h = refl
+
+m-placing : (can : Bool) (Is : Result Place Refusal → Type 0) (placed : Result Place Refusal) → ((e : Refusal) → Is (Err e) → halt_by e ≡ None) → IsPlaced can Is placed
+    → AllByRecursion (λ x. halt_by x ≡ None) (placing_refused can placed)
+m-placing true Is (Ok place) f h = tt
+m-placing true Is (Err e) f h = (f e h, tt)
+m-placing false Is placed f h = tt
+
+m-home-at : (node : ℕ) (class : List ℕ) (pool : Option ℕ) → IsMild (home_at node class pool)
+m-home-at node class None = refl
+m-home-at node class (Some pool) = tt
+
+m-home-under : (node : ℕ) (rules : Rules) (class : Option (List ℕ)) → IsMild (home_under node rules class)
+m-home-under node rules None = refl
+m-home-under node rules (Some class) = m-home-at node class (destination rules class)
+
+m-home-in : (node : ℕ) (rules : Rules) (default : Option (List ℕ)) (choice : List Rule) (path : List ℕ) → IsMild (home_in node rules default choice path)
+m-home-in node rules None choice path = refl
+m-home-in node rules (Some default) choice path = m-home-under node rules (class_of (has_class rules.classes) default choice path)
+
+m-home : (node : ℕ) (rules : Rules) (choice : List Rule) (path : List ℕ) → IsMild (home_of node rules choice path)
+m-home node rules choice path = m-if (is_left_out choice path) (Err bad_value) (home_in node rules rules.default_class choice path) refl (m-home-in node rules rules.default_class choice path)
+
+module _ (places : Places) (goes_on : EndsNoRun places) (choice : List Rule) (p : FilePut) (e : Refusal) (how : Halt) (is : halt_by e ≡ Some how) where
+  mild-not : (f : Refusal) → no_number e ≡ no_number f → halt_by f ≡ None → ⊥
+  mild-not f same mild = not-end e how (subst (λ (x : Refusal). halt_by x ≡ None) (sym (ap number_error same)) mild) is
+
+  no-place-mild : (pool size : ℕ) (c : Core) (placed : Result Place Refusal) (f : Refusal) → IsPlacedIn places pool size c placed → why_no_place pool size c placed ≡ Some f → halt_by f ≡ None
+  no-place-mild pool size c placed f at h =
+      foremost-all (λ x. halt_by x ≡ None)
+      (new_refused pool size (sight 0 c)
+      ++ (placing_refused (can_place_new pool size (sight 0 c)) placed
+      ++ (unless (nat_lt (c.next_object + 1) (2 ^ 62)) refused.InventoryFull ++ unless (nat_lt (c.next_ticket + 1) (2 ^ 62)) refused.InventoryFull)))
+      (append-all (λ x. halt_by x ≡ None) (new_refused pool size (sight 0 c)) _
+      (append-all (λ x. halt_by x ≡ None) (unless (nat_lt size (2 ^ 44)) refused.TooLarge) _ (unless-all (λ x. halt_by x ≡ None) (nat_lt size (2 ^ 44)) refused.TooLarge refl)
+      (unless-all (λ x. halt_by x ≡ None) (is_primary pool (inventory c)) refused.NotFound refl))
+      (append-all (λ x. halt_by x ≡ None) (placing_refused (can_place_new pool size (sight 0 c)) placed) _
+      (m-placing (can_place_new pool size (sight 0 c)) _ placed (λ x refuses. number-mild x (goes_on _ _ _ _ _ _ _ x refuses)) at)
+      (append-all (λ x. halt_by x ≡ None) (unless (nat_lt (c.next_object + 1) (2 ^ 62)) refused.InventoryFull) _ (unless-all (λ x. halt_by x ≡ None) (nat_lt (c.next_object + 1) (2 ^ 62)) refused.InventoryFull refl)
+      (unless-all (λ x. halt_by x ≡ None) (nat_lt (c.next_ticket + 1) (2 ^ 62)) refused.InventoryFull refl)))) f h
+
+  stored-at-ends : (class : List ℕ) (filespace : ℕ) (place : Place) (old new : Machine) (added : List Entry) → StoresAt p class filespace place old new (Err e) added → EndsRun old new e
+  stored-at-ends class filespace place old new added (inl (file, same, has, rose, none, bytes)) = absurd (mild-not (refused.WriteFault file) same refl)
+  stored-at-ends class filespace place old new added (inr (commits, next, stored)) = commits-end ℕ (backed_up filespace p class place old.core) e how old new added refl commits is
+
+  stored-by-ends : (why : Option Refusal) (placed : Result Place Refusal) (class : List ℕ) (filespace : ℕ) (old new : Machine) (added : List Entry) → ((f : Refusal) → why ≡ Some f → halt_by f ≡ None)
+      → StoresBy why p class filespace placed old new (Err e) added → EndsRun old new e
+  stored-by-ends (Some f) placed class filespace old new added mild (same, none, bytes) = absurd (mild-not f same (mild f refl))
+  stored-by-ends None (Ok place) class filespace old new added mild h = stored-at-ends class filespace place old new added h
+  stored-by-ends None (Err f) class filespace old new added mild h = absurd h
+
+  stored-ends : (home : Home) (filespace : ℕ) (old new : Machine) (added : List Entry) → Stores places p home filespace old new (Err e) added → EndsRun old new e
+  stored-ends home filespace old new added (inl (breaks, bytes)) = breaks.0
+  stored-ends home filespace old new added (inr (placed, at, by)) =
+      stored-by-ends (why_no_place home.pool (length p.text) old.core placed) placed home.class filespace old new added (λ f why. no-place-mild home.pool (length p.text) old.core placed f at why) by
+
+  under-ends : (there : Option ℕ) (home : Home) (old new : Machine) (added : List Entry) → PutsUnder places there p home old new (Err e) added → EndsRun old new e
+  under-ends (Some filespace) home old new added h = stored-ends home filespace old new added h
+  under-ends None home old new added (inl (f, same, commits, bytes)) =
+      let alike : e ≡ f = ap number_error same in
+      subst (λ (x : Refusal). EndsRun old new x) (sym alike)
+      (commits-end (Unit {0}) (filespace_defined home.node p.filespace (database old)) f how old new added refl commits (subst (λ (x : Refusal). halt_by x ≡ Some how) alike is))
+  under-ends None home old new added (inr (next, more, legal, makes, behind, all, stored)) =
+      ends-since old next new e makes.3 (stored-ends home (database old).next_filespace next new more stored)
+
+  home-ends : (home : Result Home Refusal) (old new : Machine) (added : List Entry) → IsMild home → PutsHome places p home old new (Err e) added → EndsRun old new e
+  home-ends (Err f) old new added mild (same, none, bytes) = absurd (mild-not f same mild)
+  home-ends (Ok home) old new added mild h = under-ends (filespace_named home.node p.filespace (database old).clients.filespaces) home old new added h
+
+  by-ends : (node : ℕ) (rules : Result Rules Refusal) (old new : Machine) (added : List Entry) → IsMild rules → PutsBy places choice p node rules old new (Err e) added → EndsRun old new e
+  by-ends node (Err f) old new added mild (same, none, bytes) = absurd (mild-not f same mild)
+  by-ends node (Ok rules) old new added mild h = home-ends (home_of node rules choice p.path) old new added (m-home node rules choice p.path) h
+
+  of-ends : (there : Option ℕ) (old new : Machine) (added : List Entry) → PutsOf places choice p there old new (Err e) added → EndsRun old new e
+  of-ends None old new added (same, none, bytes) = absurd (mild-not refused.NotFound same refl)
+  of-ends (Some node) old new added h = by-ends node (rules_of node (database old)) old new added (m-rules node (database old)) h
+
+  puts-end : (old new : Machine) (added : List Entry) → Puts places choice p old new (Err e) added → EndsRun old new e
+  puts-end old new added (inl (breaks, bytes)) = breaks.0
+  puts-end old new added (inr h) = of-ends (node_named p.node (database old).clients.nodes) old new added h
+
+-- ---- a GET and a checkpoint
+
+module _ (trusted : Type 0) (g : FileGet) (e : Refusal) (how : Halt) (is : halt_by e ≡ Some how) (old new : Machine) where
+  unread-not : no_file e ≡ no_file refused.NotFound → ⊥
+  unread-not same = not-end e how (subst (λ (x : Refusal). halt_by x ≡ None) (sym (ap file_error same)) refl) is
+
+  shown-ends : (there : Option Version) → ShowsFound trusted there old new (Err e) → EndsRun old new e
+  shown-ends None h = absurd (unread-not h)
+  shown-ends (Some w) h = h.1 how is
+
+  got-under-ends : (there : Option ℕ) (path : List ℕ) → GetsUnder trusted there path old new (Err e) → EndsRun old new e
+  got-under-ends None path h = absurd (unread-not h)
+  got-under-ends (Some filespace) path h = shown-ends (active_at filespace path (database old)) h
+
+  got-of-ends : (there : Option ℕ) → GetsOf trusted there g old new (Err e) → EndsRun old new e
+  got-of-ends None h = absurd (unread-not h)
+  got-of-ends (Some node) h = got-under-ends (filespace_named node g.filespace (database old).clients.filespaces) g.path h
+
+  gets-end : Gets trusted g old new (Err e) → EndsRun old new e
+  gets-end (inl ends) = ends
+  gets-end (inr h) = got-of-ends (node_named g.node (database old).clients.nodes) h
+
+checkpoint-ends : (e : Refusal) (how : Halt) (old new : Machine) → Checkpoints {A = ℕ} old new (Err e) → halt_by e ≡ Some how → EndsRun old new e
+checkpoint-ends e how old new (inl (full, last)) is = absurd (not-end e how (subst (λ (x : Refusal). halt_by x ≡ None) (sym full) refl) is)
+checkpoint-ends e how old new (inr ends) is = ends
+
+-- ---- a command
+
+tells-end : (told : Result Outcome Refusal) (e : Refusal) (how : Halt) (old new : Machine) → IsMild told → (no_outcome e ≡ told) ⊎ ((f : Refusal) × (no_outcome e ≡ Err f) × EndsRun old new f) → halt_by e ≡ Some how → EndsRun old new e
+tells-end told e how old new mild (inl same) is = absurd (not-end e how (mild-err told e mild (sym same)) is)
+tells-end told e how old new mild (inr (f, same, ends)) is = subst (λ (x : Refusal). EndsRun old new x) (sym (ap outcome_error same)) ends
+
+module _ (trusted : Type 0) (places : Places) (goes_on : EndsNoRun places) (choice : List Rule) (e : Refusal) (how : Halt) (is : halt_by e ≡ Some how) (old new : Machine) (added : List Entry) where
+  own-ends : (own : Own) → DoesOwn trusted places choice own old new (Err e) added → EndsRun old new e
+  own-ends (validate set) h =
+      tells-end (on_ok (λ it. Said Done) (validated set (database old))) e how old new
+      (m-on (λ it. Said Done) (validated set (database old)) (m-on (λ domains. tt {0}) (after (policy.Activate set.domain set.set) (database old).domains) (m-after (policy.Activate set.domain set.set) (database old).domains))) h.0 is
+  own-ends (put p) (answer, puts, same, image) =
+      let r = on-err (λ object. Said (Stored object)) answer e (sym same) in
+      puts-end places goes_on choice p e how is old new added (subst (λ (x : Refusal). Puts places choice p old new (Err x) added) r.2 (subst (λ (x : Result ℕ Refusal). Puts places choice p old new x added) r.1 puts))
+  own-ends (get g) (answer, gets, same, none, image, bytes) =
+      let r = on-err Read answer e (sym same) in
+      gets-end trusted g e how is old new (subst (λ (x : Refusal). Gets trusted g old new (Err x)) r.2 (subst (λ (x : Result FileRead Refusal). Gets trusted g old new x) r.1 gets))
+  own-ends checkpoint (answer, came, same, none, bytes) =
+      let r = on-err (λ seq. Said Done) answer e (sym same) in
+      checkpoint-ends e how old new (subst (λ (x : Refusal). Checkpoints {A = ℕ} old new (Err x)) r.2 (subst (λ (x : Result ℕ Refusal). Checkpoints old new x) r.1 came)) is
+  own-ends none_yet h = tells-end (Err (refused.UnknownWord 1)) e how old new refl h.0 is
+
+  does-end : (c : Command) (w : Result Work Refusal) → IsMild w → IsCommonWork w → Does trusted places choice c w old new (Err e) added → EndsRun old new e
+  does-end c (Err why) mild common h = tells-end (Err why) e how old new mild h.0 is
+  does-end c (Ok (Commit what)) mild common (answer, commits, same, image, bytes) =
+      let r = on-err (λ number. Said (last_of what)) answer e (sym same) in
+      commits-end ℕ (drawn what old) e how old new added (filled-common old.core.next_file (database old) what common)
+      (subst (λ (x : Refusal). Commits {A = ℕ} (drawn what old) old new (Err x) added) r.2 (subst (λ (x : Result ℕ Refusal). Commits (drawn what old) old new x added) r.1 commits)) is
+  does-end c (Ok (Show q)) mild common h = tells-end (on_ok Rows (answered q (database old))) e how old new (m-on Rows (answered q (database old)) (m-answered q (database old))) h.0 is
+  does-end c (Ok (Run numbers)) mild common h = own-ends (own_of c) h
+
+  pub comes-end : (c : Command) → Comes trusted places choice c old new (Err e) added → EndsRun old new e
+  comes-end c (inl (f, same, ends, none, image, bytes), full) = subst (λ (x : Refusal). EndsRun old new x) (sym (ap outcome_error same)) ends
+  comes-end c (inr does, full) = does-end c (work_over c (database old)) (m-work c (database old)) (c-work c (database old)) does

@@ -1,0 +1,338 @@
+-- What holds of a line that was answered.
+use Rattle.std.proofs.Common.{◌≡◌, ◌⊎◌, inl, inr, ℕ, zero, suc, ◌+◌, ◌^◌, ◌<◌, ◌≤◌, ◌&&◌, nat_lt, true, false, if◌then◌else◌, Contains, slice_index_or, is_none, find, option_and_then, List, [], ◌∷◌, ◌++◌, length, Option, None, Some, Result, Ok, Err, refl, sym, ap, subst, ◌∙◌, arith}
+use Rattle.std.proofs.lemmas.Bool.{and_parts, false≢true}
+use Rattle.std.specs.List.{AllByRecursion, list_all}
+use Rattle.kinds.specs.declared.refusal.Refusal.{Refusal}
+use Rattle.kinds.specs.declared.refusal.Refusal.TheVariants as refused
+use Rattle.kinds.specs.declared.segment.Segment.{Segment}
+use Rattle.choosers.specs.declared.rule.Rule.{Rule}
+use Rattle.entries.specs.declared.change.Change.{Change}
+use Rattle.entries.specs.declared.entry.Entry.{Entry}
+use Rattle.inventory_rows.specs.object_rows.Filespaces.{group_at}
+use Rattle.inventory_rows.specs.object_rows.Names.{filespace_named}
+use Rattle.inventory_rows.specs.version_groups.Entries.{on_ok}
+use Rattle.inventory_rows.specs.version_groups.declared.copies.CopyRow.{CopyRow}
+use Rattle.inventory_rows.specs.version_groups.declared.group.Group.{Group}
+use Rattle.inventory_rows.specs.version_groups.declared.versions.Version.{Version}
+use Rattle.inventory_rows.specs.State.{Inv}
+use Rattle.inventory_answers.specs.Answered.{answered}
+use Rattle.inventory_answers.specs.declared.query.Query.{Query}
+use Rattle.inventory_answers.specs.declared.reply.Answer as rows
+use Rattle.contents.specs.Reading.{segments_in}
+use Rattle.placing.specs.Placing.{active_of, active_version, can_read, is_readable}
+use Rattle.admin_words.specs.declared.command.Command.{Command}
+use Rattle.admin_words.specs.declared.files.FileGet.{FileGet}
+use Rattle.admin_words.specs.declared.files.FilePut.{FilePut}
+use Rattle.admin_words.specs.declared.policy.NamedSet.{NamedSet}
+use Rattle.admin_commands.specs.declared.work.Work.{Work}
+use Rattle.admin_commands.specs.declared.work.Work.TheVariants.{Commit, Show, Run}
+use Rattle.reports.specs.Lines.{shown_line}
+use Rattle.reports.specs.declared.shown.Shown.TheVariants.{Done, Stored}
+use Rattle.script_loop.specs.Reply.{Answer}
+use Rattle.machine.specs.Machine.{Places}
+use Rattle.machine.specs.Pieces.{IsCopyLost, IsUnavailable}
+use Rattle.machine.specs.State.{Machine}
+use Rattle.sessions.specs.declared.getting.FileRead.{FileRead}
+use Rattle.command_steps.specs.Answers.{Ends, done, halt_by, outcome_lines, refusal, row_lines}
+use Rattle.command_steps.specs.Lines.{Line, asks, comment, refused as refused_line}
+use Rattle.command_steps.specs.Owns.{Own, checkpoint, get, last_of, none_yet, own_of, put, validate}
+use Rattle.command_steps.specs.declared.outcome.Outcome.{Outcome}
+use Rattle.command_steps.specs.declared.outcome.Outcome.TheVariants.{Read, Rows, Said}
+use Rattle.line_results.specs.Clauses.{BytesBy, CauseBy, CauseOwn, DidBy, Holds, IsRows, ItemsBy, ItemsOf, MayBy, MayGet, MayOwn, OrderedBy, RowsBy, orders}
+use Rattle.line_results.specs.Commands.{Comes, Does, DoesOwn, drawn, validated, work_over}
+use Rattle.line_results.specs.Files.{Checkpoints, Gets, GetsOf, GetsUnder, Puts, ShowsFound, active_at}
+use Rattle.line_results.specs.Lines.{Replies, Says}
+use Rattle.line_results.specs.Resting.{Commits, EndsRun, RoseFrom, database, why_not}
+use Rattle.line_results.proofs.PutHeld.{IsMild, PutHeld, no-end, no-put, put-held}
+
+-- ---- answers
+
+-- how a result is answered
+abbrev IsShown : ℕ → Result Outcome Refusal → Answer → Type 0
+IsShown n (Ok it) answer = answer ≡ done (outcome_lines n it)
+IsShown n (Err e) answer = (halt_by e ≡ None) × (answer ≡ refusal n e)
+
+shown-of : (n : ℕ) (said : Result Outcome Refusal) (answer : Answer) (why : Option Refusal) → Ends n said (Ok (answer, why)) → IsShown n said answer
+shown-of n (Ok it) answer why h = ap (λ (p : Answer × Option Refusal). p.0) h
+shown-of n (Err e) answer why h = (h.0, ap (λ (p : Answer × Option Refusal). p.0) h.1)
+
+none-refused : (text : List ℕ) (answer : Answer) → answer ≡ done text → answer.tally.refused ≡ 0
+none-refused text answer h = ap (λ (a : Answer). a.tally.refused) h
+
+one-refused : (n : ℕ) (e : Refusal) (answer : Answer) → answer ≡ refusal n e → answer.tally.refused ≡ 1
+one-refused n e answer h = ap (λ (a : Answer). a.tally.refused) h
+
+zero-one : (k : ℕ) → k ≡ 0 → k ≡ 1 → ⊥
+zero-one k a b = omega (arith, a, b)
+
+-- what holds of a command that asks for this work
+pub record HeldBy (trusted : Type 0) (places : Places) (choice : List Rule) (n : ℕ) (own : Own) (w : Result Work Refusal) (old mid : Machine) (answer : Answer) (added : List Entry) : Type 0 where
+  pub journal : AllByRecursion (λ e. (e.actor ≡ 0) × OrderedBy own w old e.change) added
+  pub queries : RowsBy n (database old) w answer
+  pub bytes : BytesBy trusted n own w old mid answer
+  pub items : AllByRecursion (λ e. ItemsBy own w mid e.change) added
+  pub causes : answer.tally.refused ≡ 1 → (why : Refusal) × (answer ≡ refusal n why) × CauseBy trusted places choice own w old mid why added
+  pub done : answer.tally.refused ≡ 0 → DidBy n own w old mid answer added
+  pub complete : ((file : ℕ) → RoseFrom old mid file → ⊥) → MayBy places choice own w old → answer.tally.refused ≡ 0
+
+no-entries : (P : Entry → Type 0) (added : List Entry) → added ≡ [] → AllByRecursion P added
+no-entries P added none = subst (λ (l : List Entry). AllByRecursion P l) (sym none) tt
+
+module _ (trusted : Type 0) (places : Places) (choice : List Rule) (n : ℕ) (old mid : Machine) (answer : Answer) (added : List Entry) where
+  -- it was refused
+  as-refused : (own : Own) (w : Result Work Refusal) (e : Refusal) → answer ≡ refusal n e → AllByRecursion (λ x. (x.actor ≡ 0) × OrderedBy own w old x.change) added → RowsBy n (database old) w answer
+      → BytesBy trusted n own w old mid answer → AllByRecursion (λ x. ItemsBy own w mid x.change) added → CauseBy trusted places choice own w old mid e added
+      → (((file : ℕ) → RoseFrom old mid file → ⊥) → MayBy places choice own w old → ⊥) → HeldBy trusted places choice n own w old mid answer added
+  as-refused own w e is journal rows bytes items cause never = record {
+    journal = journal;
+    queries = rows;
+    bytes = bytes;
+    items = items;
+    causes = λ one. (e, is, cause);
+    done = λ none. absurd (zero-one answer.tally.refused none (one-refused n e answer is));
+    complete = λ none may. absurd (never none may);
+  }
+
+  -- it was done
+  as-done : (own : Own) (w : Result Work Refusal) (text : List ℕ) → answer ≡ done text → AllByRecursion (λ x. (x.actor ≡ 0) × OrderedBy own w old x.change) added → RowsBy n (database old) w answer
+      → BytesBy trusted n own w old mid answer → AllByRecursion (λ x. ItemsBy own w mid x.change) added → DidBy n own w old mid answer added → HeldBy trusted places choice n own w old mid answer added
+  as-done own w text is journal rows bytes items did = record {
+    journal = journal;
+    queries = rows;
+    bytes = bytes;
+    items = items;
+    causes = λ one. absurd (zero-one answer.tally.refused (none-refused text answer is) one);
+    done = λ none. did;
+    complete = λ none may. none-refused text answer is;
+  }
+
+-- ---- a change
+
+work-none : (o : Option Refusal) (e : Refusal) → o ≡ None → o ≡ Some e → ⊥
+work-none o e a b = let odd : None ≡ Some e = sym a ∙ b in cc
+
+answer-none : (r : Result rows.Answer Refusal) (a : rows.Answer) (e : Refusal) → r ≡ Ok a → r ≡ Err e → ⊥
+answer-none (Ok x) a e h k = cc
+answer-none (Err f) a e h k = cc
+
+module _ (trusted : Type 0) (places : Places) (choice : List Rule) (n : ℕ) (own : Own) (old mid : Machine) (answer : Answer) (added : List Entry) where
+  commit-held : (what : Change) (r : Result ℕ Refusal) → Commits (drawn what old) old mid r added → IsShown n (on_ok (λ number. Said (last_of what)) r) answer
+      → HeldBy trusted places choice n own (Ok (Commit what)) old mid answer added
+  commit-held what (Ok number) (legal, is) shown =
+      as-done trusted places choice n old mid answer added own (Ok (Commit what)) (shown_line n (last_of what)) shown
+      (subst (λ (l : List Entry). AllByRecursion (λ x. (x.actor ≡ 0) × (x.change ≡ drawn what old)) l) (sym is) ((refl, refl), tt)) tt tt
+      (subst (λ (l : List Entry). AllByRecursion (λ x. ItemsBy own (Ok (Commit what)) mid x.change) l) (sym is) (tt, tt)) (is, shown)
+  commit-held what (Err e) (inl (why, none)) shown =
+      as-refused trusted places choice n old mid answer added own (Ok (Commit what)) e shown.1 (no-entries (λ x. (x.actor ≡ 0) × OrderedBy own (Ok (Commit what)) old x.change) added none) tt tt
+      (no-entries (λ x. ItemsBy own (Ok (Commit what)) mid x.change) added none) why (λ rose may. work-none (why_not (drawn what old) old.core) e may why)
+  commit-held what (Err e) (inr (ends, h)) shown = absurd (no-end e old mid ends shown.0)
+
+  -- ---- a query
+
+  show-held : (q : Query) (r : Result rows.Answer Refusal) → answered q (database old) ≡ r → added ≡ [] → IsShown n (on_ok Rows r) answer → HeldBy trusted places choice n own (Ok (Show q)) old mid answer added
+  show-held q (Ok a) is none shown =
+      as-done trusted places choice n old mid answer added own (Ok (Show q)) (row_lines n a) shown (no-entries (λ x. (x.actor ≡ 0) × OrderedBy own (Ok (Show q)) old x.change) added none)
+      (subst (λ (x : Result rows.Answer Refusal). IsRows n x answer) (sym is) shown) tt (no-entries (λ x. ItemsBy own (Ok (Show q)) mid x.change) added none) none
+  show-held q (Err e) is none shown =
+      as-refused trusted places choice n old mid answer added own (Ok (Show q)) e shown.1 (no-entries (λ x. (x.actor ≡ 0) × OrderedBy own (Ok (Show q)) old x.change) added none)
+      (subst (λ (x : Result rows.Answer Refusal). IsRows n x answer) (sym is) shown.1) tt (no-entries (λ x. ItemsBy own (Ok (Show q)) mid x.change) added none) is
+      (λ rose may. answer-none (answered q (database old)) may.0 e may.1 is)
+
+  -- ---- a refusal before any work
+
+  given-held : (given : Refusal) → added ≡ [] → answer ≡ refusal n given → HeldBy trusted places choice n own (Err given) old mid answer added
+  given-held given none is =
+      as-refused trusted places choice n old mid answer added own (Err given) given is (no-entries (λ x. (x.actor ≡ 0) × OrderedBy own (Err given) old x.change) added none) tt tt
+      (no-entries (λ x. ItemsBy own (Err given) mid x.change) added none) refl (λ rose may. may)
+
+-- ---- a file that may be read
+
+-- each segment of a copy that may be read lies on a volume that may be read
+readable-in : (v : Inv) (start offset count : ℕ) (segments : List Segment) → list_all (λ s. is_readable s.file v) segments ≡ true
+    → AllByRecursion (λ s. is_readable s.file v ≡ true) (segments_in start offset count segments)
+readable-in v start offset count [] all = tt
+readable-in v start offset count (s ∷ segments) all =
+    let parts = and_parts (is_readable s.file v) (list_all (λ x. is_readable x.file v) segments) all in
+    elim (nat_lt start (offset + count) && nat_lt offset (start + s.len)) as (λ b. AllByRecursion (λ x. is_readable x.file v ≡ true) ((if b then s ∷ [] else []) ++ segments_in (start + s.len) offset count segments)) [
+      | true ↦ (parts.0, readable-in v (start + s.len) offset count segments parts.1)
+      | false ↦ readable-in v (start + s.len) offset count segments parts.1
+    ]
+
+holds_at : {X : Type 0} (P : X → Type 0) (xs : List X) (k : ℕ) (x : X) → k < length xs → slice_index_or xs k x ≡ x → AllByRecursion P xs → P x
+holds_at P [] k x lt is h = absurd (omega (arith, lt))
+holds_at P (y ∷ xs) zero x lt is h = subst P is h.0
+holds_at P (y ∷ xs) (suc k) x lt is h = holds_at P xs k x (omega (arith, lt)) is h.1
+
+contained_holds : {X : Type 0} (P : X → Type 0) (xs : List X) (x : X) → Contains xs x → AllByRecursion P xs → P x
+contained_holds P xs x c h = holds_at P xs c.0 x c.1 c.2 h
+
+not-lost : (rose : ℕ → Type 0) (v : Inv) (offset count : ℕ) (copy : CopyRow) → ((file : ℕ) → rose file → ⊥) → can_read copy v ≡ true → IsCopyLost rose v offset count copy → ⊥
+not-lost rose v offset count copy none readable (s, has, inl unreadable) =
+    false≢true (sym unreadable ∙ contained_holds (λ (x : Segment). is_readable x.file v ≡ true) (segments_in 0 offset count copy.segments) s has (readable-in v 0 offset count copy.segments readable))
+not-lost rose v offset count copy none readable (s, has, inr rises) = none s.file rises
+
+-- the active version is the first that isn't inactive
+newest-first : (list : List Version) (w : Version) → active_of list ≡ Some w → find (λ x. is_none x.since) list ≡ Some w
+newest-first [] w h = absurd cc
+newest-first (x ∷ list) w h =
+    elim (is_none x.since) as (λ b. (if b then Some x else None) ≡ Some w → (if b then Some x else find (λ y. is_none y.since) list) ≡ Some w) [
+      | true ↦ λ k. k
+      | false ↦ λ k. absurd cc
+    ] h
+
+group-first : (o : Option Group) (w : Version) → option_and_then (λ (g : Group). active_of g.versions) o ≡ Some w → option_and_then (λ (g : Group). find (λ x. is_none x.since) g.versions) o ≡ Some w
+group-first None w h = absurd cc
+group-first (Some g) w h = newest-first g.versions w h
+
+active-first : (filespace : ℕ) (path : List ℕ) (v : Inv) (w : Version) → active_version filespace path v ≡ Some w → active_at filespace path v ≡ Some w
+active-first filespace path v w h = group-first (group_at filespace path v.clients.filespaces) w h
+
+abbrev read_refused : Refusal → Result FileRead Refusal
+read_refused e = Err e
+
+no-missed : (w : Version) (e : Refusal) (old mid : Machine) → halt_by e ≡ None → ((file : ℕ) → RoseFrom old mid file → ⊥) → (copy : CopyRow) → Contains w.copies copy → can_read copy (database old) ≡ true
+    → ((e ≡ refused.Unavailable) × (offset : ℕ) × (count : ℕ) × IsUnavailable (RoseFrom old mid) (database old) 0 offset count w) ⊎ EndsRun old mid e → ⊥
+no-missed w e old mid mild none copy among readable (inl (is, offset, count, lost)) =
+    not-lost (RoseFrom old mid) (database old) offset count copy none readable (contained_holds (IsCopyLost (RoseFrom old mid) (database old) offset count) w.copies copy among lost)
+no-missed w e old mid mild none copy among readable (inr ends) = no-end e old mid ends mild
+
+no-get : (trusted : Type 0) (g : FileGet) (e : Refusal) (old mid : Machine) → halt_by e ≡ None → ((file : ℕ) → RoseFrom old mid file → ⊥) → MayGet g (database old) → Gets trusted g old mid (Err e) → ⊥
+no-get trusted g e old mid mild none may (inl ends) = no-end e old mid ends mild
+no-get trusted g e old mid mild none (node, at, filespace, there, w, active, sound, copy, among, readable) (inr h) =
+    let under : GetsUnder trusted (filespace_named node g.filespace (database old).clients.filespaces) g.path old mid (read_refused e) = subst (λ (o : Option ℕ). GetsOf trusted o g old mid (read_refused e)) at h in
+    let found : ShowsFound trusted (active_at filespace g.path (database old)) old mid (read_refused e) = subst (λ (o : Option ℕ). GetsUnder trusted o g.path old mid (read_refused e)) there under in
+    let shows : ShowsFound trusted (Some w) old mid (read_refused e) = subst (λ (o : Option Version). ShowsFound trusted o old mid (read_refused e)) (active-first filespace g.path (database old) w active) found in
+    no-missed w e old mid mild none copy among readable (shows.0 sound)
+
+-- ---- work of a command's own
+
+unit-none : (r : Result (Unit {0}) Refusal) (e : Refusal) → r ≡ Ok tt → r ≡ Err e → ⊥
+unit-none (Ok x) e h k = cc
+unit-none (Err f) e h k = cc
+
+abbrev number_error : Result ℕ Refusal → Refusal
+number_error (Ok k) = refused.Memory
+number_error (Err e) = e
+
+abbrev no_number : Refusal → Result ℕ Refusal
+no_number e = Err e
+
+number-same : (e f : Refusal) → no_number e ≡ no_number f → e ≡ f
+number-same e f h = ap number_error h
+
+module _ (trusted : Type 0) (places : Places) (choice : List Rule) (n : ℕ) (numbers : List ℕ) (old mid : Machine) (answer : Answer) (added : List Entry) where
+  refused-own : (own : Own) (e : Refusal) → answer ≡ refusal n e → added ≡ [] → BytesBy trusted n own (Ok (Run numbers)) old mid answer → CauseOwn trusted places choice own old mid e added
+      → (((file : ℕ) → RoseFrom old mid file → ⊥) → MayOwn places choice own old → ⊥) → HeldBy trusted places choice n own (Ok (Run numbers)) old mid answer added
+  refused-own own e is none bytes cause never =
+      as-refused trusted places choice n old mid answer added own (Ok (Run numbers)) e is (no-entries (λ x. (x.actor ≡ 0) × OrderedBy own (Ok (Run numbers)) old x.change) added none) tt bytes
+      (no-entries (λ x. ItemsBy own (Ok (Run numbers)) mid x.change) added none) cause never
+
+  done-own : (own : Own) (text : List ℕ) → answer ≡ done text → added ≡ [] → BytesBy trusted n own (Ok (Run numbers)) old mid answer → DidBy n own (Ok (Run numbers)) old mid answer added
+      → HeldBy trusted places choice n own (Ok (Run numbers)) old mid answer added
+  done-own own text is none bytes did =
+      as-done trusted places choice n old mid answer added own (Ok (Run numbers)) text is (no-entries (λ x. (x.actor ≡ 0) × OrderedBy own (Ok (Run numbers)) old x.change) added none) tt bytes
+      (no-entries (λ x. ItemsBy own (Ok (Run numbers)) mid x.change) added none) did
+
+  validate-held : (set : NamedSet) (r : Result (Unit {0}) Refusal) → validated set (database old) ≡ r → added ≡ [] → IsShown n (on_ok (λ it. Said Done) r) answer
+      → HeldBy trusted places choice n (validate set) (Ok (Run numbers)) old mid answer added
+  validate-held set (Ok it) is none shown = done-own (validate set) (shown_line n Done) shown none tt (is, none)
+  validate-held set (Err e) is none shown = refused-own (validate set) e shown.1 none tt is (λ rose may. unit-none (validated set (database old)) e may is)
+
+  get-held : (g : FileGet) (r : Result FileRead Refusal) → Gets trusted g old mid r → added ≡ [] → IsShown n (on_ok Read r) answer → HeldBy trusted places choice n (get g) (Ok (Run numbers)) old mid answer added
+  get-held g (Ok file) gets none shown = done-own (get g) (outcome_lines n (Read file)) shown none (inl (file, gets, shown)) none
+  get-held g (Err e) gets none shown = refused-own (get g) e shown.1 none (inr (e, gets, shown.1)) gets (λ rose may. no-get trusted g e old mid shown.0 rose may gets)
+
+  checkpoint-held : (r : Result ℕ Refusal) → Checkpoints old mid r → added ≡ [] → IsShown n (on_ok (λ seq. Said Done) r) answer → HeldBy trusted places choice n checkpoint (Ok (Run numbers)) old mid answer added
+  checkpoint-held (Ok seq) came none shown = done-own checkpoint (shown_line n Done) shown none tt (came.0, none)
+  checkpoint-held (Err e) (inl full) none shown = refused-own checkpoint e shown.1 none tt full (λ rose may. (let most : 2 ^ 62 ≤ old.core.generation + 1 = full.1 in let less : old.core.generation + 1 < 2 ^ 62 = may in omega (arith, most, less)))
+  checkpoint-held (Err e) (inr ends) none shown = absurd (no-end e old mid ends shown.0)
+
+  put-by : (p : FilePut) (r : Result ℕ Refusal) → Puts places choice p old mid r added → PutHeld p r mid added → IsMild r → IsShown n (on_ok (λ object. Said (Stored object)) r) answer
+      → HeldBy trusted places choice n (put p) (Ok (Run numbers)) old mid answer added
+  put-by p (Ok object) puts h mild shown =
+      let d = h.done object refl in
+      as-done trusted places choice n old mid answer added (put p) (Ok (Run numbers)) (shown_line n (Stored object)) shown h.journal tt tt h.items
+      (d.0, d.1, d.2, d.3, d.4, d.5, subst (λ (k : ℕ). answer ≡ done (shown_line n (Stored k))) d.6 shown)
+  put-by p (Err e) puts h mild shown =
+      as-refused trusted places choice n old mid answer added (put p) (Ok (Run numbers)) e shown.1 h.journal tt tt h.items puts (λ rose may. no-put places choice p (Err e) e old mid added mild rose may refl puts)
+
+  mild-shown : (r : Result ℕ Refusal) → IsShown n (on_ok (λ object. Said (Stored object)) r) answer → (e : Refusal) → r ≡ Err e → halt_by e ≡ None
+  mild-shown (Ok object) shown e is = absurd cc
+  mild-shown (Err f) shown e is = subst (λ (x : Refusal). halt_by x ≡ None) (number-same f e is) shown.0
+
+-- what was told without a change is the answer, since no run ended
+told-as : (n : ℕ) (old mid : Machine) (answer : Answer) (told said : Result Outcome Refusal) → IsShown n said answer → (said ≡ told) ⊎ ((e : Refusal) × (said ≡ Err e) × EndsRun old mid e) → said ≡ told
+told-as n old mid answer told said shown (inl is) = is
+told-as n old mid answer told said shown (inr (e, is, ends)) =
+    let by : IsShown n (Err e) answer = subst (λ (r : Result Outcome Refusal). IsShown n r answer) is shown in
+    absurd (no-end e old mid ends by.0)
+
+module _ (trusted : Type 0) (places : Places) (choice : List Rule) (n : ℕ) (old mid : Machine) (answer : Answer) (added : List Entry) where
+  own-held : (own : Own) (numbers : List ℕ) (said : Result Outcome Refusal) → DoesOwn trusted places choice own old mid said added → IsShown n said answer
+      → HeldBy trusted places choice n own (Ok (Run numbers)) old mid answer added
+  own-held (validate set) numbers said h shown =
+      let is = told-as n old mid answer (on_ok (λ it. Said Done) (validated set (database old))) said shown h.0 in
+      validate-held trusted places choice n numbers old mid answer added set (validated set (database old)) refl h.1 (subst (λ (r : Result Outcome Refusal). IsShown n r answer) is shown)
+  own-held (put p) numbers said (r, puts, is, image) shown =
+      let by = subst (λ (x : Result Outcome Refusal). IsShown n x answer) is shown in
+      let mild = mild-shown trusted places choice n numbers old mid answer added r by in
+      put-by trusted places choice n numbers old mid answer added p r puts (put-held places choice p r old mid added mild puts) mild by
+  own-held (get g) numbers said (r, gets, is, none, image, bytes) shown =
+      get-held trusted places choice n numbers old mid answer added g r gets none (subst (λ (x : Result Outcome Refusal). IsShown n x answer) is shown)
+  own-held checkpoint numbers said (r, came, is, none, bytes) shown =
+      checkpoint-held trusted places choice n numbers old mid answer added r came none (subst (λ (x : Result Outcome Refusal). IsShown n x answer) is shown)
+  own-held none_yet numbers said h shown =
+      let is = told-as n old mid answer (Err (refused.UnknownWord 1)) said shown h.0 in
+      let by : IsShown n (Err (refused.UnknownWord 1)) answer = subst (λ (r : Result Outcome Refusal). IsShown n r answer) is shown in
+      refused-own trusted places choice n numbers old mid answer added none_yet (refused.UnknownWord 1) by.1 h.1 tt refl (λ rose may. may)
+
+  does-held : (c : Command) (w : Result Work Refusal) (said : Result Outcome Refusal) → Does trusted places choice c w old mid said added → IsShown n said answer
+      → HeldBy trusted places choice n (own_of c) w old mid answer added
+  does-held c (Err given) said h shown =
+      let is = told-as n old mid answer (Err given) said shown h.0 in
+      let by : IsShown n (Err given) answer = subst (λ (r : Result Outcome Refusal). IsShown n r answer) is shown in
+      given-held trusted places choice n (own_of c) old mid answer added given h.1 by.1
+  does-held c (Ok (Commit what)) said (r, commits, is, image, bytes) shown =
+      commit-held trusted places choice n (own_of c) old mid answer added what r commits (subst (λ (x : Result Outcome Refusal). IsShown n x answer) is shown)
+  does-held c (Ok (Show q)) said h shown =
+      let is = told-as n old mid answer (on_ok Rows (answered q (database old))) said shown h.0 in
+      show-held trusted places choice n (own_of c) old mid answer added q (answered q (database old)) refl h.1 (subst (λ (r : Result Outcome Refusal). IsShown n r answer) is shown)
+  does-held c (Ok (Run numbers)) said h shown = own-held (own_of c) numbers said h shown
+
+  comes-held : (c : Command) (said : Result Outcome Refusal) → Comes trusted places choice c old mid said added → IsShown n said answer
+      → HeldBy trusted places choice n (own_of c) (work_over c (database old)) old mid answer added
+  comes-held c said (inl (e, is, ends, none, image, bytes), full) shown =
+      let by : IsShown n (Err e) answer = subst (λ (r : Result Outcome Refusal). IsShown n r answer) is shown in
+      absurd (no-end e old mid ends by.0)
+  comes-held c said (inr does, full) shown = does-held c (work_over c (database old)) said does shown
+
+-- ---- a line
+
+module _ (trusted : Type 0) (places : Places) (choice : List Rule) (n : ℕ) (old mid : Machine) (answer : Answer) (added : List Entry) where
+  says-held : (line : Line) (why : Option Refusal) → Says trusted places choice n line old answer why added mid → Holds trusted places choice n line old mid answer added
+  says-held comment why (is, w, none, same) = record {
+    journal = no-entries (λ x. (x.actor ≡ 0) × orders comment old x.change) added none;
+    queries = tt;
+    bytes = tt;
+    items = no-entries (λ x. ItemsOf comment old mid x.change) added none;
+    causes = λ one. absurd (zero-one answer.tally.refused (ap (λ (a : Answer). a.tally.refused) is) one);
+    done = λ zero. none;
+    complete = λ rose may. ap (λ (a : Answer). a.tally.refused) is;
+  }
+  says-held (refused_line given) why (is, w, none, same) = record {
+    journal = no-entries (λ x. (x.actor ≡ 0) × orders (refused_line given) old x.change) added none;
+    queries = tt;
+    bytes = tt;
+    items = no-entries (λ x. ItemsOf (refused_line given) old mid x.change) added none;
+    causes = λ one. (given, is, refl);
+    done = λ zero. absurd (zero-one answer.tally.refused zero (one-refused n given answer is));
+    complete = λ rose may. absurd may;
+  }
+  says-held (asks c) why (said, comes, ends) =
+      let h = comes-held trusted places choice n old mid answer added c said comes (shown-of n said answer why ends) in
+      record { journal = h.journal; queries = h.queries; bytes = h.bytes; items = h.items; causes = h.causes; done = h.done; complete = h.complete }
+
+-- what holds of a line that was answered so
+pub replies-hold : (trusted : Type 0) (places : Places) (choice : List Rule) (n : ℕ) (line : Line) (old new : Machine) (answer : Answer) (why : Option Refusal)
+    → (r : Replies trusted places choice n line old answer why new) → Holds trusted places choice n line old r.mid answer r.added
+replies-hold trusted places choice n line old new answer why r = says-held trusted places choice n old r.mid answer r.added line why r.says

@@ -1,0 +1,261 @@
+-- What holds of each line of a script beside how it may be answered: which transactions it makes, which rows and bytes it shows, what it says of stored bytes, why it is refused, what it did that
+-- wasn't refused, and when it isn't. A line stands between two states; `mid` is the one behind its command, before the checkpoint that may follow it, and `added` the transactions that it made, oldest first.
+use Rattle.std.specs.Prelude.{◌≡◌, ◌⊎◌, ℕ, ◌+◌, ◌^◌, ◌<◌, ◌≤◌, true, Contains, List, [], ◌∷◌, ◌++◌, length, Option, None, Some, Result, Ok, Err}
+use Rattle.std.specs.List.{AllByRecursion}
+use Rattle.sha2.specs.Sha256.{sha256}
+use Rattle.kinds.specs.ValueForms.{digest_with}
+use Rattle.kinds.specs.declared.change.DefineOrDelete.TheVariants as two
+use Rattle.kinds.specs.declared.change.ObjectChange.TheVariants as client
+use Rattle.kinds.specs.declared.refusal.Refusal.{Refusal}
+use Rattle.kinds.specs.declared.refusal.Refusal.TheVariants.{InventoryFull, UnknownWord}
+use Rattle.choosers.specs.declared.rule.Rule.{Rule}
+use Rattle.entries.specs.change_items.declared.items.NewVersion.{NewVersion}
+use Rattle.entries.specs.declared.change.Change.{Change}
+use Rattle.entries.specs.declared.change.Change.TheVariants as change
+use Rattle.entries.specs.declared.entry.Entry.{Entry}
+use Rattle.inventory_rows.specs.object_rows.Names.{filespace_named, node_named}
+use Rattle.inventory_rows.specs.version_groups.declared.copies.CopyRow.{CopyRow}
+use Rattle.inventory_rows.specs.version_groups.declared.versions.Version.{Version}
+use Rattle.inventory_rows.specs.Search.{version}
+use Rattle.inventory_rows.specs.State.{Inv}
+use Rattle.inventory_work.specs.Rules.{rules_of}
+use Rattle.inventory_work.specs.declared.lines.Rules.{Rules}
+use Rattle.inventory_answers.specs.Answered.{answered}
+use Rattle.inventory_answers.specs.declared.reply.Answer as rows
+use Rattle.placing.specs.Placing.{active_version, can_read}
+use Rattle.admin_words.specs.declared.files.FileGet.{FileGet}
+use Rattle.admin_words.specs.declared.files.FilePut.{FilePut}
+use Rattle.admin_commands.specs.declared.work.Work.{Work}
+use Rattle.admin_commands.specs.declared.work.Work.TheVariants.{Commit, Show, Run}
+use Rattle.reports.specs.Lines.{shown_line}
+use Rattle.reports.specs.declared.shown.Shown.TheVariants.{Stored}
+use Rattle.script_loop.specs.Reply.{Answer}
+use Rattle.machine.specs.Machine.{Places}
+use Rattle.machine.specs.State.{Core, Machine, Place}
+use Rattle.sessions.specs.Homes.{home_of}
+use Rattle.sessions.specs.declared.getting.FileRead.{FileRead}
+use Rattle.sessions.specs.declared.homes.Home.{Home}
+use Rattle.command_steps.specs.Answers.{done, file_lines, refusal, row_lines}
+use Rattle.command_steps.specs.Lines.{Line, asks, comment, refused}
+use Rattle.command_steps.specs.Owns.{Own, checkpoint, get, last_of, none_yet, own_of, put, validate}
+use Rattle.line_results.specs.Commands.{drawn, validated, work_over}
+use Rattle.line_results.specs.Files.{Gets, IsPlacedIn, Puts, backed_up, filespace_defined, why_no_place}
+use Rattle.line_results.specs.Resting.{Makes, RoseFrom, database, entry, why_not}
+
+-- ---- journal: which transactions a line may make
+
+-- a filespace with the file's name for one is defined, or the version that its bytes are is stored
+abbrev pub IsOfFile : FilePut → Change → Type 0
+IsOfFile p c =
+    ((node : ℕ) × (number : ℕ) × (c ≡ change.Object (client.Filespace two.Define node p.filespace number)))
+    ⊎ ((filespace : ℕ) × (class : List ℕ) × (place : Place) × (at : Core) × (c ≡ backed_up filespace p class place at))
+
+abbrev pub OrderedOwn : Own → Change → Type 0
+OrderedOwn (validate set) c = ⊥
+OrderedOwn (put file) c = IsOfFile file c
+OrderedOwn (get file) c = ⊥
+OrderedOwn checkpoint c = ⊥
+OrderedOwn none_yet c = ⊥
+
+-- a change makes the one transaction that it names, and a query none
+abbrev pub OrderedBy : Own → Result Work Refusal → Machine → Change → Type 0
+OrderedBy own (Err why) old c = ⊥
+OrderedBy own (Ok (Commit what)) old c = c ≡ drawn what old
+OrderedBy own (Ok (Show query)) old c = ⊥
+OrderedBy own (Ok (Run numbers)) old c = OrderedOwn own c
+
+-- which transactions a line may make
+abbrev pub orders : Line → Machine → Change → Type 0
+orders comment old c = ⊥
+orders (refused why) old c = ⊥
+orders (asks command) old c = OrderedBy (own_of command) (work_over command (database old)) old c
+
+-- each transaction of a line is of the script, actor 0, and its command orders it
+abbrev pub AreOrdered : Line → (old : Machine) → (added : List Entry) → Type 0
+AreOrdered line old added = AllByRecursion (λ e. (e.actor ≡ 0) × orders line old e.change) added
+
+-- ---- queries: which rows are printed
+
+abbrev pub IsRows : (n : ℕ) → Result rows.Answer Refusal → Answer → Type 0
+IsRows n (Ok answer) printed = printed ≡ done (row_lines n answer)
+IsRows n (Err why) printed = printed ≡ refusal n why
+
+abbrev pub RowsBy : (n : ℕ) → Inv → Result Work Refusal → Answer → Type 0
+RowsBy n v (Ok (Show query)) answer = IsRows n (answered query v) answer
+RowsBy n v (Ok (Commit what)) answer = Unit {0}
+RowsBy n v (Ok (Run numbers)) answer = Unit {0}
+RowsBy n v (Err why) answer = Unit {0}
+
+-- a query shows the rows over the database before its line, each in its order, and how many they are; or it is refused as the query is
+abbrev pub ShowsRows : (n : ℕ) → Line → (old : Machine) → Answer → Type 0
+ShowsRows n comment old answer = Unit {0}
+ShowsRows n (refused why) old answer = Unit {0}
+ShowsRows n (asks command) old answer = RowsBy n (database old) (work_over command (database old)) answer
+
+-- ---- bytes: what a GET shows
+
+-- it shows a file as its reading came to: `Gets` of specs/Files says which version that is and, where the store is trusted, that its bytes are those of its object
+abbrev pub ShowsFile : (trusted : Type 0) → (n : ℕ) → FileGet → (old mid : Machine) → Answer → Type 0
+ShowsFile trusted n g old mid answer =
+    ((file : FileRead) × Gets trusted g old mid (Ok file) × (answer ≡ done (file_lines n file)))
+    ⊎ ((why : Refusal) × Gets trusted g old mid (Err why) × (answer ≡ refusal n why))
+
+abbrev pub BytesOwn : (trusted : Type 0) → (n : ℕ) → Own → (old mid : Machine) → Answer → Type 0
+BytesOwn trusted n (get g) old mid answer = ShowsFile trusted n g old mid answer
+BytesOwn trusted n (validate set) old mid answer = Unit {0}
+BytesOwn trusted n (put file) old mid answer = Unit {0}
+BytesOwn trusted n checkpoint old mid answer = Unit {0}
+BytesOwn trusted n none_yet old mid answer = Unit {0}
+
+abbrev pub BytesBy : (trusted : Type 0) → (n : ℕ) → Own → Result Work Refusal → (old mid : Machine) → Answer → Type 0
+BytesBy trusted n own (Ok (Run numbers)) old mid answer = BytesOwn trusted n own old mid answer
+BytesBy trusted n own (Ok (Commit what)) old mid answer = Unit {0}
+BytesBy trusted n own (Ok (Show query)) old mid answer = Unit {0}
+BytesBy trusted n own (Err why) old mid answer = Unit {0}
+
+abbrev pub ShowsBytes : (trusted : Type 0) → (n : ℕ) → Line → (old mid : Machine) → Answer → Type 0
+ShowsBytes trusted n comment old mid answer = Unit {0}
+ShowsBytes trusted n (refused why) old mid answer = Unit {0}
+ShowsBytes trusted n (asks command) old mid answer = BytesBy trusted n (own_of command) (work_over command (database old)) old mid answer
+
+-- ---- items: what a stored version says of its bytes
+
+-- as many bytes as the text has, and its SHA-256; and these are the object's bytes from then on
+abbrev pub HasText : List ℕ → (mid : Machine) → NewVersion → Type 0
+HasText text mid item = (item.size ≡ length text) × (item.digest ≡ digest_with (sha256 text)) × (mid.contents item.object ≡ text)
+
+abbrev pub ItemsOwn : Own → (mid : Machine) → Change → Type 0
+ItemsOwn (put p) mid (change.Backup c) = AllByRecursion (HasText p.text mid) c.items
+ItemsOwn own mid c = Unit {0}
+
+abbrev pub ItemsBy : Own → Result Work Refusal → (mid : Machine) → Change → Type 0
+ItemsBy own (Ok (Run numbers)) mid c = ItemsOwn own mid c
+ItemsBy own (Ok (Commit what)) mid c = Unit {0}
+ItemsBy own (Ok (Show query)) mid c = Unit {0}
+ItemsBy own (Err why) mid c = Unit {0}
+
+abbrev pub ItemsOf : Line → (old mid : Machine) → Change → Type 0
+ItemsOf comment old mid c = Unit {0}
+ItemsOf (refused why) old mid c = Unit {0}
+ItemsOf (asks command) old mid c = ItemsBy (own_of command) (work_over command (database old)) mid c
+
+-- each item that a PUT's transaction has says so of the text that was put
+abbrev pub AreItems : Line → (old mid : Machine) → (added : List Entry) → Type 0
+AreItems line old mid added = AllByRecursion (λ e. ItemsOf line old mid e.change) added
+
+-- ---- causes: why a line is refused
+
+-- a PUT and a GET are refused as `Puts` and `Gets` of specs/Files say, refusal by refusal
+abbrev pub CauseOwn : (trusted : Type 0) → Places → List Rule → Own → (old mid : Machine) → Refusal → (added : List Entry) → Type 0
+CauseOwn trusted places choice (validate set) old mid why added = validated set (database old) ≡ Err why
+CauseOwn trusted places choice (put p) old mid why added = Puts places choice p old mid (Err why) added
+CauseOwn trusted places choice (get g) old mid why added = Gets trusted g old mid (Err why)
+CauseOwn trusted places choice checkpoint old mid why added = (why ≡ InventoryFull) × (2 ^ 62 ≤ old.core.generation + 1)
+CauseOwn trusted places choice none_yet old mid why added = why ≡ UnknownWord 1
+
+-- a look-up or the command's own words refuse it; the database refuses its change, or its query
+abbrev pub CauseBy : (trusted : Type 0) → Places → List Rule → Own → Result Work Refusal → (old mid : Machine) → Refusal → (added : List Entry) → Type 0
+CauseBy trusted places choice own (Err given) old mid why added = why ≡ given
+CauseBy trusted places choice own (Ok (Commit what)) old mid why added = why_not (drawn what old) old.core ≡ Some why
+CauseBy trusted places choice own (Ok (Show query)) old mid why added = answered query (database old) ≡ Err why
+CauseBy trusted places choice own (Ok (Run numbers)) old mid why added = CauseOwn trusted places choice own old mid why added
+
+-- the cause of a line's refusal
+abbrev pub Cause : (trusted : Type 0) → Places → List Rule → Line → (old mid : Machine) → Refusal → (added : List Entry) → Type 0
+Cause trusted places choice comment old mid why added = ⊥
+Cause trusted places choice (refused given) old mid why added = why ≡ given
+Cause trusted places choice (asks command) old mid why added = CauseBy trusted places choice (own_of command) (work_over command (database old)) old mid why added
+
+-- a line that counts as refused prints a refusal that has its cause
+abbrev pub HasCause : (trusted : Type 0) → Places → List Rule → (n : ℕ) → Line → (old mid : Machine) → Answer → (added : List Entry) → Type 0
+HasCause trusted places choice n line old mid answer added =
+    answer.tally.refused ≡ 1 → (why : Refusal) × (answer ≡ refusal n why) × Cause trusted places choice line old mid why added
+
+-- ---- done: what a line did that was answered OK
+
+abbrev pub DidOwn : (n : ℕ) → Own → (old mid : Machine) → Answer → (added : List Entry) → Type 0
+DidOwn n (validate set) old mid answer added = (validated set (database old) ≡ Ok tt) × (added ≡ [])
+DidOwn n (put p) old mid answer added =
+    (filespace : ℕ) × (class : List ℕ) × (place : Place) × (at : Core) × (earlier : List Entry)
+    × (added ≡ earlier ++ entry (backed_up filespace p class place at) ∷ []) × (answer ≡ done (shown_line n (Stored at.next_object)))
+DidOwn n (get g) old mid answer added = added ≡ []
+DidOwn n checkpoint old mid answer added = (mid.core.generation ≡ old.core.generation + 1) × (added ≡ [])
+DidOwn n none_yet old mid answer added = ⊥
+
+abbrev pub DidBy : (n : ℕ) → Own → Result Work Refusal → (old mid : Machine) → Answer → (added : List Entry) → Type 0
+DidBy n own (Err given) old mid answer added = ⊥
+DidBy n own (Ok (Commit what)) old mid answer added = (added ≡ entry (drawn what old) ∷ []) × (answer ≡ done (shown_line n (last_of what)))
+DidBy n own (Ok (Show query)) old mid answer added = added ≡ []
+DidBy n own (Ok (Run numbers)) old mid answer added = DidOwn n own old mid answer added
+
+abbrev pub Did : (n : ℕ) → Line → (old mid : Machine) → Answer → (added : List Entry) → Type 0
+Did n comment old mid answer added = added ≡ []
+Did n (refused given) old mid answer added = ⊥
+Did n (asks command) old mid answer added = DidBy n (own_of command) (work_over command (database old)) old mid answer added
+
+-- a line that doesn't count as refused did what it names
+abbrev pub IsDone : (n : ℕ) → Line → (old mid : Machine) → Answer → (added : List Entry) → Type 0
+IsDone n line old mid answer added = answer.tally.refused ≡ 0 → Did n line old mid answer added
+
+-- ---- complete: which lines are not refused
+
+-- wherever the file is placed it has a place, and the database has no reason against its version
+abbrev pub HasRoom : Places → FilePut → Home → (filespace : ℕ) → Core → Type 0
+HasRoom places p home filespace c =
+    (placed : Result Place Refusal) → IsPlacedIn places home.pool (length p.text) c placed
+    → (why_no_place home.pool (length p.text) c placed ≡ None) × ((place : Place) → placed ≡ Ok place → why_not (backed_up filespace p home.class place c) c ≡ None)
+
+-- the same in the filespace that is there; where it isn't, the database has no reason against defining it, and this holds behind that
+abbrev pub HasRoomUnder : Places → Option ℕ → FilePut → Home → (old : Machine) → Type 0
+HasRoomUnder places (Some filespace) p home old = HasRoom places p home filespace old.core
+HasRoomUnder places None p home old =
+    (why_not (filespace_defined home.node p.filespace (database old)) old.core ≡ None)
+    × ((mid : Machine) → Makes (filespace_defined home.node p.filespace (database old)) old mid → HasRoom places p home (database old).next_filespace mid.core)
+
+-- a file may be put: its node is there, by the include-exclude list its path is bound to a class with a copy group, and there is room
+abbrev pub MayPut : Places → List Rule → FilePut → (old : Machine) → Type 0
+MayPut places choice p old =
+    (node : ℕ) × (node_named p.node (database old).clients.nodes ≡ Some node) × (rules : Rules) × (rules_of node (database old) ≡ Ok rules)
+    × (home : Home) × (home_of node rules choice p.path ≡ Ok home) × HasRoomUnder places (filespace_named home.node p.filespace (database old).clients.filespaces) p home old
+
+-- a file may be read: its node, its filespace and an active version of its path are there, which is the one with its object's number, and one of its copies lies on volumes that may be read
+abbrev pub MayGet : FileGet → Inv → Type 0
+MayGet g v =
+    (node : ℕ) × (node_named g.node v.clients.nodes ≡ Some node) × (filespace : ℕ) × (filespace_named node g.filespace v.clients.filespaces ≡ Some filespace)
+    × (w : Version) × (active_version filespace g.path v ≡ Some w) × (version w.object v ≡ Some w) × (copy : CopyRow) × Contains w.copies copy × (can_read copy v ≡ true)
+
+abbrev pub MayOwn : Places → List Rule → Own → (old : Machine) → Type 0
+MayOwn places choice (validate set) old = validated set (database old) ≡ Ok tt
+MayOwn places choice (put p) old = MayPut places choice p old
+MayOwn places choice (get g) old = MayGet g (database old)
+MayOwn places choice checkpoint old = old.core.generation + 1 < 2 ^ 62
+MayOwn places choice none_yet old = ⊥
+
+-- what the command names is there; and the database has no reason against its change, or shows its rows
+abbrev pub MayBy : Places → List Rule → Own → Result Work Refusal → (old : Machine) → Type 0
+MayBy places choice own (Err why) old = ⊥
+MayBy places choice own (Ok (Commit what)) old = why_not (drawn what old) old.core ≡ None
+MayBy places choice own (Ok (Show query)) old = (shown : rows.Answer) × (answered query (database old) ≡ Ok shown)
+MayBy places choice own (Ok (Run numbers)) old = MayOwn places choice own old
+
+-- A line is legal: it is a comment, or a command of the grammar that is done so far, of which this holds.
+abbrev pub IsLegal : Places → List Rule → Line → (old : Machine) → Type 0
+IsLegal places choice comment old = Unit {0}
+IsLegal places choice (refused why) old = ⊥
+IsLegal places choice (asks command) old = MayBy places choice (own_of command) (work_over command (database old)) old
+
+-- a line that is legal, and in which no count of faults rose, doesn't count as refused
+abbrev pub IsComplete : Places → List Rule → Line → (old mid : Machine) → Answer → Type 0
+IsComplete places choice line old mid answer = ((file : ℕ) → RoseFrom old mid file → ⊥) → IsLegal places choice line old → answer.tally.refused ≡ 0
+
+-- ---- all of them
+
+-- what holds of a line that was answered so
+pub record Holds (trusted : Type 0) (places : Places) (choice : List Rule) (n : ℕ) (line : Line) (old mid : Machine) (answer : Answer) (added : List Entry) : Type 0 where
+  pub journal : AreOrdered line old added
+  pub queries : ShowsRows n line old answer
+  pub bytes : ShowsBytes trusted n line old mid answer
+  pub items : AreItems line old mid added
+  pub causes : HasCause trusted places choice n line old mid answer added
+  pub done : IsDone n line old mid answer added
+  pub complete : IsComplete places choice line old mid answer

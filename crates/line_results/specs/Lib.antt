@@ -1,0 +1,5 @@
+pub mod Clauses
+pub mod Commands
+pub mod Files
+pub mod Lines
+pub mod Resting
