@@ -42,6 +42,15 @@ leaves_again file mid left first second = record {
   same = λ place below firm. leaves_settled mid left second place (let one : file.stable ≤ length mid = first.long in omega (arith, one, below)) ∙ first.same place below firm;
 }
 
+-- each stamp that is at most a moment is known by then
+pub every_stamp : (first last moment : ℕ) (stamps : List ℕ) → Rise first last stamps → last ≤ moment → acknowledged moment stamps ≡ length stamps
+every_stamp first last moment [] r l = refl
+every_stamp first last moment (s ∷ stamps) r l =
+    let le : s ≤ moment = (let over = rise_over s last stamps r.1 in omega (arith, over, l)) in
+    let one : ◌≡◌ {A = ℕ} (if nat_le s moment then 1 else 0) 1 = ap (λ b. if b then 1 else 0) (le-leb s moment le) in
+    let rest : acknowledged moment stamps ≡ length stamps = every_stamp s last moment stamps r.1 l in
+    omega (arith, one, rest)
+
 module _ (h after : History) (stops : StopsAs h after) where
   image_again : (image : ℕ → List ℕ) → ImageAt after (now after) image → ImageAt h (now h) image
   image_again image here file =
@@ -51,14 +60,6 @@ module _ (h after : History) (stops : StopsAs h after) where
     where
       now_standing : (file : ℕ) → standing (back h (now h)) file ≡ standing h file
       now_standing file = ap (λ g. standing g file) (back_now h)
-
-  every_stamp : (first last moment : ℕ) (stamps : List ℕ) → Rise first last stamps → last ≤ moment → acknowledged moment stamps ≡ length stamps
-  every_stamp first last moment [] r l = refl
-  every_stamp first last moment (s ∷ stamps) r l =
-      let le : s ≤ moment = (let over = rise_over s last stamps r.1 in omega (arith, over, l)) in
-      let one : ◌≡◌ {A = ℕ} (if nat_le s moment then 1 else 0) 1 = ap (λ b. if b then 1 else 0) (le-leb s moment le) in
-      let rest : acknowledged moment stamps ≡ length stamps = every_stamp s last moment stamps r.1 l in
-      omega (arith, one, rest)
 
   module _ (m : Machine) (held : Held) (k : IsKept m held h) (rise : Rise held.opened m.moment m.core.stamps) (clock : now h ≡ m.moment) where
     safe : (image : ℕ → List ℕ) → ImageAt h (now h) image → IsSafe m.contents m.core (acknowledged (now h) m.core.stamps) image

@@ -9,7 +9,7 @@ ghost use Rattle.steps.specs.Events.Deed.{Ask, Commit, DropTicket, Force};
 ghost use Rattle.hall.specs.Steps.{Goes, Looks, Steps};
 
 use crate::parts::Parts;
-use entries::Entry;
+use entries::{Database, Entry};
 use inventory::Inventory;
 use inventory_answers::{Answer, Query};
 use kinds::Refusal;
@@ -100,6 +100,13 @@ impl<S: Store> Hall<S> {
         ensures { result ≡ self.now.held.vault.generation }
     {
         self.parts.vault.generation()
+    }
+
+    /// The number of the last transaction.
+    pub fn number(&self) -> u64
+        ensures { result ≡ self.now.held.vault.database.number }
+    {
+        self.parts.vault.database().number()
     }
 
     /// Gives the ticket's space back. Refused with `RunFull` where the store's moment is 2^62 - 2^24 or a later one, with `LogFault` where a fault of the log has halted the hall, and with

@@ -1,3 +1,5 @@
+pub mod Alones
+pub mod Lefts
 pub mod Playing
 pub mod Stepped
 pub mod Valued

@@ -3,6 +3,7 @@
 
 mod alone;
 mod direct;
+pub mod laws;
 mod played;
 mod stepping;
 

@@ -9,5 +9,6 @@ pub mod Mild
 pub mod Moves
 pub mod Pictures
 pub mod Runs
+pub mod Stamps
 pub mod Stored
 pub mod Tickets

@@ -6,5 +6,6 @@ pub mod Laws
 pub mod Machine
 pub mod Pieces
 pub mod Says
+pub mod Stamps
 pub mod State
 pub mod Turns

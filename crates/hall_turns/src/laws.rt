@@ -1,0 +1,40 @@
+// What runs of one actor on a hall mean, as laws. Each stands on a function that does nothing.
+ghost use Rattle.std.specs.Prelude.{◌≡◌, ℕ, List, length, None, Some};
+ghost use Rattle.store_api.specs.Disk.{History, ImageAt, now};
+ghost use Rattle.store_api.specs.Runs.{GoesOn};
+ghost use Rattle.store_api.specs.Told.{Told};
+ghost use Rattle.steps.specs.Events.{Event};
+ghost use Rattle.machine.specs.Alone.{Alone};
+ghost use Rattle.machine.specs.Stamps.{KeepsStamps};
+ghost use Rattle.machine.specs.State.{Machine};
+ghost use Rattle.hall.specs.Alone.{Ran};
+ghost use Rattle.hall.specs.Good.{Is, WasSound};
+ghost use Rattle.hall.specs.Held.{Hall};
+ghost use Rattle.hall.specs.Placed.{hall_places};
+ghost use Rattle.hall.specs.Steps.{IsTrusted};
+ghost use Rattle.hall_turns.specs.Left.{GivesState, LeavesSound};
+
+use store_api::Store;
+
+/// What one actor did on a hall that it has alone is a run of the machine by this actor alone. Over a store that tells its bytes and was sound when the hall was opened what it read are the very
+/// bytes that its objects have, and behind it the store is still one that was sound then. The stamps that were there stay. The store goes on from what it told.
+pub fn runs_are_alone<S: Store>()
+    ensures alone { (actor : ℕ) (events : List Event) (old new : Hall S) (m : Machine) → Is S.told S.moment_of S.faults_of old m → Ran S.told S.moment_of S.faults_of actor events old new
+        → (last : Machine) × Alone ⊥ hall_places actor events m last × Is S.told S.moment_of S.faults_of new last × KeepsStamps m.core last.core }
+    ensures exact { (actor : ℕ) (events : List Event) (old new : Hall S) (m : Machine) → Is S.told S.moment_of S.faults_of old m → IsTrusted (S.told old.store) old.held
+        → Ran S.told S.moment_of S.faults_of actor events old new
+        → (last : Machine) × Alone (Unit {0}) hall_places actor events m last × Is S.told S.moment_of S.faults_of new last × IsTrusted (S.told new.store) new.held × KeepsStamps m.core last.core }
+    ensures goes { (actor : ℕ) (events : List Event) (old new : Hall S) → Ran S.told S.moment_of S.faults_of actor events old new
+        → (new.held.base ≡ old.held.base) × (new.held.opened ≡ old.held.opened) × Told (S.told old.store) (S.told new.store) (GoesOn (λ file. Unit {0})) }
+{}
+
+/// Over such a store, where each transaction of a hall is durable and no fault has halted it, each image that a stop right now may leave gives back the hall's state.
+pub fn halls_at_rest_are_there<S: Store>()
+    ensures { (hall : Hall S) (m : Machine) (h : History) (image : ℕ → List ℕ) → S.told hall.store ≡ Some h → Is S.told S.moment_of S.faults_of hall m → WasSound hall.held.base hall.held.opened h
+        → m.core.fault ≡ None → length m.core.stamps ≡ length m.core.journal → ImageAt h (now h) image → GivesState m image }
+{}
+
+/// And whatever halted it, the store is one over which a hall may be opened again, with every transaction that has a stamp.
+pub fn halls_leave_sound_stores<S: Store>()
+    ensures { (hall : Hall S) (m : Machine) (h : History) → S.told hall.store ≡ Some h → Is S.told S.moment_of S.faults_of hall m → WasSound hall.held.base hall.held.opened h → LeavesSound m h }
+{}
