@@ -1,4 +1,5 @@
 //! A call of the server, and what it leaves.
+use choosers::Binder;
 use mem_files::{MemReader, MemWriter};
 use real_edge::{StdSink, StdSource};
 use std::alloc::{AllocError, Global};
@@ -86,7 +87,14 @@ pub fn call<S: Store + Drop>(
     let mut writer = writer;
     let mut script = StdSource::new(&mut reader);
     let mut out = StdSink::new(&mut writer);
-    let ended = serve(alloc, &words, store, &mut script, &mut out);
+    let ended = serve(
+        alloc,
+        &words,
+        store,
+        &mut script,
+        &mut out,
+        Binder::new(Vec::new(alloc)),
+    );
     let (store, mut said) = parts(alloc, ended, unread(&mut reader));
     said.put = writer.bytes().to_vec(alloc)?;
     Ok((store, said))

@@ -1,6 +1,7 @@
 //! The program: a script of commands on standard input, answers on standard output, an exit status, and a folder as the store.
 #![tactic(auto)]
 
+use choosers::Binder;
 use real_edge::{FolderStore, RealFiles, StdSink, StdSource};
 use std::alloc::Global;
 use std::env::Env;
@@ -27,7 +28,14 @@ fn main(rt: HostRuntime) -> ExitCode {
     };
     let store = FolderStore::new(RealFiles::new(rt, alloc, FOLDER), alloc);
     let mut script = StdSource::new(rt.reader());
-    let ended = serve(alloc, &words, store, &mut script, &mut out);
+    let ended = serve(
+        alloc,
+        &words,
+        store,
+        &mut script,
+        &mut out,
+        Binder::new(Vec::new(alloc)),
+    );
     let status = ended.status;
     drop(ended);
     ExitCode::from(status)

@@ -1,13 +1,8 @@
-mod Answering
-mod Causes
-mod Clauses
-mod Completeness
-mod Headline
-mod Looking
-mod Machines
-mod Making
-mod Opening
-mod Pieces
-mod Saying
-mod Weaker
-mod Words
+pub mod Causes
+pub mod Making
+pub mod Noting
+pub mod Opening
+pub mod Running
+pub mod Safe
+pub mod There
+pub mod Words

@@ -9,6 +9,8 @@ use Rattle.fields.specs.Editions.{first_form, second_form}
 use Rattle.kinds.specs.declared.refusal.OpenRefused.{OpenRefused}
 use Rattle.kinds.specs.declared.refusal.OpenRefused.TheVariants as refused
 use Rattle.entries.specs.declared.entry.Entry.{Entry}
+use Rattle.choosers.specs.declared.rule.Rule.{Rule}
+use Rattle.contents.specs.Contents.{Holds}
 use Rattle.inventory.specs.Meant.{meaning}
 use Rattle.inventory.specs.Meaningful.{is_meaning}
 use Rattle.inventory_rows.specs.Fresh.{fresh}
@@ -18,10 +20,8 @@ use Rattle.vault.specs.Openings.{Calm, Spared, is_formatted as has_gate, Formatt
 use Rattle.vault.specs.Recovery.{Recovers, IsBase}
 use Rattle.vault.proofs.Sounding.{ends_log, newest_one, within_recovers}
 use Rattle.vault.proofs.Unique.{one_database, one_form, is_formatted, not_damaged_there}
-use Rattle.server.proofs.Soundness.{new_sound}
 use Rattle.tsm_top.specs.declared.note.Note.{Note}
-use Rattle.tsm_top.specs.Serve.{Command, format, run, fresh_run, Closing, no_command, formatted, exists, refused_opening, HasCause, OpensNot, IsNone, IsNew, HasImage, RunsOver, StartsAt, Sure, Spares, Opens, RanScript, RoseBetween}
-use Rattle.tsm_top.proofs.Saying.{ran_over}
+use Rattle.tsm_top.specs.Serve.{Command, format, run, fresh_run, Closing, no_command, formatted, exists, refused_opening, HasCause, OpensNot, IsNone, IsNew, HasImage, RunsOver, StartsAt, Sure, Spares, Opens, Later, RanScript, RoseBetween}
 
 -- files that hold a new database recover to it alone
 new_base : (h : History) → IsNew (Some h) → IsBase meaning 0 fresh (reads h)
@@ -62,9 +62,16 @@ new_over None y base same had new over = (had, tt)
 new_over (Some a) None base same had new over = absurd (cc)
 new_over (Some a) (Some h) base same had new over = (had, one_database meaning is_meaning (reads h) base fresh over (new_recovers h new))
 
+-- it has no object, so whatever bytes these are to have, they have them
+no_copies : (contents image : ℕ → List ℕ) → Holds contents image fresh
+no_copies contents image = tt
+
 new_sure : (first : ℕ → List ℕ) (x y : Option History) → is_some y ≡ is_some x → IsNew y → Sure fresh_run first x → Sure run first y
 new_sure first x None same new known = absurd (cc)
-new_sure first x (Some h) same new known = new_sound first h (λ moment files from to here. (new moment files from to here).recovers)
+new_sure first x (Some h) same new known = record {
+  each = λ image here. (fresh, ((new (now h) image (omega arith) (omega arith) here).recovers, no_copies first image));
+  read = λ v is image here. subst (λ (w : Inv). Holds first image w) (one_database meaning is_meaning (reads h) fresh v (new_recovers h new) is) (no_copies first image);
+}
 
 -- its newest image is of generation 0, and it is opened as that
 new_starts : (x y : Option History) (start : ℕ) → is_some y ≡ is_some x → IsNew y → StartsAt run y start → StartsAt fresh_run x start
@@ -86,22 +93,19 @@ tells_on R None (Some b) t = absurd t
 tells_on R (Some a) None t = absurd t
 
 -- a script that was run over it
-pub new_script : (x y left_told : Option History) (before after : ℕ → ℕ) (opened last : ℕ) (end : End) (status : ℕ) (journal : List Entry) (stamps : List ℕ) (notes : List Note) (base : Option Inv) (generation : ℕ) (script left was is : Option (List ℕ)) → is_some y ≡ is_some x → HasImage false x → IsNew y →
-    RanScript run y left_told before after opened last end status journal stamps notes base generation script left was is → RanScript fresh_run x left_told before after opened last end status journal stamps notes base generation script left was is
-new_script x y left_told before after opened last end status journal stamps notes base generation script left was is same had new ran = record {
+pub new_script : (x y left_told : Option History) (choice : List Rule) (before after : ℕ → ℕ) (opened last : ℕ) (end : End) (status : ℕ) (journal : List Entry) (stamps : List ℕ) (notes : List Note) (base : Option Inv) (generation : ℕ) (script left was is : Option (List ℕ)) → is_some y ≡ is_some x → HasImage false x → IsNew y →
+    RanScript run choice y left_told before after opened last end status journal stamps notes base generation script left was is → RanScript fresh_run choice x left_told before after opened last end status journal stamps notes base generation script left was is
+new_script x y left_told choice before after opened last end status journal stamps notes base generation script left was is same had new ran = record {
   code = ran.code;
   database = ran.database;
   base_is = ran.base_is;
   over = new_over x y ran.database same had new ran.over;
-  kept = ran.kept;
-  journal_is = ran.journal_is;
   rest = ran.rest;
-  timely = ran.timely;
+  rise = ran.rise;
   start = ran.start;
-  begins = new_starts x y ran.start same new ran.begins;
-  log = ran.log;
-  left_log = ran.left_log;
-  runs = λ first. ran_over (Sure run first y) (Sure fresh_run first x) first ran.database _ _ left_told end script was is (λ known. new_sure first x y same new known) (ran.runs first);
+  starts = new_starts x y ran.start same new ran.starts;
+  whole = ran.whole;
+  sound = λ contents known. ran.sound contents (new_sure contents x y same new known);
 }
 
 -- opening it changes nothing that is read
@@ -128,6 +132,14 @@ opens_new x y z same had new spared = (had, tells_on (Spared meaning) y z spared
 -- a new database that couldn't be opened
 pub refused_spares : (x y z : Option History) → is_some y ≡ is_some x → HasImage false x → Told y z (Spared meaning) → Spares fresh_run x z
 refused_spares x y z same had spared = inr (had, tells_on (Spared meaning) y z spared ∙ same)
+
+-- ---- calls one after the other
+
+pub later_then : {S : Type 0} (moment : S → ℕ) (faults : S → ℕ → ℕ) (a b c : S) → Later moment faults a b → Later moment faults b c → Later moment faults a c
+later_then moment faults a b c first second = record {
+  counts = λ file. (let one = first.counts file in let two = second.counts file in omega (arith, one, two));
+  time = (let one = first.time in let two = second.time in omega (arith, one, two));
+}
 
 -- ---- how a database is made
 

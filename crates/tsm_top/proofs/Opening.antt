@@ -1,110 +1,172 @@
--- A script is run over a vault that was opened, over what the store holds or over a database that was just put there.
-use Rattle.std.proofs.Common.{◌≡◌, ℕ, true, Option, None, Some, IfSome, List, [], ◌++◌, Result, Ok, Err, reverse, sym, ◌∙◌, ap, subst, append-nil}
-use Rattle.store_api.specs.Disk.{History, now}
+-- A script is run on a hall that was opened, over what the store holds or over a database that was just put there.
+use Rattle.std.proofs.Common.{◌≡◌, inl, inr, ℕ, ◌≤◌, Option, None, Some, List, [], ◌∷◌, length, Ok, Err, Result, refl, sym, ◌∙◌, ap, subst, arith}
+use Rattle.std.specs.Prelude.{IfSome}
+use Rattle.store_api.specs.Disk.{History, now, reads}
 use Rattle.store_api.specs.Told.{Told}
 use Rattle.store_api.specs.Runs.{GoesOn}
-use Rattle.store_api.proofs.Runs.{told_map}
+use Rattle.store_api.proofs.Runs.{goes_none, goes_then, told_map, told_then}
+use Rattle.vault.proofs.of_log_file.Told.{told_same}
 use Rattle.kinds.specs.declared.refusal.OpenRefused.{OpenRefused}
 use Rattle.kinds.specs.declared.refusal.OpenRefused.TheVariants as refused
+use Rattle.choosers.specs.declared.rule.Rule.{Rule}
 use Rattle.entries.specs.declared.entry.Entry.{Entry}
 use Rattle.inventory.specs.Meant.{meaning}
 use Rattle.inventory_rows.specs.State.{Inv}
-use Rattle.inventory_rules.specs.Valid.{is_valid}
-use Rattle.vault.specs.log_file.Safety.{Timely, acknowledged}
 use Rattle.script_loop.specs.Runs.{Says}
 use Rattle.script_loop.specs.Ends.{DoneAtEnd, status_of}
 use Rattle.script_loop.specs.declared.ends.End.{End}
-use Rattle.vault.specs.Openings.{Opened, Spared, MayRefuseOpening}
+use Rattle.vault.specs.Openings.{MayRefuseOpening, Opened, Spared}
+use Rattle.vault.specs.Recovery.{Recovers}
 use Rattle.vault.specs.Vaults.{State}
-use Rattle.server.specs.Running.{Running, IsSure}
-use Rattle.server.specs.Steps.{Later, Went}
-use Rattle.server.specs.Left.{HasFirst}
-use Rattle.server.specs.World.{Kept, entries_of}
-use Rattle.server.proofs.Soundness.{opened_good}
-use Rattle.tsm_top.specs.declared.session.Session.{Session}
-use Rattle.tsm_top.specs.Machine.{Site, IsThere, AllSafe}
-use Rattle.tsm_top.specs.Serve.{run, OpensNot, IsOurFile, IsNone, RunsOver, StartsAt, Sure, RanOver, opened_site, RanScript, RanFrom, RoseBetween}
-use Rattle.tsm_top.specs.Session.{ServesLine, HaltsLine}
+use Rattle.machine.specs.State.{Machine, Ticket}
+use Rattle.hall.specs.declared.seat.Seat.{Seat}
+use Rattle.hall.specs.Good.{AlwaysSafe, Is, IsKept, IsSoundWith, Rise, WasSound}
+use Rattle.hall.specs.Held.{AreSeatsOf, Hall, Held}
+use Rattle.hall.specs.Opening.{IsNewHall, IsSound, IsWith, Opens, OpensFiles}
+use Rattle.hall.specs.Steps.{IsTrusted}
+use Rattle.hall.proofs.Imaging.{no_image}
+use Rattle.hall_turns.specs.Left.{LeavesSound}
+use Rattle.line_results.specs.Resting.{IsAtRest}
 use Rattle.tsm_top.specs.declared.note.Note.{Note}
-use Rattle.tsm_top.proofs.Machines.{Sim, IsOf, site_of, there, says, safe_after, left_after}
-use Rattle.tsm_top.proofs.Saying.{ran_over}
-use Rattle.server.proofs.Stepping.{does_none}
+use Rattle.tsm_top.specs.declared.session.Session.{Session}
+use Rattle.tsm_top.specs.Serve.{Begins, IsNone, IsOurFile, Later, OpensNot, Ran, RanFrom, RanScript, RoseBetween, RunsOver, StartsAt, Sure, run}
+use Rattle.tsm_top.specs.Sessions.{HaltsLine, ServesLine}
+use Rattle.tsm_top.specs.Sites.{IsThere, RepliesAt, StopsAt, site}
+use Rattle.tsm_top.proofs.Running.{AreAlone, AreThere, At, Come, End_, Ended, GoOn, Hold, says}
+use Rattle.tsm_top.proofs.There.{there}
 
-module _ {S : Type 0} (told : S → Option History) (moment : S → ℕ) (faults : S → ℕ → ℕ) (clock : (s : S) → IfSome (told s) (λ h. now h ≡ moment s)) (start : Running S) (none : start.stamps ≡ []) (begun : start.vault.journal ≡ []) (sure : start.vault.fault ≡ None) where
-  begins : (old : Session S) → old.server ≡ start → Sim told moment faults clock start none old.server []
-  begins old is = subst (λ (server : Running S). Sim told moment faults clock start none server []) (sym is) (record { fresh = []; does = does_none told moment faults start sure })
+no_seats : (seats : List (ℕ × Seat)) (tickets : List Ticket) → seats ≡ [] → AreSeatsOf seats tickets → tickets ≡ []
+no_seats seats [] none are = refl
+no_seats [] (t ∷ tickets) none are = absurd are
+no_seats (s ∷ seats) (t ∷ tickets) none are = absurd cc
 
-  -- the site of the server at the start
-  abbrev site : Site
-  site = opened_site start.vault.generation start.vault.end (moment start.store) (faults start.store)
+-- a store's history goes on, and goes on from there
+pub goes_further : (x y z : Option History) → Told x y (GoesOn (λ file. Unit {0})) → Told y z (GoesOn (λ file. Unit {0})) → Told x z (GoesOn (λ file. Unit {0}))
+goes_further x y z first second =
+    told_then x y z (GoesOn (λ file. Unit {0})) (GoesOn (λ file. Unit {0})) (GoesOn (λ file. Unit {0})) (λ a b c one two. goes_then (λ file. Unit {0}) a b c one two) first second
 
-  site_is : (server : Running S) (notes : List Note) → server ≡ start → notes ≡ [] → site_of told moment faults clock start none [] notes server ≡ site
-  site_is server notes is unnoted = rw unnoted (rw is (ap (λ (l : List ℕ). let s : Site = record { kept = []; stamps = l; notes = []; generation = start.vault.generation; log = start.vault.end; moment = moment start.store; faults = faults start.store } in s) none))
+pub goes_no_further : (x : Option History) → Told x x (GoesOn (λ file. Unit {0}))
+goes_no_further x = told_same x (GoesOn (λ file. Unit {0})) (goes_none (λ file. Unit {0}))
 
-  -- the site at the return, by what `close` gives
-  abbrev site_left : Running S → List Kept → List ℕ → List Note → ℕ → Site
-  site_left server kept stamps notes generation = record { kept = kept; stamps = stamps; notes = notes; generation = generation; log = server.vault.end; moment = moment server.store; faults = faults server.store }
+module _ {S : Type 0} (told : S → Option History) (moment : S → ℕ) (faults : S → ℕ → ℕ) (clock : (s : S) → IfSome (told s) (λ h. now h ≡ moment s)) where
+  -- what is kept of every hall over a store that was sound
+  abbrev pub AreKept : Type 0
+  AreKept = (hall : Hall S) (m : Machine) (h : History) → told hall.store ≡ Some h → Is told moment faults hall m → WasSound hall.held.base hall.held.opened h → IsKept m hall.held h
 
-  left_is : (server : Running S) (kept : List Kept) (stamps : List ℕ) (notes : List Note) (generation : ℕ) → stamps ≡ server.stamps → generation ≡ server.vault.generation → site_of told moment faults clock start none kept notes server ≡ site_left server kept stamps notes generation
-  left_is server kept stamps notes generation same number = ap (λ (l : List ℕ). site_left server kept l notes server.vault.generation) (sym same) ∙ ap (λ (n : ℕ). site_left server kept stamps notes n) (sym number)
+  abbrev pub LeaveSound : Type 0
+  LeaveSound = (hall : Hall S) (m : Machine) (h : History) → told hall.store ≡ Some h → Is told moment faults hall m → WasSound hall.held.base hall.held.opened h → LeavesSound m h
 
-  -- what a run of the server leaves
-  pub record Whole (last : S) (end : End) (status : ℕ) (journal : List Entry) (stamps : List ℕ) (notes : List Note) (generation : ℕ) (script left before after : Option (List ℕ)) : Type 0 where
-    pub from : RanFrom start.vault (told start.store) (told last) (faults start.store) (faults last) (moment start.store) (moment last) end status journal stamps notes generation script left before after
-    pub later : Later moment faults start.store last
-    pub goes : Told (told start.store) (told last) (GoesOn (λ file. Unit {0}))
+  module _ (hall : Hall S) (fresh : IsNewHall (moment hall.store) hall.held) where
+    begins : (m : Machine) → Is told moment faults hall m → Begins hall.held.base (moment hall.store) (faults hall.store) m
+    begins m is =
+        let no_tickets : m.core.tickets ≡ [] = no_seats hall.held.seats m.core.tickets fresh.seats is.core.tickets in
+        let no_journal : m.core.journal ≡ [] = is.core.journal ∙ fresh.vault.0 in
+        let no_stamps : m.core.stamps ≡ [] = is.core.stamps ∙ fresh.stamps in
+        record {
+          database = is.core.base;
+          journal = no_journal;
+          stamps = no_stamps;
+          rests = record {
+            tickets = no_tickets;
+            image = no_image m.core.image (is.core.image ∙ fresh.image);
+            durable = ap (λ (l : List ℕ). length l) no_stamps ∙ sym (ap (λ (l : List Entry). length l) no_journal);
+            fault = is.core.fault ∙ fresh.vault.2;
+          };
+          next_file = sym is.core.space.next_file ∙ ap (λ c. c.next_file) fresh.claims;
+          next_object = is.core.next_object ∙ fresh.next_object;
+          next_ticket = is.core.next_ticket ∙ fresh.next_ticket;
+          clock = is.clock;
+          faults = is.counts;
+        }
 
-  ran_there : (end : End) (status : ℕ) (journal : List Entry) (stamps : List ℕ) (notes : List Note) (generation : ℕ) (script left before after : Option (List ℕ)) (old new : Session S) → old.server ≡ start → old.notes.items ≡ [] → IsOf told moment faults clock start none old → Says (λ a n line answer b. ServesLine told moment faults a n line answer b) (λ a n line how b. HaltsLine told moment faults a n line how b) old new script before after end →
-      status ≡ status_of end → journal ≡ new.server.vault.journal → reverse stamps ≡ new.server.stamps → notes ≡ new.notes.items → generation ≡ new.server.vault.generation → DoneAtEnd end left → Whole new.server.store end status journal stamps notes generation script left before after
-  ran_there end status journal stamps notes generation script left before after old new is unnoted of said code journal_is stamps_are notes_are generation_is rest =
-      let sim = begins old is in
-      let all = says told moment faults clock start none end script before after old new [] sim of said in
-      let last = all.left in
-      let fresh_is : new.server.stamps ≡ last.fresh = last.adds.stamps ∙ ap (λ (l : List ℕ). last.fresh ++ l) none ∙ append-nil last.fresh in
-      let there = left_is new.server all.after (reverse stamps) new.notes.items generation stamps_are generation_is ∙ ap (λ (l : List Note). site_left new.server all.after (reverse stamps) l generation) (sym notes_are) in
-      let final : Site = site_of told moment faults clock start none all.after new.notes.items new.server in
-      let over : (first : ℕ → List ℕ) → RanOver (IsSure first start.vault (told start.store)) first start.vault.database (site_of told moment faults clock start none [] old.notes.items old.server) final (told new.server.store) end script before after = λ first. record {
-        begins = λ known. begins_there first old new is known all.after last.fresh last.files;
-        says = (said.0, said.1, all.run first);
-        images = λ known. subst (λ (l : List ℕ). IfSome (told new.server.store) (AllSafe start.vault.database first (moment old.server.store) all.after l)) (sym fresh_is) (safe_after first start.vault (moment old.server.store) all.after last.fresh (told start.store) (told new.server.store) (subst (λ (r : Running S). IfSome (told start.store) (λ h. now h ≡ moment r.store)) (sym is) (clock start.store)) last.files known);
-        left = λ known. subst (λ (l : List ℕ). IfSome (told new.server.store) (HasFirst start.vault.database first all.after (acknowledged (moment new.server.store) l))) (sym fresh_is) (left_after first start.vault all.after last.fresh (moment new.server.store) (told start.store) (told new.server.store) (clock new.server.store) last.files known);
-      } in
-      record {
-        from = record {
-          code = code;
-          kept = all.after;
-          journal_is = ap reverse journal_is ∙ last.adds.journal ∙ ap (λ (l : List Entry). entries_of all.after ++ reverse l) begun ∙ append-nil (entries_of all.after);
-          rest = rest;
-          timely = subst (λ (l : List ℕ). Timely (moment start.store) (moment new.server.store) l) (sym (stamps_are ∙ fresh_is)) last.adds.timely;
-          left_log = new.server.vault.end;
-          runs = λ first. subst (λ (s : Site). RanOver (IsSure first start.vault (told start.store)) first start.vault.database s (site_left new.server all.after (reverse stamps) notes generation) (told new.server.store) end script before after) (site_is old.server old.notes.items is unnoted)
-              (subst (λ (s : Site). RanOver (IsSure first start.vault (told start.store)) first start.vault.database (site_of told moment faults clock start none [] old.notes.items old.server) s (told new.server.store) end script before after) there (over first));
-        };
-        later = last.later;
-        goes = told_map (told start.store) (told new.server.store) (Went start.vault all.after last.fresh) (GoesOn (λ file. Unit {0})) (λ a b went. went.goes) last.files;
+    -- images of every moment since, as the store tells them at the return
+    safe_over : AreKept → (last : Hall S) (m : Machine) (x : Option History) → told last.store ≡ x → Is told moment faults last m → IsTrusted x last.held → last.held.opened ≡ moment hall.store
+        → IfSome x (AlwaysSafe m.contents m.core (moment hall.store))
+    safe_over kept last m None tells is trusted at = tt
+    safe_over kept last m (Some h) tells is trusted at = subst (λ (n : ℕ). AlwaysSafe m.contents m.core n h) at (kept last m h tells is trusted).always
+
+    left_over : LeaveSound → (last : Hall S) (m : Machine) (x : Option History) → told last.store ≡ x → Is told moment faults last m → IsTrusted x last.held → IfSome x (LeavesSound m)
+    left_over leave last m None tells is trusted = tt
+    left_over leave last m (Some h) tells is trusted = leave last m h tells is trusted
+
+    module _ (goes : GoOn told moment faults) (gives : AreThere told moment faults) (kept : AreKept) (leave : LeaveSound) (choice : List Rule) (old new : Session S) (begun : old.hall ≡ hall) (unnoted : old.notes.items ≡ [])
+        (bound : old.binder ≡ choice) (end : End) (script was is : Option (List ℕ))
+        (said : Says (λ a n line answer b. ServesLine told moment faults a n line answer b) (λ a n line how b. HaltsLine told moment faults a n line how b) old new script was is end) where
+      begun_at : (trusted : Type 0) (alone : AreAlone trusted told moment faults) (come : Come trusted) (ends : End_ trusted) (hold : Hold trusted) (m : Machine) → Is told moment faults hall m
+          → (trusted → IsTrusted (told hall.store) hall.held) → At told moment faults clock goes gives goes_further goes_no_further trusted alone come ends hold choice old m
+      begun_at trusted alone come ends hold m in_it known = record {
+        is = subst (λ (h : Hall S). Is told moment faults h m) (sym begun) in_it;
+        known = subst (λ (h : Hall S). trusted → IsTrusted (told h.store) h.held) (sym begun) known;
+        rests = (begins m in_it).rests;
+        binder = bound;
       }
-    where
-      begins_there : (first : ℕ → List ℕ) (old new : Session S) → old.server ≡ start → IsSure first start.vault (told start.store) → (kept : List Kept) (fresh : List ℕ) → Told (told start.store) (told new.server.store) (Went start.vault kept fresh) → IsThere (told new.server.store) start.vault.database first (site_of told moment faults clock start none [] old.notes.items old.server)
-      begins_there first old new is known kept fresh files =
-          there told moment faults clock start none first old.server [] old.notes.items new.server.store (begins old is)
-          (subst (λ (r : Running S). Told (told r.store) (told new.server.store) (GoesOn (λ f. Unit {0}))) (sym is) (told_map (told start.store) (told new.server.store) (Went start.vault kept fresh) (GoesOn (λ f. Unit {0})) (λ a b went. went.goes) files)) known
 
-  pub ran : (end : End) (status : ℕ) (journal : List Entry) (stamps : List ℕ) (notes : List Note) (generation : ℕ) (script left before after : Option (List ℕ)) (old new : Session S) (last : S) → last ≡ new.server.store → old.server ≡ start → old.notes.items ≡ [] → IsOf told moment faults clock start none old → Says (λ a n line answer b. ServesLine told moment faults a n line answer b) (λ a n line how b. HaltsLine told moment faults a n line how b) old new script before after end →
-      status ≡ status_of end → journal ≡ new.server.vault.journal → reverse stamps ≡ new.server.stamps → notes ≡ new.notes.items → generation ≡ new.server.vault.generation → DoneAtEnd end left → Whole last end status journal stamps notes generation script left before after
-  ran end status journal stamps notes generation script left before after old new last same is unnoted of said code journal_is stamps_are notes_are generation_is rest =
-      subst (λ (s : S). Whole s end status journal stamps notes generation script left before after) (sym same) (ran_there end status journal stamps notes generation script left before after old new is unnoted of said code journal_is stamps_are notes_are generation_is rest)
+      pub ran : (trusted : Type 0) → AreAlone trusted told moment faults → Come trusted → End_ trusted → Hold trusted → (m : Machine) → Is told moment faults hall m → (trusted → IsTrusted (told hall.store) hall.held)
+          → (journal : List Entry) (stamps : List ℕ) (notes : List Note) (generation : ℕ) → journal ≡ new.hall.held.vault.journal → stamps ≡ new.hall.held.stamps → notes ≡ new.notes.items → generation ≡ new.hall.held.vault.generation
+          → Ran trusted choice hall.held.base (told new.hall.store) (faults hall.store) (faults new.hall.store) (moment hall.store) (moment new.hall.store) end journal stamps notes generation script was is m
+      ran trusted alone come ends hold m in_it known journal stamps notes generation journal_is stamps_are notes_are generation_is =
+          let all = says told moment faults clock goes gives goes_further goes_no_further trusted alone come ends hold choice end script was is old new m (begun_at trusted alone come ends hold m in_it known) said in
+          let on = subst (λ (h : Hall S). (new.hall.held.base ≡ h.held.base) × (new.hall.held.opened ≡ h.held.opened) × Told (told h.store) (told new.hall.store) (GoesOn (λ file. Unit {0}))) begun all.goes in
+          record {
+            begins = begins m in_it;
+            there = λ t. there told moment faults clock gives hall m (told new.hall.store) in_it (begins m in_it).rests (known t) on.2;
+            final = all.next;
+            says =
+                subst (λ (l : List Note). Says (RepliesAt trusted choice (told new.hall.store)) (StopsAt trusted choice (told new.hall.store)) (site m l) (site all.next notes) script was is end) unnoted
+                (subst (λ (l : List Note). Says (RepliesAt trusted choice (told new.hall.store)) (StopsAt trusted choice (told new.hall.store)) (site m old.notes.items) (site all.next l) script was is end) (sym notes_are) all.run);
+            onward = all.onward;
+            base_stays = all.same ∙ in_it.core.base;
+            journal_is = journal_is ∙ sym all.is.core.journal;
+            stamps_are = stamps_are ∙ sym all.is.core.stamps;
+            generation_is = generation_is ∙ sym all.is.core.generation;
+            clock = all.is.clock;
+            faults = all.is.counts;
+            images = λ t. safe_over kept new.hall all.next (told new.hall.store) refl all.is (all.known t) (on.1 ∙ fresh.opened);
+            left = λ t. left_over leave new.hall all.next (told new.hall.store) refl all.is (all.known t);
+          }
 
-says_none : (x y : Option History) (refusal : OpenRefused) → (let result : Result (State Inv) OpenRefused = Err refusal in Told x y (Opened meaning result)) → IsNone x refusal
+      -- all that is said of it, and what stays of the hall
+      pub from : AreAlone ⊥ told moment faults → AreAlone (Unit {0}) told moment faults → Come ⊥ → Come (Unit {0}) → End_ ⊥ → End_ (Unit {0}) → Hold ⊥ → Hold (Unit {0}) → (m : Machine) → Is told moment faults hall m
+          → (left_store : S) (status : ℕ) (journal : List Entry) (stamps : List ℕ) (notes : List Note) (generation : ℕ) (left : Option (List ℕ)) → left_store ≡ new.hall.store → status ≡ status_of end → DoneAtEnd end left
+          → journal ≡ new.hall.held.vault.journal → stamps ≡ new.hall.held.stamps → notes ≡ new.notes.items → generation ≡ new.hall.held.vault.generation
+          → RanFrom told moment faults hall choice left_store end status journal stamps notes generation script left was is × (new.hall.held.base ≡ hall.held.base) × (new.hall.held.opened ≡ hall.held.opened)
+      from alone_unknown alone come_unknown come ends_unknown ends hold_unknown hold m in_it left_store status journal stamps notes generation left store_is code rest journal_is stamps_are notes_are generation_is =
+          let all = says told moment faults clock goes gives goes_further goes_no_further ⊥ alone_unknown come_unknown ends_unknown hold_unknown choice end script was is old new m (begun_at ⊥ alone_unknown come_unknown ends_unknown hold_unknown m in_it (λ f. absurd f)) said in
+          let on = subst (λ (h : Hall S). (new.hall.held.base ≡ h.held.base) × (new.hall.held.opened ≡ h.held.opened) × Told (told h.store) (told new.hall.store) (GoesOn (λ file. Unit {0}))) begun all.goes in
+          let whole : RanFrom told moment faults hall choice new.hall.store end status journal stamps notes generation script left was is = record {
+            code = code;
+            rest = rest;
+            rise =
+                subst (λ (n : ℕ). Rise n (moment new.hall.store) stamps) (on.1 ∙ fresh.opened)
+                (subst (λ (n : ℕ). Rise new.hall.held.opened n stamps) all.is.clock (subst (λ (l : List ℕ). Rise new.hall.held.opened all.next.moment l) (sym (stamps_are ∙ sym all.is.core.stamps)) all.is.good.stamped.rise));
+            later = record {
+              counts = λ file.
+                  let up = all.onward.counts file in
+                  let first = ap (λ (counts : ℕ → ℕ). counts file) in_it.counts in
+                  let last = ap (λ (counts : ℕ → ℕ). counts file) all.is.counts in
+                  omega (arith, up, first, last);
+              time = (let up = all.onward.since in let first = in_it.clock in let last = all.is.clock in omega (arith, up, first, last));
+            };
+            goes = on.2;
+            whole = λ n it. ran ⊥ alone_unknown come_unknown ends_unknown hold_unknown n it (λ f. absurd f) journal stamps notes generation journal_is stamps_are notes_are generation_is;
+            sound = λ n it trusted. ran (Unit {0}) alone come ends hold n it (λ t. trusted) journal stamps notes generation journal_is stamps_are notes_are generation_is;
+          } in
+          (subst (λ (s : S). RanFrom told moment faults hall choice s end status journal stamps notes generation script left was is) (sym store_is) whole, on.0, on.1)
+
+-- ---- why nothing is opened
+
+says_none : (x y : Option History) (refusal : OpenRefused) → (let result : Result (State Inv) OpenRefused = Err refusal in Told x y (OpensFiles result)) → IsNone x refusal
 says_none None y refusal opened = tt
-says_none (Some a) (Some b) refusal opened = opened.says
+says_none (Some a) (Some b) refusal opened = opened.vault.says
 says_none (Some a) None refusal opened = absurd opened
 
 -- opening takes nothing away
-pub opened_spared : (x y : Option History) (result : Result (State Inv) OpenRefused) → Told x y (Opened meaning result) → Told x y (Spared meaning)
-opened_spared x y result opened = told_map x y (Opened meaning result) (Spared meaning) (λ a b done. done.spared) opened
+pub opened_spared : (x y : Option History) (result : Result (State Inv) OpenRefused) → Told x y (OpensFiles result) → Told x y (Spared meaning)
+opened_spared x y result opened = told_map x y (OpensFiles result) (Spared meaning) (λ a b done. done.vault.spared) opened
 
 -- why a database isn't opened
-pub opens_not : (x y : Option History) (refusal : OpenRefused) (last : ℕ) (before after : ℕ → ℕ) → (let result : Result (State Inv) OpenRefused = Err refusal in Told x y (Opened meaning result)) → MayRefuseOpening before after last refusal → OpensNot run x last (RoseBetween before after) refusal
+pub opens_not : (x y : Option History) (refusal : OpenRefused) (last : ℕ) (before after : ℕ → ℕ) → (let result : Result (State Inv) OpenRefused = Err refusal in Told x y (OpensFiles result))
+    → MayRefuseOpening before after last refusal → OpensNot run x last (RoseBetween before after) refusal
 opens_not x y (refused.ReadFault file) last before after opened may = may
 opens_not x y (refused.Damaged file at) last before after opened may = (may, says_none x y (refused.Damaged file at) opened)
 opens_not x y refused.NotFormatted last before after opened may = says_none x y refused.NotFormatted opened
@@ -118,36 +180,44 @@ our_file refused.NotFormatted before after moment may = tt
 our_file refused.RunFull before after moment may = tt
 our_file refused.Memory before after moment may = tt
 
--- a vault that was opened
-module _ (x y : Option History) (state : State Inv) (valid : is_valid state.database ≡ true) (opened : (let result : Result (State Inv) OpenRefused = Ok state in Told x y (Opened meaning result))) where
-  sure_opened : (first : ℕ → List ℕ) (a b : Option History) → (let result : Result (State Inv) OpenRefused = Ok state in Told a b (Opened meaning result)) → Sure run first a → IsSure first state b
-  sure_opened first (Some a) (Some b) is known = opened_good first state a b valid known is
-  sure_opened first None b is known = absurd known
-  sure_opened first (Some a) None is known = absurd is
+-- ---- a script over what the store held
 
-  runs_over : (a b : Option History) → (let result : Result (State Inv) OpenRefused = Ok state in Told a b (Opened meaning result)) → RunsOver run a state.database
-  runs_over None b is = tt
-  runs_over (Some a) (Some b) is = is.opens.0
+module _ {S : Type 0} (told : S → Option History) (moment : S → ℕ) (faults : S → ℕ → ℕ) (store : S) (hall : Hall S) (opens : Opens told moment faults store (Ok hall))
+    (opened : (let result : Result (State Inv) OpenRefused = Ok hall.held.vault in Told (told store) (told hall.store) (OpensFiles result))) where
+  runs_over : (x y : Option History) → (let result : Result (State Inv) OpenRefused = Ok hall.held.vault in Told x y (OpensFiles result)) → RunsOver run x hall.held.base
+  runs_over None y is = tt
+  runs_over (Some a) (Some b) is = subst (λ (v : Inv). Recovers meaning (reads a) v) (sym opens.0.base) is.vault.opens.0
   runs_over (Some a) None is = absurd is
 
-  starts_at : (a b : Option History) → (let result : Result (State Inv) OpenRefused = Ok state in Told a b (Opened meaning result)) → StartsAt run a state.generation
-  starts_at None b is = tt
-  starts_at (Some a) (Some b) is = (state.database, is.opens)
+  starts_at : (x y : Option History) → (let result : Result (State Inv) OpenRefused = Ok hall.held.vault in Told x y (OpensFiles result)) → StartsAt run x hall.held.vault.generation
+  starts_at None y is = tt
+  starts_at (Some a) (Some b) is = (hall.held.vault.database, is.vault.opens)
   starts_at (Some a) None is = absurd is
 
-  pub script : (left_told : Option History) (before after : ℕ → ℕ) (first_moment last : ℕ) (end : End) (status : ℕ) (journal : List Entry) (stamps : List ℕ) (notes : List Note) (base : Option Inv) (generation : ℕ) (text left was is : Option (List ℕ)) → base ≡ Some state.database → RanFrom state y left_told before after first_moment last end status journal stamps notes generation text left was is → RanScript run x left_told before after first_moment last end status journal stamps notes base generation text left was is
-  script left_told before after first_moment last end status journal stamps notes base generation text left was is base_is from = record {
+  -- over a sound store the hall is in a state in which the objects have these bytes, and the store is trusted
+  known_over : (contents : ℕ → List ℕ) (x y : Option History) → told store ≡ x → told hall.store ≡ y → Sure run contents x → Told x y (OpensFiles (let result : Result (State Inv) OpenRefused = Ok hall.held.vault in result))
+      → (m : Machine) × (m.contents ≡ contents) × Is told moment faults hall m × IsTrusted (told hall.store) hall.held
+  known_over contents None y tells left sure is = absurd sure
+  known_over contents (Some a) None tells left sure is = absurd is
+  known_over contents (Some a) (Some b) tells left sure is =
+      let with = (subst (λ (o : Option History). IfSome o (λ h. (contents : ℕ → List ℕ) → IsSound contents h → IsWith told moment faults contents hall)) tells opens.2) contents sure in
+      let was : IfSome (Some b) (IsSoundWith contents hall.held.base hall.held.opened) = subst (λ (o : Option History). IfSome o (IsSoundWith contents hall.held.base hall.held.opened)) left with.3 in
+      (with.0, with.1, with.2, subst (λ (o : Option History). IsTrusted o hall.held) (sym left) (contents, was))
+
+  pub script : (left_store : S) (choice : List Rule) (end : End) (status : ℕ) (journal : List Entry) (stamps : List ℕ) (notes : List Note) (base : Option Inv) (generation : ℕ) (text left was is : Option (List ℕ)) → base ≡ Some hall.held.base
+      → RanFrom told moment faults hall choice left_store end status journal stamps notes generation text left was is
+      → RanScript run choice (told store) (told left_store) (faults hall.store) (faults left_store) (moment hall.store) (moment left_store) end status journal stamps notes base generation text left was is
+  script left_store choice end status journal stamps notes base generation text left was is base_is from = record {
     code = from.code;
-    database = state.database;
+    database = hall.held.base;
     base_is = base_is;
-    over = runs_over x y opened;
-    kept = from.kept;
-    journal_is = from.journal_is;
+    over = runs_over (told store) (told hall.store) opened;
     rest = from.rest;
-    timely = from.timely;
-    start = state.generation;
-    begins = starts_at x y opened;
-    log = state.end;
-    left_log = from.left_log;
-    runs = λ first. ran_over (IsSure first state y) (Sure run first x) first state.database _ _ left_told end text was is (λ known. sure_opened first x y opened known) (from.runs first);
+    rise = from.rise;
+    start = hall.held.vault.generation;
+    starts = starts_at (told store) (told hall.store) opened;
+    whole = (opens.1.0, opens.1.1.core.generation, from.whole opens.1.0 opens.1.1);
+    sound = λ contents sure.
+        let it = known_over contents (told store) (told hall.store) refl refl sure opened in
+        (it.0, it.1, it.2.core.generation, from.sound it.0 it.2 it.3);
   }

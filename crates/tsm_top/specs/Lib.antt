@@ -1,9 +1,5 @@
-pub mod Answers
-pub mod Asking
-pub mod Headline
-pub mod Lines
-pub mod Machine
 pub mod Notes
-pub mod Reading
 pub mod Serve
-pub mod Session
+pub mod Sessions
+pub mod Sites
+pub mod Spots

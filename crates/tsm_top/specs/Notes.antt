@@ -1,8 +1,13 @@
 -- What is noted of the lines of a script.
 use Rattle.std.specs.Prelude.{ℕ, ◌==◌, if◌then◌else◌, Option, List, [], ◌∷◌, ◌++◌}
 use Rattle.kinds.specs.declared.refusal.Refusal.{Refusal}
-use Rattle.tsm_top.specs.Lines.{Line, comment, refused, asks}
+use Rattle.machine.specs.State.{Machine, inventory}
+use Rattle.command_steps.specs.Lines.{Line, asks, comment, refused}
 use Rattle.tsm_top.specs.declared.note.Note.{Note}
+
+-- the number of the last transaction
+abbrev pub number_in : Machine → ℕ
+number_in m = (inventory m.core).number
 
 -- the number of the last transaction that this run made, where the first has the number behind `first`; 0 where it made none
 abbrev pub last_made : (first now : ℕ) → ℕ

@@ -3,8 +3,10 @@ use Rattle.std.specs.Prelude.{◌≡◌, ◌⊎◌, ℕ, ◌-◌, ◌^◌, ◌<�
 use Rattle.std.specs.Io.KnownBytes.{Appends}
 use Rattle.std.specs.declared.alloc.Global.{Global}
 use Rattle.store_api.specs.Disk.{History, now, reads}
-use Rattle.store_api.specs.Runs.{EachImage}
+use Rattle.store_api.specs.Runs.{EachImage, GoesOn}
+use Rattle.choosers.specs.declared.rule.Rule.{Rule}
 use Rattle.store_api.specs.Told.{Told}
+use Rattle.store_api.specs.Cause.{NoneFell}
 use Rattle.store_api.specs.Cause as store
 use Rattle.kinds.specs.declared.refusal.OpenRefused.{OpenRefused}
 use Rattle.kinds.specs.declared.refusal.OpenRefused.TheVariants as refused
@@ -13,23 +15,22 @@ use Rattle.inventory.specs.Meant.{meaning}
 use Rattle.inventory_rows.specs.Fresh.{fresh}
 use Rattle.inventory_rows.specs.State.{Inv}
 use Rattle.vault.specs.log_file.Cursor.{Looked}
-use Rattle.vault.specs.log_file.Safety.{Timely, acknowledged}
 use Rattle.script_loop.specs.Ends.{told_number, status_of, DoneAtEnd}
-use Rattle.script_loop.specs.Reply.{Answer}
 use Rattle.script_loop.specs.Runs.{Says, IsFront}
 use Rattle.script_loop.specs.declared.ends.End.{End}
 use Rattle.vault.specs.Openings.{Spared, OpenedAs, is_formatted, SaysWhy}
 use Rattle.vault.specs.Recovery.{Recovers, IsBase}
-use Rattle.server.specs.Left.{HasFirst}
-use Rattle.server.specs.Running.{IsSure}
-use Rattle.server.specs.Sound.{IsSound}
-use Rattle.server.specs.Steps.{Later}
-use Rattle.server.specs.World.{Kept, entries_of}
-use Rattle.vault.specs.Vaults.{State}
+use Rattle.hall.specs.Good.{AlwaysSafe, Is, Rise}
+use Rattle.hall.specs.Held.{Hall}
+use Rattle.hall.specs.Opening.{IsSound}
+use Rattle.hall.specs.Steps.{IsTrusted}
+use Rattle.hall_turns.specs.Left.{LeavesSound}
+use Rattle.line_results.specs.Resting.{IsAtRest, Onward}
+use Rattle.machine.specs.State.{Machine}
 use Rattle.tsm_top.specs.declared.note.Note.{Note}
 use Rattle.tsm_top.specs.declared.top.NotMade.{NotMade}
 use Rattle.tsm_top.specs.declared.top.NotMade.TheVariants.{Exists, Refused}
-use Rattle.tsm_top.specs.Machine.{Site, RepliesAt, StopsAt, IsThere, AllSafe}
+use Rattle.tsm_top.specs.Sites.{IsThere, RepliesAt, StopsAt, site}
 
 -- what the words ask
 pub data Command : Type 0 where
@@ -192,118 +193,81 @@ StartsAt run told start = IfSome told (λ h. (d : Inv) × OpenedAs meaning (read
 StartsAt fresh_run told start = IfSome told (λ h. start ≡ 0)
 
 -- what is known at the start: of a store that is run, that it is sound, its objects having these bytes; of a new database that the store tells its bytes
-abbrev pub Sure : Command → (first : ℕ → List ℕ) → (told : Option History) → Type 0
-Sure format first told = ⊥
-Sure run first None = ⊥
-Sure run first (Some h) = IsSound first h
-Sure fresh_run first told = is_some told ≡ true
+abbrev pub Sure : Command → (contents : ℕ → List ℕ) → (told : Option History) → Type 0
+Sure format contents told = ⊥
+Sure run contents None = ⊥
+Sure run contents (Some h) = IsSound contents h
+Sure fresh_run contents told = is_some told ≡ true
 
--- What a run kept, over the bytes that the objects had at the opening: what was put and made, what each image since gives back, and what the store has at the return. The sites are those at the end of opening
--- and at the return.
-pub record RanOver (sure : Type 0) (first : ℕ → List ℕ) (base : Inv) (old new : Site) (told : Option History) (end : End) (script before after : Option (List ℕ)) : Type 0 where
-  pub begins : sure → IsThere told base first old
-  pub says : Says (RepliesAt sure told base first) (StopsAt sure told base first) old new script before after end
-  pub images : sure → IfSome told (AllSafe base first old.moment new.kept new.stamps)
-  pub left : sure → IfSome told (HasFirst base first new.kept (acknowledged new.moment new.stamps))
+-- How a run begins: with the database that was opened, no transaction, no ticket and no image; the numbers that are drawn next are that database's, and the first ticket's is 1.
+pub record Begins (base : Inv) (opened : ℕ) (counts : ℕ → ℕ) (m : Machine) : Type 0 where
+  pub database : m.core.base ≡ base
+  pub journal : m.core.journal ≡ []
+  pub stamps : m.core.stamps ≡ []
+  pub rests : IsAtRest m.core
+  pub next_file : m.core.next_file ≡ base.next_file
+  pub next_object : m.core.next_object ≡ base.next_object
+  pub next_ticket : m.core.next_ticket ≡ 1
+  pub clock : m.moment ≡ opened
+  pub faults : m.counts ≡ counts
 
--- the site at the end of opening: nothing was made yet
-abbrev pub opened_site : (generation log moment : ℕ) → (faults : ℕ → ℕ) → Site
-opened_site generation log moment faults = record { kept = []; stamps = []; notes = []; generation = generation; log = log; moment = moment; faults = faults }
+-- A script ran from this state of the machine on. `trusted` says that the store was sound when it was opened. The lines' answers were put; the journal and the stamps are the machine's at the end; and where
+-- the store is trusted each image of each moment since the opening is safe: it recovers to the database behind a transaction that is at least the last with a stamp by then, and holds every copy of
+-- every object of it, with the object's bytes. And what is left is a sound store with every transaction that has a stamp.
+pub record Ran (trusted : Type 0) (choice : List Rule) (base : Inv) (left_told : Option History) (before after : ℕ → ℕ) (opened last : ℕ) (end : End) (journal : List Entry) (stamps : List ℕ) (notes : List Note) (generation : ℕ) (script was is : Option (List ℕ)) (first : Machine) : Type 0 where
+  pub begins : Begins base opened before first
+  pub there : trusted → IsThere left_told first
+  pub final : Machine
+  pub says : Says (RepliesAt trusted choice left_told) (StopsAt trusted choice left_told) (site first []) (site final notes) script was is end
+  pub onward : Onward first final
+  pub base_stays : final.core.base ≡ base
+  pub journal_is : journal ≡ final.core.journal
+  pub stamps_are : stamps ≡ final.core.stamps
+  pub generation_is : generation ≡ final.core.generation
+  pub clock : final.moment ≡ last
+  pub faults : final.counts ≡ after
+  pub images : trusted → IfSome left_told (AlwaysSafe final.contents final.core opened)
+  pub left : trusted → IfSome left_told (LeavesSound final)
 
 -- A script was run over a database. `told` is what the store told at the start, and `left_told` what it tells at the return; `opened` and `last` are the moments, and `before` and `after` the counts of faults, at the
--- end of opening and at the return. As many transactions are known to be durable as have their stamps.
-pub record RanScript (command : Command) (told left_told : Option History) (before after : ℕ → ℕ) (opened last : ℕ) (end : End) (status : ℕ) (journal : List Entry) (stamps : List ℕ) (notes : List Note) (base : Option Inv) (generation : ℕ) (script left was is : Option (List ℕ)) : Type 0 where
+-- end of opening and at the return. Over a store of which nothing is known the run is one of the machine in which bytes that are read are whatever was read; over a sound one they are the objects'.
+pub record RanScript (command : Command) (choice : List Rule) (told left_told : Option History) (before after : ℕ → ℕ) (opened last : ℕ) (end : End) (status : ℕ) (journal : List Entry) (stamps : List ℕ) (notes : List Note) (base : Option Inv) (generation : ℕ) (script left was is : Option (List ℕ)) : Type 0 where
   pub code : status ≡ status_of end
   pub database : Inv
   pub base_is : base ≡ Some database
   pub over : RunsOver command told database
-  pub kept : List Kept
-  pub journal_is : reverse journal ≡ entries_of kept
   pub rest : DoneAtEnd end left
-  pub timely : Timely opened last (reverse stamps)
+  pub rise : Rise opened last stamps
   pub start : ℕ
-  pub begins : StartsAt command told start
-  pub log : ℕ
-  pub left_log : ℕ
-  pub runs : (first : ℕ → List ℕ) → RanOver (Sure command first told) first database (opened_site start log opened before)
-      (record { kept = kept; stamps = reverse stamps; notes = notes; generation = generation; log = left_log; moment = last; faults = after }) left_told end script was is
+  pub starts : StartsAt command told start
+  pub whole : (first : Machine) × (first.core.generation ≡ start) × Ran ⊥ choice database left_told before after opened last end journal stamps notes generation script was is first
+  pub sound : (contents : ℕ → List ℕ) → Sure command contents told
+      → (first : Machine) × (first.contents ≡ contents) × (first.core.generation ≡ start) × Ran (Unit {0}) choice database left_told before after opened last end journal stamps notes generation script was is first
 
--- The same over a vault that was opened.
-pub record RanFrom (vault : State Inv) (told left_told : Option History) (before after : ℕ → ℕ) (opened last : ℕ) (end : End) (status : ℕ) (journal : List Entry) (stamps : List ℕ) (notes : List Note) (generation : ℕ) (script left was is : Option (List ℕ)) : Type 0 where
-  pub code : status ≡ status_of end
-  pub kept : List Kept
-  pub journal_is : reverse journal ≡ entries_of kept
-  pub rest : DoneAtEnd end left
-  pub timely : Timely opened last (reverse stamps)
-  pub left_log : ℕ
-  pub runs : (first : ℕ → List ℕ) → RanOver (IsSure first vault told) first vault.database (opened_site vault.generation vault.end opened before)
-      (record { kept = kept; stamps = reverse stamps; notes = notes; generation = generation; log = left_log; moment = last; faults = after }) left_told end script was is
-
--- ---- the headline, clause by clause
---
--- Of a call that opened a database and ran a script over it. The database before a line is the one that opening gave and all that was made since.
---
--- 1  put       The bytes put are the answers of the lines that were taken, in order, each of which may be answered so, and the last line of the status; or a front of that, where the sink's count of faults
---              rose. Of a call that ran no script they are the one line of its end. (`HasPut`)
--- 2  journal   The journal has what the lines made, in order: each of its transactions is of actor 0, the script, and one that its line's command orders over the database before it. Each that an answered line made has its stamp. (`Journal`)
--- 3  images    At every moment since the opening each image gives back the database after the first so many transactions of the journal, among them each that was durable by then, with every copy of every object in
---              its frames and with its object's bytes; and what is left is a sound store with all that was durable. (`Images`)
--- 4  queries   The rows of a query are those over the database before its line, in their order, and OK says how many they are. (`Queries`)
--- 5  bytes     The DATA lines of a GET show the bytes that the object of the active version of its path had when it was stored, from a copy on volumes that may be read. (`Bytes`)
--- 6  items     The version that a PUT brings says the length and the SHA-256 of the text in its line. (`Items`)
--- 7  causes    A line is refused as its words, its look-ups, the database, a file's place or a count of faults that rose give the cause. (`Causes`)
--- 8  done      A line that ends with OK did what it names. (`DoneLines`)
---    complete  And a line of the grammar that is legal over the database before it, with room for its file, ends with OK where no count of faults rose and the run goes on. (`Complete`)
---
--- In each the lines are all of them, in order, with their answers (`RanEach`), and what is said of one stands in specs/Headline.
-
--- a line may be answered so, and has this beside
-abbrev pub With : (Site → ℕ → List ℕ → Answer → Site → Type 0) → (Site → ℕ → List ℕ → Answer → Site → Type 0) → Site → ℕ → List ℕ → Answer → Site → Type 0
-With replies clause old n line answer new = replies old n line answer new × clause old n line answer new
-
--- A script was run over a database, and each line that was answered has what a clause says of lines. The sites are those of `RanScript`.
-pub record RanEach (clause : Type 0 → Option History → Inv → (ℕ → List ℕ) → Site → ℕ → List ℕ → Answer → Site → Type 0) (command : Command) (told left_told : Option History) (before after : ℕ → ℕ) (opened last : ℕ) (end : End) (status : ℕ) (journal : List Entry) (stamps : List ℕ) (notes : List Note) (base : Option Inv) (generation : ℕ) (script was is : Option (List ℕ)) : Type 0 where
-  pub code : status ≡ status_of end
+-- At every moment since the opening each image is safe, and what is left is a sound store.
+pub record RanSafe (command : Command) (told left_told : Option History) (opened : ℕ) (journal : List Entry) (stamps : List ℕ) (base : Option Inv) : Type 0 where
   pub database : Inv
   pub base_is : base ≡ Some database
-  pub kept : List Kept
-  pub journal_is : reverse journal ≡ entries_of kept
-  pub start : ℕ
-  pub log : ℕ
-  pub left_log : ℕ
-  pub runs : (first : ℕ → List ℕ) → Says (With (RepliesAt (Sure command first told) left_told database first) (clause (Sure command first told) left_told database first)) (StopsAt (Sure command first told) left_told database first) (opened_site start log opened before)
-      (record { kept = kept; stamps = reverse stamps; notes = notes; generation = generation; log = left_log; moment = last; faults = after }) script was is end
+  pub safe : (contents : ℕ → List ℕ) → Sure command contents told
+      → (final : Machine) × (final.core.base ≡ database) × (final.core.journal ≡ journal) × (final.core.stamps ≡ stamps) × IfSome left_told (AlwaysSafe final.contents final.core opened) × IfSome left_told (LeavesSound final)
 
--- At every moment since the opening each image gives back the database after the first so many of the journal's transactions, each whose stamp is at most that moment among them, with every copy of every
--- object in its frames and with its object's bytes; and what is left is a sound store with every one of them.
-pub record RanSafe (command : Command) (told left_told : Option History) (opened last : ℕ) (journal : List Entry) (stamps : List ℕ) (base : Option Inv) : Type 0 where
-  pub database : Inv
-  pub base_is : base ≡ Some database
-  pub kept : List Kept
-  pub journal_is : reverse journal ≡ entries_of kept
-  pub images : (first : ℕ → List ℕ) → Sure command first told → IfSome left_told (AllSafe database first opened kept (reverse stamps))
-  pub left : (first : ℕ → List ℕ) → Sure command first told → IfSome left_told (HasFirst database first kept (acknowledged last (reverse stamps)))
+-- The store counted on: its moment and its counts of faults didn't fall.
+pub record Later {S : Type 0} (moment : S → ℕ) (faults : S → ℕ → ℕ) (old new : S) : Type 0 where
+  pub counts : NoneFell (faults old) (faults new)
+  pub time : moment old ≤ moment new
 
--- of what is put nothing more is said of a line than how it may be answered
-abbrev pub Put : Type 0 → Option History → Inv → (ℕ → List ℕ) → Site → ℕ → List ℕ → Answer → Site → Type 0
-Put sure told base first old n line answer new = Unit {0}
+-- nothing was opened; or a script was run, and of each image that a stop may leave this holds
+abbrev pub Images : {S : Type 0} → (asked : Command → Type 0) → (told : S → Option History) → (store left : S) → (opened : ℕ) → (journal : List Entry) → (stamps : List ℕ) → (base : Option Inv) → Type 0
+Images asked told store left opened journal stamps base = (base ≡ None) ⊎ ((command : Command) × asked command × RanSafe command (told store) (told left) opened journal stamps base)
 
--- `asked` says which command the words ask.
-module _ {S : Type 0} (asked : Command → Type 0) (told : S → Option History) (moment : S → ℕ) (faults : S → ℕ → ℕ) where
-  -- a script was run, and each line that was answered has what the clause says
-  abbrev pub OverEach : (Type 0 → Option History → Inv → (ℕ → List ℕ) → Site → ℕ → List ℕ → Answer → Site → Type 0) → (store left : S) → (opened : ℕ) → (status : ℕ) → (journal : List Entry) → (stamps : List ℕ) → (notes : List Note) → (base : Option Inv) → (generation : ℕ) → (script was is : Option (List ℕ)) → Type 0
-  OverEach clause store left opened status journal stamps notes base generation script was is =
-      (command : Command) × asked command × (end : End) × (opening : S) × (moment opening ≡ opened) × Later moment faults store opening × Later moment faults opening left
-      × RanEach clause command (told store) (told left) (faults opening) (faults left) opened (moment left) end status journal stamps notes base generation script was is
-
-  -- the one line of the end was put, or a front of it where the sink's count rose; or a script was run, and its lines' answers were put
-  abbrev pub HasPut : (sink_rose : Type 0) → (store left : S) → (opened : ℕ) → (status : ℕ) → (journal : List Entry) → (stamps : List ℕ) → (notes : List Note) → (base : Option Inv) → (generation : ℕ) → (script was is : Option (List ℕ)) → Type 0
-  HasPut sink_rose store left opened status journal stamps notes base generation script was is =
-      ((why : Closing) × PutsLine (closing_line why) (closing_status why) status was is sink_rose) ⊎ OverEach Put store left opened status journal stamps notes base generation script was is
-
-  -- nothing was opened; or a script was run, and each line that was answered has what the clause says
-  abbrev pub EachLine : (Type 0 → Option History → Inv → (ℕ → List ℕ) → Site → ℕ → List ℕ → Answer → Site → Type 0) → (store left : S) → (opened : ℕ) → (status : ℕ) → (journal : List Entry) → (stamps : List ℕ) → (notes : List Note) → (base : Option Inv) → (generation : ℕ) → (script was is : Option (List ℕ)) → Type 0
-  EachLine clause store left opened status journal stamps notes base generation script was is = (base ≡ None) ⊎ OverEach clause store left opened status journal stamps notes base generation script was is
-
-  abbrev pub Images : (store left : S) → (opened : ℕ) → (journal : List Entry) → (stamps : List ℕ) → (base : Option Inv) → Type 0
-  Images store left opened journal stamps base = (base ≡ None) ⊎ ((command : Command) × asked command × RanSafe command (told store) (told left) opened (moment left) journal stamps base)
+-- A script was run on a hall that was just opened, and left this store. In whatever state of the machine the hall was, the run went on from there.
+pub record RanFrom {S : Type 0} (told : S → Option History) (moment : S → ℕ) (faults : S → ℕ → ℕ) (hall : Hall S) (choice : List Rule) (left_store : S) (end : End) (status : ℕ) (journal : List Entry) (stamps : List ℕ) (notes : List Note) (generation : ℕ) (script left was is : Option (List ℕ)) : Type 0 where
+  pub code : status ≡ status_of end
+  pub rest : DoneAtEnd end left
+  pub rise : Rise (moment hall.store) (moment left_store) stamps
+  pub later : Later moment faults hall.store left_store
+  pub goes : Told (told hall.store) (told left_store) (GoesOn (λ file. Unit {0}))
+  pub whole : (m : Machine) → Is told moment faults hall m
+      → Ran ⊥ choice hall.held.base (told left_store) (faults hall.store) (faults left_store) (moment hall.store) (moment left_store) end journal stamps notes generation script was is m
+  pub sound : (m : Machine) → Is told moment faults hall m → IsTrusted (told hall.store) hall.held
+      → Ran (Unit {0}) choice hall.held.base (told left_store) (faults hall.store) (faults left_store) (moment hall.store) (moment left_store) end journal stamps notes generation script was is m

@@ -6,20 +6,26 @@ ghost use Rattle.store_api.specs.Disk.{History};
 ghost use Rattle.store_api.specs.Runs.{GoesOn};
 ghost use Rattle.store_api.specs.Told.{Told};
 ghost use Rattle.kinds.specs.declared.refusal.OpenRefused.{OpenRefused};
+ghost use Rattle.kinds.specs.declared.refusal.OpenRefused.TheVariants.{Memory as NoMemory};
 ghost use Rattle.script_loop.specs.declared.ends.End.{End};
 ghost use Rattle.script_loop.specs.Ends.{SourceCause, SinkCause};
 ghost use Rattle.vault.specs.log_file.Cursor.{Looked};
-ghost use Rattle.server.specs.Steps.{Later};
-ghost use Rattle.tsm_top.specs.Serve.{IsOnly, Asks, Command, format, run, fresh_run, Closing, no_command, formatted, exists, refused_opening, closing_line, closing_status, HasCauseOf, HasCause, Shuts, OpensNot, PutsLine, RoseBetween, IsOurFile, IsOurClosing, closing_of, HasImage, Spares, Opens, IsNew, StillTells, MakesNot, RanScript, RanFrom, HasPut, EachLine, Images};
-ghost use Rattle.tsm_top.specs.Headline.{Journal, Queries, Bytes, Items, Causes, DoneLines, Complete};
+ghost use Rattle.machine.specs.State.{Machine};
+ghost use Rattle.hall.specs.Good.{Is};
+ghost use Rattle.hall.specs.Opening.{IsNewHall};
+ghost use Rattle.tsm_top.specs.Serve.{IsOnly, Asks, Command, format, run, fresh_run, Closing, no_command, formatted, exists, refused_opening, closing_line, closing_status, HasCauseOf, HasCause, Shuts, OpensNot, PutsLine, RoseBetween, IsOurFile, IsOurClosing, closing_of, HasImage, Spares, Opens, IsNew, StillTells, MakesNot, RanScript, RanFrom, Images, Later};
 
 use crate::note::Note;
-use crate::session::Session;
-use entries::{Database, Entry};
+use crate::session::{HallPlaces, Session};
+use choosers::Binder;
+use entries::Entry;
+use hall::laws::trusted_halls_are_safe;
+use hall::{Closed, Hall};
+use hall_turns::laws::{halls_at_rest_are_there, halls_leave_sound_stores, runs_are_alone};
 use inventory::Inventory;
 use kinds::OpenRefused;
+use line_results::laws::{answered_lines_hold, lines_come_to};
 use script_loop::{number_line, run};
-use server::Server;
 use std::alloc::Global;
 use store_api::Store;
 use tree_api::{Sink, Source, put_all};
@@ -32,9 +38,9 @@ pub struct Ended<S: Store> {
     pub status: u8,
     /// The store as it was left.
     pub store: S,
-    /// The transactions that this run made, oldest first. Only after a fault of a log or image may the last one be in doubt, and only if the line that met the fault made it.
+    /// The transactions that this run made, oldest first. Those that have no stamp, which only a fault of a log or an image or a full run leaves, are in doubt: a stop may leave them or not.
     pub journal: Vec<Entry>,
-    /// The store's moment at which each of the journal's transactions was known to be durable; one in doubt has none.
+    /// The store's moment at which each of the journal's first transactions was known to be durable, oldest first.
     pub stamps: Vec<u64>,
     /// What was noted of the script's command lines whose printed lines were made, in their order.
     pub notes: Vec<Note>,
@@ -69,7 +75,7 @@ fn is_only(words: &[String], name: &[u8]) -> bool
 
 /// Does what the words behind the program's name ask, and answers how it ended. `format` makes a new database in a store that has none,
 /// `run` opens the store's database, answers each line of a script and puts the answers, and `fresh` does the one and then the other.
-/// `alloc` gives the memory.
+/// `alloc` gives the memory, and `binder` has the include-exclude list by which the paths of files are bound to management classes.
 ///
 /// A line is a comment or a command of the administrative command language (`admin_words`), outside blocks. Every change of policy, nodes, device classes,
 /// storage pools and volumes is done, every query, VALIDATE, DAY, CHECKPOINT, PUT and GET; any other command is refused with `UnknownWord(1)`.
@@ -79,12 +85,15 @@ pub fn serve<S: Store, I: Source, O: Sink>(
     store: S,
     script: &mut I,
     out: &mut O,
+    binder: Binder,
 ) -> Ended<S>
-    // What was put, what is in the journal, and what images of the store give back, by how the call ended.
+    // What was put, what is in the journal, and what images of the store give back, by how the call ended. Where a script was run each line has what `Holds` of `line_results` says: which transactions
+    // it made, and that its command orders them; the rows that queries show; the bytes that files are shown with; what each stored version says of its bytes; why lines are refused; what lines did that are
+    // answered OK; and which lines aren't refused.
     ensures outcome { ((why : Closing) × HasCauseOf why words.now (S.told store) (S.told result.store) (S.moment_of result.store) (RoseBetween (S.faults_of store) (S.faults_of result.store))
         × Shuts why (O.contents out.old) (O.contents out.new) (RoseIn (O.fault_count out.old) (O.fault_count out.new)) result.status result.journal.items result.stamps.items result.notes.items result.base result.generation result.opened (S.moment_of result.store) × (script.new ≡ script.old))
         ⊎ ((command : Command) × Asks words.now command × (end : End) × (opening : S) × (S.moment_of opening ≡ result.opened) × Later S.moment_of S.faults_of store opening × Later S.moment_of S.faults_of opening result.store × Opens command (S.told store) (S.told opening) × Told (S.told opening) (S.told result.store) (GoesOn (λ file. Unit {0}))
-        × RanScript command (S.told store) (S.told result.store) (S.faults_of opening) (S.faults_of result.store) result.opened (S.moment_of result.store) end result.status result.journal.items result.stamps.items result.notes.items result.base result.generation (I.left script.old) (I.left script.new) (O.contents out.old) (O.contents out.new)
+        × RanScript command binder (S.told store) (S.told result.store) (S.faults_of opening) (S.faults_of result.store) result.opened (S.moment_of result.store) end result.status result.journal.items result.stamps.items result.notes.items result.base result.generation (I.left script.old) (I.left script.new) (O.contents out.old) (O.contents out.new)
         × SourceCause end (I.fault_count script.old) (I.fault_count script.new) × SinkCause end (O.fault_count out.old) (O.fault_count out.new)) }
 
     // Each status by its cause.
@@ -96,19 +105,10 @@ pub fn serve<S: Store, I: Source, O: Sink>(
     ensures counts { NoneFell (S.faults_of store) (S.faults_of result.store) }
     ensures opened { (S.moment_of store ≤ result.opened) × (result.opened ≤ S.moment_of result.store) }
 
-    // The headline, clause by clause: what is put, by the status; the transactions, and which lines order them; what each image gives back; the rows that queries show; the bytes that files
-    // are shown with; what each stored version says of its bytes; why lines are refused; what lines did that are answered OK. And which lines aren't refused.
-    ensures put { HasPut (Asks words.now) S.told S.moment_of S.faults_of (RoseIn (O.fault_count out.old) (O.fault_count out.new)) store result.store result.opened result.status result.journal.items result.stamps.items result.notes.items result.base result.generation (I.left script.old) (O.contents out.old) (O.contents out.new) }
-    ensures journal { EachLine (Asks words.now) S.told S.moment_of S.faults_of Journal store result.store result.opened result.status result.journal.items result.stamps.items result.notes.items result.base result.generation (I.left script.old) (O.contents out.old) (O.contents out.new) }
-    ensures images { Images (Asks words.now) S.told S.moment_of S.faults_of store result.store result.opened result.journal.items result.stamps.items result.base }
-    ensures queries { EachLine (Asks words.now) S.told S.moment_of S.faults_of Queries store result.store result.opened result.status result.journal.items result.stamps.items result.notes.items result.base result.generation (I.left script.old) (O.contents out.old) (O.contents out.new) }
-    ensures bytes { EachLine (Asks words.now) S.told S.moment_of S.faults_of Bytes store result.store result.opened result.status result.journal.items result.stamps.items result.notes.items result.base result.generation (I.left script.old) (O.contents out.old) (O.contents out.new) }
-    ensures items { EachLine (Asks words.now) S.told S.moment_of S.faults_of Items store result.store result.opened result.status result.journal.items result.stamps.items result.notes.items result.base result.generation (I.left script.old) (O.contents out.old) (O.contents out.new) }
-    ensures causes { EachLine (Asks words.now) S.told S.moment_of S.faults_of Causes store result.store result.opened result.status result.journal.items result.stamps.items result.notes.items result.base result.generation (I.left script.old) (O.contents out.old) (O.contents out.new) }
-    ensures done { EachLine (Asks words.now) S.told S.moment_of S.faults_of DoneLines store result.store result.opened result.status result.journal.items result.stamps.items result.notes.items result.base result.generation (I.left script.old) (O.contents out.old) (O.contents out.new) }
-    ensures complete { EachLine (Asks words.now) S.told S.moment_of S.faults_of Complete store result.store result.opened result.status result.journal.items result.stamps.items result.notes.items result.base result.generation (I.left script.old) (O.contents out.old) (O.contents out.new) }
+    // At every moment since the opening each image that a stop may leave is safe, and what is left is a sound store.
+    ensures images { Images (Asks words.now) S.told store result.store result.opened result.journal.items result.stamps.items result.base }
 {
-    call(alloc, words, store, script, out)
+    call(alloc, words, store, script, out, binder)
 }
 
 // Does what the words ask.
@@ -118,15 +118,13 @@ fn call<S: Store, I: Source, O: Sink>(
     store: S,
     script: &mut I,
     out: &mut O,
+    binder: Binder,
 ) -> Ended<S>
-    // What was put, what is in the journal, and what images of the store give back, by how the call ended.
     ensures outcome { ((why : Closing) × HasCauseOf why words.now (S.told store) (S.told result.store) (S.moment_of result.store) (RoseBetween (S.faults_of store) (S.faults_of result.store))
         × Shuts why (O.contents out.old) (O.contents out.new) (RoseIn (O.fault_count out.old) (O.fault_count out.new)) result.status result.journal.items result.stamps.items result.notes.items result.base result.generation result.opened (S.moment_of result.store) × (script.new ≡ script.old))
         ⊎ ((command : Command) × Asks words.now command × (end : End) × (opening : S) × (S.moment_of opening ≡ result.opened) × Later S.moment_of S.faults_of store opening × Later S.moment_of S.faults_of opening result.store × Opens command (S.told store) (S.told opening) × Told (S.told opening) (S.told result.store) (GoesOn (λ file. Unit {0}))
-        × RanScript command (S.told store) (S.told result.store) (S.faults_of opening) (S.faults_of result.store) result.opened (S.moment_of result.store) end result.status result.journal.items result.stamps.items result.notes.items result.base result.generation (I.left script.old) (I.left script.new) (O.contents out.old) (O.contents out.new)
+        × RanScript command binder (S.told store) (S.told result.store) (S.faults_of opening) (S.faults_of result.store) result.opened (S.moment_of result.store) end result.status result.journal.items result.stamps.items result.notes.items result.base result.generation (I.left script.old) (I.left script.new) (O.contents out.old) (O.contents out.new)
         × SourceCause end (I.fault_count script.old) (I.fault_count script.new) × SinkCause end (O.fault_count out.old) (O.fault_count out.new)) }
-
-    // Each status by its cause.
     ensures source_fault { result.status ≡ 3 → RoseIn (I.fault_count script.old) (I.fault_count script.new) }
     ensures sink_fault { result.status ≡ 4 → RoseIn (O.fault_count out.old) (O.fault_count out.new) }
     ensures store_fault { result.status ≡ 5 → (file : ℕ) × (file < 4) × Rose (S.faults_of store file) (S.faults_of result.store file) }
@@ -139,10 +137,10 @@ fn call<S: Store, I: Source, O: Sink>(
         return format(alloc, store, out);
     }
     if is_only(words, b"run") {
-        return open(alloc, store, script, out);
+        return open(alloc, store, script, out, binder);
     }
     if is_only(words, b"fresh") {
-        return format_and_run(alloc, store, script, out);
+        return format_and_run(alloc, store, script, out, binder);
     }
     closed(alloc, store, out, 2, USAGE)
 }
@@ -313,17 +311,18 @@ fn format_and_run<S: Store, I: Source, O: Sink>(
     store: S,
     script: &mut I,
     out: &mut O,
+    binder: Binder,
 ) -> Ended<S>
     ensures outcome { ((why : Closing) × HasCause (λ command. command ≡ fresh_run) why (S.told store) (S.told result.store) (S.moment_of result.store) (RoseBetween (S.faults_of store) (S.faults_of result.store)) × Shuts why (O.contents out.old) (O.contents out.new) (RoseIn (O.fault_count out.old) (O.fault_count out.new)) result.status result.journal.items result.stamps.items result.notes.items result.base result.generation result.opened (S.moment_of result.store) × (script.new ≡ script.old))
         ⊎ ((end : End) × (opening : S) × (S.moment_of opening ≡ result.opened) × Later S.moment_of S.faults_of store opening × Later S.moment_of S.faults_of opening result.store × Opens fresh_run (S.told store) (S.told opening) × Told (S.told opening) (S.told result.store) (GoesOn (λ file. Unit {0}))
-        × RanScript fresh_run (S.told store) (S.told result.store) (S.faults_of opening) (S.faults_of result.store) result.opened (S.moment_of result.store) end result.status result.journal.items result.stamps.items result.notes.items result.base result.generation (I.left script.old) (I.left script.new) (O.contents out.old) (O.contents out.new)
+        × RanScript fresh_run binder (S.told store) (S.told result.store) (S.faults_of opening) (S.faults_of result.store) result.opened (S.moment_of result.store) end result.status result.journal.items result.stamps.items result.notes.items result.base result.generation (I.left script.old) (I.left script.new) (O.contents out.old) (O.contents out.new)
         × SourceCause end (I.fault_count script.old) (I.fault_count script.new) × SinkCause end (O.fault_count out.old) (O.fault_count out.new)) }
     ensures later { Later S.moment_of S.faults_of store result.store }
     ensures opened { (S.moment_of store ≤ result.opened) × (result.opened ≤ S.moment_of result.store) }
 {
     let mut store = store;
     match make(alloc, &mut store) {
-        Ok(()) => open(alloc, store, script, out),
+        Ok(()) => open(alloc, store, script, out, binder),
         Err(why) => not_made(alloc, store, out, why),
     }
 }
@@ -334,55 +333,83 @@ fn open<S: Store, I: Source, O: Sink>(
     store: S,
     script: &mut I,
     out: &mut O,
+    binder: Binder,
 ) -> Ended<S>
     ensures outcome { ((why : OpenRefused) × OpensNot run (S.told store) (S.moment_of result.store) (RoseBetween (S.faults_of store) (S.faults_of result.store)) why × Spares run (S.told store) (S.told result.store) × Shuts (refused_opening why) (O.contents out.old) (O.contents out.new) (RoseIn (O.fault_count out.old) (O.fault_count out.new)) result.status result.journal.items result.stamps.items result.notes.items result.base result.generation result.opened (S.moment_of result.store) × (script.new ≡ script.old))
         ⊎ ((end : End) × (opening : S) × (S.moment_of opening ≡ result.opened) × Later S.moment_of S.faults_of store opening × Later S.moment_of S.faults_of opening result.store × Opens run (S.told store) (S.told opening) × Told (S.told opening) (S.told result.store) (GoesOn (λ file. Unit {0}))
-        × RanScript run (S.told store) (S.told result.store) (S.faults_of opening) (S.faults_of result.store) result.opened (S.moment_of result.store) end result.status result.journal.items result.stamps.items result.notes.items result.base result.generation (I.left script.old) (I.left script.new) (O.contents out.old) (O.contents out.new)
+        × RanScript run binder (S.told store) (S.told result.store) (S.faults_of opening) (S.faults_of result.store) result.opened (S.moment_of result.store) end result.status result.journal.items result.stamps.items result.notes.items result.base result.generation (I.left script.old) (I.left script.new) (O.contents out.old) (O.contents out.new)
         × SourceCause end (I.fault_count script.old) (I.fault_count script.new) × SinkCause end (O.fault_count out.old) (O.fault_count out.new)) }
     ensures later { Later S.moment_of S.faults_of store result.store }
     ensures opened { (S.moment_of store ≤ result.opened) × (result.opened ≤ S.moment_of result.store) }
 {
-    let mut store = store;
-    let vault: Vault<Inventory> = match Vault::open(alloc, &mut store) {
-        Ok(vault) => vault,
-        Err(refusal) => return refused_by(alloc, store, out, refusal),
+    let hall = match Hall::open(alloc, store) {
+        Ok(hall) => hall,
+        Err((store, refusal)) => return refused_by(alloc, store, out, refusal),
     };
-    vault.database().tables();
-    let base = match vault.database().copy(alloc) {
-        Ok(base) => base,
-        Err(_) => return refused_by(alloc, store, out, OpenRefused::Memory),
-    };
-    run_script(alloc, store, vault, base, script, out)
+    match pieces(alloc) {
+        Ok(buffer) => run_script(alloc, hall, binder, buffer, script, out),
+        Err(refusal) => refused_by(alloc, into_store(hall), out, refusal),
+    }
 }
 
-// Runs the script over an open database, of which `base` is a copy.
+// The store of a hall that is used no more.
+fn into_store<S: Store>(hall: Hall<S>) -> S
+    ensures { result ≡ hall.store }
+{
+    let Closed { store, .. } = hall.close();
+    store
+}
+
+// A buffer for pieces of files, of 65,536 bytes.
+fn pieces(alloc: Global) -> Result<Vec<u8>, OpenRefused>
+    ensures long { IfOk result (λ buffer. length buffer.items ≡ 65536) }
+    ensures memory { IfErr result (λ e. e ≡ NoMemory) }
+{
+    let mut buffer = Vec::new(alloc);
+    match buffer.resize(65536, 0) {
+        Ok(()) => Ok(buffer),
+        Err(_) => Err(OpenRefused::Memory),
+    }
+}
+
+// Runs the script on a hall that was just opened.
 fn run_script<S: Store, I: Source, O: Sink>(
     alloc: Global,
-    store: S,
-    vault: Vault<Inventory>,
-    base: Inventory,
+    hall: Hall<S>,
+    binder: Binder,
+    buffer: Vec<u8>,
     script: &mut I,
     out: &mut O,
 ) -> Ended<S>
-    requires begun { vault.journal ≡ [] }
-    requires sure { vault.fault ≡ None }
-    ensures ran { (end : End) × RanFrom vault (S.told store) (S.told result.store) (S.faults_of store) (S.faults_of result.store) result.opened (S.moment_of result.store) end result.status result.journal.items result.stamps.items result.notes.items result.generation (I.left script.old) (I.left script.new) (O.contents out.old) (O.contents out.new)
+    requires fresh { IsNewHall (S.moment_of hall.store) hall.held }
+    requires state { (m : Machine) × Is S.told S.moment_of S.faults_of hall m }
+    requires long { length buffer.items ≡ 65536 }
+    ensures { (end : End) × RanFrom S.told S.moment_of S.faults_of hall binder result.store end result.status result.journal.items result.stamps.items result.notes.items result.generation (I.left script.old) (I.left script.new) (O.contents out.old) (O.contents out.new)
+        × (result.base ≡ Some hall.held.base) × (result.opened ≡ S.moment_of hall.store)
         × SourceCause end (I.fault_count script.old) (I.fault_count script.new) × SinkCause end (O.fault_count out.old) (O.fault_count out.new) }
-    ensures base { result.base ≡ Some base }
-    ensures goes { Told (S.told store) (S.told result.store) (GoesOn (λ file. Unit {0})) }
-    ensures later { Later S.moment_of S.faults_of store result.store }
-    ensures opened { result.opened ≡ S.moment_of store }
 {
-    let opened = store.moment();
-    let first = vault.database().number();
+    runs_are_alone::<S>();
+    halls_at_rest_are_there::<S>();
+    halls_leave_sound_stores::<S>();
+    trusted_halls_are_safe::<S>();
+    lines_come_to::<HallPlaces>();
+    answered_lines_hold::<HallPlaces>();
     let mut session = Session {
-        server: Server::new(alloc, store, vault),
+        hall,
+        binder,
+        buffer,
         notes: Vec::new(alloc),
-        first,
     };
     let end = run(alloc, &mut session, script, out);
-    let Session { server, notes, .. } = session;
-    let (store, journal, stamps, generation) = server.close();
+    let Session { hall, notes, .. } = session;
+    let generation = hall.generation();
+    let Closed {
+        store,
+        base,
+        journal,
+        stamps,
+        opened,
+    } = hall.close();
     Ended {
         status: end.status(),
         store,

@@ -16,8 +16,8 @@ returns-then-is_only-3-clause-outcome g c =
 
 pub returns-then-is_only-2-clause-log_fault : goal.returns-then-is_only-2-clause-log_fault
 returns-then-is_only-2-clause-log_fault g c =
-    λ six. ⊎_elim (λ shut. absurd (shut_other _ _ _ _ _ _ _ _ _ _ _ _ shut.3 six)) (λ ran. ran_fault _ _ _ (g.S.Store.faults_of c.args.store) (g.S.Store.faults_of ran.1) (g.S.Store.faults_of c.open.result.store) _ _ _ _ _ _ _ _ _ _ _ _ _ ran.3.counts ran.7 six) c.open.ensures.outcome
+    λ six. ⊎_elim (λ shut. absurd (shut_other _ _ _ _ _ _ _ _ _ _ _ _ shut.3 six)) (λ ran. ran_fault _ _ _ _ (g.S.Store.faults_of c.args.store) (g.S.Store.faults_of ran.1) (g.S.Store.faults_of c.open.result.store) _ _ _ _ _ _ _ _ _ _ _ _ _ ran.3.counts ran.7 six) c.open.ensures.outcome
 
 pub returns-then-is_only-3-clause-log_fault : goal.returns-then-is_only-3-clause-log_fault
 returns-then-is_only-3-clause-log_fault g c =
-    λ six. ⊎_elim (λ shut. absurd (shut_other _ _ _ _ _ _ _ _ _ _ _ _ shut.2 six)) (λ ran. ran_fault _ _ _ (g.S.Store.faults_of c.args.store) (g.S.Store.faults_of ran.1) (g.S.Store.faults_of c.format_and_run.result.store) _ _ _ _ _ _ _ _ _ _ _ _ _ ran.3.counts ran.7 six) c.format_and_run.ensures.outcome
+    λ six. ⊎_elim (λ shut. absurd (shut_other _ _ _ _ _ _ _ _ _ _ _ _ shut.2 six)) (λ ran. ran_fault _ _ _ _ (g.S.Store.faults_of c.args.store) (g.S.Store.faults_of ran.1) (g.S.Store.faults_of c.format_and_run.result.store) _ _ _ _ _ _ _ _ _ _ _ _ _ ran.3.counts ran.7 six) c.format_and_run.ensures.outcome

@@ -1,19 +1,14 @@
-use Rattle.std.proofs.Common.{[], refl, ◌∙◌, ap}
-use Rattle.inventory_rows.specs.State.{Inv}
-use Rattle.tsm_top.proofs.Opening.{ran}
+use Rattle.std.proofs.Common.{◌∙◌, refl, ap, Some}
+use Rattle.tsm_top.proofs.Opening.{from}
 use Rattle.tsm_top.proofs.top.run_script.Goals as goal
 
-pub returns-clause-ran : goal.returns-clause-ran
-returns-clause-ran g c =
-    let done = ran g.S.Store.told g.S.Store.moment_of g.S.Store.faults_of g.met.S.Store.clock (record { store = c.args.store; vault = c.args.vault; stamps = [] }) refl c.requires.begun c.requires.sure c.run-end.result c.status.result c.close-store.result.1.items c.close-store.result.2.items c.run-end.new.server.notes.items c.close-store.result.3 _ _ _ _ (record { server = c.new.result; notes = c.new-2.result; first = c.number-first.result }) c.run-end.new.server c.close-store.result.0 c.close-store.ensures.store c.new.ensures c.new-2.ensures.items (c.number-first.ensures ∙ ap (λ (v : Inv). v.number) c.database.ensures) c.run-end.ensures.says c.status.ensures c.close-store.ensures.journal c.close-store.ensures.stamps refl c.close-store.ensures.generation c.run-end.ensures.end in
-    (c.run-end.result, rw c.moment-opened.ensures done.from, c.run-end.ensures.source, c.run-end.ensures.sink)
-
-pub returns-clause-later : goal.returns-clause-later
-returns-clause-later g c =
-    let done = ran g.S.Store.told g.S.Store.moment_of g.S.Store.faults_of g.met.S.Store.clock (record { store = c.args.store; vault = c.args.vault; stamps = [] }) refl c.requires.begun c.requires.sure c.run-end.result c.status.result c.close-store.result.1.items c.close-store.result.2.items c.run-end.new.server.notes.items c.close-store.result.3 _ _ _ _ (record { server = c.new.result; notes = c.new-2.result; first = c.number-first.result }) c.run-end.new.server c.close-store.result.0 c.close-store.ensures.store c.new.ensures c.new-2.ensures.items (c.number-first.ensures ∙ ap (λ (v : Inv). v.number) c.database.ensures) c.run-end.ensures.says c.status.ensures c.close-store.ensures.journal c.close-store.ensures.stamps refl c.close-store.ensures.generation c.run-end.ensures.end in
-    done.later
-
-pub returns-clause-goes : goal.returns-clause-goes
-returns-clause-goes g c =
-    let done = ran g.S.Store.told g.S.Store.moment_of g.S.Store.faults_of g.met.S.Store.clock (record { store = c.args.store; vault = c.args.vault; stamps = [] }) refl c.requires.begun c.requires.sure c.run-end.result c.status.result c.close-store.result.1.items c.close-store.result.2.items c.run-end.new.server.notes.items c.close-store.result.3 _ _ _ _ (record { server = c.new.result; notes = c.new-2.result; first = c.number-first.result }) c.run-end.new.server c.close-store.result.0 c.close-store.ensures.store c.new.ensures c.new-2.ensures.items (c.number-first.ensures ∙ ap (λ (v : Inv). v.number) c.database.ensures) c.run-end.ensures.says c.status.ensures c.close-store.ensures.journal c.close-store.ensures.stamps refl c.close-store.ensures.generation c.run-end.ensures.end in
-    done.goes
+pub returns : goal.returns
+returns g c =
+    let done = from g.S.Store.told g.S.Store.moment_of g.S.Store.faults_of g.met.S.Store.clock c.args.hall c.requires.fresh c.runs_are_alone.ensures.goes c.halls_at_rest_are_there.ensures c.trusted_halls_are_safe.ensures c.halls_leave_sound_stores.ensures c.args.binder
+    (record { hall = c.args.hall; binder = c.args.binder; buffer = c.args.buffer; notes = c.new.result }) c.run-end.new.server refl c.new.ensures.items refl c.run-end.result _ _ _ c.run-end.ensures.says
+    (λ actor events old new m is known ran. (let r = c.runs_are_alone.ensures.alone actor events old new m is ran in (r.0, r.1, r.2, (λ f. absurd f), r.3)))
+    (λ actor events old new m is known ran. (let r = c.runs_are_alone.ensures.exact actor events old new m is (known tt) ran in (r.0, r.1, r.2, (λ t. r.3), r.4)))
+    c.lines_come_to.ensures.answered_unknown c.lines_come_to.ensures.answered c.lines_come_to.ensures.ended_unknown c.lines_come_to.ensures.ended c.answered_lines_hold.ensures.unknown c.answered_lines_hold.ensures.trusted
+    c.requires.state.0 c.requires.state.1 c.close-store.result.store c.status.result c.close-store.result.journal.items c.close-store.result.stamps.items c.run-end.new.server.notes.items c.generation-generation.result _
+    c.close-store.ensures.store c.status.ensures c.run-end.ensures.end c.close-store.ensures.journal c.close-store.ensures.stamps refl c.generation-generation.ensures in
+    (c.run-end.result, done.0, ap Some (c.close-store.ensures.base ∙ done.1), c.close-store.ensures.opened ∙ done.2 ∙ c.requires.fresh.opened, c.run-end.ensures.source, c.run-end.ensures.sink)

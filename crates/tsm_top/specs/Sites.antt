@@ -1,0 +1,49 @@
+-- A script's run as a machine: what it has made so far, what each line makes of it, and what images of the store give back.
+use Rattle.std.specs.Prelude.{◌≡◌, ℕ, ◌≤◌, Option, IfSome, List}
+use Rattle.std.specs.List.{AllByRecursion}
+use Rattle.store_api.specs.Disk.{History, ImageAt}
+use Rattle.kinds.specs.declared.refusal.Refusal.{Refusal}
+use Rattle.choosers.specs.declared.rule.Rule.{Rule}
+use Rattle.script_loop.specs.Reply.{Answer}
+use Rattle.script_loop.specs.declared.ends.Halt.{Halt}
+use Rattle.machine.specs.Stamps.{KeepsStamps}
+use Rattle.machine.specs.State.{Machine}
+use Rattle.hall.specs.Placed.{hall_places}
+use Rattle.hall_turns.specs.Left.{GivesState}
+use Rattle.command_steps.specs.Lines.{line_of}
+use Rattle.line_results.specs.Clauses.{Holds}
+use Rattle.line_results.specs.Lines.{Halts, Replies}
+use Rattle.tsm_top.specs.Notes.{note_of, number_in, with_note}
+use Rattle.tsm_top.specs.declared.note.Note.{Note}
+
+-- What a run has made so far, as a state of the machine: the database that it began with, its transactions with their stamps, the bytes of the objects, the newest image's generation and its log's length,
+-- and the store's moment and its counts of faults. And what was noted of its lines.
+pub record Site : Type 0 where
+  pub machine : Machine
+  pub notes : List Note
+
+abbrev pub site : Machine → List Note → Site
+site machine notes = record { machine = machine; notes = notes }
+
+-- each image of the machine's moment gives back its state: all that was made, and no more
+abbrev pub IsThere : Option History → Machine → Type 0
+IsThere told m = IfSome told (λ h. (image : ℕ → List ℕ) → ImageAt h m.moment image → GivesState m image)
+
+-- the stamps that were there stay in front of those that were added, and each is a moment that has come
+pub record IsTimely (old new : Machine) : Type 0 where
+  pub keeps : KeepsStamps old.core new.core
+  pub come : AllByRecursion (λ stamp. stamp ≤ new.moment) new.core.stamps
+
+-- `trusted` says that the store was sound when it was opened, and tells its bytes; `told` is what it tells at the return.
+module _ (trusted : Type 0) (choice : List Rule) (told : Option History) where
+  -- Line n may be answered so, which leaves the second site, with what is noted of it; it has what the headline says of each line (`Holds`); and each image of the moment behind it gives back all that was
+  -- made by then.
+  abbrev pub RepliesAt : Site → (n : ℕ) → List ℕ → Answer → Site → Type 0
+  RepliesAt old n line answer new =
+      (why : Option Refusal) × (r : Replies trusted hall_places choice n (line_of line) old.machine answer why new.machine)
+      × Holds trusted hall_places choice n (line_of line) old.machine r.mid answer r.added × (trusted → IsThere told new.machine) × IsTimely old.machine new.machine
+      × (new.notes ≡ with_note (line_of line) (note_of n old.machine.core.base.number (number_in old.machine) (number_in new.machine) why) old.notes)
+
+  -- The line may end the run so. Nothing is noted of it, as none of its lines is put.
+  abbrev pub StopsAt : Site → (n : ℕ) → List ℕ → Halt → Site → Type 0
+  StopsAt old n line how new = Halts trusted hall_places choice n (line_of line) old.machine how new.machine × IsTimely old.machine new.machine × (new.notes ≡ old.notes)
