@@ -42,12 +42,12 @@ use Rattle.steps.specs.Events.Deed.{OpenNew, OpenCopy, WritePiece, CopyPiece, Se
 use Rattle.steps.specs.Receipts.{forces, is_forced, is_receipt, receipts}
 use Rattle.sessions.proofs.Causes.{awaits-all, has-ends, made-all, then-all}
 use Rattle.sessions.proofs.Changed.{inv-number}
-use Rattle.sessions.specs.Asking.{Asks}
+use Rattle.sessions.specs.Asking.{Asks, AsksFilespace, AsksNode, AsksPath, AsksRules}
 use Rattle.sessions.specs.BackedUp.{IsBackedUp, IsPut, LeavesNone, MakesVersion}
 use Rattle.sessions.specs.Changing.{IsOf}
 use Rattle.sessions.specs.Homes.{home_of}
 use Rattle.sessions.specs.InTurn.{Decides, InTurn, OrMemory}
-use Rattle.sessions.specs.Putting.{AsksNode, AsksRules, CommitsOne, Defines, FindsFilespace, FindsHome, FindsIn, ForcesOne, GivesBack, Looks, LooksAgain, Names, OrGivesBack, Puts, PutsIn, PutsUnder, Sends, SendsOnce, Stores, backed_up, defined, found_or, is_lasting, is_unplaced, number_named, object_stored, sealed_of, unplaced}
+use Rattle.sessions.specs.Putting.{AsksFor, CommitsOne, Defines, FindsFilespace, FindsHome, FindsIn, ForcesOne, GivesBack, Looks, Names, OrGivesBack, Puts, PutsIn, PutsUnder, Sends, SendsOnce, Stores, backed_up, defined, is_lasting, is_unplaced, object_stored, sealed_of, unplaced}
 use Rattle.sessions.specs.Waiting.{Ends, Held, Waited}
 use Rattle.sessions.specs.declared.homes.Home.{Home}
 use Rattle.sessions.specs.declared.sending.Sealed.{Sealed}
@@ -147,20 +147,18 @@ home-quiet node choice path events result h =
     (or-quiet (AsksNode node) (asks-quiet (query.Lookup (thing.Node node)) (λ (number : ℕ). rows.Lookup (found.Number number))))
     (λ number. turn-quiet (AsksRules number) (λ rules. Decides (home_of number rules choice path)) (asks-quiet (query.Rules number) rows.Rules) (λ rules. decides-quiet (home_of number rules choice path))) events result h
 
-looks-quiet : (node filespace : List ℕ) (events : List Event) (result : Result (Option ℕ) Refusal) → Looks node filespace events result → AreQuiet events
-looks-quiet node filespace events result h =
-    turn-quiet (OrMemory (Asks (query.Filespaces (Some node)) rows.Filespaces)) (λ lines. Decides (Ok (number_named filespace lines)))
-    (or-quiet (Asks (query.Filespaces (Some node)) rows.Filespaces) (asks-quiet (query.Filespaces (Some node)) rows.Filespaces)) (λ lines. decides-quiet (Ok (number_named filespace lines))) events result h
+for-quiet : (node filespace : List ℕ) (events : List Event) (result : Result ℕ Refusal) → AsksFor node filespace events result → AreQuiet events
+for-quiet node filespace events result h = or-quiet (AsksFilespace node filespace) (asks-quiet (query.Lookup (thing.Filespace node filespace)) (λ (number : ℕ). rows.Lookup (found.Number number))) events result h
 
-again-quiet : (node filespace : List ℕ) (events : List Event) (result : Result ℕ Refusal) → LooksAgain node filespace events result → AreQuiet events
-again-quiet node filespace events result h = turn-quiet (Looks node filespace) (λ it. Decides (found_or it)) (looks-quiet node filespace) (λ it. decides-quiet (found_or it)) events result h
+looks-quiet : (node filespace : List ℕ) (events : List Event) (result : Result (Option ℕ) Refusal) → Looks node filespace events result → AreQuiet events
+looks-quiet node filespace events result h = for-quiet node filespace events h.0 h.1
 
 defines-quiet : (number : ℕ) (filespace : List ℕ) (events : List Event) (result : Result (Unit {0}) Refusal) → Defines number filespace events result → AreQuiet events
 defines-quiet number filespace events result h = changes-quiet (defined number filespace) events h.1.only
 
 in-quiet : (node filespace : List ℕ) (number : ℕ) (it : Option ℕ) (events : List Event) (result : Result ℕ Refusal) → FindsIn node filespace number it events result → AreQuiet events
 in-quiet node filespace number None events result h =
-    turn-quiet (OrMemory (Defines number filespace)) (λ done. LooksAgain node filespace) (or-quiet (Defines number filespace) (defines-quiet number filespace)) (λ done. again-quiet node filespace) events result h
+    turn-quiet (OrMemory (Defines number filespace)) (λ done. AsksFor node filespace) (or-quiet (Defines number filespace) (defines-quiet number filespace)) (λ done. for-quiet node filespace) events result h
 in-quiet node filespace number (Some it) events result h = decides-quiet (Ok it) events result h
 
 filespace-quiet : (node filespace : List ℕ) (number : ℕ) (events : List Event) (result : Result ℕ Refusal) → FindsFilespace node filespace number events result → AreQuiet events
@@ -169,8 +167,8 @@ filespace-quiet node filespace number events result h =
 
 names-quiet : (node filespace : List ℕ) (file : FileRow) (digest : Digest) (events : List Event) (result : Result ℕ Refusal) → Names node filespace file digest events result → AreQuiet events
 names-quiet node filespace file digest events result h =
-    turn-quiet (OrMemory (Asks (query.Versions node filespace) rows.Versions)) (λ lines. Decides (object_stored file digest lines))
-    (or-quiet (Asks (query.Versions node filespace) rows.Versions) (asks-quiet (query.Versions node filespace) rows.Versions)) (λ lines. decides-quiet (object_stored file digest lines)) events result h
+    turn-quiet (OrMemory (AsksPath node filespace file.path)) (λ lines. Decides (object_stored file digest lines))
+    (or-quiet (AsksPath node filespace file.path) (asks-quiet (query.Path node filespace file.path) rows.Versions)) (λ lines. decides-quiet (object_stored file digest lines)) events result h
 
 -- what was committed is forced
 forced-behind : (number : ℕ) (events : List Event) (result : Result ℕ Refusal) → ForcesOne number events result → AreQuiet events

@@ -1,7 +1,8 @@
 -- A file that is read, part by part, and what its bytes are.
-use Rattle.std.proofs.Common.{◌≡◌, inl, inr, ℕ, zero, suc, ◌+◌, ◌<◌, List, [], ◌∷◌, ◌++◌, length, take, drop, Some, None, Result, Ok, Err, refl, sym, ap, subst, ◌∙◌, append-nil, length-append, take-add, arith}
+use Rattle.std.proofs.Common.{◌≡◌, inl, inr, ℕ, zero, suc, ◌+◌, ◌<◌, ◌≤◌, List, [], ◌∷◌, ◌++◌, length, take, drop, Option, Some, None, Result, Ok, Err, refl, sym, ap, subst, ◌∙◌, append-nil, length-append, take-add, arith}
 use Rattle.std.proofs.lemmas.Grind.{flat_map-append}
 use Rattle.std.proofs.lemmas.List.{drop-drop, take_all}
+use Rattle.entries.specs.declared.change.Change.{Change}
 use Rattle.kinds.specs.declared.refusal.Refusal.{Refusal}
 use Rattle.kinds.specs.declared.refusal.Refusal.TheVariants as refused
 use Rattle.client_files.specs.declared.restoring.Stored.{Stored}
@@ -12,11 +13,11 @@ use Rattle.inventory_answers.specs.declared.query.Query.TheVariants as query
 use Rattle.inventory_answers.specs.declared.reply.Answer.{Answer}
 use Rattle.inventory_answers.specs.declared.reply.Rows.{Rows}
 use Rattle.inventory_answers.specs.declared.reply.Rows.TheVariants as rows
-use Rattle.inventory_answers.specs.Clients.{versions_of}
+use Rattle.inventory_answers.specs.Clients.{path_versions_of}
 use Rattle.inventory_rows.specs.version_groups.Entries.{on_ok}
 use Rattle.inventory_rows.specs.State.{Inv}
-use Rattle.machine.proofs.Runs.{fits-cut, fits-one}
-use Rattle.machine.specs.Fits.{Fits, History, Own, Step, inv, sight_at}
+use Rattle.machine.proofs.Runs.{fits-cut, fits-one, fits-rises}
+use Rattle.machine.specs.Fits.{Fits, History, Own, Step, inv, number_after, sight_at}
 use Rattle.machine.specs.Machine.{IsAnswer, read_count}
 use Rattle.machine.specs.Says.{Says}
 use Rattle.machine.specs.State.{Sight}
@@ -24,7 +25,7 @@ use Rattle.steps.proofs.Joining.{GoesOn, call_then, does_alone, does_made, so_ca
 use Rattle.steps.specs.Calls.{Call, Does, Made, Then}
 use Rattle.steps.specs.Events.{Deed, Event, event}
 use Rattle.steps.specs.Events.Deed.{Ask, ReadPiece}
-use Rattle.sessions.specs.Asking.{Asks, unasked}
+use Rattle.sessions.specs.Asking.{Asks, AsksPath, unasked}
 use Rattle.sessions.specs.Getting.{Chooses, Gets, GetsAll, IsActiveVersion, Misses, ReadsWhole, Takes, active_line, stored_of, unread}
 use Rattle.sessions.specs.declared.getting.FileRead.{FileRead}
 
@@ -45,21 +46,21 @@ asks-answered did p q asked kind answer (Err e) d ok err =
 -- ---- which version
 
 pub chooses-found : {S : Type 0} (did : S → List Event → S → Type 0) (p q : S) (node filespace path : List ℕ) (lines : List VersionLine) (line : VersionLine) (s : Stored)
-    → Call did p q (λ events. Asks (query.Versions node filespace) rows.Versions events (Ok lines)) → active_line path lines ≡ Some line → s ≡ stored_of line
+    → Call did p q (λ events. AsksPath node filespace path events (Ok lines)) → active_line lines ≡ Some line → s ≡ stored_of line
     → Call did p q (λ events. Chooses node filespace path events (Ok s))
 chooses-found did p q node filespace path lines line s a found same =
-    so_call did (λ events. Asks (query.Versions node filespace) rows.Versions events (Ok lines)) (λ events. Chooses node filespace path events (Ok s)) p q a (λ xs f. (lines, line, f, found, same))
+    so_call did (λ events. AsksPath node filespace path events (Ok lines)) (λ events. Chooses node filespace path events (Ok s)) p q a (λ xs f. (lines, line, f, found, same))
 
 pub chooses-none : {S : Type 0} (did : S → List Event → S → Type 0) (p q : S) (node filespace path : List ℕ) (lines : List VersionLine)
-    → Call did p q (λ events. Asks (query.Versions node filespace) rows.Versions events (Ok lines)) → active_line path lines ≡ None
+    → Call did p q (λ events. AsksPath node filespace path events (Ok lines)) → active_line lines ≡ None
     → Call did p q (λ events. Chooses node filespace path events (Err refused.NotFound))
 chooses-none did p q node filespace path lines a none =
-    so_call did (λ events. Asks (query.Versions node filespace) rows.Versions events (Ok lines)) (λ events. Chooses node filespace path events (Err refused.NotFound)) p q a (λ xs f. inr (lines, f, none, refl))
+    so_call did (λ events. AsksPath node filespace path events (Ok lines)) (λ events. Chooses node filespace path events (Err refused.NotFound)) p q a (λ xs f. inr (lines, f, none, refl))
 
 pub chooses-unasked : {S : Type 0} (did : S → List Event → S → Type 0) (p q : S) (node filespace path : List ℕ) (e : Refusal)
-    → Call did p q (λ events. Asks (query.Versions node filespace) rows.Versions events (Err e)) → Call did p q (λ events. Chooses node filespace path events (Err e))
+    → Call did p q (λ events. AsksPath node filespace path events (Err e)) → Call did p q (λ events. Chooses node filespace path events (Err e))
 chooses-unasked did p q node filespace path e a =
-    so_call did (λ events. Asks (query.Versions node filespace) rows.Versions events (Err e)) (λ events. Chooses node filespace path events (Err e)) p q a (λ xs f. inl f)
+    so_call did (λ events. AsksPath node filespace path events (Err e)) (λ events. Chooses node filespace path events (Err e)) p q a (λ xs f. inl f)
 
 -- ---- pieces
 
@@ -200,38 +201,52 @@ whole-contents w actor old new s bytes events f r sized =
     let long : length bytes ≡ s.size = r.2 in
     sym r.1 ∙ front ∙ take_all (length (read_in events)) (w.contents s.object) (omega (arith, same, long, sized))
 
-abbrev rows_in : Result Answer Refusal → Rows
+no-less : (n : ℕ) (joined : Option Change) → n ≤ number_after n joined
+no-less n None = omega arith
+no-less n (Some c) = omega arith
+
+abbrev pub rows_in : Result Answer Refusal → Rows
 rows_in (Ok a) = a.rows
 rows_in (Err e) = rows.Today
 
 -- what was answered is what the database answers
-told-rows : (log_length : ℕ) (node filespace : List ℕ) (v : Inv) (answer : Answer) (lines : List VersionLine) → IsAnswer log_length (query.Versions node filespace) v answer → answer.rows ≡ rows.Versions lines
-    → versions_of node filespace v ≡ Ok lines
-told-rows log_length node filespace v answer lines (told, h, same) is =
-    elim (versions_of node filespace v) as (λ r. on_ok (λ rows. record { n = v.number; today = v.today; rows = rows }) (on_ok rows.Versions r) ≡ Ok told → r ≡ Ok lines) [
+told-rows : (log_length : ℕ) (node filespace path : List ℕ) (v : Inv) (answer : Answer) (lines : List VersionLine) → IsAnswer log_length (query.Path node filespace path) v answer → answer.rows ≡ rows.Versions lines
+    → path_versions_of node filespace path v ≡ Ok lines
+told-rows log_length node filespace path v answer lines (told, h, same) is =
+    elim (path_versions_of node filespace path v) as (λ r. on_ok (λ rows. record { n = v.number; today = v.today; rows = rows }) (on_ok rows.Versions r) ≡ Ok told → r ≡ Ok lines) [
       | Ok it ↦ λ h. (let first : rows.Versions it ≡ rows.Versions lines = ap rows_in h ∙ ap (λ (a : Answer). a.rows) (sym same) ∙ is in cc)
       | Err e ↦ λ h. absurd cc
     ] h
 
-asked-in : (w : History) (actor : ℕ) (a b : Own) (node filespace : List ℕ) (answer : Answer) (lines : List VersionLine) (events : List Event) → answer.rows ≡ rows.Versions lines
-    → Made (Ask (query.Versions node filespace) (Ok answer)) events → Fits w actor a events b → (n : ℕ) × (versions_of node filespace (inv w n) ≡ Ok lines)
+-- a step comes no earlier than the number that the actor had reached, and no later than the one that it has reached then
+pub step-between : (w : History) (actor : ℕ) (a b : Own) (e : Event) → Step w actor a e b → (a.reached ≤ e.n) × (e.n ≤ b.reached)
+step-between w actor a b e s = (s.since, subst (λ (n : ℕ). e.n ≤ n) (sym s.has.reached) (no-less e.n s.joined))
+
+asked-in : (w : History) (actor : ℕ) (a b : Own) (node filespace path : List ℕ) (answer : Answer) (lines : List VersionLine) (events : List Event) → answer.rows ≡ rows.Versions lines
+    → Made (Ask (query.Path node filespace path) (Ok answer)) events → Fits w actor a events b
+    → (n : ℕ) × (a.reached ≤ n) × (n ≤ b.reached) × (path_versions_of node filespace path (inv w n) ≡ Ok lines)
 unfolding Says
-asked-in w actor a b node filespace answer lines events is (inl h) f =
-    let s : Step w actor a (event h.0 (Ask (query.Versions node filespace) (Ok answer))) b = fits-one w actor a b (event h.0 (Ask (query.Versions node filespace) (Ok answer))) (subst (λ (es : List Event). Fits w actor a es b) h.1 f) in
-    (h.0, told-rows s.says.1.0 node filespace (inv w h.0) answer lines s.says.1.1 is)
-asked-in w actor a b node filespace answer lines events is (inr h) f = absurd cc
+asked-in w actor a b node filespace path answer lines events is (inl h) f =
+    let s : Step w actor a (event h.0 (Ask (query.Path node filespace path) (Ok answer))) b = fits-one w actor a b (event h.0 (Ask (query.Path node filespace path) (Ok answer))) (subst (λ (es : List Event). Fits w actor a es b) h.1 f) in
+    let between = step-between w actor a b (event h.0 (Ask (query.Path node filespace path) (Ok answer))) s in
+    (h.0, between.0, between.1, told-rows s.says.1.0 node filespace path (inv w h.0) answer lines s.says.1.1 is)
+asked-in w actor a b node filespace path answer lines events is (inr h) f = absurd cc
 
 pub read-active : (w : History) (actor : ℕ) (old new : Own) (node filespace path : List ℕ) (events : List Event) (r : FileRead) → Fits w actor old events new → GetsAll node filespace path events r
-    → IsActiveVersion w node filespace path r
+    → IsActiveVersion w old.reached new.reached node filespace path r
 read-active w actor old new node filespace path events r f (s, object, size, (xs, ys, cut, (lines, line, (answer, is, made), found, same), whole)) =
     let parts = fits-cut w actor old new xs ys (subst (λ (es : List Event). Fits w actor old es new) cut f) in
-    let asked = asked-in w actor old parts.0 node filespace answer lines xs is made parts.1 in
+    let asked = asked-in w actor old parts.0 node filespace path answer lines xs is made parts.1 in
+    let rises : parts.0.reached ≤ new.reached = fits-rises w actor parts.0 new ys parts.2 in
+    let until : asked.0 ≤ parts.0.reached = asked.2 in
     let its : s.object ≡ line.object = ap (λ (it : Stored). it.object) same in
     let long : s.size ≡ line.size = ap (λ (it : Stored). it.size) same in (
       asked.0,
       lines,
       line,
       asked.1,
+      omega arith,
+      asked.3,
       found,
       object ∙ its,
       size ∙ long,

@@ -1,3 +1,5 @@
+pub mod Allowed
+pub mod Asked
 pub mod BackedUp
 pub mod Causes
 pub mod Changed
@@ -5,5 +7,6 @@ pub mod Checkpointed
 pub mod Got
 pub mod Homed
 pub mod Put
+pub mod Reasons
 pub mod Trying
 pub mod Turns

@@ -1,5 +1,5 @@
 -- A file that is put, part by part.
-use Rattle.std.proofs.Common.{◌≡◌, inl, inr, ℕ, true, false, List, [], ◌∷◌, Option, None, Some, Result, Ok, Err, refl, subst}
+use Rattle.std.proofs.Common.{◌≡◌, inr, ℕ, false, List, Option, Result, Ok, Err, refl}
 use Rattle.kinds.specs.declared.refusal.Refusal.{Refusal}
 use Rattle.client_files.specs.declared.outcome.Came.{Came}
 use Rattle.client_files.specs.Outcomes.{Sending}
@@ -9,7 +9,7 @@ use Rattle.steps.specs.Calls.{Call, Does, IsStep, Made, MakesStep, Then}
 use Rattle.steps.specs.Events.{Event}
 use Rattle.steps.specs.Events.Deed.{DropTicket, Force}
 use Rattle.sessions.specs.Changing.{Changing}
-use Rattle.sessions.specs.Putting.{Defines, ForcesOne, GivesBack, OrGivesBack, SendsOnce, behind_drop, defined, defined_by, is_lasting, sealed_of}
+use Rattle.sessions.specs.Putting.{AsksFor, Defines, ForcesOne, GivesBack, Looks, OrGivesBack, SendsOnce, behind_drop, defined, defined_by, is_lasting, sealed_of, there_or_not}
 use Rattle.sessions.specs.declared.sending.Sealed.{Sealed}
 
 pub sends-once : {S : Type 0} (did : S → List Event → S → Type 0) (p q : S) (file : Option ClientFile) (pool size before after : ℕ) (came : Result Came Refusal) (result : Result Sealed Refusal)
@@ -37,3 +37,8 @@ or-gives-back did goes p q r ticket Tries why e a b =
 pub forces-one : {S : Type 0} (did : S → List Event → S → Type 0) (p q : S) (number last : ℕ) → Does did p q (Force (Ok last)) → Call did p q (λ events. ForcesOne number events (Ok number))
 forces-one did p q number last d =
     so_call did (λ events. Made (Force (Ok last)) events) (λ events. ForcesOne number events (Ok number)) p q (does_made did p q (Force (Ok last)) d) (λ xs f. (refl, last, f))
+
+pub looks : {S : Type 0} (did : S → List Event → S → Type 0) (p q : S) (node filespace : List ℕ) (answer : Result ℕ Refusal) (result : Result (Option ℕ) Refusal)
+    → Call did p q (λ events. AsksFor node filespace events answer) → result ≡ there_or_not answer → Call did p q (λ events. Looks node filespace events result)
+looks did p q node filespace answer result a is =
+    so_call did (λ events. AsksFor node filespace events answer) (λ events. Looks node filespace events result) p q a (λ xs f. (answer, f, is))

@@ -1,42 +1,37 @@
 -- A stored file is read.
-use Rattle.std.specs.Prelude.{◌≡◌, ◌⊎◌, ℕ, ◌<◌, Bool, not, ◌&&◌, is_some, List, [], ◌∷◌, ◌++◌, length, Option, None, Some, if◌then◌else◌, Result, Ok, Err}
+use Rattle.std.specs.Prelude.{◌≡◌, ◌⊎◌, ℕ, ◌<◌, ◌≤◌, not, is_some, List, [], ◌∷◌, ◌++◌, length, Option, None, Some, if◌then◌else◌, Result, Ok, Err}
 use Rattle.std.specs.List.{find}
-use Rattle.kinds.specs.Names.{is_same_name}
 use Rattle.kinds.specs.declared.refusal.Refusal.{Refusal}
 use Rattle.kinds.specs.declared.refusal.Refusal.TheVariants as refused
 use Rattle.client_files.specs.declared.restoring.Stored.{Stored}
 use Rattle.client_files.specs.Restoring.{ReadOn, read_in}
-use Rattle.inventory_answers.specs.Clients.{versions_of}
+use Rattle.inventory_answers.specs.Clients.{path_versions_of}
 use Rattle.inventory_answers.specs.declared.lines.VersionLine.{VersionLine}
-use Rattle.inventory_answers.specs.declared.query.Query.TheVariants as query
-use Rattle.inventory_answers.specs.declared.reply.Rows.TheVariants as rows
 use Rattle.machine.specs.Fits.{History, inv}
 use Rattle.steps.specs.Calls.{Made, Then}
 use Rattle.steps.specs.Events.{Event, has_number}
 use Rattle.steps.specs.Events.Deed.{ReadPiece}
-use Rattle.sessions.specs.Asking.{Asks}
+use Rattle.sessions.specs.Asking.{AsksPath}
+use Rattle.sessions.specs.Outcomes.{HasCauseOr}
 use Rattle.sessions.specs.declared.getting.FileRead.{FileRead}
 
 -- ---- which version
 
-abbrev pub is_active_at : List ℕ → VersionLine → Bool
-is_active_at path l = not (is_some l.since) && is_same_name l.path path
-
--- the active version of a path among those of its filespace
-abbrev pub active_line : List ℕ → List VersionLine → Option VersionLine
-active_line path lines = find (is_active_at path) lines
+-- the active version among those of a path
+abbrev pub active_line : List VersionLine → Option VersionLine
+active_line lines = find (λ l. not (is_some l.since)) lines
 
 -- a version, as it is read
 abbrev pub stored_of : VersionLine → Stored
 stored_of l = record { object = l.object; size = l.size; mtime = l.mtime; digest = l.digest }
 
--- The versions of the filespace were asked, and this is the active one of the path; or there is none, or they weren't answered.
+-- The versions of the path were asked, and this is the active one; or there is none, or they weren't answered.
 abbrev pub Chooses : (node filespace path : List ℕ) → List Event → Result Stored Refusal → Type 0
 Chooses node filespace path events (Ok s) =
-    (lines : List VersionLine) × (line : VersionLine) × Asks (query.Versions node filespace) rows.Versions events (Ok lines) × (active_line path lines ≡ Some line) × (s ≡ stored_of line)
+    (lines : List VersionLine) × (line : VersionLine) × AsksPath node filespace path events (Ok lines) × (active_line lines ≡ Some line) × (s ≡ stored_of line)
 Chooses node filespace path events (Err e) =
-    Asks (query.Versions node filespace) rows.Versions events (Err e)
-    ⊎ ((lines : List VersionLine) × Asks (query.Versions node filespace) rows.Versions events (Ok lines) × (active_line path lines ≡ None) × (e ≡ refused.NotFound))
+    AsksPath node filespace path events (Err e)
+    ⊎ ((lines : List VersionLine) × AsksPath node filespace path events (Ok lines) × (active_line lines ≡ None) × (e ≡ refused.NotFound))
 
 -- ---- its bytes
 
@@ -76,12 +71,22 @@ Gets node filespace path events (Err e) =
     Chooses node filespace path events (Err e)
     ⊎ ((s : Stored) × Then (λ xs. Chooses node filespace path xs (Ok s)) (λ ys. ReadsWhole s ys (Err e)) events)
 
+-- what a step may be refused with: something isn't there, the version went, none of its copies can be read, a halted hall, a full run, want of memory
+abbrev pub numbers : List ℕ
+numbers = 10 ∷ 23 ∷ 24 ∷ 40 ∷ 41 ∷ 50 ∷ []
+
+-- What a GET did: its steps in their order; and its refusal has its cause, which may be that none of the versions that were asked is active.
+pub record Getting (node filespace path : List ℕ) (events : List Event) (result : Result FileRead Refusal) : Type 0 where
+  pub order : Gets node filespace path events result
+  pub cause : HasCauseOr (λ e. e ≡ refused.NotFound) numbers events result
+
 -- ---- in a history
 
--- What was read is the active version of the path in the filespace as it was at some number of the history, with the bytes that its object has.
-abbrev pub IsActiveVersion : History → (node filespace path : List ℕ) → FileRead → Type 0
-IsActiveVersion w node filespace path r =
+-- What was read is the active version of the path in the filespace as it was at some number of the history from the one on and up to the other, with the bytes that its object has.
+abbrev pub IsActiveVersion : History → (since until : ℕ) → (node filespace path : List ℕ) → FileRead → Type 0
+IsActiveVersion w since until node filespace path r =
     (n : ℕ) × (lines : List VersionLine) × (line : VersionLine)
-    × (versions_of node filespace (inv w n) ≡ Ok lines) × (active_line path lines ≡ Some line)
+    × (since ≤ n) × (n ≤ until)
+    × (path_versions_of node filespace path (inv w n) ≡ Ok lines) × (active_line lines ≡ Some line)
     × (r.object ≡ line.object) × (r.size ≡ line.size) × (length r.bytes ≡ line.size)
     × (length (w.contents line.object) ≡ line.size → r.bytes ≡ w.contents line.object)

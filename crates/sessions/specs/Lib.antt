@@ -7,4 +7,5 @@ pub mod Homes
 pub mod InTurn
 pub mod Outcomes
 pub mod Putting
+pub mod Validating
 pub mod Waiting

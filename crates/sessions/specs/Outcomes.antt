@@ -13,3 +13,11 @@ IsCaused numbers events e = (e ≡ Memory) ⊎ ((has_number numbers e ≡ true) 
 abbrev pub HasCause : {A : Type 0} → (numbers : List ℕ) → List Event → Result A Refusal → Type 0
 HasCause numbers events (Ok x) = Unit {0}
 HasCause numbers events (Err e) = IsCaused numbers events e
+
+-- such a cause, or one that is decided without a step being refused
+abbrev pub IsCausedOr : (Decided : Refusal → Type 0) → (numbers : List ℕ) → List Event → Refusal → Type 0
+IsCausedOr Decided numbers events e = Decided e ⊎ IsCaused numbers events e
+
+abbrev pub HasCauseOr : {A : Type 0} → (Decided : Refusal → Type 0) → (numbers : List ℕ) → List Event → Result A Refusal → Type 0
+HasCauseOr Decided numbers events (Ok x) = Unit {0}
+HasCauseOr Decided numbers events (Err e) = IsCausedOr Decided numbers events e

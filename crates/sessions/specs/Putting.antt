@@ -3,6 +3,7 @@ use Rattle.std.specs.Prelude.{◌≡◌, ◌⊎◌, ℕ, ◌==◌, ◌&&◌, Boo
 use Rattle.std.specs.List.{find}
 use Rattle.std.specs.Option.{option_map}
 use Rattle.kinds.specs.Names.{is_same_name}
+use Rattle.kinds.specs.Refusals.{bad_value}
 use Rattle.kinds.specs.declared.change.DefineOrDelete.TheVariants as two
 use Rattle.kinds.specs.declared.change.ObjectChange.TheVariants as client
 use Rattle.kinds.specs.declared.refusal.Refusal.{Refusal}
@@ -12,27 +13,24 @@ use Rattle.choosers.specs.declared.rule.Rule.{Rule}
 use Rattle.client_files.specs.declared.outcome.Came.{Came}
 use Rattle.client_files.specs.declared.outcome.Came.TheVariants as came
 use Rattle.client_files.specs.Outcomes.{Sending}
+use Rattle.client_files.specs.Reading.{EndsEarly, GoesOn}
 use Rattle.client_files.specs.Sending.{stopping}
+use Rattle.client_plan.specs.Classes.{is_left_out}
 use Rattle.client_trees.specs.Files.{ClientFile}
 use Rattle.client_trees.specs.declared.tree.FileRow.{FileRow}
 use Rattle.entries.specs.declared.change.Change.{Change}
 use Rattle.entries.specs.declared.change.Change.TheVariants as change
-use Rattle.inventory_answers.specs.declared.lines.FilespaceLine.{FilespaceLine}
 use Rattle.inventory_answers.specs.declared.lines.VersionLine.{VersionLine}
-use Rattle.inventory_answers.specs.declared.query.Query.TheVariants as query
-use Rattle.inventory_answers.specs.declared.reply.Rows.TheVariants as rows
-use Rattle.inventory_work.specs.declared.lines.Rules.{Rules}
-use Rattle.inventory_work.specs.declared.search.Found.TheVariants as found
-use Rattle.inventory_work.specs.declared.search.Named.TheVariants as thing
 use Rattle.steps.specs.declared.asked.Asked.{Asked}
 use Rattle.steps.specs.declared.asked.Asked.TheVariants.{Backup}
 use Rattle.steps.specs.Calls.{IsStep, Made, Then}
 use Rattle.steps.specs.Events.{Event, has_number}
 use Rattle.steps.specs.Events.Deed.{Commit, DropTicket, Force}
-use Rattle.sessions.specs.Asking.{Asks}
+use Rattle.sessions.specs.Asking.{AsksFilespace, AsksNode, AsksPath, AsksRules}
 use Rattle.sessions.specs.Changing.{Changing}
 use Rattle.sessions.specs.Homes.{home_of}
 use Rattle.sessions.specs.InTurn.{Decides, InTurn, OrMemory}
+use Rattle.sessions.specs.Outcomes.{HasCauseOr}
 use Rattle.sessions.specs.Waiting.{Obtains}
 use Rattle.sessions.specs.declared.homes.Home.{Home}
 use Rattle.sessions.specs.declared.sending.Sealed.{Sealed}
@@ -54,13 +52,6 @@ is_lasting e = has_number (40 ∷ 41 ∷ []) e
 
 -- ---- where the file goes
 
--- the number of a node is asked
-abbrev pub AsksNode : (node : List ℕ) → List Event → Result ℕ Refusal → Type 0
-AsksNode node events result = Asks (query.Lookup (thing.Node node)) (λ number. rows.Lookup (found.Number number)) events result
-
-abbrev pub AsksRules : (node : ℕ) → List Event → Result Rules Refusal → Type 0
-AsksRules number events result = Asks (query.Rules number) rows.Rules events result
-
 -- the node is looked up, its rules are asked, and by them the path is bound
 abbrev pub FindsHome : (node : List ℕ) → List Rule → (path : List ℕ) → List Event → Result Home Refusal → Type 0
 FindsHome node choice path events result =
@@ -68,14 +59,18 @@ FindsHome node choice path events result =
 
 -- ---- the filespace
 
--- the number of the filespace with this name
-abbrev pub number_named : List ℕ → List FilespaceLine → Option ℕ
-number_named name lines = option_map (λ l. l.number) (find (λ l. is_same_name l.name name) lines)
+-- it is there with its number, or it isn't there
+abbrev pub there_or_not : Result ℕ Refusal → Result (Option ℕ) Refusal
+there_or_not (Ok number) = Ok (Some number)
+there_or_not (Err refused.NotFound) = Ok None
+there_or_not (Err e) = Err e
 
--- the filespaces of the node are asked, among which that one is or isn't
+-- its number is asked
+abbrev pub AsksFor : (node filespace : List ℕ) → List Event → Result ℕ Refusal → Type 0
+AsksFor node filespace events result = OrMemory (AsksFilespace node filespace) events result
+
 abbrev pub Looks : (node filespace : List ℕ) → List Event → Result (Option ℕ) Refusal → Type 0
-Looks node filespace events result =
-    InTurn (OrMemory (Asks (query.Filespaces (Some node)) rows.Filespaces)) (λ lines. Decides (Ok (number_named filespace lines))) events result
+Looks node filespace events result = (answer : Result ℕ Refusal) × AsksFor node filespace events answer × (result ≡ there_or_not answer)
 
 -- the change by which it is defined, whose number is filled in when it is made
 abbrev pub defined : (node : ℕ) → List ℕ → Change
@@ -90,17 +85,9 @@ defined_by (Err e) = Err (unplaced e)
 abbrev pub Defines : (node : ℕ) → List ℕ → List Event → Result (Unit {0}) Refusal → Type 0
 Defines number filespace events result = (answer : Result ℕ Refusal) × Changing (defined number filespace) events answer × (result ≡ defined_by answer)
 
-abbrev pub found_or : {A : Type 0} → Option A → Result A Refusal
-found_or None = Err refused.NotFound
-found_or (Some it) = Ok it
-
--- it is looked for again
-abbrev pub LooksAgain : (node filespace : List ℕ) → List Event → Result ℕ Refusal → Type 0
-LooksAgain node filespace events result = InTurn (Looks node filespace) (λ it. Decides (found_or it)) events result
-
--- where it isn't there it is defined
+-- where it isn't there it is defined, and its number is asked again
 abbrev pub FindsIn : (node filespace : List ℕ) → (number : ℕ) → Option ℕ → List Event → Result ℕ Refusal → Type 0
-FindsIn node filespace number None events result = InTurn (OrMemory (Defines number filespace)) (λ done. LooksAgain node filespace) events result
+FindsIn node filespace number None events result = InTurn (OrMemory (Defines number filespace)) (λ done. AsksFor node filespace) events result
 FindsIn node filespace number (Some it) events result = Decides (Ok it) events result
 
 -- the number of the filespace, which is defined where it isn't there
@@ -162,21 +149,26 @@ Stores filespace file class s events result =
 
 -- ---- the object's number
 
--- a version of this path with this time and this digest
+-- a version with this time and this digest
 abbrev pub is_stored : FileRow → Digest → VersionLine → Bool
-is_stored file digest l = is_same_name l.path file.path && (l.mtime == file.mtime && is_same_name l.digest.0 digest.0)
+is_stored file digest l = l.mtime == file.mtime && is_same_name l.digest.0 digest.0
 
--- the object of the newest such
+-- the object of the newest such, among the versions of the path
 abbrev pub object_among : FileRow → Digest → List VersionLine → Option ℕ
 object_among file digest lines = option_map (λ l. l.object) (find (is_stored file digest) lines)
+
+-- what was found, or that it isn't there
+abbrev pub found_or : {A : Type 0} → Option A → Result A Refusal
+found_or None = Err refused.NotFound
+found_or (Some it) = Ok it
 
 abbrev pub object_stored : FileRow → Digest → List VersionLine → Result ℕ Refusal
 object_stored file digest lines = found_or (object_among file digest lines)
 
--- the versions of the filespace are asked, among which it is
+-- the versions of the path are asked, among which it is
 abbrev pub Names : (node filespace : List ℕ) → FileRow → Digest → List Event → Result ℕ Refusal → Type 0
 Names node filespace file digest events result =
-    InTurn (OrMemory (Asks (query.Versions node filespace) rows.Versions)) (λ lines. Decides (object_stored file digest lines)) events result
+    InTurn (OrMemory (AsksPath node filespace file.path)) (λ lines. Decides (object_stored file digest lines)) events result
 
 -- ---- all of it
 
@@ -194,3 +186,26 @@ PutsUnder node filespace given file home events result = InTurn (FindsFilespace 
 -- A file is put: where it goes is found, its filespace is found or defined, it is sent, committed and made durable, and its object's number is asked.
 abbrev pub Puts : (node filespace : List ℕ) → List Rule → Option ClientFile → FileRow → List Event → Result ℕ Refusal → Type 0
 Puts node filespace choice given file events result = InTurn (FindsHome node choice file.path) (PutsUnder node filespace given file) events result
+
+-- ---- why it isn't
+
+-- What no step is refused with: the path is left out; its class has no backup copy group, or no policy set is active; a call on the tree failed; the file isn't as long as it was listed; or none of the versions
+-- that were asked is the one that was stored.
+abbrev pub IsDecided : List Rule → Option ClientFile → FileRow → Refusal → Type 0
+IsDecided choice given file e =
+    ((e ≡ bad_value) × (is_left_out choice file.path ≡ true))
+    ⊎ (e ≡ refused.NoBackupGroup)
+    ⊎ (e ≡ refused.TreeFault)
+    ⊎ ((at : ℕ) × EndsEarly given at file.size e)
+    ⊎ GoesOn given file.size e
+    ⊎ (e ≡ refused.NotFound)
+
+-- What a step may be refused with: something isn't there, no pool has room, others hold the room, a volume can't be written, the file is too large, the transaction has more bytes than a record may have, a bound of
+-- the database's, a halted hall, a full run, want of memory.
+abbrev pub numbers : List ℕ
+numbers = 10 ∷ 20 ∷ 21 ∷ 25 ∷ 29 ∷ 30 ∷ 31 ∷ 40 ∷ 41 ∷ 50 ∷ []
+
+-- What a PUT did: its steps in their order; and its refusal has its cause.
+pub record Putting (node filespace : List ℕ) (choice : List Rule) (given : Option ClientFile) (file : FileRow) (events : List Event) (result : Result ℕ Refusal) : Type 0 where
+  pub order : Puts node filespace choice given file events result
+  pub cause : HasCauseOr (IsDecided choice given file) numbers events result

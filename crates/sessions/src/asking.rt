@@ -1,16 +1,14 @@
 // What a command asks before it does anything.
-ghost use Rattle.std.specs.Prelude.{◌≡◌, Some, IfErr, IfOk};
+ghost use Rattle.std.specs.Prelude.{◌≡◌, IfErr, IfOk};
 ghost use Rattle.kinds.specs.declared.refusal.Refusal.TheVariants.{Memory as NoMemory};
-ghost use Rattle.inventory_answers.specs.declared.query.Query.TheVariants as query;
 ghost use Rattle.inventory_answers.specs.declared.reply.Rows.TheVariants as rows;
 ghost use Rattle.inventory_work.specs.declared.search.Found.TheVariants as found;
-ghost use Rattle.inventory_work.specs.declared.search.Named.TheVariants as thing;
 ghost use Rattle.steps.specs.Calls.{Call};
-ghost use Rattle.sessions.specs.Asking.{Asks, unasked};
+ghost use Rattle.sessions.specs.Asking.{AsksFilespace, AsksNode, AsksPath, AsksRules, unasked};
 
-use inventory_answers::{Answer, FilespaceLine, Query, Rows, VersionLine};
+use inventory_answers::{Answer, Query, Rows, VersionLine};
 use inventory_work::{Found, Listed, Named, Rules};
-use kinds::{FilespaceName, NodeName, Refusal};
+use kinds::{FilespaceName, NodeName, Path, Refusal};
 use steps::Stepper;
 
 /// The refusal with which a command ends whose question was refused so. What can't be answered there stands for want of memory.
@@ -37,15 +35,20 @@ fn versions_of(answer: Answer) -> Result<Listed<VersionLine>, Refusal>
     }
 }
 
-/// Asks for the versions of a filespace.
-pub(crate) fn ask_versions<P: Stepper>(
+/// Asks for the versions of one path of a filespace.
+pub(crate) fn ask_path<P: Stepper>(
     p: &mut P,
     node: NodeName,
     filespace: FilespaceName,
+    path: Path,
 ) -> Result<Listed<VersionLine>, Refusal>
-    ensures { Call P.did p.old p.new (λ events. Asks (query.Versions node filespace) rows.Versions events result) }
+    ensures { Call P.did p.old p.new (λ events. AsksPath node filespace path events result) }
 {
-    let query = Query::Versions { node, filespace };
+    let query = Query::Path {
+        node,
+        filespace,
+        path,
+    };
     let answer = p.ask(&query);
     drop(query);
     match answer {
@@ -70,10 +73,29 @@ fn number_of(answer: Answer) -> Result<u32, Refusal>
 
 /// Asks for the number of a node.
 pub(crate) fn ask_node<P: Stepper>(p: &mut P, node: NodeName) -> Result<u32, Refusal>
-    ensures { Call P.did p.old p.new (λ events. Asks (query.Lookup (thing.Node node)) (λ number. rows.Lookup (found.Number number)) events result) }
+    ensures { Call P.did p.old p.new (λ events. AsksNode node events result) }
 {
     let query = Query::Lookup {
         named: Named::Node(node),
+    };
+    let answer = p.ask(&query);
+    drop(query);
+    match answer {
+        Ok(answer) => number_of(answer),
+        Err(refusal) => Err(unasked(refusal)),
+    }
+}
+
+/// Asks for the number of a node's filespace.
+pub(crate) fn ask_filespace<P: Stepper>(
+    p: &mut P,
+    node: NodeName,
+    filespace: FilespaceName,
+) -> Result<u32, Refusal>
+    ensures { Call P.did p.old p.new (λ events. AsksFilespace node filespace events result) }
+{
+    let query = Query::Lookup {
+        named: Named::Filespace { node, filespace },
     };
     let answer = p.ask(&query);
     drop(query);
@@ -99,43 +121,13 @@ fn rules_of(answer: Answer) -> Result<Rules, Refusal>
 
 /// Asks for the rules of the classes of a node's domain.
 pub(crate) fn ask_rules<P: Stepper>(p: &mut P, node: u32) -> Result<Rules, Refusal>
-    ensures { Call P.did p.old p.new (λ events. Asks (query.Rules node) rows.Rules events result) }
+    ensures { Call P.did p.old p.new (λ events. AsksRules node events result) }
 {
     let query = Query::Rules { node };
     let answer = p.ask(&query);
     drop(query);
     match answer {
         Ok(answer) => rules_of(answer),
-        Err(refusal) => Err(unasked(refusal)),
-    }
-}
-
-/// The filespaces that an answer has. An answer to another query has none, and stands for want of memory.
-fn filespaces_of(answer: Answer) -> Result<Listed<FilespaceLine>, Refusal>
-    ensures ok { IfOk result (λ lines. answer.rows ≡ rows.Filespaces lines) }
-    ensures err { IfErr result (λ e. e ≡ NoMemory) }
-{
-    match answer.rows {
-        Rows::Filespaces(lines) => Ok(lines),
-        other => {
-            drop(other);
-            Err(Refusal::Memory)
-        }
-    }
-}
-
-/// Asks for the filespaces of a node.
-pub(crate) fn ask_filespaces<P: Stepper>(
-    p: &mut P,
-    node: NodeName,
-) -> Result<Listed<FilespaceLine>, Refusal>
-    ensures { Call P.did p.old p.new (λ events. Asks (query.Filespaces (Some node)) rows.Filespaces events result) }
-{
-    let query = Query::Filespaces { node: Some(node) };
-    let answer = p.ask(&query);
-    drop(query);
-    match answer {
-        Ok(answer) => filespaces_of(answer),
         Err(refusal) => Err(unasked(refusal)),
     }
 }

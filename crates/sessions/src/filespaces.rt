@@ -1,18 +1,13 @@
 // The filespace that a file is stored in.
-ghost use Rattle.std.specs.Prelude.{◌≡◌, Some};
+ghost use Rattle.std.specs.Prelude.{◌≡◌};
 ghost use Rattle.kinds.specs.Answers.{AnswersBy};
-ghost use Rattle.inventory_answers.specs.declared.query.Query.TheVariants as query;
-ghost use Rattle.inventory_answers.specs.declared.reply.Rows.TheVariants as rows;
 ghost use Rattle.steps.specs.Calls.{Call};
-ghost use Rattle.sessions.specs.Asking.{Asks};
 ghost use Rattle.sessions.specs.InTurn.{OrMemory};
-ghost use Rattle.sessions.specs.Putting.{Defines, FindsFilespace, FindsIn, Looks, LooksAgain, defined, defined_by, found_or, number_named, unplaced};
+ghost use Rattle.sessions.specs.Putting.{AsksFor, Defines, FindsFilespace, FindsIn, Looks, defined, defined_by, there_or_not, unplaced};
 
-use crate::asking::ask_filespaces;
+use crate::asking::ask_filespace;
 use crate::changing::commit_change;
 use entries::Change;
-use inventory_answers::FilespaceLine;
-use inventory_work::Listed;
 use kinds::{DefineOrDelete, FilespaceName, NodeName, ObjectChange, Refusal};
 use steps::Stepper;
 
@@ -26,31 +21,30 @@ pub(crate) fn unplaced(refusal: Refusal) -> Refusal
     }
 }
 
-/// What was found, or that it isn't there.
-pub(crate) fn found_or<A: Copy>(found: Option<A>) -> Result<A, Refusal>
-    ensures { result ≡ found_or found }
+/// The number that was asked, or that it isn't there.
+fn there_or_not(answer: Result<u32, Refusal>) -> Result<Option<u32>, Refusal>
+    ensures { result ≡ there_or_not answer }
 {
-    match found {
-        Some(it) => Ok(it),
-        None => Err(Refusal::NotFound),
+    match answer {
+        Ok(number) => Ok(Some(number)),
+        Err(Refusal::NotFound) => Ok(None),
+        Err(refusal) => Err(refusal),
     }
 }
 
-fn number_named(lines: &[FilespaceLine], name: &FilespaceName) -> Option<u32>
-    ensures { result ≡ number_named name.now lines.now }
-{
-    match lines.iter().find(|line| line.name == *name) {
-        Some(line) => Some(line.number),
-        None => None,
-    }
-}
-
-/// Asks for the filespaces of a node.
-fn ask_all<P: Stepper>(p: &mut P, node: &NodeName) -> Result<Listed<FilespaceLine>, Refusal>
-    ensures { Call P.did p.old p.new (λ events. OrMemory (Asks (query.Filespaces (Some node.now)) rows.Filespaces) events result) }
+/// Asks for the number of a node's filespace, which has to be there.
+fn ask_for<P: Stepper>(
+    p: &mut P,
+    node: &NodeName,
+    filespace: &FilespaceName,
+) -> Result<u32, Refusal>
+    ensures { Call P.did p.old p.new (λ events. AsksFor node.now filespace.now events result) }
 {
     match node.clone() {
-        Ok(node) => ask_filespaces(p, node),
+        Ok(node) => match filespace.clone() {
+            Ok(filespace) => ask_filespace(p, node, filespace),
+            Err(_) => Err(Refusal::Memory),
+        },
         Err(_) => Err(Refusal::Memory),
     }
 }
@@ -63,28 +57,7 @@ fn look<P: Stepper>(
 ) -> Result<Option<u32>, Refusal>
     ensures { Call P.did p.old p.new (λ events. Looks node.now filespace.now events result) }
 {
-    match ask_all(p, node) {
-        Ok(lines) => {
-            let number = number_named(lines.as_slice(), filespace);
-            drop(lines);
-            Ok(number)
-        }
-        Err(refusal) => Err(refusal),
-    }
-}
-
-/// Asks for the number of a node's filespace, which was defined.
-fn look_again<P: Stepper>(
-    p: &mut P,
-    node: &NodeName,
-    filespace: &FilespaceName,
-) -> Result<u32, Refusal>
-    ensures { Call P.did p.old p.new (λ events. LooksAgain node.now filespace.now events result) }
-{
-    match look(p, node, filespace) {
-        Ok(found) => found_or(found),
-        Err(refusal) => Err(refusal),
-    }
+    there_or_not(ask_for(p, node, filespace))
 }
 
 fn defined(node: u32, filespace: &FilespaceName) -> Result<Change, Refusal>
@@ -132,7 +105,7 @@ fn find_in<P: Stepper>(
     match found {
         Some(it) => Ok(it),
         None => match define(p, number, filespace) {
-            Ok(()) => look_again(p, node, filespace),
+            Ok(()) => ask_for(p, node, filespace),
             Err(refusal) => Err(refusal),
         },
     }

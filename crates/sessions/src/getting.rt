@@ -2,9 +2,9 @@
 ghost use Rattle.std.specs.Prelude.{◌≡◌, ◌≤◌, ◌<◌, ◌+◌, ◌^◌, length, IfOk};
 ghost use Rattle.std.specs.Option.{option_copied};
 ghost use Rattle.steps.specs.Calls.{Call};
-ghost use Rattle.sessions.specs.Getting.{Chooses, Gets, ReadsWhole, Takes, active_line, is_active_at, stored_of, unread};
+ghost use Rattle.sessions.specs.Getting.{Chooses, Gets, Getting, ReadsWhole, Takes, active_line, stored_of, unread};
 
-use crate::asking::ask_versions;
+use crate::asking::ask_path;
 use client_files::Stored;
 use inventory_answers::VersionLine;
 use inventory_work::Listed;
@@ -85,17 +85,11 @@ fn read_whole<P: Stepper>(
     Ok(Listed::from_vec(bytes))
 }
 
-fn is_active_at(path: &Path, line: &VersionLine) -> bool
-    ensures { result ≡ is_active_at path.now line.now }
+/// The active version among these, which are those of a path.
+fn active_line(lines: &[VersionLine]) -> Option<&VersionLine>
+    ensures { option_copied result ≡ active_line lines.now }
 {
-    line.since.is_none() && line.path == *path
-}
-
-/// The active version of a path among these, which are those of its filespace.
-fn active_line<'a>(lines: &'a [VersionLine], path: &Path) -> Option<&'a VersionLine>
-    ensures { option_copied result ≡ active_line path.now lines.now }
-{
-    lines.iter().find(|line| is_active_at(path, line))
+    lines.iter().find(|line| line.since.is_none())
 }
 
 fn stored_of(line: &VersionLine) -> Stored
@@ -109,20 +103,20 @@ fn stored_of(line: &VersionLine) -> Stored
     }
 }
 
-/// Asks for the versions of a filespace, and answers the active one of a path.
+/// Asks for the versions of a path, and answers the active one.
 fn choose<P: Stepper>(
     p: &mut P,
     node: NodeName,
     filespace: FilespaceName,
-    path: &Path,
+    path: Path,
 ) -> Result<Stored, Refusal>
-    ensures { Call P.did p.old p.new (λ events. Chooses node filespace path.now events result) }
+    ensures { Call P.did p.old p.new (λ events. Chooses node filespace path events result) }
 {
-    let lines = match ask_versions(p, node, filespace) {
+    let lines = match ask_path(p, node, filespace, path) {
         Ok(lines) => lines,
         Err(refusal) => return Err(refusal),
     };
-    let found = match active_line(lines.as_slice(), path) {
+    let found = match active_line(lines.as_slice()) {
         Some(line) => Ok(stored_of(line)),
         None => Err(Refusal::NotFound),
     };
@@ -130,19 +124,18 @@ fn choose<P: Stepper>(
     found
 }
 
-/// Reads the active version of a path of a node's filespace. The buffer has 1 to 65,536 bytes. `NotFound` where the node, the filespace or an active version of the path isn't
-/// there, `Gone` where the version went meanwhile, `Unavailable` where no copy of it can be read, and `LogFault`, `RunFull` or `Memory`.
-pub fn read_file<P: Stepper>(
+/// Chooses the active version of a path, and reads it.
+fn choose_and_read<P: Stepper>(
     alloc: Global,
     p: &mut P,
     node: NodeName,
     filespace: FilespaceName,
-    path: &Path,
+    path: Path,
     buffer: &mut [u8],
 ) -> Result<FileRead, Refusal>
     requires some { 1 ≤ length buffer.old }
     requires few { length buffer.old ≤ 2 ^ 16 }
-    ensures { Call P.did p.old p.new (λ events. Gets node filespace path.now events result) }
+    ensures { Call P.did p.old p.new (λ events. Gets node filespace path events result) }
 {
     let stored = match choose(p, node, filespace, path) {
         Ok(stored) => stored,
@@ -156,4 +149,21 @@ pub fn read_file<P: Stepper>(
         }),
         Err(refusal) => Err(refusal),
     }
+}
+
+/// Reads the active version of a path of a node's filespace. The buffer has 1 to 65,536 bytes. `NotFound` where the node, the filespace or an active version of the path isn't
+/// there, `Gone` where the version went meanwhile, `Unavailable` where no copy of it can be read, and `LogFault`, `RunFull` or `Memory`.
+pub fn read_file<P: Stepper>(
+    alloc: Global,
+    p: &mut P,
+    node: NodeName,
+    filespace: FilespaceName,
+    path: Path,
+    buffer: &mut [u8],
+) -> Result<FileRead, Refusal>
+    requires some { 1 ≤ length buffer.old }
+    requires few { length buffer.old ≤ 2 ^ 16 }
+    ensures { Call P.did p.old p.new (λ events. Getting node filespace path events result) }
+{
+    choose_and_read(alloc, p, node, filespace, path, buffer)
 }

@@ -12,6 +12,7 @@ ghost use Rattle.sessions.specs.Changing.{Changes, IsJournaled};
 ghost use Rattle.sessions.specs.Checkpoints.{Checkpoints, may_leave};
 ghost use Rattle.sessions.specs.Getting.{GetsAll, IsActiveVersion};
 ghost use Rattle.sessions.specs.Putting.{Puts};
+ghost use Rattle.sessions.specs.Validating.{IsValidated, Validates};
 ghost use Rattle.sessions.specs.declared.getting.FileRead.{FileRead};
 
 /// A change that was answered with a number is the transaction with this number in every history that its steps fit.
@@ -25,10 +26,18 @@ pub fn no_image_is_left()
         → new.image ≡ None }
 {}
 
-/// What is read of a path is its active version, in every history that the steps fit: the bytes are those of the version's object, where these are as many as the version is said to have.
+/// What is read of a path is its active version at a number between the one that the actor had reached before and the one that it has reached then, in every history that the steps fit: the bytes are those
+/// of the version's object, where these are as many as the version is said to have.
 pub fn active_versions_are_read()
     ensures { (w : History) (actor : ℕ) (old new : Own) (node filespace path : List ℕ) (events : List Event) (r : FileRead) → Fits w actor old events new → GetsAll node filespace path events r
-        → IsActiveVersion w node filespace path r }
+        → IsActiveVersion w old.reached new.reached node filespace path r }
+{}
+
+/// What is answered of a policy set is so at a number between the one that the actor had reached before and the one that it has reached then, in every history that the steps fit: it may be activated, or its
+/// activation would be so refused; unless the hall is halted, the run is full, or memory was wanted.
+pub fn validated_sets_may_be_activated()
+    ensures { (w : History) (actor : ℕ) (old new : Own) (domain set : List ℕ) (events : List Event) (result : Result (Unit {0}) Refusal) → Fits w actor old events new → Validates domain set events result
+        → IsValidated w old.reached new.reached domain set result }
 {}
 
 /// A file that was put by an actor that had no ticket is there, in every history that the steps fit: one of their transactions, which they acknowledge, makes it the newest version of its path

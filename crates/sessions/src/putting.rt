@@ -3,15 +3,13 @@ ghost use Rattle.std.specs.Prelude.{◌≡◌, ◌≤◌, ◌∷◌, [], ◌^◌
 ghost use Rattle.std.specs.Option.{option_copied};
 ghost use Rattle.kinds.specs.Answers.{Answers, AnswersBy};
 ghost use Rattle.client_files.specs.Reading.{file_of};
-ghost use Rattle.inventory_answers.specs.declared.query.Query.TheVariants as query;
-ghost use Rattle.inventory_answers.specs.declared.reply.Rows.TheVariants as rows;
 ghost use Rattle.steps.specs.Calls.{Call};
-ghost use Rattle.sessions.specs.Asking.{Asks};
+ghost use Rattle.sessions.specs.Asking.{AsksNode, AsksPath};
 ghost use Rattle.sessions.specs.InTurn.{OrMemory};
-ghost use Rattle.sessions.specs.Putting.{AsksNode, CommitsOne, FindsHome, ForcesOne, GivesBack, Names, OrGivesBack, Puts, PutsIn, PutsUnder, Stores, StoresAndNames, backed_up, behind_drop, is_lasting, is_stored, object_among, object_stored};
+ghost use Rattle.sessions.specs.Putting.{CommitsOne, FindsHome, ForcesOne, GivesBack, Names, OrGivesBack, Puts, PutsIn, PutsUnder, Putting, Stores, StoresAndNames, backed_up, behind_drop, found_or, is_lasting, is_stored, object_among, object_stored};
 
-use crate::asking::{ask_node, ask_rules, ask_versions};
-use crate::filespaces::{find_filespace, found_or, unplaced};
+use crate::asking::{ask_node, ask_path, ask_rules};
+use crate::filespaces::{find_filespace, unplaced};
 use crate::homes::{Home, home_of};
 use crate::sending::{Sealed, send};
 use choosers::Binder;
@@ -170,27 +168,41 @@ fn store<P: Stepper>(
 
 // ---- the object's number
 
-/// Asks for the versions of a filespace.
+/// Asks for the versions of a path.
 fn ask_all<P: Stepper>(
     p: &mut P,
     node: &NodeName,
     filespace: &FilespaceName,
+    path: &Path,
 ) -> Result<Listed<VersionLine>, Refusal>
-    ensures { Call P.did p.old p.new (λ events. OrMemory (Asks (query.Versions node.now filespace.now) rows.Versions) events result) }
+    ensures { Call P.did p.old p.new (λ events. OrMemory (AsksPath node.now filespace.now path.now) events result) }
 {
     match node.clone() {
         Ok(node) => match filespace.clone() {
-            Ok(filespace) => ask_versions(p, node, filespace),
+            Ok(filespace) => match path.clone() {
+                Ok(path) => ask_path(p, node, filespace, path),
+                Err(_) => Err(Refusal::Memory),
+            },
             Err(_) => Err(Refusal::Memory),
         },
         Err(_) => Err(Refusal::Memory),
     }
 }
 
+/// What was found, or that it isn't there.
+fn found_or<A: Copy>(found: Option<A>) -> Result<A, Refusal>
+    ensures { result ≡ found_or found }
+{
+    match found {
+        Some(it) => Ok(it),
+        None => Err(Refusal::NotFound),
+    }
+}
+
 fn is_stored(file: &FileRow, digest: &Digest, line: &VersionLine) -> bool
     ensures { result ≡ is_stored file.now digest.now line.now }
 {
-    line.path == file.path && (line.mtime == file.mtime && line.digest == *digest)
+    line.mtime == file.mtime && line.digest == *digest
 }
 
 fn object_among(lines: &[VersionLine], file: &FileRow, digest: &Digest) -> Option<u64>
@@ -218,7 +230,7 @@ fn name<P: Stepper>(
 ) -> Result<u64, Refusal>
     ensures { Call P.did p.old p.new (λ events. Names node.now filespace.now file.now digest.now events result) }
 {
-    match ask_all(p, node, filespace) {
+    match ask_all(p, node, filespace, &file.path) {
         Ok(lines) => {
             let object = object_stored(lines.as_slice(), file, digest);
             drop(lines);
@@ -299,12 +311,8 @@ fn put_under<P: Stepper, T: Tree>(
     }
 }
 
-/// Stores one file of a client, as it was listed, in a filespace of its node, under the class that the list binds its path to, and answers its object's number. The filespace is
-/// defined where it isn't there. The buffer has 1 to 65,536 bytes. Where others hold the room that the file needs it waits and tries again. A ticket that
-/// isn't committed is given back, unless that is with `LogFault` or `RunFull`. `NotFound` where the node isn't there, or the pool or filespace went; `BadValue` with 0 where the path is left
-/// out; `NoBackupGroup` where its class has no backup copy group, or no policy set is active; `NoSpace`, `WriteFault`, `TreeFault`, `Changed`, `TooLarge` and `InventoryFull` as
-/// `send_file` has them of a file; `RecordFull`; `Busy` where a step of its own and then `wait` answer so; and `LogFault`, `RunFull` or `Memory`.
-pub fn put_file<P: Stepper, T: Tree>(
+/// Finds where a file goes, and stores it there.
+fn find_and_put<P: Stepper, T: Tree>(
     alloc: Global,
     p: &mut P,
     tree: &mut T,
@@ -325,4 +333,29 @@ pub fn put_file<P: Stepper, T: Tree>(
         Ok(home) => put_under(alloc, p, tree, node, filespace, file, &home, buffer),
         Err(refusal) => Err(refusal),
     }
+}
+
+/// Stores one file of a client, as it was listed, in a filespace of its node, under the class that the list binds its path to, and answers its object's number. The filespace is
+/// defined where it isn't there. The buffer has 1 to 65,536 bytes. Where others hold the room that the file needs it waits and tries again. A ticket that
+/// isn't committed is given back, unless that is with `LogFault` or `RunFull`. `NotFound` where the node isn't there, or the pool or filespace went; `BadValue` with 0 where the path is left
+/// out; `NoBackupGroup` where its class has no backup copy group, or no policy set is active; `NoSpace`, `WriteFault`, `TreeFault`, `Changed`, `TooLarge` and `InventoryFull` as
+/// `send_file` has them of a file; `RecordFull`; `Busy` where a step of its own and then `wait` answer so; and `LogFault`, `RunFull` or `Memory`.
+pub fn put_file<P: Stepper, T: Tree>(
+    alloc: Global,
+    p: &mut P,
+    tree: &mut T,
+    node: &NodeName,
+    filespace: &FilespaceName,
+    file: &FileRow,
+    binder: &Binder,
+    buffer: &mut [u8],
+) -> Result<u64, Refusal>
+    requires some { 1 ≤ length buffer.old }
+    requires few { length buffer.old ≤ 2 ^ 16 }
+    ensures puts { Call P.did p.old p.new (λ events. Putting node.now filespace.now binder.now (file_of (T.files tree.old) file.now.path) file.now events result) }
+    ensures kept { T.files tree.new ≡ T.files tree.old }
+    ensures rises { T.fault_count tree.old ≤ T.fault_count tree.new }
+    ensures long { length buffer.new ≡ length buffer.old }
+{
+    find_and_put(alloc, p, tree, node, filespace, file, binder, buffer)
 }

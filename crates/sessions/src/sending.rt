@@ -12,7 +12,7 @@ use steps::Stepper;
 
 /// A ticket that is sealed.
 #[derive(Clone, Copy)]
-pub(crate) struct Sealed {
+pub struct Sealed {
     /// The ticket's number.
     pub ticket: u64,
     /// The SHA-256 of its bytes.

@@ -1,15 +1,9 @@
-use Rattle.sessions.proofs.Got.{gets-all, gets-broken, gets-unchosen}
+use Rattle.steps.proofs.Joining.{so_call}
+use Rattle.sessions.proofs.Reasons.{getting-of}
+use Rattle.sessions.specs.Getting.{Gets, Getting}
 use Rattle.sessions.proofs.getting.read_file.Goals as goal
 
-pub returns-in-Err : goal.returns-in-Err
-returns-in-Err g c = gets-unchosen g.P.Stepper.did c.args.p.now c.choose.new.p c.args.node c.args.filespace c.args.path.now c.in-Err.refusal c.in-Err.ensures
-
-pub returns-in-Ok-read_whole : goal.returns-in-Ok-read_whole
-returns-in-Ok-read_whole g c =
-    gets-all g.P.Stepper.did g.met.P.Stepper.goes_on c.args.p.now c.choose.new.p c.read_whole.new.p c.args.node c.args.filespace c.args.path.now c.in-Ok.stored c.in-Ok-read_whole.bytes c.in-Ok.ensures
-    c.in-Ok-read_whole.ensures
-
-pub returns-in-Err-read_whole : goal.returns-in-Err-read_whole
-returns-in-Err-read_whole g c =
-    gets-broken g.P.Stepper.did g.met.P.Stepper.goes_on c.args.p.now c.choose.new.p c.read_whole.new.p c.args.node c.args.filespace c.args.path.now c.in-Ok.stored c.in-Err-read_whole.refusal c.in-Ok.ensures
-    c.in-Err-read_whole.ensures
+pub returns : goal.returns
+returns g c =
+    so_call g.P.Stepper.did (λ events. Gets c.args.node c.args.filespace c.args.path events c.choose_and_read.result) (λ events. Getting c.args.node c.args.filespace c.args.path events c.choose_and_read.result)
+    c.args.p.now c.choose_and_read.new.p c.choose_and_read.ensures (λ events h. getting-of c.args.node c.args.filespace c.args.path events c.choose_and_read.result h)

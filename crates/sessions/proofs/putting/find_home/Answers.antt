@@ -1,9 +1,9 @@
 use Rattle.std.proofs.Common.{ℕ}
 use Rattle.inventory_work.specs.declared.lines.Rules.{Rules}
 use Rattle.sessions.proofs.Turns.{decided, turn-goes, turn-refused}
+use Rattle.sessions.specs.Asking.{AsksNode, AsksRules}
 use Rattle.sessions.specs.Homes.{home_of}
 use Rattle.sessions.specs.InTurn.{Decides, InTurn, OrMemory}
-use Rattle.sessions.specs.Putting.{AsksNode, AsksRules}
 use Rattle.sessions.proofs.putting.find_home.Goals as goal
 
 pub returns-in-Ok-ask_rules : goal.returns-in-Ok-ask_rules

@@ -1,6 +1,6 @@
 use Rattle.std.proofs.Common.{ℕ, List, subst}
 use Rattle.sessions.proofs.Turns.{or-memory}
-use Rattle.sessions.specs.Putting.{AsksNode}
+use Rattle.sessions.specs.Asking.{AsksNode}
 use Rattle.steps.specs.Calls.{Call}
 use Rattle.sessions.proofs.putting.look_up.Goals as goal
 
