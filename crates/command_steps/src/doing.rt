@@ -26,7 +26,7 @@ use choosers::Binder;
 use client_trees::{FileRow, MemTree, Tree};
 use entries::Change;
 use inventory_answers::{Answer, Query, Rows};
-use kinds::{Name, PoolChange, Refusal, Verb};
+use kinds::{FilespaceName, Name, NodeName, Path, PoolChange, Refusal, Verb};
 use reports::Shown;
 use sessions::{checkpoint, commit_change, put_file, read_file, show};
 use std::alloc::Global;
@@ -252,6 +252,23 @@ fn put<P: Stepper>(
     }
 }
 
+/// Reads the active version of a path.
+fn read_path<P: Stepper>(
+    alloc: Global,
+    p: &mut P,
+    node: NodeName,
+    filespace: FilespaceName,
+    path: Path,
+    buffer: &mut [u8],
+) -> Result<sessions::FileRead, Refusal>
+    requires some { 1 ≤ length buffer.old }
+    requires few { length buffer.old ≤ 2 ^ 16 }
+    ensures gets { Call P.did p.old p.new (λ events. Gets node filespace path events result) }
+    ensures long { length buffer.new ≡ length buffer.old }
+{
+    read_file(alloc, p, node, filespace, path, buffer)
+}
+
 /// Reads the file of a GET.
 fn get_file<P: Stepper>(
     alloc: Global,
@@ -266,7 +283,10 @@ fn get_file<P: Stepper>(
 {
     match file.node.clone() {
         Ok(node) => match file.filespace.clone() {
-            Ok(filespace) => read_file(alloc, p, node, filespace, &file.path, buffer),
+            Ok(filespace) => match file.path.clone() {
+                Ok(path) => read_path(alloc, p, node, filespace, path, buffer),
+                Err(_) => Err(Refusal::Memory),
+            },
             Err(_) => Err(Refusal::Memory),
         },
         Err(_) => Err(Refusal::Memory),
