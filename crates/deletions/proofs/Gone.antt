@@ -1,5 +1,5 @@
 -- Behind the filespace's own transaction it isn't there, and nothing is kept in it.
-use Rattle.std.proofs.Common.{◌≡◌, ℕ, ◌+◌, ◌-◌, ◌≤◌, ◌==◌, ◌&&◌, ◌||◌, cond, Bool, true, false, List, [], ◌∷◌, ◌++◌, Option, Some, None, Result, Ok, Err, refl, sym, ap, subst, ◌∙◌, arith, if◌then◌else◌}
+use Rattle.std.proofs.Common.{◌≡◌, ℕ, ◌+◌, ◌-◌, ◌≤◌, ◌==◌, ◌&&◌, ◌||◌, cond, Bool, true, false, List, [], ◌∷◌, ◌++◌, Option, Some, None, Result, Ok, refl, sym, ap, subst, ◌∙◌, arith, if◌then◌else◌}
 use Rattle.std.proofs.lemmas.Map.{lookup-remove_entry}
 use Rattle.std.proofs.lemmas.Map.Keys.{IsDistinct-from_sorted}
 use Rattle.std.specs.Cmp.{eq_by_cmp_equiv, nat_cmp_total}
@@ -18,7 +18,7 @@ use Rattle.entries.specs.declared.change.Change.TheVariants as change
 use Rattle.inventory_rows.specs.version_groups.declared.groups.Filespace.{Filespace}
 use Rattle.inventory_rows.specs.version_groups.Entries.{if_found}
 use Rattle.inventory_rows.specs.object_rows.declared.held_object.HeldRow.{HeldRow}
-use Rattle.inventory_rows.specs.object_rows.Changes.{by_object, filespaces_without, least, least_in, least_object, numbers_in, rows_changed, unless_used}
+use Rattle.inventory_rows.specs.object_rows.Changes.{by_object, least, least_in, least_object, numbers_in, unless_used}
 use Rattle.inventory_rows.specs.object_rows.Filespaces.{at_number, filespace_at, groups_in, versions_at}
 use Rattle.inventory_rows.specs.object_rows.HeldRows.{has_under, held_at, is_under as row_under}
 use Rattle.inventory_rows.specs.object_rows.Rows.{Rows, with_filespaces}
@@ -35,7 +35,7 @@ use Rattle.inventory_rules.specs.Valid.{is_valid}
 use Rattle.inventory_rules.specs.Versions.{is_under}
 use Rattle.steps.specs.Events.{Event, event}
 use Rattle.steps.specs.Events.Deed.{Commit, Force}
-use Rattle.machine.specs.Fits.{Fits, History, IsMadeOf, JoinsAt, Own, Step, entries_to, inv, last, number_after, sight_at}
+use Rattle.machine.specs.Fits.{IsMadeOf, JoinsAt, Step, entries_to, inv, number_after, sight_at}
 use Rattle.machine.specs.State.{Sight}
 use Rattle.machine.proofs.Elsewhere.{append-none, none-held}
 use Rattle.machine.proofs.Histories.{inv-next}
@@ -169,7 +169,7 @@ made-row : (name : List ℕ) (filespace : ℕ) (s : Sight) (joined : Option Chan
 made-row name filespace s None h = absurd h
 made-row name filespace s (Some c) h = sym h
 
-last-behind : (xs : List Event) (y : Event) (ys : List Event) → last_of (xs ++ (y ∷ ys)) ≡ last_of (y ∷ ys)
+pub last-behind : (xs : List Event) (y : Event) (ys : List Event) → last_of (xs ++ (y ∷ ys)) ≡ last_of (y ∷ ys)
 last-behind [] y ys = refl
 last-behind (x ∷ []) y ys = refl
 last-behind (x ∷ k ∷ xs) y ys = last-behind (k ∷ xs) y ys

@@ -1,5 +1,5 @@
 -- What the parts of the deletion of a filespace did, one after the other.
-use Rattle.std.proofs.Common.{◌≡◌, ◌⊎◌, inl, inr, ℕ, ◌+◌, ◌==◌, true, false, List, [], ◌∷◌, ◌++◌, append_assoc, map, length, Option, None, Some, Result, Ok, Err, refl, sym, ap, subst, ◌∙◌, arith, if◌then◌else◌}
+use Rattle.std.proofs.Common.{◌≡◌, inl, inr, ℕ, ◌+◌, ◌==◌, true, false, List, [], ◌∷◌, ◌++◌, append_assoc, map, length, Option, None, Some, Result, Ok, Err, refl, sym, ap, subst, ◌∙◌, arith, if◌then◌else◌}
 use Rattle.std.proofs.lemmas.Grind.{flat_map-append}
 use Rattle.std.proofs.lemmas.List.{length-append}
 use Rattle.std.specs.List.{find}
@@ -17,7 +17,7 @@ use Rattle.inventory_answers.specs.declared.reply.Rows.TheVariants as rows
 use Rattle.steps.specs.declared.asked.Asked.{Asked}
 use Rattle.steps.proofs.Acknowledged.{receipts-behind}
 use Rattle.steps.proofs.Joining.{GoesOn, call_then, does_alone, so_call}
-use Rattle.steps.specs.Calls.{Call, Does, Then}
+use Rattle.steps.specs.Calls.{Call, Does}
 use Rattle.steps.specs.Events.{Deed, Event, event}
 use Rattle.steps.specs.Events.Deed.{Ask, Commit, Force}
 use Rattle.steps.specs.Receipts.{is_made, made, receipts}
@@ -25,10 +25,10 @@ use Rattle.copy_attempts.proofs.Facts.{all-append, met-behind, some-memory}
 use Rattle.copy_attempts.specs.Attempts.{stopping}
 use Rattle.copy_attempts.specs.Outcomes.{MetBy}
 use Rattle.copy_runs.proofs.Ending.{stopped-behind, unlisted-by}
-use Rattle.copy_runs.specs.Ends.{AreAsking, IsStopped, IsUnlisted, unlisted}
+use Rattle.copy_runs.specs.Ends.{AreAsking, IsUnlisted, unlisted}
 use Rattle.deletions.specs.declared.filespace.Names.{Names}
 use Rattle.deletions.specs.declared.objects.Doomed.{Doomed}
-use Rattle.deletions.specs.Discarding.{AreDiscarding, Handled, Works, discards, items_by, items_in}
+use Rattle.deletions.specs.Discarding.{AreDiscarding, Works, discards, items_by, items_in}
 use Rattle.deletions.specs.Filespaces.{Answered, AreDeleting, Asks, Cleared, Clears, Empties, FilespaceDeletion, Finds, Found, IsCaused, IsDeleting, IsGone, IsNotThere, IsRowKept, ListsHeld, ListsObjects, ListsVersions, Objects, Removed, Removes, RemovesRow, Stops, deleting, is_kept_by, names_found, names_in, of_held, of_version, reason_of, unremoved, with_node}
 use Rattle.deletions.proofs.Gone.{goes}
 use Rattle.deletions.proofs.Working.{discards-append, handles-only, stopped-by}
@@ -46,13 +46,13 @@ discarding-del : (filespace : ℕ) (xs : List Event) → AreDiscarding (reason_o
 discarding-del filespace [] h = tt
 discarding-del filespace (x ∷ xs) h = (inr (inl h.0), discarding-del filespace xs h.1)
 
-answered-asks : (q : Query) (xs : List Event) (answer : Answer) → Answered q xs answer → AreAsking xs
+pub answered-asks : (q : Query) (xs : List Event) (answer : Answer) → Answered q xs answer → AreAsking xs
 answered-asks q xs answer h = subst AreAsking (sym h.1) ((q, Ok answer, refl), tt)
 
 found-asks : (filespace : ℕ) (xs : List Event) (names : Names) → Found filespace xs names → AreAsking xs
 found-asks filespace xs names h = answered-asks (query.Filespaces None) xs h.0 h.2
 
-asks-append : (xs ys : List Event) → AreAsking xs → AreAsking ys → AreAsking (xs ++ ys)
+pub asks-append : (xs ys : List Event) → AreAsking xs → AreAsking ys → AreAsking (xs ++ ys)
 asks-append [] ys a b = b
 asks-append (x ∷ xs) ys a b = (a.0, asks-append xs ys a.1 b)
 
@@ -84,7 +84,7 @@ stops-behind filespace xs ys e a h = record { cause = caused-behind filespace xs
 wanting : (filespace : ℕ) (xs : List Event) (e : Refusal) → e ≡ refused.Memory → AreDeleting filespace xs → Stops filespace xs e
 wanting filespace xs e is only = record { cause = inl (inl is); only = only }
 
-met-map : (P Q : Deed → Type 0) (xs : List Event) → ((d : Deed) → P d → Q d) → MetBy P xs → MetBy Q xs
+pub met-map : (P Q : Deed → Type 0) (xs : List Event) → ((d : Deed) → P d → Q d) → MetBy P xs → MetBy Q xs
 met-map P Q [] f h = absurd h
 met-map P Q (x ∷ xs) f (inl h) = inl (f x.deed h)
 met-map P Q (x ∷ xs) f (inr h) = inr (met-map P Q xs f h)
@@ -256,7 +256,7 @@ unforced-by did goes_on p q r filespace name e other same a d =
 
 -- ---- the whole
 
-asked-none : (xs : List Event) → AreAsking xs → discards (made xs) ≡ 0
+pub asked-none : (xs : List Event) → AreAsking xs → discards (made xs) ≡ 0
 asked-none [] h = refl
 asked-none (x ∷ xs) h = ap (λ (d : Deed). discards (if is_made d then x ∷ made xs else made xs)) h.0.2 ∙ asked-none xs h.1
 

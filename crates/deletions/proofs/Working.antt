@@ -87,11 +87,11 @@ stopped-by events e h = elim (is_stopping e) as (λ b. is_stopping e ≡ b → I
 ] refl
 
 -- a refusal isn't taken for a removal
-refused-not : (e : Refusal) → refused_as e ≡ Ok came.Discarded → ⊥
+refused-not : (e : Refusal) → refused_as e ≡ Ok came.Made → ⊥
 refused-not e h =
-    elim (is_passed e) as (λ b. (if b then Ok came.Refused else (if is_long e then Ok came.TooLong else Err (stopping e))) ≡ Ok came.Discarded → ⊥) [
+    elim (is_passed e) as (λ b. (if b then Ok came.Refused else (if is_long e then Ok came.TooLong else Err (stopping e))) ≡ Ok came.Made → ⊥) [
       | true ↦ λ s. cc
-      | false ↦ λ s. elim (is_long e) as (λ b. (if b then Ok came.TooLong else Err (stopping e)) ≡ Ok came.Discarded → ⊥) [
+      | false ↦ λ s. elim (is_long e) as (λ b. (if b then Ok came.TooLong else Err (stopping e)) ≡ Ok came.Made → ⊥) [
         | true ↦ λ t. cc
         | false ↦ λ t. cc
       ] s
@@ -128,19 +128,19 @@ refused-ends e f h =
     ] h
 
 -- what was answered
-answered : (answer : Result ℕ Refusal) → outcome answer ≡ Ok came.Discarded → (number : ℕ) × (answer ≡ Ok number)
+pub answered : (answer : Result ℕ Refusal) → outcome answer ≡ Ok came.Made → (number : ℕ) × (answer ≡ Ok number)
 answered (Ok number) h = (number, refl)
 answered (Err e) h = absurd (refused-not e h)
 
-passed-by : (answer : Result ℕ Refusal) → outcome answer ≡ Ok came.Refused → (e : Refusal) × (answer ≡ Err e) × (is_passed e ≡ true)
+pub passed-by : (answer : Result ℕ Refusal) → outcome answer ≡ Ok came.Refused → (e : Refusal) × (answer ≡ Err e) × (is_passed e ≡ true)
 passed-by (Ok number) h = absurd cc
 passed-by (Err e) h = (e, refl, refused-passed e h)
 
-long-by : (answer : Result ℕ Refusal) → outcome answer ≡ Ok came.TooLong → (e : Refusal) × (answer ≡ Err e) × ((is_passed e || is_long e) ≡ true)
+pub long-by : (answer : Result ℕ Refusal) → outcome answer ≡ Ok came.TooLong → (e : Refusal) × (answer ≡ Err e) × ((is_passed e || is_long e) ≡ true)
 long-by (Ok number) h = absurd cc
 long-by (Err e) h = (e, refl, refused-long e h)
 
-ended-by : (answer : Result ℕ Refusal) (f : Refusal) → outcome answer ≡ Err f → (e : Refusal) × (answer ≡ Err e) × (f ≡ stopping e)
+pub ended-by : (answer : Result ℕ Refusal) (f : Refusal) → outcome answer ≡ Err f → (e : Refusal) × (answer ≡ Err e) × (f ≡ stopping e)
 ended-by (Ok number) f h = absurd cc
 ended-by (Err e) f h = (e, refl, refused-ends e f h)
 
@@ -223,15 +223,15 @@ came-call : {S : Type 0} (did : S → List Event → S → Type 0) (p q : S) (re
     → Call did p q (λ events. Tries reason objects events (Ok t)) → Call did p q (Came reason objects (Ok u))
 came-call did p q reason objects t u h c = subst (λ (x : Tried). Call did p q (Came reason objects (Ok x))) h (c.0, c.1, came-ok reason objects c.0 t c.2)
 
-removed-all : (reason : DiscardReason) (objects : List Doomed) (events : List Event) → length objects ≤ 256 → Came reason objects (Ok came.Discarded) events → Handled reason objects events (length objects)
+removed-all : (reason : DiscardReason) (objects : List Doomed) (events : List Event) → length objects ≤ 256 → Came reason objects (Ok came.Made) events → Handled reason objects events (length objects)
 removed-all reason objects events few c =
     let r = answered c.1 c.3 in
     subst (λ (es : List Event). Handled reason objects es (length objects)) (sym c.2) (subst (λ (x : Result ℕ Refusal). Handled reason objects (tried c.0 reason objects x) (length objects)) (sym r.1)
     (handled-run c.0 r.0 reason objects few))
 
-pub tried-all : {S : Type 0} (did : S → List Event → S → Type 0) (p q : S) (reason : DiscardReason) (objects : List Doomed) (t : Tried) → t ≡ came.Discarded → length objects ≤ 256
+pub tried-all : {S : Type 0} (did : S → List Event → S → Type 0) (p q : S) (reason : DiscardReason) (objects : List Doomed) (t : Tried) → t ≡ came.Made → length objects ≤ 256
     → Call did p q (λ events. Tries reason objects events (Ok t)) → Call did p q (λ events. Works reason objects events (Ok (length objects)))
-tried-all did p q reason objects t h few c = let x = came-call did p q reason objects t came.Discarded h c in (x.0, x.1, removed-all reason objects x.0 few x.2)
+tried-all did p q reason objects t h few c = let x = came-call did p q reason objects t came.Made h c in (x.0, x.1, removed-all reason objects x.0 few x.2)
 
 passed-one : (reason : DiscardReason) (objects : List Doomed) (events : List Event) → length objects ≡ 1 → Came reason objects (Ok came.Refused) events → Handled reason objects events 0
 passed-one reason objects events one c =

@@ -55,7 +55,7 @@ abbrev pub refused_as : Refusal → Result Tried Refusal
 refused_as e = if is_passed e then Ok came.Refused else (if is_long e then Ok came.TooLong else Err (stopping e))
 
 abbrev pub outcome : Result ℕ Refusal → Result Tried Refusal
-outcome (Ok number) = Ok came.Discarded
+outcome (Ok number) = Ok came.Made
 outcome (Err e) = refused_as e
 
 -- ---- parts
@@ -67,11 +67,17 @@ IsDiscarding reason d = (objects : List Doomed) × (answer : Result ℕ Refusal)
 abbrev pub AreDiscarding : DiscardReason → List Event → Type 0
 AreDiscarding reason events = AllByRecursion (λ e. IsDiscarding reason e.deed) events
 
--- one transaction was tried, or memory was wanted before it
-abbrev pub Tries : DiscardReason → List Doomed → List Event → Result Tried Refusal → Type 0
-Tries reason objects events result =
+-- one transaction was tried, and came to what `of` makes of its answer; or memory was wanted before it
+abbrev pub TriesBy : {A : Type 0} → (of : Result ℕ Refusal → Result A Refusal) → Asked → List Event → Result A Refusal → Type 0
+TriesBy of asked events result =
     ((events ≡ []) × (result ≡ Err refused.Memory))
-    ⊎ ((n : ℕ) × (answer : Result ℕ Refusal) × (events ≡ event n (Commit (discarding reason objects) [] answer) ∷ []) × (result ≡ outcome answer))
+    ⊎ ((n : ℕ) × (answer : Result ℕ Refusal) × (events ≡ event n (Commit asked [] answer) ∷ []) × (result ≡ of answer))
+
+abbrev pub TriesAsked : Asked → List Event → Result Tried Refusal → Type 0
+TriesAsked asked events result = TriesBy outcome asked events result
+
+abbrev pub Tries : DiscardReason → List Doomed → List Event → Result Tried Refusal → Type 0
+Tries reason objects events result = TriesAsked (discarding reason objects) events result
 
 -- these steps ended with this refusal
 pub record Breaks (reason : DiscardReason) (events : List Event) (e : Refusal) : Type 0 where

@@ -16,7 +16,6 @@ use Rattle.inventory_answers.specs.declared.query.Query.{Query}
 use Rattle.inventory_answers.specs.declared.query.Query.TheVariants as query
 use Rattle.inventory_answers.specs.declared.reply.Answer.{Answer}
 use Rattle.inventory_answers.specs.declared.reply.Rows.TheVariants as rows
-use Rattle.inventory_rows.specs.State.{Inv}
 use Rattle.inventory_rules.specs.Ordered.{IsOrdered}
 use Rattle.inventory_rules.specs.Versions.{is_under}
 use Rattle.inventory_rows.specs.object_rows.Filespaces.{filespace_at}

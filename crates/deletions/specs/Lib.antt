@@ -1,2 +1,4 @@
 pub mod Discarding
+pub mod Dropping
 pub mod Filespaces
+pub mod Volumes

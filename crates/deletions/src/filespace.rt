@@ -246,8 +246,8 @@ fn clear<P: Stepper>(
     discard_all(alloc, p, reason, objects.as_slice())
 }
 
-/// The refusal with which the deletion ends where the filespace's own transaction was so refused.
-fn unremoved(refusal: Refusal) -> Refusal
+/// The refusal with which a deletion ends where the transaction of the row itself was so refused.
+pub(crate) fn unremoved(refusal: Refusal) -> Refusal
     ensures { result ≡ unremoved refusal }
 {
     match refusal.number() {

@@ -9,11 +9,11 @@ use kinds::Refusal;
 use std::alloc::Global;
 use steps::Stepper;
 
-/// How many objects one transaction discards at most.
+/// How many objects one transaction takes away at most.
 const MOST: usize = 256;
 
 /// Tries one transaction that discards these objects.
-fn try_objects<P: Stepper>(
+pub(crate) fn try_objects<P: Stepper>(
     alloc: Global,
     p: &mut P,
     reason: DiscardReason,
@@ -43,7 +43,7 @@ fn discard_alone<P: Stepper>(
     ensures few { IfOk result (λ count. count ≤ length objects.now) }
 {
     match try_objects(alloc, p, reason, objects) {
-        Ok(Tried::Discarded) => Ok(objects.len() as u64),
+        Ok(Tried::Made) => Ok(objects.len() as u64),
         Ok(Tried::Refused) => Ok(0),
         // The transaction of one object is never so long.
         Ok(Tried::TooLong) => Err(Refusal::Memory),
@@ -83,15 +83,15 @@ fn discard_run<P: Stepper>(
     ensures few { IfOk result (λ count. count ≤ length objects.now) }
 {
     match try_objects(alloc, p, reason, objects) {
-        Ok(Tried::Discarded) => Ok(objects.len() as u64),
+        Ok(Tried::Made) => Ok(objects.len() as u64),
         Ok(Tried::Refused) => one_by_one(alloc, p, reason, objects),
         Ok(Tried::TooLong) => one_by_one(alloc, p, reason, objects),
         Err(refusal) => Err(refusal),
     }
 }
 
-/// How many of so many objects the next transaction discards.
-fn run_of(left: usize) -> usize
+/// How many of so many objects the next transaction takes away.
+pub(crate) fn run_of(left: usize) -> usize
     requires { 1 ≤ left }
     ensures some { 1 ≤ result }
     ensures few { result ≤ 256 }

@@ -22,9 +22,9 @@ pub(crate) struct Doomed {
 /// What came of a transaction that was tried.
 #[derive(Clone, Copy, Debug, PartialEq, Eq)]
 pub(crate) enum Tried {
-    /// Its objects are discarded.
-    Discarded,
-    /// One of its objects is gone, or isn't as it was named.
+    /// It was made.
+    Made,
+    /// One of its objects or copies is gone, or isn't as it was named, or the reason doesn't hold of it.
     Refused,
     /// It has more bytes than a record may have.
     TooLong,
@@ -65,7 +65,7 @@ pub(crate) fn outcome(answer: Result<u64, Refusal>) -> Result<Tried, Refusal>
     ensures { result ≡ outcome answer }
 {
     match answer {
-        Ok(_) => Ok(Tried::Discarded),
+        Ok(_) => Ok(Tried::Made),
         Err(refusal) => refused_as(refusal),
     }
 }

@@ -2,9 +2,9 @@ use Rattle.std.proofs.Common.{arith}
 use Rattle.deletions.proofs.Working.{tried-all, tried-breaks, tried-long, tried-one}
 use Rattle.deletions.proofs.lists.discard_alone.Goals as goal
 
-pub returns-in-Ok-Discarded-clause-works : goal.returns-in-Ok-Discarded-clause-works
-returns-in-Ok-Discarded-clause-works g c =
-    tried-all g.P.Stepper.did c.args.p.now c.try_objects.new.p c.args.reason c.args.objects.now c.in-Ok-Discarded.field-0 c.in-Ok-Discarded.field-0-is (omega (arith, c.requires)) c.in-Ok-Discarded.ensures
+pub returns-in-Ok-Made-clause-works : goal.returns-in-Ok-Made-clause-works
+returns-in-Ok-Made-clause-works g c =
+    tried-all g.P.Stepper.did c.args.p.now c.try_objects.new.p c.args.reason c.args.objects.now c.in-Ok-Made.field-0 c.in-Ok-Made.field-0-is (omega (arith, c.requires)) c.in-Ok-Made.ensures
 
 pub returns-in-Ok-Refused-clause-works : goal.returns-in-Ok-Refused-clause-works
 returns-in-Ok-Refused-clause-works g c =

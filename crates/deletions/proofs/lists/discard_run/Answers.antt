@@ -1,9 +1,9 @@
 use Rattle.deletions.proofs.Working.{long-then, refused-then, tried-all, tried-breaks}
 use Rattle.deletions.proofs.lists.discard_run.Goals as goal
 
-pub returns-in-Ok-Discarded-clause-works : goal.returns-in-Ok-Discarded-clause-works
-returns-in-Ok-Discarded-clause-works g c =
-    tried-all g.P.Stepper.did c.args.p.now c.try_objects.new.p c.args.reason c.args.objects.now c.in-Ok-Discarded.field-0 c.in-Ok-Discarded.field-0-is c.requires c.in-Ok-Discarded.ensures
+pub returns-in-Ok-Made-clause-works : goal.returns-in-Ok-Made-clause-works
+returns-in-Ok-Made-clause-works g c =
+    tried-all g.P.Stepper.did c.args.p.now c.try_objects.new.p c.args.reason c.args.objects.now c.in-Ok-Made.field-0 c.in-Ok-Made.field-0-is c.requires c.in-Ok-Made.ensures
 
 pub returns-in-Ok-Refused-clause-works : goal.returns-in-Ok-Refused-clause-works
 returns-in-Ok-Refused-clause-works g c =
