@@ -1,5 +1,5 @@
 -- A script is run on a hall that was opened, over what the store holds or over a database that was just put there.
-use Rattle.std.proofs.Common.{◌≡◌, inl, inr, ℕ, ◌≤◌, Option, None, Some, List, [], ◌∷◌, length, Ok, Err, Result, refl, sym, ◌∙◌, ap, subst, arith}
+use Rattle.std.proofs.Common.{◌≡◌, inl, inr, ℕ, ◌≤◌, Option, None, Some, List, [], ◌∷◌, length, Ok, Err, Result, refl, sym, ◌∙◌, ap, subst, arith, true}
 use Rattle.std.specs.Prelude.{IfSome}
 use Rattle.store_api.specs.Disk.{History, now, reads}
 use Rattle.store_api.specs.Told.{Told}
@@ -12,6 +12,7 @@ use Rattle.choosers.specs.declared.rule.Rule.{Rule}
 use Rattle.entries.specs.declared.entry.Entry.{Entry}
 use Rattle.inventory.specs.Meant.{meaning}
 use Rattle.inventory_rows.specs.State.{Inv}
+use Rattle.inventory_rules.specs.Valid.{is_valid}
 use Rattle.script_loop.specs.Runs.{Says}
 use Rattle.script_loop.specs.Ends.{DoneAtEnd, status_of}
 use Rattle.script_loop.specs.declared.ends.End.{End}
@@ -64,6 +65,7 @@ module _ {S : Type 0} (told : S → Option History) (moment : S → ℕ) (faults
         let no_stamps : m.core.stamps ≡ [] = is.core.stamps ∙ fresh.stamps in
         record {
           database = is.core.base;
+          valid = subst (λ (v : Inv). is_valid v ≡ true) is.core.base is.good.lawful.valid;
           journal = no_journal;
           stamps = no_stamps;
           rests = record {
@@ -109,7 +111,7 @@ module _ {S : Type 0} (told : S → Option History) (moment : S → ℕ) (faults
           let on = subst (λ (h : Hall S). (new.hall.held.base ≡ h.held.base) × (new.hall.held.opened ≡ h.held.opened) × Told (told h.store) (told new.hall.store) (GoesOn (λ file. Unit {0}))) begun all.goes in
           record {
             begins = begins m in_it;
-            there = λ t. there told moment faults clock gives hall m (told new.hall.store) in_it (begins m in_it).rests (known t) on.2;
+            there = λ t. there told moment faults clock gives hall m (told new.hall.store) in_it (begins m in_it).rests.fault (begins m in_it).rests.durable (known t) on.2;
             final = all.next;
             says =
                 subst (λ (l : List Note). Says (RepliesAt trusted choice (told new.hall.store)) (StopsAt trusted choice (told new.hall.store)) (site m l) (site all.next notes) script was is end) unnoted

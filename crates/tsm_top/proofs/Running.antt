@@ -165,7 +165,7 @@ module _ {S : Type 0} (told : S → Option History) (moment : S → ℕ) (faults
           why,
           r,
           hold choice n (line_of line) answer why m run.0 r,
-          (λ t. there told moment faults clock gives new.hall run.0 (told last.hall.store) run.2 r.rests (run.3 t) more.2),
+          (λ t. there told moment faults clock gives new.hall run.0 (told last.hall.store) run.2 r.rests.fault r.rests.durable (run.3 t) more.2),
           timely told moment faults new.hall m run.0 run.2 run.4,
           notes
               ∙ noted (line_of line) n why old.notes.items old.hall.held.base.number m.core.base.number (number_of old.hall) (number_in m) (number_of new.hall) (number_in run.0)
@@ -195,7 +195,7 @@ module _ {S : Type 0} (told : S → Option History) (moment : S → ℕ) (faults
         goes = on;
         onward = r.onward;
         same = run.2.core.base ∙ on.0 ∙ sym at.is.core.base;
-        run = (r, timely told moment faults new.hall m run.0 run.2 run.4, notes);
+        run = (r, timely told moment faults new.hall m run.0 run.2 run.4, (λ t free durable. there told moment faults clock gives new.hall run.0 (told new.hall.store) run.2 free durable (run.3 t) (goes_here (told new.hall.store))), notes);
       }
 
   -- ---- lines

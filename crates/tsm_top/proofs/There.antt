@@ -10,20 +10,19 @@ use Rattle.hall.specs.Good.{Is, WasSound}
 use Rattle.hall.specs.Held.{Hall}
 use Rattle.hall.specs.Steps.{IsTrusted}
 use Rattle.hall_turns.specs.Left.{GivesState}
-use Rattle.line_results.specs.Resting.{IsAtRest}
 use Rattle.tsm_top.specs.Sites.{IsThere}
 
 module _ {S : Type 0} (told : S → Option History) (moment : S → ℕ) (faults : S → ℕ → ℕ) (clock : (s : S) → IfSome (told s) (λ h. now h ≡ moment s))
     (gives : (hall : Hall S) (m : Machine) (h : History) (image : ℕ → List ℕ) → told hall.store ≡ Some h → Is told moment faults hall m → WasSound hall.held.base hall.held.opened h
     → m.core.fault ≡ None → length m.core.stamps ≡ length m.core.journal → ImageAt h (now h) image → GivesState m image) where
-  there_over : (hall : Hall S) (m : Machine) (x y : Option History) → told hall.store ≡ x → Is told moment faults hall m → IsAtRest m.core → IsTrusted x hall.held → IfSome x (λ h. now h ≡ m.moment)
+  there_over : (hall : Hall S) (m : Machine) (x y : Option History) → told hall.store ≡ x → Is told moment faults hall m → m.core.fault ≡ None → length m.core.stamps ≡ length m.core.journal → IsTrusted x hall.held → IfSome x (λ h. now h ≡ m.moment)
       → Told x y (GoesOn (λ f. Unit {0})) → IsThere y m
-  there_over hall m None y tells is rests trusted at goes = absurd trusted
-  there_over hall m (Some a) None tells is rests trusted at goes = absurd goes
-  there_over hall m (Some a) (Some b) tells is rests trusted at goes = λ image here.
+  there_over hall m None y tells is free durable trusted at goes = absurd trusted
+  there_over hall m (Some a) None tells is free durable trusted at goes = absurd goes
+  there_over hall m (Some a) (Some b) tells is free durable trusted at goes = λ image here.
       let past : ImageAt a (now a) image = goes_image_before (λ f. Unit {0}) a b (now a) image goes (omega arith) (subst (λ (n : ℕ). ImageAt b n image) (sym at) here) in
-      gives hall m a image tells is trusted rests.fault rests.durable past
+      gives hall m a image tells is trusted free durable past
 
-  pub there : (hall : Hall S) (m : Machine) (y : Option History) → Is told moment faults hall m → IsAtRest m.core → IsTrusted (told hall.store) hall.held → Told (told hall.store) y (GoesOn (λ f. Unit {0})) → IsThere y m
-  there hall m y is rests trusted goes =
-      there_over hall m (told hall.store) y refl is rests trusted (subst (λ (n : ℕ). IfSome (told hall.store) (λ h. now h ≡ n)) (sym is.clock) (clock hall.store)) goes
+  pub there : (hall : Hall S) (m : Machine) (y : Option History) → Is told moment faults hall m → m.core.fault ≡ None → length m.core.stamps ≡ length m.core.journal → IsTrusted (told hall.store) hall.held → Told (told hall.store) y (GoesOn (λ f. Unit {0})) → IsThere y m
+  there hall m y is free durable trusted goes =
+      there_over hall m (told hall.store) y refl is free durable trusted (subst (λ (n : ℕ). IfSome (told hall.store) (λ h. now h ≡ n)) (sym is.clock) (clock hall.store)) goes

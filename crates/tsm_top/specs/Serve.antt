@@ -14,6 +14,7 @@ use Rattle.entries.specs.declared.entry.Entry.{Entry}
 use Rattle.inventory.specs.Meant.{meaning}
 use Rattle.inventory_rows.specs.Fresh.{fresh}
 use Rattle.inventory_rows.specs.State.{Inv}
+use Rattle.inventory_rules.specs.Valid.{is_valid}
 use Rattle.vault.specs.log_file.Cursor.{Looked}
 use Rattle.script_loop.specs.Ends.{told_number, status_of, DoneAtEnd}
 use Rattle.script_loop.specs.Runs.{Says, IsFront}
@@ -199,9 +200,10 @@ Sure run contents None = ⊥
 Sure run contents (Some h) = IsSound contents h
 Sure fresh_run contents told = is_some told ≡ true
 
--- How a run begins: with the database that was opened, no transaction, no ticket and no image; the numbers that are drawn next are that database's, and the first ticket's is 1.
+-- How a run begins: with the database that was opened, which is valid, no transaction, no ticket and no image; the numbers that are drawn next are that database's, and the first ticket's is 1.
 pub record Begins (base : Inv) (opened : ℕ) (counts : ℕ → ℕ) (m : Machine) : Type 0 where
   pub database : m.core.base ≡ base
+  pub valid : is_valid base ≡ true
   pub journal : m.core.journal ≡ []
   pub stamps : m.core.stamps ≡ []
   pub rests : IsAtRest m.core

@@ -1,5 +1,5 @@
 -- A script's run as a machine: what it has made so far, what each line makes of it, and what images of the store give back.
-use Rattle.std.specs.Prelude.{◌≡◌, ℕ, ◌≤◌, Option, IfSome, List}
+use Rattle.std.specs.Prelude.{◌≡◌, ℕ, ◌≤◌, Option, None, IfSome, List, length}
 use Rattle.std.specs.List.{AllByRecursion}
 use Rattle.store_api.specs.Disk.{History, ImageAt}
 use Rattle.kinds.specs.declared.refusal.Refusal.{Refusal}
@@ -29,6 +29,10 @@ site machine notes = record { machine = machine; notes = notes }
 abbrev pub IsThere : Option History → Machine → Type 0
 IsThere told m = IfSome told (λ h. (image : ℕ → List ℕ) → ImageAt h m.moment image → GivesState m image)
 
+-- the same of a machine that no fault has halted, whose transactions are all durable
+abbrev pub IsThereWhole : Option History → Machine → Type 0
+IsThereWhole told m = m.core.fault ≡ None → length m.core.stamps ≡ length m.core.journal → IsThere told m
+
 -- the stamps that were there stay in front of those that were added, and each is a moment that has come
 pub record IsTimely (old new : Machine) : Type 0 where
   pub keeps : KeepsStamps old.core new.core
@@ -44,6 +48,6 @@ module _ (trusted : Type 0) (choice : List Rule) (told : Option History) where
       × Holds trusted hall_places choice n (line_of line) old.machine r.mid answer r.added × (trusted → IsThere told new.machine) × IsTimely old.machine new.machine
       × (new.notes ≡ with_note (line_of line) (note_of n old.machine.core.base.number (number_in old.machine) (number_in new.machine) why) old.notes)
 
-  -- The line may end the run so. Nothing is noted of it, as none of its lines is put.
+  -- The line may end the run so. Nothing is noted of it, as none of its lines is put. Where no fault ended it and all is durable each image of the last moment gives back all that was made.
   abbrev pub StopsAt : Site → (n : ℕ) → List ℕ → Halt → Site → Type 0
-  StopsAt old n line how new = Halts trusted hall_places choice n (line_of line) old.machine how new.machine × IsTimely old.machine new.machine × (new.notes ≡ old.notes)
+  StopsAt old n line how new = Halts trusted hall_places choice n (line_of line) old.machine how new.machine × IsTimely old.machine new.machine × (trusted → IsThereWhole told new.machine) × (new.notes ≡ old.notes)

@@ -1,8 +1,14 @@
 use Rattle.std.proofs.Common.{⊎_elim, inl, inr, refl}
-use Rattle.tsm_top.specs.Serve.{Asks, run, fresh_run, refused_opening}
+use Rattle.tsm_top.specs.Serve.{Asks, format, fresh_run, refused_opening, run}
 use Rattle.tsm_top.proofs.Causes.{ran_fault, shut_other}
 use Rattle.tsm_top.proofs.Making.{asked_one}
 use Rattle.tsm_top.proofs.top.call.Goals as goal
+
+pub returns-then-is_only-clause-outcome : goal.returns-then-is_only-clause-outcome
+returns-then-is_only-clause-outcome g c =
+    let asks = c.if-is_only.ensures.0 refl in
+    let shut = c.format.ensures.outcome in
+    inl (shut.0, asked_one format (Asks c.args.words.now) asks shut.0 _ _ _ _ shut.1, shut.2, refl {a = c.args.script.now})
 
 pub returns-then-is_only-2-clause-outcome : goal.returns-then-is_only-2-clause-outcome
 returns-then-is_only-2-clause-outcome g c =
