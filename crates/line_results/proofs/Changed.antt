@@ -26,10 +26,10 @@ use Rattle.machine.specs.State.{Core, Image, Machine, Ticket, inventory, sight, 
 use Rattle.sessions.specs.Changing.{Changes, Commits as Tries, Joins}
 use Rattle.sessions.specs.Waiting.{Held, Waited}
 use Rattle.line_results.specs.Commands.{IsStopped, drawn}
-use Rattle.line_results.specs.Resting.{Commits, IsAtRest, IsLate, Leaves, Makes, Onward, SameBytes, SameImage, entry, has_broken, has_ended, why_not}
+use Rattle.line_results.specs.Resting.{Commits, IsAtRest, IsLate, IsNearlyDurable, Leaves, Makes, Onward, SameBytes, SameImage, entry, has_broken, has_ended, why_not}
 use Rattle.line_results.proofs.Asked.{stopped-err}
 use Rattle.line_results.proofs.Forced.{Faulted, Forced, WaitEnds, force-step, stamped-durable, wait-step}
-use Rattle.line_results.proofs.Leaving.{ended-leaves, rest-as, still-leaves}
+use Rattle.line_results.proofs.Leaving.{ended-leaves, nearly-all, nearly-as, nearly-joined, rest-as, still-leaves}
 use Rattle.line_results.proofs.Runs.{AreLast, Became, Refuses, Stops, alone-none, alone-parts, as_is, became-same, became-still, ends-err, ends-ok, is-as, late-ends, late-on, one-or-none, onward-then, rose-from, stops-run, onward-later}
 
 -- ---- what others hold, where there is no ticket and no image
@@ -284,12 +284,13 @@ pub record HasJoined (c : Change) (old d : Core) : Type 0 where
 one-record : (e : Entry) → record_length e ≡ records_length (e ∷ [])
 one-record e = omega arith
 
-pub joined-leaves : {A : Type 0} (result : Result A Refusal) (c : Change) (d : Core) (old new : Machine) → HasJoined c old.core d → Became d old new → (has_ended result ≡ false → IsAtRest d)
+pub joined-leaves : {A : Type 0} (result : Result A Refusal) (c : Change) (d : Core) (old new : Machine) → HasJoined c old.core d → Became d old new → IsNearlyDurable d → (has_ended result ≡ false → IsAtRest d)
     → (has_broken result ≡ false → (length d.stamps ≡ length d.journal) ⊎ ((has_ended result ≡ true) × (entry c ∷ [] ≡ [] → ⊥))) → Leaves result (entry c ∷ []) old new
-joined-leaves result c d old new j b rests durable = record {
+joined-leaves result c d old new j b nearly rests durable = record {
   adds = record { base = ap (λ (x : Core). x.base) b.core ∙ j.base; journal = ap (λ (x : Core). x.journal) b.core ∙ j.journal };
   onward = b.onward;
   log = inl (ap (λ (x : Core). x.generation) b.core ∙ j.generation, ap (λ (x : Core). x.log_length) b.core ∙ j.log_length ∙ ap (λ (n : ℕ). old.core.log_length + n) (one-record (entry c)));
+  nearly = nearly-as new.core d b.core nearly;
   rests = λ h. rest-as new.core d b.core (rests h);
   durable = λ h. subst (λ (x : Core). (length x.stamps ≡ length x.journal) ⊎ ((has_ended result ≡ true) × (entry c ∷ [] ≡ [] → ⊥))) (sym b.core) (durable h);
 }
@@ -308,6 +309,10 @@ pub record Changed (what : Change) (old new : Machine) (result : Result ℕ Refu
 some-added : (c : Change) → entry c ∷ [] ≡ [] → ⊥
 some-added c h = cc
 
+-- it joined behind durable ones
+made-nearly : (c : Change) (old : Core) → IsAtRest old → IsNearlyDurable (made 0 c old)
+made-nearly c old rest = nearly-joined old.stamps old.journal (entry c) rest.durable
+
 -- it was made durable
 changed-forced : (what : Change) (number moment : ℕ) (old new : Machine) → IsAtRest old.core → (IsLate old → ⊥) → why_not (drawn what old) old.core ≡ None
     → Became (stamped moment (made 0 (drawn what old) old.core)) old new → Changed what old new (Ok number)
@@ -324,22 +329,22 @@ changed-forced what number moment old new rest soon none b =
     record {
       added = entry c ∷ [];
       commits = (none, refl);
-      leaves = joined-leaves (Ok number) c (stamped moment (made 0 c old.core)) old new (record { base = refl; journal = refl; generation = refl; log_length = refl }) b (λ h. rests) (λ h. inl rests.durable);
+      leaves = joined-leaves (Ok number) c (stamped moment (made 0 c old.core)) old new (record { base = refl; journal = refl; generation = refl; log_length = refl }) b (nearly-all (stamped moment (made 0 c old.core)) rests.durable) (λ h. rests) (λ h. inl rests.durable);
       image = ap (λ (x : Core). x.generation) b.core;
       bytes = b.contents;
       late = λ l. absurd (soon l);
     }
 
 -- it joined, and then the log failed
-changed-faulted : (what : Change) (e : Refusal) (old new : Machine) → (IsLate old → AreLast e) → why_not (drawn what old) old.core ≡ None → Faulted (made 0 (drawn what old) old.core) old new e
+changed-faulted : (what : Change) (e : Refusal) (old new : Machine) → IsAtRest old.core → (IsLate old → AreLast e) → why_not (drawn what old) old.core ≡ None → Faulted (made 0 (drawn what old) old.core) old new e
     → Changed what old new (Err e)
-changed-faulted what e old new last none (file, count, is, fault, b) =
+changed-faulted what e old new rest last none (file, count, is, fault, b) =
     let c : Change = drawn what old in
     subst (λ (x : Refusal). Changed what old new (Err x)) (sym is)
     (record {
       added = entry c ∷ [];
       commits = inr ((fault.0, fault.1), inr (none, refl));
-      leaves = joined-leaves (Err (refused.LogFault file count)) c (halting file count (made 0 c old.core)) old new (record { base = refl; journal = refl; generation = refl; log_length = refl }) b
+      leaves = joined-leaves (Err (refused.LogFault file count)) c (halting file count (made 0 c old.core)) old new (record { base = refl; journal = refl; generation = refl; log_length = refl }) b (made-nearly c old.core rest)
           (λ h. absurd (false≢true (sym h))) (λ h. absurd (false≢true (sym h)));
       image = ap (λ (x : Core). x.generation) b.core;
       bytes = b.contents;
@@ -347,13 +352,13 @@ changed-faulted what e old new last none (file, count, is, fault, b) =
     })
 
 -- nothing joined, and the log failed
-changed-halted : (what : Change) (e : Refusal) (old new : Machine) → (IsLate old → AreLast e) → Faulted old.core old new e → Changed what old new (Err e)
-changed-halted what e old new last (file, count, is, fault, b) =
+changed-halted : (what : Change) (e : Refusal) (old new : Machine) → IsAtRest old.core → (IsLate old → AreLast e) → Faulted old.core old new e → Changed what old new (Err e)
+changed-halted what e old new rest last (file, count, is, fault, b) =
     subst (λ (x : Refusal). Changed what old new (Err x)) (sym is)
     (record {
       added = [];
       commits = inr ((fault.0, fault.1), inl refl);
-      leaves = ended-leaves (Err (refused.LogFault file count)) (halting file count old.core) old new (record { base = refl; journal = refl; generation = refl; log_length = refl }) b refl (inl refl);
+      leaves = ended-leaves (Err (refused.LogFault file count)) (halting file count old.core) old new (record { base = refl; journal = refl; generation = refl; log_length = refl }) b (nearly-all old.core rest.durable) refl (inl refl);
       image = ap (λ (x : Core). x.generation) b.core;
       bytes = b.contents;
       late = λ l. stopped-err ℕ (refused.LogFault file count) (subst AreLast is (last l));
@@ -369,42 +374,42 @@ changed-not what e old new rest last (inr why) b =
 
 changed-err : (what : Change) (e : Refusal) (old new : Machine) → IsAtRest old.core → TryEnds what old new (Err e) → Changed what old new (Err e)
 changed-err what e old new rest (last, inl (inl (h, b))) = changed-not what e old new rest last h b
-changed-err what e old new rest (last, inl (inr (none, f))) = changed-faulted what e old new last none f
-changed-err what e old new rest (last, inr f) = changed-halted what e old new last f
+changed-err what e old new rest (last, inl (inr (none, f))) = changed-faulted what e old new rest last none f
+changed-err what e old new rest (last, inr f) = changed-halted what e old new rest last f
 
 -- it joined, and wasn't forced
-unforced-full : (what : Change) (old new : Machine) → (IsLate old → ⊥) → why_not (drawn what old) old.core ≡ None → IsLate new → Became (made 0 (drawn what old) old.core) old new
+unforced-full : (what : Change) (old new : Machine) → IsAtRest old.core → (IsLate old → ⊥) → why_not (drawn what old) old.core ≡ None → IsLate new → Became (made 0 (drawn what old) old.core) old new
     → Changed what old new (Err refused.RunFull)
-unforced-full what old new soon none late b =
+unforced-full what old new rest soon none late b =
     let c : Change = drawn what old in
     record {
       added = entry c ∷ [];
       commits = inr (late, inr (none, refl));
-      leaves = joined-leaves (Err refused.RunFull) c (made 0 c old.core) old new (record { base = refl; journal = refl; generation = refl; log_length = refl }) b
+      leaves = joined-leaves (Err refused.RunFull) c (made 0 c old.core) old new (record { base = refl; journal = refl; generation = refl; log_length = refl }) b (made-nearly c old.core rest)
           (λ h. absurd (false≢true (sym h))) (λ h. absurd (false≢true (sym h)));
       image = ap (λ (x : Core). x.generation) b.core;
       bytes = b.contents;
       late = λ l. absurd (soon l);
     }
 
-unforced-wanted : (what : Change) (old new : Machine) → (IsLate old → ⊥) → why_not (drawn what old) old.core ≡ None → Became (made 0 (drawn what old) old.core) old new
+unforced-wanted : (what : Change) (old new : Machine) → IsAtRest old.core → (IsLate old → ⊥) → why_not (drawn what old) old.core ≡ None → Became (made 0 (drawn what old) old.core) old new
     → Changed what old new (Err refused.Memory)
-unforced-wanted what old new soon none b =
+unforced-wanted what old new rest soon none b =
     let c : Change = drawn what old in
     record {
       added = entry c ∷ [];
       commits = inr (tt, inr (none, refl));
-      leaves = joined-leaves (Err refused.Memory) c (made 0 c old.core) old new (record { base = refl; journal = refl; generation = refl; log_length = refl }) b
+      leaves = joined-leaves (Err refused.Memory) c (made 0 c old.core) old new (record { base = refl; journal = refl; generation = refl; log_length = refl }) b (made-nearly c old.core rest)
           (λ h. absurd (false≢true (sym h))) (λ h. inr (refl, some-added c));
       image = ap (λ (x : Core). x.generation) b.core;
       bytes = b.contents;
       late = λ l. absurd (soon l);
     }
 
-changed-unforced : (what : Change) (e : Refusal) (old new : Machine) → (IsLate old → ⊥) → why_not (drawn what old) old.core ≡ None → Stops new e → Became (made 0 (drawn what old) old.core) old new
+changed-unforced : (what : Change) (e : Refusal) (old new : Machine) → IsAtRest old.core → (IsLate old → ⊥) → why_not (drawn what old) old.core ≡ None → Stops new e → Became (made 0 (drawn what old) old.core) old new
     → Changed what old new (Err e)
-changed-unforced what e old new soon none (inl s) b = subst (λ (x : Refusal). Changed what old new (Err x)) (sym s.0) (unforced-full what old new soon none s.1 b)
-changed-unforced what e old new soon none (inr is) b = subst (λ (x : Refusal). Changed what old new (Err x)) (sym is) (unforced-wanted what old new soon none b)
+changed-unforced what e old new rest soon none (inl s) b = subst (λ (x : Refusal). Changed what old new (Err x)) (sym s.0) (unforced-full what old new rest soon none s.1 b)
+changed-unforced what e old new rest soon none (inr is) b = subst (λ (x : Refusal). Changed what old new (Err x)) (sym is) (unforced-wanted what old new rest soon none b)
 
 -- ---- behind the commit
 
@@ -424,10 +429,10 @@ faulted-behind c e old mid new a (file, count, is, fault, b) = (
   },
 )
 
-changed-force : (what : Change) (number : ℕ) (e : Refusal) (old mid new : Machine) → TryEnds what old mid (Ok number) → Forced mid new (Err e) → Changed what old new (Err e)
-changed-force what number e old mid new (soon, none, a) (inl (s, b)) = changed-unforced what e old new soon none s (became-still (made 0 (drawn what old) old.core) old mid new a b)
-changed-force what number e old mid new (soon, none, a) (inr f) =
-    changed-faulted what e old new (λ l. absurd (soon l)) none (faulted-behind (made 0 (drawn what old) old.core) e old mid new a f)
+changed-force : (what : Change) (number : ℕ) (e : Refusal) (old mid new : Machine) → IsAtRest old.core → TryEnds what old mid (Ok number) → Forced mid new (Err e) → Changed what old new (Err e)
+changed-force what number e old mid new rest (soon, none, a) (inl (s, b)) = changed-unforced what e old new rest soon none s (became-still (made 0 (drawn what old) old.core) old mid new a b)
+changed-force what number e old mid new rest (soon, none, a) (inr f) =
+    changed-faulted what e old new rest (λ l. absurd (soon l)) none (faulted-behind (made 0 (drawn what old) old.core) e old mid new a f)
 
 module _ (trusted : Type 0) (places : Places) where
   pub changes : (what : Change) (events : List Event) (result : Result ℕ Refusal) (old new : Machine) → is_plain what ≡ true → IsAtRest old.core → Changes what events result
@@ -442,7 +447,7 @@ module _ (trusted : Type 0) (places : Places) where
   changes what events (Err e) old new plain rest (inr (number, (xs, ys, cut, joins, forced))) f =
       let parts = alone-parts trusted places 0 events xs ys old new cut f in
       let t = tries-end trusted places what xs (Ok number) old parts.0 plain rest joins parts.1 in
-      changed-force what number e old parts.0 new t (force-step trusted places (Err e) ys parts.0 new (ap (λ (k : Core). k.fault) t.2.core ∙ rest.fault) forced parts.2)
+      changed-force what number e old parts.0 new rest t (force-step trusted places (Err e) ys parts.0 new (ap (λ (k : Core). k.fault) t.2.core ∙ rest.fault) forced parts.2)
 
   pub makes : (what : Change) (events : List Event) (number : ℕ) (old new : Machine) → is_plain what ≡ true → IsAtRest old.core → Changes what events (Ok number)
       → Alone trusted places 0 events old new → (why_not (drawn what old) old.core ≡ None) × Makes (drawn what old) old new

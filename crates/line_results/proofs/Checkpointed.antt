@@ -27,7 +27,7 @@ use Rattle.line_results.specs.Files.{Checkpoints}
 use Rattle.line_results.specs.Resting.{IsAtRest, IsLate, Leaves, SameBytes, SameImage}
 use Rattle.line_results.proofs.Asked.{stopped-err}
 use Rattle.line_results.proofs.Forced.{Faulted, stamped-durable, stamped-none}
-use Rattle.line_results.proofs.Leaving.{ended-leaves, rest-as, still-leaves}
+use Rattle.line_results.proofs.Leaving.{ended-leaves, nearly-all, rest-as, still-leaves}
 use Rattle.line_results.proofs.Runs.{AreLast, Became, Refuses, Stops, alone-none, alone-parts, as_is, became-as, became-same, becomes-became, ends-err, ends-ok, is-as, late-ends, one-or-none, onward-then, rose-from, stepped, stops-run}
 
 -- ---- an image in progress
@@ -403,6 +403,7 @@ whole-came seq old new rest soon w =
         adds = record { base = ap (λ (x : Core). x.base) w.became.core; journal = ap (λ (x : Core). x.journal) w.became.core ∙ sym (append-nil old.core.journal) };
         onward = w.became.onward;
         log = inr (next, empty);
+        nearly = nearly-all new.core (rest-as new.core d w.became.core rests).durable;
         rests = λ h. rest-as new.core d w.became.core rests;
         durable = λ h. inl (rest-as new.core d w.became.core rests).durable;
       };
@@ -417,7 +418,7 @@ writing-came e old new rest last (inl (is, late)) (i, mine, b) =
     subst (λ (x : Refusal). Checkpointed old new (Err x)) (sym is)
     (record {
       came = inr late;
-      leaves = ended-leaves (Err refused.RunFull) (with_image (Some i) old.core) old new (record { base = refl; journal = refl; generation = refl; log_length = refl }) b refl (inl refl);
+      leaves = ended-leaves (Err refused.RunFull) (with_image (Some i) old.core) old new (record { base = refl; journal = refl; generation = refl; log_length = refl }) b (nearly-all old.core rest.durable) refl (inl refl);
       bytes = b.contents;
       image = λ f h. same-image (with_image (Some i) old.core) old new b (refl, refl);
       late = λ l. inl refl;
@@ -426,18 +427,18 @@ writing-came e old new rest last (inr is) (i, mine, b) =
     subst (λ (x : Refusal). Checkpointed old new (Err x)) (sym is)
     (record {
       came = inr tt;
-      leaves = ended-leaves (Err refused.Memory) (with_image (Some i) old.core) old new (record { base = refl; journal = refl; generation = refl; log_length = refl }) b refl (inr rest.durable);
+      leaves = ended-leaves (Err refused.Memory) (with_image (Some i) old.core) old new (record { base = refl; journal = refl; generation = refl; log_length = refl }) b (nearly-all old.core rest.durable) refl (inr rest.durable);
       bytes = b.contents;
       image = λ f h. same-image (with_image (Some i) old.core) old new b (refl, refl);
       late = λ l. inr refl;
     })
 
-faulted-came : (e : Refusal) (image : Option Written) (old new : Machine) → (IsLate old → AreLast e) → Faulted (with_image image old.core) old new e → Checkpointed old new (Err e)
-faulted-came e image old new last (file, count, is, fault, b) =
+faulted-came : (e : Refusal) (image : Option Written) (old new : Machine) → IsAtRest old.core → (IsLate old → AreLast e) → Faulted (with_image image old.core) old new e → Checkpointed old new (Err e)
+faulted-came e image old new rest last (file, count, is, fault, b) =
     subst (λ (x : Refusal). Checkpointed old new (Err x)) (sym is)
     (record {
       came = inr (fault.0, fault.1);
-      leaves = ended-leaves (Err (refused.LogFault file count)) (halting file count (with_image image old.core)) old new (record { base = refl; journal = refl; generation = refl; log_length = refl }) b refl (inl refl);
+      leaves = ended-leaves (Err (refused.LogFault file count)) (halting file count (with_image image old.core)) old new (record { base = refl; journal = refl; generation = refl; log_length = refl }) b (nearly-all old.core rest.durable) refl (inl refl);
       bytes = b.contents;
       image = λ f h. same-image (halting file count (with_image image old.core)) old new b (refl, refl);
       late = λ l. stopped-err ℕ (refused.LogFault file count) (subst AreLast is (last l));
@@ -451,13 +452,13 @@ still-came e old new rest last (inr full) b =
 
 begin-came : (e : Refusal) (old new : Machine) → IsAtRest old.core → BeginEnds old new (Err e) → Checkpointed old new (Err e)
 begin-came e old new rest (last, inl (inl (h, b))) = still-came e old new rest last h b
-begin-came e old new rest (last, inl (inr f)) = faulted-came e old.core.image old new last f
+begin-came e old new rest (last, inl (inr f)) = faulted-came e old.core.image old new rest last f
 begin-came e old new rest (last, inr (is, w)) = writing-came e old new rest last (inr is) w
 
 write-came : (result : Result ℕ Refusal) (old new : Machine) → IsAtRest old.core → (IsLate old → ⊥) → WriteEnds old new result → Checkpointed old new result
 write-came (Ok seq) old new rest soon w = whole-came seq old new rest soon w
 write-came (Err e) old new rest soon (inl (s, w)) = writing-came e old new rest (λ l. absurd (soon l)) s w
-write-came (Err e) old new rest soon (inr (i, f)) = faulted-came e (Some i) old new (λ l. absurd (soon l)) f
+write-came (Err e) old new rest soon (inr (i, f)) = faulted-came e (Some i) old new rest (λ l. absurd (soon l)) f
 
 module _ (trusted : Type 0) (places : Places) where
   pub checkpoints : (events : List Event) (result : Result ℕ Refusal) (old new : Machine) → IsAtRest old.core → CheckpointsBy events result → Alone trusted places 0 events old new → Checkpointed old new result

@@ -63,8 +63,8 @@ GetsAs trusted places =
 -- ---- results by a function of an answer
 
 leaves-through : (A B : Type 0) (f : A → B) (answer : Result A Refusal) (added : List Entry) (old new : Machine) → Leaves answer added old new → Leaves (on_ok f answer) added old new
-leaves-through A B f (Ok x) added old new l = record { adds = l.adds; onward = l.onward; log = l.log; rests = l.rests; durable = l.durable }
-leaves-through A B f (Err e) added old new l = record { adds = l.adds; onward = l.onward; log = l.log; rests = l.rests; durable = l.durable }
+leaves-through A B f (Ok x) added old new l = record { adds = l.adds; onward = l.onward; log = l.log; nearly = l.nearly; rests = l.rests; durable = l.durable }
+leaves-through A B f (Err e) added old new l = record { adds = l.adds; onward = l.onward; log = l.log; nearly = l.nearly; rests = l.rests; durable = l.durable }
 
 leaves-on : (A B : Type 0) (f : A → B) (answer : Result A Refusal) (result : Result B Refusal) (added : List Entry) (old new : Machine) → result ≡ on_ok f answer → Leaves answer added old new
     → Leaves result added old new

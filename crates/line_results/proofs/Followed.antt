@@ -19,10 +19,10 @@ use Rattle.machine.specs.Causes.{ask_refused}
 use Rattle.machine.specs.Machine.{Asks, IsAnswer, Later, Never, Places, Stays}
 use Rattle.machine.specs.State.{Core, Machine, inventory, sight}
 use Rattle.command_steps.specs.Answering.{AsksLog, Follows as FollowsBy, IfLong, halted_behind, long_log, unless_full}
-use Rattle.line_results.specs.Lines.{EndsBehind, Follows}
-use Rattle.line_results.specs.Resting.{Adds, EndsRun, IsAtRest, IsLate, Onward, SameImage, has_ended}
+use Rattle.line_results.specs.Lines.{EndsBehind, EndsFollowing, Follows}
+use Rattle.line_results.specs.Resting.{Adds, EndsRun, IsAtRest, IsLate, IsNearlyDurable, Onward, SameImage, has_ended}
 use Rattle.line_results.proofs.Checkpointed.{Checkpointed, checkpoints}
-use Rattle.line_results.proofs.Leaving.{quiet-adds, rest-as, same-quiet}
+use Rattle.line_results.proofs.Leaving.{nearly-all, quiet-adds, rest-as, same-quiet}
 use Rattle.line_results.proofs.Runs.{Became, Refuses, Stops, alone-none, alone-parts, became-same, ends-err, ends-ok, one-or-none, stays-became}
 use Rattle.line_results.proofs.Since.{checkpointed-since}
 
@@ -81,9 +81,10 @@ module _ (trusted : Type 0) (places : Places) where
 -- It doesn't end the run, and the machine is at rest again; or it ends it so.
 pub record Followed (old new : Machine) (made : Result (Unit {0}) Refusal) : Type 0 where
   pub on : halted_behind made ≡ None → Follows old new × IsAtRest new.core
-  pub off : (how : Halt) → halted_behind made ≡ Some how → EndsBehind old new how
+  pub off : (how : Halt) → halted_behind made ≡ Some how → EndsFollowing old new how
   pub adds : Adds [] old new
   pub onward : Onward old new
+  pub nearly : IsNearlyDurable new.core
   pub durable : halted_behind made ≡ Some halt.Memory → length new.core.stamps ≡ length new.core.journal
 
 same-log : (old new : Machine) → Became old.core old new → SameImage old new × (new.core.log_length ≡ old.core.log_length)
@@ -99,15 +100,24 @@ short-followed old new rest b why = record {
   off = λ how h. absurd cc;
   adds = quiet-adds old.core old new (same-quiet old.core) b;
   onward = b.onward;
+  nearly = nearly-all new.core (rest-as new.core old.core b.core rest).durable;
   durable = λ h. absurd cc;
 }
 
 wanted-followed : (old new : Machine) → IsAtRest old.core → Became old.core old new → Followed old new (Err refused.Memory)
 wanted-followed old new rest b = record {
   on = λ h. absurd cc;
-  off = λ how h. subst (λ (x : Halt). EndsBehind old new x) (same_Some halt.Memory how h) tt;
+  off = λ how h. record {
+    onward = b.onward;
+    bytes = b.contents;
+    image = (same-log old new b).0;
+    log = (same-log old new b).1;
+    cause = subst (λ (x : Halt). EndsBehind old new x) (same_Some halt.Memory how h) tt;
+    due = inl (sym (same_Some halt.Memory how h));
+  };
   adds = quiet-adds old.core old new (same-quiet old.core) b;
   onward = b.onward;
+  nearly = nearly-all new.core (rest-as new.core old.core b.core rest).durable;
   durable = λ h. (rest-as new.core old.core b.core rest).durable;
 }
 
@@ -166,13 +176,22 @@ long-followed (Ok seq) old new long c = record {
   off = λ how h. absurd cc;
   adds = c.leaves.adds;
   onward = c.leaves.onward;
+  nearly = c.leaves.nearly;
   durable = λ h. absurd cc;
 }
 long-followed (Err e) old new long c = record {
   on = λ h. long-err e old new c c.came h;
-  off = λ how h. long-off e how old new c.came h;
+  off = λ how h. record {
+    onward = c.leaves.onward;
+    bytes = c.bytes;
+    image = (c.image e refl).0;
+    log = (c.image e refl).1;
+    cause = long-off e how old new c.came h;
+    due = inr long;
+  };
   adds = c.leaves.adds;
   onward = c.leaves.onward;
+  nearly = c.leaves.nearly;
   durable = λ h. wanted-durable e old new c h;
 }
 

@@ -1,15 +1,26 @@
 -- What is left where nothing joined.
-use Rattle.std.proofs.Common.{◌≡◌, ◌⊎◌, inl, inr, Bool, true, false, [], length, Result, refl, sym, ap, subst, ◌∙◌, arith}
+use Rattle.std.proofs.Common.{◌≡◌, ◌⊎◌, inl, inr, ℕ, ◌+◌, ◌≤◌, Bool, true, false, List, [], ◌∷◌, ◌++◌, length, Result, refl, sym, ap, subst, ◌∙◌, arith}
 use Rattle.std.proofs.lemmas.Bool.{false≢true}
-use Rattle.std.proofs.lemmas.List.{append-nil}
+use Rattle.std.proofs.lemmas.List.{append-nil, length-append}
 use Rattle.kinds.specs.declared.refusal.Refusal.{Refusal}
 use Rattle.machine.specs.Machine.{records_length}
 use Rattle.machine.specs.State.{Core, Machine}
-use Rattle.line_results.specs.Resting.{Adds, HasSizes, IsAtRest, Leaves, LogEnds, has_broken, has_ended}
+use Rattle.entries.specs.declared.entry.Entry.{Entry}
+use Rattle.line_results.specs.Resting.{Adds, HasSizes, IsAtRest, IsNearlyDurable, Leaves, LogEnds, has_broken, has_ended}
 use Rattle.line_results.proofs.Runs.{Became, is-as}
 
 pub rest-as : (c d : Core) → c ≡ d → IsAtRest d → IsAtRest c
 rest-as c d same rest = subst IsAtRest (sym same) rest
+
+-- each transaction is durable, or the newest joined behind such
+pub nearly-all : (c : Core) → length c.stamps ≡ length c.journal → IsNearlyDurable c
+nearly-all c all = omega (arith, all)
+
+pub nearly-joined : (stamps : List ℕ) (journal : List Entry) (e : Entry) → length stamps ≡ length journal → length (journal ++ e ∷ []) ≤ length stamps + 1
+nearly-joined stamps journal e all = let long : length (journal ++ e ∷ []) ≡ length journal + 1 = length-append journal (e ∷ []) in omega (arith, long, all)
+
+pub nearly-as : (c d : Core) → c ≡ d → IsNearlyDurable d → IsNearlyDurable c
+nearly-as c d same nearly = subst IsNearlyDurable (sym same) nearly
 
 -- nothing joined, and the log is as long as it was
 pub record IsQuiet (c d : Core) : Type 0 where
@@ -39,6 +50,7 @@ still-leaves result old new rest b = record {
   adds = quiet-adds old.core old new (same-quiet old.core) b;
   onward = b.onward;
   log = quiet-log old.core old new (same-quiet old.core) b;
+  nearly = nearly-all new.core (rest-as new.core old.core b.core rest).durable;
   rests = λ _. rest-as new.core old.core b.core rest;
   durable = λ _. inl (rest-as new.core old.core b.core rest).durable;
 }
@@ -48,12 +60,13 @@ stamps-kept broken c d same (inl h) not = absurd (false≢true (sym not ∙ h))
 stamps-kept broken c d same (inr h) not = subst (λ (x : Core). length x.stamps ≡ length x.journal) (sym same) h
 
 -- the run ended, and the machine may not be at rest
-pub ended-leaves : {A : Type 0} (result : Result A Refusal) (c : Core) (old new : Machine) → IsQuiet old.core c → Became c old new → has_ended result ≡ true
+pub ended-leaves : {A : Type 0} (result : Result A Refusal) (c : Core) (old new : Machine) → IsQuiet old.core c → Became c old new → IsNearlyDurable c → has_ended result ≡ true
     → (has_broken result ≡ true) ⊎ (length c.stamps ≡ length c.journal) → Leaves result [] old new
-ended-leaves result c old new q b ended durable = record {
+ended-leaves result c old new q b nearly ended durable = record {
   adds = quiet-adds c old new q b;
   onward = b.onward;
   log = quiet-log c old new q b;
+  nearly = nearly-as new.core c b.core nearly;
   rests = λ not. absurd (false≢true (sym not ∙ ended));
   durable = λ not. inl (stamps-kept (has_broken result) c new.core b.core durable not);
 }

@@ -13,19 +13,19 @@ use Rattle.steps.specs.Events.{Event, has_number}
 use Rattle.admin_words.specs.declared.command.Command.{Command}
 use Rattle.machine.specs.Alone.{Alone}
 use Rattle.machine.specs.Machine.{Places}
-use Rattle.machine.specs.State.{Machine}
+use Rattle.machine.specs.State.{Core, Machine}
 use Rattle.command_steps.specs.Answering.{AnswersLine, DoesOrWants}
 use Rattle.command_steps.specs.Answers.{Ends, halt_by, nothing}
 use Rattle.command_steps.specs.Lines.{Line, asks, comment, refused as refused_line}
 use Rattle.command_steps.specs.declared.outcome.Outcome.{Outcome}
-use Rattle.line_results.specs.Lines.{EndsAt, EndsBehind, Halts, Replies, Says}
+use Rattle.line_results.specs.Lines.{EndsAt, EndsBehind, EndsFollowing, Halts, Replies, Says}
 use Rattle.line_results.specs.Commands.{Comes}
 use Rattle.line_results.specs.Resting.{Adds, EndsNoRun, EndsRun, HasSizes, IsAtRest, Leaves, LogEnds, Onward, has_broken, has_ended}
 use Rattle.line_results.proofs.Did.{GetsAs, PutsAs, command-did}
 use Rattle.line_results.proofs.Ending.{comes-end}
 use Rattle.line_results.proofs.Followed.{followed}
-use Rattle.line_results.proofs.Leaving.{quiet-adds, quiet-log, same-quiet}
-use Rattle.line_results.proofs.Runs.{alone-none, alone-parts, became-same, onward-none, onward-then, rose-from}
+use Rattle.line_results.proofs.Leaving.{nearly-all, quiet-adds, quiet-log, same-quiet}
+use Rattle.line_results.proofs.Runs.{alone-none, alone-parts, became-same, onward-then, rose-from}
 
 -- ---- the line itself
 
@@ -120,17 +120,33 @@ module _ (trusted : Type 0) (places : Places) (choice : List Rule) (puts : PutsA
 
 -- ---- a line ends the run
 
-module _ (trusted : Type 0) (places : Places) (choice : List Rule) where
-  says-ends : (n : ℕ) (line : Line) (answer : Answer) (why : Option Refusal) (added : List Entry) (how : Halt) (old mid new : Machine) → Says trusted places choice n line old answer why added mid → Onward mid new
-      → EndsBehind mid new how → EndsAt trusted places choice n line old how added new
-  says-ends n comment answer why added how old mid new (a, w, none, same) onward ends = (none, subst (λ (m : Machine). EndsBehind m new how) same ends)
-  says-ends n (refused_line given) answer why added how old mid new (a, w, none, same) onward ends = (none, subst (λ (m : Machine). EndsBehind m new how) same ends)
-  says-ends n (asks c) answer why added how old mid new (said, comes, replied) onward ends = inr (said, mid, comes, onward, inr ends)
+wanted-behind : (how : Halt) (old new : Machine) → how ≡ halt.Memory → EndsBehind old new how
+wanted-behind how old new is = subst (λ (x : Halt). EndsBehind old new x) (sym is) tt
 
-  wants-ends : (n : ℕ) (line : Line) (how : Halt) (old new : Machine) → how ≡ halt.Memory → EndsAt trusted places choice n line old how [] new
-  wants-ends n comment how old new is = (refl, subst (λ (x : Halt). EndsBehind old new x) (sym is) tt)
-  wants-ends n (refused_line given) how old new is = (refl, subst (λ (x : Halt). EndsBehind old new x) (sym is) tt)
-  wants-ends n (asks c) how old new is = inl (is, refl)
+-- memory was wanted, and nothing changed
+wanted-following : (how : Halt) (old new : Machine) → how ≡ halt.Memory → new ≡ old → EndsFollowing old new how
+wanted-following how old new is same =
+    let b = became-same old new same in
+    record {
+      onward = b.onward;
+      bytes = b.contents;
+      image = ap (λ (x : Core). x.generation) b.core;
+      log = ap (λ (x : Core). x.log_length) b.core;
+      cause = wanted-behind how old new is;
+      due = inl is;
+    }
+
+module _ (trusted : Type 0) (places : Places) (choice : List Rule) where
+  says-ends : (n : ℕ) (line : Line) (answer : Answer) (why : Option Refusal) (added : List Entry) (how : Halt) (old mid new : Machine) → Says trusted places choice n line old answer why added mid
+      → EndsFollowing mid new how → EndsAt trusted places choice n line old how added new
+  says-ends n comment answer why added how old mid new (a, w, none, same) ends = (none, subst (λ (m : Machine). EndsFollowing m new how) same ends)
+  says-ends n (refused_line given) answer why added how old mid new (a, w, none, same) ends = (none, subst (λ (m : Machine). EndsFollowing m new how) same ends)
+  says-ends n (asks c) answer why added how old mid new (said, comes, replied) ends = inr (said, mid, comes, inr ends)
+
+  wants-ends : (n : ℕ) (line : Line) (how : Halt) (old new : Machine) → how ≡ halt.Memory → new ≡ old → EndsAt trusted places choice n line old how [] new
+  wants-ends n comment how old new is same = (refl, wanted-following how old new is same)
+  wants-ends n (refused_line given) how old new is same = (refl, wanted-following how old new is same)
+  wants-ends n (asks c) how old new is same = inl (is, refl, same)
 
 adds-behind : (added : List Entry) (old mid new : Machine) → Adds added old mid → Adds [] mid new → Adds added old new
 adds-behind added old mid new a b = record { base = b.base ∙ a.base; journal = b.journal ∙ append-nil mid.core.journal ∙ a.journal }
@@ -161,8 +177,10 @@ run-behind refused.RunFull how old new ends h = subst (λ (x : Halt). EndsBehind
 run-behind refused.Memory how old new ends h = subst (λ (x : Halt). EndsBehind old new x) (same_Some halt.Memory how h) tt
 run-behind e how old new ends h = absurd ends
 
-wanted-behind : (how : Halt) (old new : Machine) → how ≡ halt.Memory → EndsBehind old new how
-wanted-behind how old new is = subst (λ (x : Halt). EndsBehind old new x) (sym is) tt
+-- where the log ends, behind both
+log-behind : (added : List Entry) (how : Halt) (old mid new : Machine) → LogEnds added old mid → EndsFollowing mid new how → LogEnds added old new
+log-behind added how old mid new (inl (same, long)) b = inl (b.image ∙ same, b.log ∙ long)
+log-behind added how old mid new (inr (next, none)) b = inr (b.image ∙ next, b.log ∙ none)
 
 command-behind : (trusted : Type 0) (places : Places) (goes_on : EndsNoRun places) (choice : List Rule) (n : ℕ) (c : Command) (said : Result Outcome Refusal) (how : Halt) (old new : Machine) (added : List Entry)
     → Comes trusted places choice c old new said added → Ends n said (Err how) → EndsBehind old new how
@@ -179,8 +197,10 @@ module _ (trusted : Type 0) (places : Places) (choice : List Rule) (puts : PutsA
         added = [];
         ends = ends;
         adds = quiet-adds old.core old new (same-quiet old.core) b;
+        log = quiet-log old.core old new (same-quiet old.core) b;
         onward = b.onward;
         cause = why;
+        nearly = nearly-all new.core (subst (λ (m : Machine). IsAtRest m.core) (sym same) rest).durable;
         durable = λ h. inl (subst (λ (m : Machine). IsAtRest m.core) (sym same) rest).durable;
       }
 
@@ -188,20 +208,23 @@ module _ (trusted : Type 0) (places : Places) (choice : List Rule) (puts : PutsA
       → Halts trusted places choice n line old how new
   ends-line n comment events how old new rest sizes (inl (none, is)) f = absurd cc
   ends-line n (refused_line given) events how old new rest sizes (inl (none, is)) f =
-      still-halts n (refused_line given) how old new rest (alone-none trusted places 0 events old new none f) (refl, wanted-behind how old new is) (wanted-behind how old new is)
+      let same : new ≡ old = alone-none trusted places 0 events old new none f in
+      still-halts n (refused_line given) how old new rest same (refl, wanted-following how old new is same) (wanted-behind how old new is)
   ends-line n (asks c) events how old new rest sizes (inl (said, doing, ends)) f =
       let d = command-did trusted places choice puts gets c events said old new rest sizes doing f in
       record {
         added = d.added;
-        ends = inr (said, new, d.comes, onward-none new, inl ends);
+        ends = inr (said, new, d.comes, inl (refl, ends));
         adds = d.leaves.adds;
+        log = d.leaves.log;
         onward = d.leaves.onward;
         cause = command-behind trusted places goes_on choice n c said how old new d.added d.comes ends;
+        nearly = d.leaves.nearly;
         durable = λ h. kept-durable n said d.added how old new d.leaves ends (has_broken said) refl;
       }
   ends-line n line events how old new rest sizes (inr (none, is)) f =
-      still-halts n line how old new rest (alone-none trusted places 0 events old new none f) (wants-ends trusted places choice n line how old new (same-halt how halt.Memory is))
-      (wanted-behind how old new (same-halt how halt.Memory is))
+      let same : new ≡ old = alone-none trusted places 0 events old new none f in
+      still-halts n line how old new rest same (wants-ends trusted places choice n line how old new (same-halt how halt.Memory is) same) (wanted-behind how old new (same-halt how halt.Memory is))
 
   pub ended : (n : ℕ) (line : Line) (events : List Event) (how : Halt) (old new : Machine) → IsAtRest old.core → HasSizes old → AnswersLine choice n line events (Err how) → Alone trusted places 0 events old new
       → Halts trusted places choice n line old how new
@@ -212,9 +235,11 @@ module _ (trusted : Type 0) (places : Places) (choice : List Rule) (puts : PutsA
       let b = followed trusted places ys made parts.0 new d.rests follows parts.2 in
       record {
         added = d.added;
-        ends = says-ends trusted places choice n line answer why d.added how old parts.0 new d.says b.onward (b.off how halts);
+        ends = says-ends trusted places choice n line answer why d.added how old parts.0 new d.says (b.off how halts);
         adds = adds-behind d.added old parts.0 new d.adds b.adds;
+        log = log-behind d.added how old parts.0 new d.log (b.off how halts);
         onward = onward-then old parts.0 new d.onward b.onward;
-        cause = behind-since how old parts.0 new d.onward (b.off how halts);
+        cause = behind-since how old parts.0 new d.onward (b.off how halts).cause;
+        nearly = b.nearly;
         durable = λ h. inl (b.durable (halts ∙ ap Some h));
       }

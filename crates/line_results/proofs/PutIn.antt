@@ -117,7 +117,7 @@ named-done : (places : Places) (p : FilePut) (home : Home) (filespace : ℕ) (pl
 named-done places p home filespace place moment result old new rest at none (b, inl is) =
     subst (λ (r : Result ℕ Refusal). DoneOr (IsStored places p home filespace old new) r old new) (sym is) (stored-done places p home filespace place moment old new rest at none b)
 named-done places p home filespace place moment result old new rest at none (b, inr (e, is, ends)) =
-    subst (λ (r : Result ℕ Refusal). DoneOr (IsStored places p home filespace old new) r old new) (sym is) (run-done places p home filespace place moment e old new at none ends b)
+    subst (λ (r : Result ℕ Refusal). DoneOr (IsStored places p home filespace old new) r old new) (sym is) (run-done places p home filespace place moment e old new rest at none ends b)
 
 puts-in : (trusted : Type 0) (places : Places) (p : FilePut) (home : Home) (node filespace : ℕ) (events : List Event) (result : Result ℕ Refusal) (old new : Machine) → NobodyHolds places → IsAtRest old.core
     → node_named p.node (database old).clients.nodes ≡ Some node → filespace_named node p.filespace (database old).clients.filespaces ≡ Some filespace
@@ -177,6 +177,7 @@ leaves-since result added old mid new on l = record {
   adds = record { base = l.adds.base; journal = l.adds.journal };
   onward = onward-then old (as_is old.core old mid) new on l.onward;
   log = l.log;
+  nearly = l.nearly;
   rests = l.rests;
   durable = l.durable;
 }

@@ -1,5 +1,5 @@
 -- A file that is sent and stored, where one actor has the machine alone and it was at rest: what it comes to.
-use Rattle.std.proofs.Common.{◌≡◌, ◌⊎◌, inl, inr, ℕ, ◌+◌, ◌-◌, Bool, true, false, if◌then◌else◌, List, [], ◌∷◌, ◌++◌, length, replicate, append-nil, length-append, length-drop, Option, None, Some, Result, Ok, Err, refl, sym, ap, subst, ◌∙◌, arith}
+use Rattle.std.proofs.Common.{◌≡◌, ◌⊎◌, inl, inr, ℕ, ◌+◌, ◌-◌, ◌≤◌, Bool, true, false, if◌then◌else◌, List, [], ◌∷◌, ◌++◌, length, replicate, append-nil, length-append, length-drop, Option, None, Some, Result, Ok, Err, refl, sym, ap, subst, ◌∙◌, arith}
 use Rattle.std.proofs.lemmas.Bool.{false≢true}
 use Rattle.std.proofs.lemmas.List.{length-replicate}
 use Rattle.sha2.specs.Sha256.{sha256}
@@ -19,8 +19,8 @@ use Rattle.machine.specs.Alone.{Alone}
 use Rattle.machine.specs.Machine.{Places, halting, record_length, stamped}
 use Rattle.machine.specs.State.{Core, Machine, Place, unforced}
 use Rattle.line_results.specs.Files.{HasStored, IsNext, IsPlacedIn, Stores, StoresBy, backed_up, why_no_place}
-use Rattle.line_results.specs.Resting.{Commits, EndsRun, IsAtRest, Leaves, Onward, SameImage, entry, has_broken, has_ended, why_not}
-use Rattle.line_results.proofs.Leaving.{IsQuiet, ended-leaves, quiet-adds, quiet-log, rest-as, still-leaves}
+use Rattle.line_results.specs.Resting.{Commits, EndsRun, IsAtRest, IsNearlyDurable, Leaves, Onward, SameImage, entry, has_broken, has_ended, why_not}
+use Rattle.line_results.proofs.Leaving.{IsQuiet, ended-leaves, nearly-all, nearly-as, nearly-joined, quiet-adds, quiet-log, rest-as, still-leaves}
 use Rattle.line_results.proofs.PutSending.{Keeps, SentNot}
 use Rattle.line_results.proofs.PutSteps.{holding, idle}
 use Rattle.line_results.proofs.PutStoring.{Back, Forced, ForcedNot, InDoubt, Joined, JoinsNot, commits-err, commits-ok, forces-err, forces-ok, gives-back, joined_core, still-held, stored_in}
@@ -91,6 +91,7 @@ idle-leaves result size place old new rest b = record {
   adds = quiet-adds (idle size place old.core) old new (quiet-idle size place old.core) b;
   onward = b.onward;
   log = quiet-log (idle size place old.core) old new (quiet-idle size place old.core) b;
+  nearly = nearly-all new.core (rest-idle size place old new rest b).durable;
   rests = λ _. rest-idle size place old new rest b;
   durable = λ _. inl (rest-idle size place old new rest b).durable;
 }
@@ -98,7 +99,7 @@ idle-leaves result size place old new rest b = record {
 held-leaves : (result : Result ℕ Refusal) (p : FilePut) (place : Place) (old new : Machine) → IsAtRest old.core → Became (holding (length p.text) place p.text true old.core) old new → has_ended result ≡ true
     → Leaves result [] old new
 held-leaves result p place old new rest b ended =
-    ended-leaves result (holding (length p.text) place p.text true old.core) old new (quiet-held (length p.text) place p.text true old.core) b ended (inr rest.durable)
+    ended-leaves result (holding (length p.text) place p.text true old.core) old new (quiet-held (length p.text) place p.text true old.core) b (nearly-all old.core rest.durable) ended (inr rest.durable)
 
 kept-leaves : (result : Result ℕ Refusal) (old new : Machine) → IsAtRest old.core → Keeps old new → has_ended result ≡ true → Leaves result [] old new
 kept-leaves result old new rest k ended =
@@ -107,6 +108,7 @@ kept-leaves result old new rest k ended =
       adds = record { base = k.base; journal = k.journal ∙ sym (append-nil old.core.journal) };
       onward = k.onward;
       log = inl (k.generation, omega (arith, long));
+      nearly = nearly-all new.core (ap length k.stamps ∙ rest.durable ∙ sym (ap length k.journal));
       rests = λ not. absurd (false≢true (sym not ∙ ended));
       durable = λ _. inl (ap length k.stamps ∙ rest.durable ∙ sym (ap length k.journal));
     }
@@ -117,6 +119,7 @@ record IsGrown (c : Core) (e : Entry) (d : Core) : Type 0 where
   journal : d.journal ≡ c.journal ++ e ∷ []
   generation : d.generation ≡ c.generation
   log_length : d.log_length ≡ c.log_length + record_length e
+  nearly : IsNearlyDurable d
 
 grown-leaves : (result : Result ℕ Refusal) (e : Entry) (c : Core) (old new : Machine) → IsGrown old.core e c → new.core ≡ c → Onward old new → (has_ended result ≡ false → IsAtRest c)
     → (has_broken result ≡ false → (length c.stamps ≡ length c.journal) ⊎ (has_ended result ≡ true)) → Leaves result (e ∷ []) old new
@@ -126,6 +129,7 @@ grown-leaves result e c old new g is onward rests durable =
       adds = record { base = ap (λ (x : Core). x.base) is ∙ g.base; journal = ap (λ (x : Core). x.journal) is ∙ g.journal };
       onward = onward;
       log = inl (ap (λ (x : Core). x.generation) is ∙ g.generation, omega (arith, long));
+      nearly = nearly-as new.core c is g.nearly;
       rests = λ not. rest-as new.core c is (rests not);
       durable = λ not. elim (durable not) as (λ _. (length new.core.stamps ≡ length new.core.journal) ⊎ ((has_ended result ≡ true) × (e ∷ [] ≡ [] → ⊥))) [
         | inl all ↦ inl (subst (λ (x : Core). length x.stamps ≡ length x.journal) (sym is) all)
@@ -133,14 +137,17 @@ grown-leaves result e c old new g is onward rests durable =
       ];
     }
 
-grown-joined : (filespace : ℕ) (p : FilePut) (class : List ℕ) (place : Place) (c : Core) → IsGrown c (entry (backed_up filespace p class place c)) (joined_core filespace p class place c)
-grown-joined filespace p class place c = record { base = refl; journal = refl; generation = refl; log_length = refl }
+grown-joined : (filespace : ℕ) (p : FilePut) (class : List ℕ) (place : Place) (c : Core) → IsAtRest c → IsGrown c (entry (backed_up filespace p class place c)) (joined_core filespace p class place c)
+grown-joined filespace p class place c rest = record { base = refl; journal = refl; generation = refl; log_length = refl; nearly = nearly-joined c.stamps c.journal (entry (backed_up filespace p class place c)) rest.durable }
 
 grown-stamped : (moment : ℕ) (c : Core) (e : Entry) (d : Core) → IsGrown c e d → IsGrown c e (stamped moment d)
-grown-stamped moment c e d g = record { base = g.base; journal = g.journal; generation = g.generation; log_length = g.log_length }
+grown-stamped moment c e d g =
+    let more : length (d.stamps ++ replicate (length (unforced d)) moment) ≡ length d.stamps + length (replicate (length (unforced d)) moment) = length-append d.stamps (replicate (length (unforced d)) moment) in
+    let nearly : length d.journal ≤ length d.stamps + 1 = g.nearly in
+    record { base = g.base; journal = g.journal; generation = g.generation; log_length = g.log_length; nearly = omega (arith, more, nearly) }
 
 grown-halting : (file count : ℕ) (c : Core) (e : Entry) (d : Core) → IsGrown c e d → IsGrown c e (halting file count d)
-grown-halting file count c e d g = record { base = g.base; journal = g.journal; generation = g.generation; log_length = g.log_length }
+grown-halting file count c e d g = record { base = g.base; journal = g.journal; generation = g.generation; log_length = g.log_length; nearly = g.nearly }
 
 pub stamped-all : (moment : ℕ) (c d : Core) (e : Entry) → length c.stamps ≡ length c.journal → d.stamps ≡ c.stamps → d.journal ≡ c.journal ++ e ∷ [] → length (stamped moment d).stamps ≡ length (stamped moment d).journal
 stamped-all moment c d e all stamps journal =
@@ -252,13 +259,13 @@ unforced-done places p home filespace place e c old new at none g stops b =
       err-other e (stops-other new e stops),
     )
 
-forced-not : (places : Places) (p : FilePut) (home : Home) (filespace : ℕ) (place : Place) (e : Refusal) (old new : Machine) → HasPlace places home.pool p.text old place
+forced-not : (places : Places) (p : FilePut) (home : Home) (filespace : ℕ) (place : Place) (e : Refusal) (old new : Machine) → IsAtRest old.core → HasPlace places home.pool p.text old place
     → why_not (It filespace p home place old) old.core ≡ None → ForcedNot (joined_core filespace p home.class place old.core) old (stored_in p place old) new e
     → DoneOr (IsStored places p home filespace old new) (Err e) old new
-forced-not places p home filespace place e old new at none (inl d) =
-    in-doubt places p home filespace place e (joined_core filespace p home.class place old.core) old new at none (grown-joined filespace p home.class place old.core) d
-forced-not places p home filespace place e old new at none (inr s) =
-    unforced-done places p home filespace place e (joined_core filespace p home.class place old.core) old new at none (grown-joined filespace p home.class place old.core) s.0 s.1
+forced-not places p home filespace place e old new rest at none (inl d) =
+    in-doubt places p home filespace place e (joined_core filespace p home.class place old.core) old new at none (grown-joined filespace p home.class place old.core rest) d
+forced-not places p home filespace place e old new rest at none (inr s) =
+    unforced-done places p home filespace place e (joined_core filespace p home.class place old.core) old new at none (grown-joined filespace p home.class place old.core rest) s.0 s.1
 
 -- a refusal of the transaction, or that the run ended, behind which the ticket is gone
 gone-done : (places : Places) (p : FilePut) (home : Home) (filespace : ℕ) (place : Place) (why e : Refusal) (old new : Machine) → IsAtRest old.core → HasPlace places home.pool p.text old place
@@ -295,7 +302,7 @@ joined-not places p home filespace place why e old mid new rest at (inl j) (inl 
     let log : why ≡ refused.LogFault j.1.0 j.1.1 = j.1.2 in
     let is : e ≡ refused.LogFault j.1.0 j.1.1 = b.1 ∙ ap unplaced log in
     let doubt : InDoubt (joined_core filespace p home.class place old.core) old (stored_in p place old) mid e = (j.1.0, j.1.1, is, j.1.3, j.1.4, j.1.5) in
-    in-doubt places p home filespace place e (joined_core filespace p home.class place old.core) old new at j.0 (grown-joined filespace p home.class place old.core)
+    in-doubt places p home filespace place e (joined_core filespace p home.class place old.core) old new at j.0 (grown-joined filespace p home.class place old.core rest)
     (subst (λ (m : Machine). InDoubt (joined_core filespace p home.class place old.core) old (stored_in p place old) m e) (sym b.2) doubt)
 joined-not places p home filespace place why e old mid new rest at (inl j) (inr (inl b)) =
     let w : is_lasting (refused.LogFault j.1.0 j.1.1) ≡ false = subst (λ (x : Refusal). is_lasting x ≡ false) j.1.2 b.0 in absurd cc
@@ -339,7 +346,7 @@ forced-to : (trusted : Type 0) (places : Places) (p : FilePut) (home : Home) (fi
     → StoresTo places p home filespace place old new result
 forced-to trusted places p home filespace place number events (Ok seq) old mid new rest at j f a = (j.0, forces-ok trusted places (joined_core filespace p home.class place old.core) f.1 events (stored_in p place old) mid new j.1 f.2 a)
 forced-to trusted places p home filespace place number events (Err e) old mid new rest at j f a =
-    forced-not places p home filespace place e old new at j.0
+    forced-not places p home filespace place e old new rest at j.0
     (forces-err trusted places (joined_core filespace p home.class place old.core) e events old (stored_in p place old) mid new rest.fault (record { counts = λ file. omega arith; since = omega arith }) j.1 f a)
 
 pub stores-to : (trusted : Type 0) (places : Places) (p : FilePut) (home : Home) (filespace : ℕ) (place : Place) (s : Sealed) (events : List Event) (result : Result ℕ Refusal) (old mid new : Machine) → IsAtRest old.core
@@ -367,7 +374,7 @@ pub stored-done : (places : Places) (p : FilePut) (home : Home) (filespace : ℕ
 stored-done places p home filespace place moment old new rest at none b =
     let it : Entry = entry (It filespace p home place old) in
     let c : Core = stamped moment (joined_core filespace p home.class place old.core) in
-    let g : IsGrown old.core it c = grown-stamped moment old.core it (joined_core filespace p home.class place old.core) (grown-joined filespace p home.class place old.core) in
+    let g : IsGrown old.core it c = grown-stamped moment old.core it (joined_core filespace p home.class place old.core) (grown-joined filespace p home.class place old.core rest) in
     inl (
       (
         it ∷ [],
@@ -386,13 +393,13 @@ run-ended old new refused.RunFull h = refl
 run-ended old new refused.Memory h = refl
 run-ended old new e h = absurd h
 
-pub run-done : (places : Places) (p : FilePut) (home : Home) (filespace : ℕ) (place : Place) (moment : ℕ) (e : Refusal) (old new : Machine) → HasPlace places home.pool p.text old place
+pub run-done : (places : Places) (p : FilePut) (home : Home) (filespace : ℕ) (place : Place) (moment : ℕ) (e : Refusal) (old new : Machine) → IsAtRest old.core → HasPlace places home.pool p.text old place
     → why_not (It filespace p home place old) old.core ≡ None → EndsRun old new e → Became (stamped moment (joined_core filespace p home.class place old.core)) (stored_in p place old) new
     → DoneOr (IsStored places p home filespace old new) (Err e) old new
-run-done places p home filespace place moment e old new at none ends b =
+run-done places p home filespace place moment e old new rest at none ends b =
     let it : Entry = entry (It filespace p home place old) in
     let c : Core = stamped moment (joined_core filespace p home.class place old.core) in
-    let g : IsGrown old.core it c = grown-stamped moment old.core it (joined_core filespace p home.class place old.core) (grown-joined filespace p home.class place old.core) in
+    let g : IsGrown old.core it c = grown-stamped moment old.core it (joined_core filespace p home.class place old.core) (grown-joined filespace p home.class place old.core rest) in
     let ended : has_number (40 ∷ 41 ∷ 50 ∷ []) e ≡ true = run-ended old new e ends in
     inl (
       (

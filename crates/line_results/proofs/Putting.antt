@@ -205,6 +205,7 @@ unplaced-leaves e added old new l = elim (is_unplaced e) as (λ b. is_unplaced e
     adds = l.adds;
     onward = l.onward;
     log = l.log;
+    nearly = l.nearly;
     rests = λ s. absurd cc;
     durable = λ _. elim (l.durable (not-broken e not)) as (λ _. (length new.core.stamps ≡ length new.core.journal) ⊎ ((true ≡ true) × (added ≡ [] → ⊥))) [
       | inl all ↦ inl all
@@ -237,6 +238,7 @@ more-leaves result c more old mid new m l = record {
   adds = more-adds c more old mid new m l.adds;
   onward = onward-then old mid new m.3 l.onward;
   log = more-log c more old mid new m l.log;
+  nearly = l.nearly;
   rests = l.rests;
   durable = λ not. elim (l.durable not) as (λ _. (length new.core.stamps ≡ length new.core.journal) ⊎ ((has_ended result ≡ true) × (entry c ∷ more ≡ [] → ⊥))) [
     | inl all ↦ inl all

@@ -23,6 +23,7 @@ leaves-as result added old mid new b l = record {
   adds = record { base = l.adds.base; journal = l.adds.journal };
   onward = onward-then old (later_of old mid) new (on-later old mid b) l.onward;
   log = l.log;
+  nearly = l.nearly;
   rests = l.rests;
   durable = l.durable;
 }

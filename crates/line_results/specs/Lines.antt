@@ -13,7 +13,7 @@ use Rattle.command_steps.specs.Answers.{Ends, nothing, refusal}
 use Rattle.command_steps.specs.Lines.{Line, asks, comment, refused}
 use Rattle.command_steps.specs.declared.outcome.Outcome.{Outcome}
 use Rattle.line_results.specs.Commands.{Comes}
-use Rattle.line_results.specs.Resting.{Adds, IsAtRest, IsLate, LogEnds, Onward, RoseFrom, SameBytes, SameImage, has_broken}
+use Rattle.line_results.specs.Resting.{Adds, IsAtRest, IsLate, IsNearlyDurable, LogEnds, Onward, RoseFrom, SameBytes, SameImage, has_broken}
 
 -- Behind a line a checkpoint is made where the log is long, by which the newest image has the next generation and its log is empty; none is made where it is short, and none can be where the
 -- moment is all but the last, or the newest image of the last generation.
@@ -41,27 +41,39 @@ pub record Replies (trusted : Type 0) (places : Places) (choice : List Rule) (n 
   pub behind : Onward mid new
   pub rests : IsAtRest new.core
 
--- what follows a line ended the run by the fault of an image or a log whose count rose, where the run became full, or for want of memory
+-- the run ended by the fault of an image or a log whose count rose, where it became full, or for want of memory
 abbrev pub EndsBehind : (old new : Machine) → Halt → Type 0
 EndsBehind old new (halt.LogFault file) = (file < 4) × RoseFrom old new file
 EndsBehind old new halt.RunFull = IsLate new
 EndsBehind old new halt.Memory = Unit {0}
 
--- how what a line asks ended the run: by its result; or it was answered, and what follows it ended the run
+-- What follows a line ended the run, for want of memory or where the log was long, so that a checkpoint was to be made: none was, and the objects' bytes, the newest image and its log are what they
+-- were behind the line.
+pub record EndsFollowing (old new : Machine) (how : Halt) : Type 0 where
+  pub onward : Onward old new
+  pub bytes : SameBytes old new
+  pub image : SameImage old new
+  pub log : new.core.log_length ≡ old.core.log_length
+  pub cause : EndsBehind old new how
+  pub due : (how ≡ halt.Memory) ⊎ (long_log ≤ old.core.log_length)
+
+-- How a line ended the run. Memory was wanted before it was known what the line is, and nothing changed; what it asks ended the run, by its result; or it was answered, and what follows it ended the run.
 abbrev pub EndsAt : (trusted : Type 0) → Places → List Rule → (n : ℕ) → Line → (old : Machine) → Halt → (added : List Entry) → (new : Machine) → Type 0
 EndsAt trusted places choice n (asks c) old how added new =
-    ((how ≡ halt.Memory) × (added ≡ []))
-    ⊎ ((said : Result Outcome Refusal) × (mid : Machine) × Comes trusted places choice c old mid said added × Onward mid new × (Ends n said (Err how) ⊎ EndsBehind mid new how))
-EndsAt trusted places choice n comment old how added new = (added ≡ []) × EndsBehind old new how
-EndsAt trusted places choice n (refused given) old how added new = (added ≡ []) × EndsBehind old new how
+    ((how ≡ halt.Memory) × (added ≡ []) × (new ≡ old))
+    ⊎ ((said : Result Outcome Refusal) × (mid : Machine) × Comes trusted places choice c old mid said added × (((new ≡ mid) × Ends n said (Err how)) ⊎ EndsFollowing mid new how))
+EndsAt trusted places choice n comment old how added new = (added ≡ []) × EndsFollowing old new how
+EndsAt trusted places choice n (refused given) old how added new = (added ≡ []) × EndsFollowing old new how
 
--- A line may end the run so, and which transactions it adds. Where that is for want of memory, each transaction is durable, unless it was wanted behind one
+-- A line may end the run so, and which transactions it adds. But for the newest each transaction is durable. Where the run ended for want of memory, each is, unless it was wanted behind one
 -- that was made, or for the answer to a command that a fault or a full run ended. A fault and a full run have their cause.
 pub record Halts (trusted : Type 0) (places : Places) (choice : List Rule) (n : ℕ) (line : Line) (old : Machine) (how : Halt) (new : Machine) : Type 0 where
   pub added : List Entry
   pub ends : EndsAt trusted places choice n line old how added new
   pub adds : Adds added old new
+  pub log : LogEnds added old new
   pub onward : Onward old new
   pub cause : EndsBehind old new how
+  pub nearly : IsNearlyDurable new.core
   pub durable : how ≡ halt.Memory
       → (length new.core.stamps ≡ length new.core.journal) ⊎ ((added ≡ [] → ⊥) ⊎ ((said : Result Outcome Refusal) × (has_broken said ≡ true) × Ends n said (Err how)))

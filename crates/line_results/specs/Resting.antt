@@ -117,11 +117,16 @@ abbrev pub has_broken : {A : Type 0} → Result A Refusal → Bool
 has_broken (Ok x) = false
 has_broken (Err e) = has_number (40 ∷ 41 ∷ []) e
 
+-- all transactions but the newest have a stamp, if not all
+abbrev pub IsNearlyDurable : Core → Type 0
+IsNearlyDurable c = length c.journal ≤ length c.stamps + 1
+
 -- What a call leaves that answered so and made these transactions. Unless the run ended, the machine is at rest again; and each transaction is durable unless a fault or a full run ended it,
--- or memory was wanted behind one that was made.
+-- or memory was wanted behind one that was made; but for the newest each one is in any case.
 pub record Leaves {A : Type 0} (result : Result A Refusal) (added : List Entry) (old new : Machine) : Type 0 where
   pub adds : Adds added old new
   pub onward : Onward old new
   pub log : LogEnds added old new
+  pub nearly : IsNearlyDurable new.core
   pub rests : has_ended result ≡ false → IsAtRest new.core
   pub durable : has_broken result ≡ false → (length new.core.stamps ≡ length new.core.journal) ⊎ ((has_ended result ≡ true) × (added ≡ [] → ⊥))
