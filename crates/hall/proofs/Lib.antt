@@ -76,6 +76,7 @@ pub mod Spots
 pub mod Stamped
 pub mod Stamping
 pub mod Stepping
+pub mod Stopped
 pub mod Syncs
 pub mod TakenSpace
 pub mod Takes

@@ -99,7 +99,7 @@ module _ (contents : ℕ → List ℕ) (before after : History) (sound : IsSound
   vault_sound files at = let back = sound.each files at in (back.0, back.1.0)
 
   -- each image since gives back a database that one gave back before
-  gives_since : Spared meaning before after → EachImage (now before) after (GaveBack contents before)
+  pub gives_since : Spared meaning before after → EachImage (now before) after (GaveBack contents before)
   gives_since spared moment image from to here =
       let had = spared.since vault_sound moment image from to here in
       let mix : ℕ → List ℕ = mixed had.start image in

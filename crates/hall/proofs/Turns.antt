@@ -3,18 +3,14 @@ use Rattle.std.proofs.Common.{◌≡◌, ℕ, ◌≤◌, nat_le, List, [], ◌�
 use Rattle.std.specs.Prelude.{IfSome}
 use Rattle.std.proofs.lemmas.Bool.{le-leb}
 use Rattle.store_api.specs.Cause.{NoneFell}
-use Rattle.store_api.specs.Disk.{History, ImageAt, Leaves, back, Standing, now, reads, settled, standing}
+use Rattle.store_api.specs.Disk.{History, ImageAt, back, now, reads}
 use Rattle.store_api.specs.Told.{StopsAs, Told}
-use Rattle.store_api.proofs.Images.{stop_image, stop_settled}
-use Rattle.store_api.proofs.Runs.{back_now, now_image}
-use Rattle.store_api.proofs.Standings.{leaves_settled}
-use Rattle.contents.specs.Contents.{Holds}
+use Rattle.store_api.proofs.Runs.{back_now}
 use Rattle.inventory.specs.Meaningful.{is_meaning}
 use Rattle.inventory.specs.Meant.{meaning}
 use Rattle.inventory_rows.specs.State.{Inv}
 use Rattle.log_file.specs.Safety.{acknowledged}
-use Rattle.vault.specs.Recovery.{Recovers, RecoversWithin}
-use Rattle.vault.proofs.Resting.{one_at_rest}
+use Rattle.vault.specs.Recovery.{Recovers}
 use Rattle.vault.proofs.Sounding.{within_recovers}
 use Rattle.vault.proofs.Unique.{one_database}
 use Rattle.steps.specs.declared.step.Reply.{Reply}
@@ -25,22 +21,15 @@ use Rattle.hall.specs.declared.turn.Turn.TheVariants.{Do, Stop}
 use Rattle.hall.specs.Covered.{inv_at}
 use Rattle.hall.specs.Good.{Is, IsKept, IsSafe, IsSoundWith, Rise, WasSound}
 use Rattle.hall.specs.Held.{AreSeatsOf, Hall, Held}
-use Rattle.hall.specs.Opening.{GivesBack, IsNewHall, IsSound, IsWith, OpensFiles}
+use Rattle.hall.specs.Opening.{IsNewHall, IsSound, IsWith, OpensFiles}
 use Rattle.hall.specs.Plays.{Plays, Reopens, Restarts, RunsTurns, Stopped}
 use Rattle.hall.specs.Steps.{IsTrusted}
 use Rattle.hall.proofs.Exact.{exact, kept_by, still_trusted}
 use Rattle.hall.proofs.Imaging.{no_image}
 use Rattle.hall.proofs.Stamping.{rise_over}
+use Rattle.hall.proofs.Stopped.{own_image, sound_again}
 
 -- ---- what a stop left
-
--- what may stand behind files that are on the disk might have been left at once
-leaves_again : (file : Standing) (mid left : List ℕ) → Leaves file mid → Leaves (settled mid) left → Leaves file left
-unfolding settled
-leaves_again file mid left first second = record {
-  long = (let one : file.stable ≤ length mid = first.long in let two : length mid ≤ length left = second.long in omega (arith, one, two));
-  same = λ place below firm. leaves_settled mid left second place (let one : file.stable ≤ length mid = first.long in omega (arith, one, below)) ∙ first.same place below firm;
-}
 
 -- each stamp that is at most a moment is known by then
 pub every_stamp : (first last moment : ℕ) (stamps : List ℕ) → Rise first last stamps → last ≤ moment → acknowledged moment stamps ≡ length stamps
@@ -51,52 +40,24 @@ every_stamp first last moment (s ∷ stamps) r l =
     let rest : acknowledged moment stamps ≡ length stamps = every_stamp s last moment stamps r.1 l in
     omega (arith, one, rest)
 
-module _ (h after : History) (stops : StopsAs h after) where
-  image_again : (image : ℕ → List ℕ) → ImageAt after (now after) image → ImageAt h (now h) image
-  image_again image here file =
-      subst (λ (s : Standing). Leaves s (image file)) (sym (now_standing file))
-      (leaves_again (standing h file) (reads after file) (image file) (now_image h (reads after) (stop_image h after stops) file)
-      (subst (λ (s : Standing). Leaves s (image file)) (stop_settled h after file stops) (now_image after image here file)))
-    where
-      now_standing : (file : ℕ) → standing (back h (now h)) file ≡ standing h file
-      now_standing file = ap (λ g. standing g file) (back_now h)
+module _ (h after : History) (stops : StopsAs h after) (m : Machine) (held : Held) (k : IsKept m held h) (rise : Rise held.opened m.moment m.core.stamps) (clock : now h ≡ m.moment) where
+  at_now : StopsAs (back h (now h)) after
+  at_now = subst (λ (g : History). StopsAs g after) (sym (back_now h)) stops
 
-  module _ (m : Machine) (held : Held) (k : IsKept m held h) (rise : Rise held.opened m.moment m.core.stamps) (clock : now h ≡ m.moment) where
-    safe : (image : ℕ → List ℕ) → ImageAt h (now h) image → IsSafe m.contents m.core (acknowledged (now h) m.core.stamps) image
-    safe image here = k.always (now h) image k.since (omega arith) here
+  safe : (image : ℕ → List ℕ) → ImageAt h (now h) image → IsSafe m.contents m.core (acknowledged (now h) m.core.stamps) image
+  safe image here = k.always (now h) image k.since (omega arith) here
 
-    abbrev database : IsSafe m.contents m.core (acknowledged (now h) m.core.stamps) (reads after) → Inv
-    database own = inv_at own.last m.core
+  own_safe : IsSafe m.contents m.core (acknowledged (now h) m.core.stamps) (reads after)
+  own_safe = safe (reads after) (own_image h (now h) after at_now)
 
-    module _ (own : IsSafe m.contents m.core (acknowledged (now h) m.core.stamps) (reads after)) where
-      recovered : Recovers meaning (reads after) (database own)
-      recovered = within_recovers meaning (reads after) (database own) own.recovers
+  recovered : Recovers meaning (reads after) (inv_at own_safe.last m.core)
+  recovered = within_recovers meaning (reads after) (inv_at own_safe.last m.core) own_safe.recovers
 
-      each_back : (image : ℕ → List ℕ) → ImageAt after (now after) image → (v : Inv) × GivesBack m.contents image v
-      each_back image here = let other = safe image (image_again image here) in (inv_at other.last m.core, (other.recovers, other.holds))
+  all_kept : length m.core.stamps ≤ own_safe.last
+  all_kept = let all = every_stamp held.opened m.moment (now h) m.core.stamps rise (omega (arith, clock)) in omega (arith, all, own_safe.durable)
 
-      each_sound : (files : ℕ → List ℕ) → ImageAt after (now after) files → (v : Inv) × RecoversWithin meaning files v
-      each_sound files here = let back = each_back files here in (back.0, back.1.0)
-
-      -- each image recovers to what the files do
-      one_back : (image : ℕ → List ℕ) → ImageAt after (now after) image → Holds m.contents image (database own)
-      one_back image here =
-          let other = safe image (image_again image here) in
-          let same = one_database meaning is_meaning image (inv_at other.last m.core) (database own) (within_recovers meaning image (inv_at other.last m.core) other.recovers)
-          (within_recovers meaning image (database own) (one_at_rest meaning is_meaning after (λ file ours. stop_settled h after file stops) each_sound (database own) image recovered here)) in
-          subst (λ v. Holds m.contents image v) same other.holds
-
-      sound_again : IsSound m.contents after
-      sound_again = record {
-        each = each_back;
-        read = λ v is image here. subst (λ w. Holds m.contents image w) (one_database meaning is_meaning (reads after) (database own) v recovered is) (one_back image here);
-      }
-
-      all_kept : length m.core.stamps ≤ own.last
-      all_kept = let all = every_stamp held.opened m.moment (now h) m.core.stamps rise (omega (arith, clock)) in omega (arith, all, own.durable)
-
-    own_image : IsSafe m.contents m.core (acknowledged (now h) m.core.stamps) (reads after)
-    own_image = safe (reads after) (stop_image h after stops)
+  left_sound : IsSound m.contents after
+  left_sound = sound_again h (now h) after at_now m.contents (λ image here. let it = safe image here in (inv_at it.last m.core, (it.recovers, it.holds)))
 
 -- ---- a new hall
 
@@ -162,13 +123,13 @@ module _ {S : Type 0} (told : S → Option History) (moment : S → ℕ) (faults
   stop_then_open old m store next h after tells told_after stops is sound stopped opened =
       let k = kept_by told moment faults old m h tells is sound in
       let at : now h ≡ m.moment = subst (λ o. IfSome o (λ g. now g ≡ moment old.store)) tells (clock old.store) ∙ sym is.clock in
-      let own = own_image h after stops m old.held k is.good.stamped.rise at in
-      let again = sound_again h after stops m old.held k is.good.stamped.rise at own in
-      let with = (subst (λ o. IfSome o (λ g. (contents : ℕ → List ℕ) → IsSound contents g → IsWith told moment faults contents next)) told_after opened.opens.2) m.contents again in
-      let database : next.held.vault.database ≡ inv_at own.last m.core = opened_as next (told store) (told next.store) after (inv_at own.last m.core) opened.files told_after
-      (recovered h after stops m old.held k is.good.stamped.rise at own) in (
+      let rise = is.good.stamped.rise in
+      let own = own_safe h after stops m old.held k rise at in
+      let with = (subst (λ o. IfSome o (λ g. (contents : ℕ → List ℕ) → IsSound contents g → IsWith told moment faults contents next)) told_after opened.opens.2) m.contents (left_sound h after stops m old.held k rise at) in
+      let database : next.held.vault.database ≡ inv_at own.last m.core =
+      opened_as next (told store) (told next.store) after (inv_at own.last m.core) opened.files told_after (recovered h after stops m old.held k rise at) in (
         with.0,
-        restarts m next with.0 own.last opened.opens.0 with.2 (all_kept h after stops m old.held k is.good.stamped.rise at own) own.made database with.1
+        restarts m next with.0 own.last opened.opens.0 with.2 (all_kept h after stops m old.held k rise at) own.made database with.1
             (none_fell m.counts with.0.counts (faults old.store) (faults store) (faults next.store) is.counts with.2.counts stopped.counts opened.counts)
             (omega (arith, is.clock, with.2.clock, stopped.clock, opened.later)),
         with.2,

@@ -27,7 +27,6 @@ use Rattle.hall.specs.Good.{Is, IsKept, IsSafe, WasSound}
 use Rattle.hall.specs.Held.{Hall, Held}
 use Rattle.hall.specs.Opening.{IsSound}
 use Rattle.hall.proofs.Covering.{images_hold}
-use Rattle.hall.proofs.Databases.{after_parts, all_durable, left_alone}
 use Rattle.hall.proofs.Exact.{kept_by}
 use Rattle.hall.proofs.Turns.{every_stamp}
 use Rattle.hall_turns.specs.Left.{GivesState, LeavesSound}
@@ -70,6 +69,10 @@ good_now vault d h held all =
 
 -- ---- a hall
 
+-- the database behind all transactions
+pub inv_at_all : (c : Core) → inv_at (length c.journal) c ≡ inventory c
+inv_at_all c = ap (λ (l : List Entry). after c.base l) (take_all (length c.journal) c.journal (omega arith))
+
 module _ {S : Type 0} (told : S → Option History) (moment : S → ℕ) (faults : S → ℕ → ℕ) (clock : (s : S) → IfSome (told s) (λ h. now h ≡ moment s)) where
   module _ (hall : Hall S) (m : Machine) (h : History) (tells : told hall.store ≡ Some h) (is : Is told moment faults hall m) (sound : WasSound hall.held.base hall.held.opened h) where
     kept : IsKept m hall.held h
@@ -108,11 +111,8 @@ module _ {S : Type 0} (told : S → Option History) (moment : S → ℕ) (faults
             written = parts.1;
             by_image = parts.2 ∙ sym is.core.generation;
             log = parts.3 ∙ sym (is.core.log_length none);
-            holds = subst (λ (v : Inv). Holds m.contents image v) (all_durable_at (length m.core.journal)) (holds_at image here (length m.core.journal) (omega (arith, whole)));
+            holds = subst (λ (v : Inv). Holds m.contents image v) (inv_at_all m.core) (holds_at image here (length m.core.journal) (omega (arith, whole)));
           }
-        where
-          all_durable_at : (n : ℕ) → inv_at (length m.core.journal) m.core ≡ inventory m.core
-          all_durable_at n = ap (λ (l : List Entry). after m.core.base l) (take_all (length m.core.journal) m.core.journal (omega arith))
 
     -- ---- at the end
 

@@ -2,4 +2,5 @@ pub mod Alones
 pub mod Lefts
 pub mod Playing
 pub mod Stepped
+pub mod Stops
 pub mod Valued

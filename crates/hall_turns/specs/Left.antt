@@ -1,6 +1,6 @@
--- What a hall leaves in its store: what images give back of it while it is at rest, and what the next one may be opened over.
+-- What a hall leaves in its store: what images give back of it while it is at rest, what the next one may be opened over, and what a stop leaves.
 use Rattle.std.specs.Prelude.{◌≡◌, ◌≤◌, ℕ, List, length}
-use Rattle.store_api.specs.Disk.{History, now, reads}
+use Rattle.store_api.specs.Disk.{History, now, reads, settled, standing}
 use Rattle.fields.specs.Editions.{second_form}
 use Rattle.contents.specs.Contents.{Holds}
 use Rattle.inventory.specs.Meant.{meaning}
@@ -20,10 +20,19 @@ pub record GivesState (m : Machine) (image : ℕ → List ℕ) : Type 0 where
   pub log : length (blocks (records_of recovers.entries)) ≡ m.core.log_length
   pub holds : Holds m.contents image (inventory m.core)
 
--- The store is one over which a hall may be opened: it recovers to the database behind a transaction that is at least the last with a stamp by now, and is sound with the bytes of the machine's objects.
-pub record LeavesSound (m : Machine) (h : History) : Type 0 where
+-- The store has what the machine made up to one of its transactions, and at least so many: it recovers to the database behind that one, and a hall may be opened over it, as it is sound with the bytes of
+-- the machine's objects.
+pub record HasFirst (m : Machine) (count : ℕ) (h : History) : Type 0 where
   pub last : ℕ
-  pub durable : acknowledged (now h) m.core.stamps ≤ last
+  pub durable : count ≤ last
   pub made : last ≤ length m.core.journal
   pub recovers : Recovers meaning (reads h) (inv_at last m.core)
   pub sound : IsSound m.contents h
+
+-- the store has each transaction that has a stamp by now
+abbrev pub LeavesSound : Machine → History → Type 0
+LeavesSound m h = HasFirst m (acknowledged (now h) m.core.stamps) h
+
+-- all of each file is on the disk, as behind a stop
+abbrev pub IsOnDisk : History → Type 0
+IsOnDisk h = (file : ℕ) → standing h file ≡ settled (reads h file)

@@ -1,18 +1,24 @@
 // What runs of one actor on a hall mean, as laws. Each stands on a function that does nothing.
-ghost use Rattle.std.specs.Prelude.{◌≡◌, ℕ, List, length, None, Some};
-ghost use Rattle.store_api.specs.Disk.{History, ImageAt, now};
-ghost use Rattle.store_api.specs.Runs.{GoesOn};
-ghost use Rattle.store_api.specs.Told.{Told};
+ghost use Rattle.std.specs.Prelude.{◌≡◌, ◌≤◌, ℕ, List, length, None, Some};
+ghost use Rattle.store_api.specs.Disk.{History, ImageAt, back, now};
+ghost use Rattle.store_api.specs.Runs.{EachImage, GoesOn};
+ghost use Rattle.store_api.specs.Told.{StopsAs, Told};
+ghost use Rattle.inventory.specs.Meant.{meaning};
+ghost use Rattle.inventory_rows.specs.Fresh.{fresh};
+ghost use Rattle.log_file.specs.Safety.{acknowledged};
+ghost use Rattle.vault.specs.Openings.{Spared};
+ghost use Rattle.vault.specs.Recovery.{RecoversWithin};
 ghost use Rattle.steps.specs.Events.{Event};
 ghost use Rattle.machine.specs.Alone.{Alone};
 ghost use Rattle.machine.specs.Stamps.{KeepsStamps};
 ghost use Rattle.machine.specs.State.{Machine};
 ghost use Rattle.hall.specs.Alone.{Ran};
-ghost use Rattle.hall.specs.Good.{Is, WasSound};
+ghost use Rattle.hall.specs.Good.{AlwaysSafe, Is, WasSound};
 ghost use Rattle.hall.specs.Held.{Hall};
+ghost use Rattle.hall.specs.Opening.{IsSound};
 ghost use Rattle.hall.specs.Placed.{hall_places};
 ghost use Rattle.hall.specs.Steps.{IsTrusted};
-ghost use Rattle.hall_turns.specs.Left.{GivesState, LeavesSound};
+ghost use Rattle.hall_turns.specs.Left.{GivesState, HasFirst, IsOnDisk, LeavesSound};
 
 use store_api::Store;
 
@@ -37,4 +43,22 @@ pub fn halls_at_rest_are_there<S: Store>()
 /// And whatever halted it, the store is one over which a hall may be opened again, with every transaction that has a stamp.
 pub fn halls_leave_sound_stores<S: Store>()
     ensures { (hall : Hall S) (m : Machine) (h : History) → S.told hall.store ≡ Some h → Is S.told S.moment_of S.faults_of hall m → WasSound hall.held.base hall.held.opened h → LeavesSound m h }
+{}
+
+/// Where each image of a run's moments is safe, the store that a stop of the machine at one of them leaves recovers to the database behind a transaction that is at least the last that was acknowledged by
+/// then, and a hall may be opened over it.
+pub fn stopped_stores_are_sound()
+    ensures { (m : Machine) (opened : ℕ) (h : History) (moment : ℕ) (after : History) → AlwaysSafe m.contents m.core opened h → opened ≤ moment → moment ≤ now h → StopsAs (back h moment) after
+        → IsOnDisk after × HasFirst m (acknowledged moment m.core.stamps) after }
+{}
+
+/// Where a store that a stop has left has what was made up to some transaction, so has the store that another stop leaves while it is opened; and so on, however often that may be.
+pub fn stops_while_opening()
+    ensures { (m : Machine) (count : ℕ) (start mid : History) (second : ℕ) (after : History) → IsOnDisk start → HasFirst m count start → Spared meaning start mid → now start ≤ second → second ≤ now mid
+        → StopsAs (back mid second) after → IsOnDisk after × HasFirst m count after }
+{}
+
+/// A hall may be opened over a store each of whose images recovers to a new server's database, as after formatting, whatever bytes the objects are to have: there is no version yet.
+pub fn new_stores_are_sound()
+    ensures { (contents : ℕ → List ℕ) (h : History) → EachImage (now h) h (λ files. RecoversWithin meaning files fresh) → IsSound contents h }
 {}

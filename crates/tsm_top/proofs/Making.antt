@@ -10,7 +10,6 @@ use Rattle.kinds.specs.declared.refusal.OpenRefused.{OpenRefused}
 use Rattle.kinds.specs.declared.refusal.OpenRefused.TheVariants as refused
 use Rattle.entries.specs.declared.entry.Entry.{Entry}
 use Rattle.choosers.specs.declared.rule.Rule.{Rule}
-use Rattle.contents.specs.Contents.{Holds}
 use Rattle.inventory.specs.Meant.{meaning}
 use Rattle.inventory.specs.Meaningful.{is_meaning}
 use Rattle.inventory_rows.specs.Fresh.{fresh}
@@ -20,6 +19,7 @@ use Rattle.vault.specs.Openings.{Calm, Spared, is_formatted as has_gate, Formatt
 use Rattle.vault.specs.Recovery.{Recovers, IsBase}
 use Rattle.vault.proofs.Sounding.{ends_log, newest_one, within_recovers}
 use Rattle.vault.proofs.Unique.{one_database, one_form, is_formatted, not_damaged_there}
+use Rattle.hall_turns.proofs.Stops.{new_sound}
 use Rattle.tsm_top.specs.declared.note.Note.{Note}
 use Rattle.tsm_top.specs.Serve.{Command, format, run, fresh_run, Closing, no_command, formatted, exists, refused_opening, HasCause, OpensNot, IsNone, IsNew, HasImage, RunsOver, StartsAt, Sure, Spares, Opens, Later, RanScript, RoseBetween}
 
@@ -62,16 +62,9 @@ new_over None y base same had new over = (had, tt)
 new_over (Some a) None base same had new over = absurd (cc)
 new_over (Some a) (Some h) base same had new over = (had, one_database meaning is_meaning (reads h) base fresh over (new_recovers h new))
 
--- it has no object, so whatever bytes these are to have, they have them
-no_copies : (contents image : ℕ → List ℕ) → Holds contents image fresh
-no_copies contents image = tt
-
 new_sure : (first : ℕ → List ℕ) (x y : Option History) → is_some y ≡ is_some x → IsNew y → Sure fresh_run first x → Sure run first y
 new_sure first x None same new known = absurd (cc)
-new_sure first x (Some h) same new known = record {
-  each = λ image here. (fresh, ((new (now h) image (omega arith) (omega arith) here).recovers, no_copies first image));
-  read = λ v is image here. subst (λ (w : Inv). Holds first image w) (one_database meaning is_meaning (reads h) fresh v (new_recovers h new) is) (no_copies first image);
-}
+new_sure first x (Some h) same new known = new_sound first h (λ moment image from to here. (new moment image from to here).recovers)
 
 -- its newest image is of generation 0, and it is opened as that
 new_starts : (x y : Option History) (start : ℕ) → is_some y ≡ is_some x → IsNew y → StartsAt run y start → StartsAt fresh_run x start
