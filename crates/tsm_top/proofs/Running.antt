@@ -1,6 +1,6 @@
 -- A script's run on a hall is a run of the machine, line by line.
 use Rattle.std.proofs.Common.{◌≡◌, inl, inr, ℕ, ◌+◌, Option, None, Some, List, [], ◌∷◌, length, Ok, Err, refl, sym, ap, subst, ◌∙◌, arith}
-use Rattle.std.specs.Prelude.{IfSome, ◌≤◌}
+use Rattle.std.specs.Prelude.{IfSome, ◌≤◌, true}
 use Rattle.std.specs.List.{AllByRecursion}
 use Rattle.store_api.specs.Disk.{History, ImageAt, now}
 use Rattle.store_api.specs.Runs.{GoesOn}
@@ -8,6 +8,7 @@ use Rattle.store_api.specs.Told.{Told}
 use Rattle.kinds.specs.declared.refusal.Refusal.{Refusal}
 use Rattle.choosers.specs.declared.rule.Rule.{Rule}
 use Rattle.inventory_rows.specs.State.{Inv}
+use Rattle.inventory_rules.specs.Valid.{is_valid}
 use Rattle.script_loop.specs.Reply.{Answer}
 use Rattle.script_loop.specs.Runs.{Allows, Answers, Halts, Prints, Runs, Says}
 use Rattle.script_loop.specs.declared.tally.Tally.{Tally}
@@ -23,7 +24,9 @@ use Rattle.hall.specs.Good.{Is, Rise, WasSound}
 use Rattle.hall.specs.Held.{Hall}
 use Rattle.hall.specs.Placed.{hall_places}
 use Rattle.hall.specs.Steps.{IsTrusted}
+use Rattle.hall.proofs.Databases.{valid_at}
 use Rattle.hall_turns.specs.Left.{GivesState}
+use Rattle.hall_turns.proofs.Lefts.{inv_at_all}
 use Rattle.command_steps.specs.Answering.{AnswersLine}
 use Rattle.command_steps.specs.Lines.{Line, line_of}
 use Rattle.line_results.specs.Clauses.{Holds}
@@ -31,7 +34,7 @@ use Rattle.line_results.specs.Lines.{Halts as EndsLine, Replies}
 use Rattle.line_results.specs.Resting.{HasSizes, IsAtRest, Onward}
 use Rattle.tsm_top.specs.Notes.{note_of, number_in, with_note}
 use Rattle.tsm_top.specs.Sessions.{HaltsLine, ServesLine, number_of}
-use Rattle.tsm_top.specs.Sites.{IsTimely, RepliesAt, Site, StopsAt, site}
+use Rattle.tsm_top.specs.Sites.{IsInOrder, IsTimely, RepliesAt, Site, StopsAt, site}
 use Rattle.tsm_top.specs.declared.note.Note.{Note}
 use Rattle.tsm_top.specs.declared.session.Session.{Session}
 use Rattle.tsm_top.proofs.There.{there}
@@ -91,6 +94,13 @@ come first last (stamp ∷ stamps) rise = (over stamp last stamps rise.1, come s
 
 timely : {S : Type 0} (told : S → Option History) (moment : S → ℕ) (faults : S → ℕ → ℕ) (hall : Hall S) (old new : Machine) → Is told moment faults hall new → KeepsStamps old.core new.core → IsTimely old new
 timely told moment faults hall old new is keeps = record { keeps = keeps; come = come hall.held.opened new.moment new.core.stamps is.good.stamped.rise }
+
+in_order : {S : Type 0} (told : S → Option History) (moment : S → ℕ) (faults : S → ℕ → ℕ) (hall : Hall S) (m : Machine) → Is told moment faults hall m → IsInOrder m
+in_order told moment faults hall m is = record {
+  valid = subst (λ (v : Inv). is_valid v ≡ true) (inv_at_all m.core) (valid_at m.core is.good.lawful (length m.core.journal));
+  next_file = is.good.numbers.next_file.1;
+  next_object = is.good.numbers.next_object.1;
+}
 
 onward_here : (a : Machine) → Onward a a
 onward_here a = record { counts = λ file. omega arith; since = omega arith }
@@ -167,6 +177,7 @@ module _ {S : Type 0} (told : S → Option History) (moment : S → ℕ) (faults
           hold choice n (line_of line) answer why m run.0 r,
           (λ t. there told moment faults clock gives new.hall run.0 (told last.hall.store) run.2 r.rests.fault r.rests.durable (run.3 t) more.2),
           timely told moment faults new.hall m run.0 run.2 run.4,
+          in_order told moment faults new.hall run.0 run.2,
           notes
               ∙ noted (line_of line) n why old.notes.items old.hall.held.base.number m.core.base.number (number_of old.hall) (number_in m) (number_of new.hall) (number_in run.0)
               (ap (λ (v : Inv). v.number) (sym at.is.core.base)) (numbered old.hall m at.is) (numbered new.hall run.0 run.2),
@@ -195,7 +206,7 @@ module _ {S : Type 0} (told : S → Option History) (moment : S → ℕ) (faults
         goes = on;
         onward = r.onward;
         same = run.2.core.base ∙ on.0 ∙ sym at.is.core.base;
-        run = (r, timely told moment faults new.hall m run.0 run.2 run.4, (λ t free durable. there told moment faults clock gives new.hall run.0 (told new.hall.store) run.2 free durable (run.3 t) (goes_here (told new.hall.store))), notes);
+        run = (r, timely told moment faults new.hall m run.0 run.2 run.4, in_order told moment faults new.hall run.0 run.2, (λ t free durable. there told moment faults clock gives new.hall run.0 (told new.hall.store) run.2 free durable (run.3 t) (goes_here (told new.hall.store))), notes);
       }
 
   -- ---- lines

@@ -1,13 +1,14 @@
 -- A script's run as a machine: what it has made so far, what each line makes of it, and what images of the store give back.
-use Rattle.std.specs.Prelude.{◌≡◌, ℕ, ◌≤◌, Option, None, IfSome, List, length}
+use Rattle.std.specs.Prelude.{◌≡◌, ℕ, ◌≤◌, true, Option, None, IfSome, List, length}
 use Rattle.std.specs.List.{AllByRecursion}
 use Rattle.store_api.specs.Disk.{History, ImageAt}
 use Rattle.kinds.specs.declared.refusal.Refusal.{Refusal}
 use Rattle.choosers.specs.declared.rule.Rule.{Rule}
+use Rattle.inventory_rules.specs.Valid.{is_valid}
 use Rattle.script_loop.specs.Reply.{Answer}
 use Rattle.script_loop.specs.declared.ends.Halt.{Halt}
 use Rattle.machine.specs.Stamps.{KeepsStamps}
-use Rattle.machine.specs.State.{Machine}
+use Rattle.machine.specs.State.{Machine, inventory}
 use Rattle.hall.specs.Placed.{hall_places}
 use Rattle.hall_turns.specs.Left.{GivesState}
 use Rattle.command_steps.specs.Lines.{line_of}
@@ -38,6 +39,12 @@ pub record IsTimely (old new : Machine) : Type 0 where
   pub keeps : KeepsStamps old.core new.core
   pub come : AllByRecursion (λ stamp. stamp ≤ new.moment) new.core.stamps
 
+-- The database is valid, and the numbers of the files and objects that are drawn next are the database's or greater, so that none is given twice.
+pub record IsInOrder (m : Machine) : Type 0 where
+  pub valid : is_valid (inventory m.core) ≡ true
+  pub next_file : (inventory m.core).next_file ≤ m.core.next_file
+  pub next_object : (inventory m.core).next_object ≤ m.core.next_object
+
 -- `trusted` says that the store was sound when it was opened, and tells its bytes; `told` is what it tells at the return.
 module _ (trusted : Type 0) (choice : List Rule) (told : Option History) where
   -- Line n may be answered so, which leaves the second site, with what is noted of it; it has what the headline says of each line (`Holds`); and each image of the moment behind it gives back all that was
@@ -45,9 +52,9 @@ module _ (trusted : Type 0) (choice : List Rule) (told : Option History) where
   abbrev pub RepliesAt : Site → (n : ℕ) → List ℕ → Answer → Site → Type 0
   RepliesAt old n line answer new =
       (why : Option Refusal) × (r : Replies trusted hall_places choice n (line_of line) old.machine answer why new.machine)
-      × Holds trusted hall_places choice n (line_of line) old.machine r.mid answer r.added × (trusted → IsThere told new.machine) × IsTimely old.machine new.machine
+      × Holds trusted hall_places choice n (line_of line) old.machine r.mid answer r.added × (trusted → IsThere told new.machine) × IsTimely old.machine new.machine × IsInOrder new.machine
       × (new.notes ≡ with_note (line_of line) (note_of n old.machine.core.base.number (number_in old.machine) (number_in new.machine) why) old.notes)
 
   -- The line may end the run so. Nothing is noted of it, as none of its lines is put. Where no fault ended it and all is durable each image of the last moment gives back all that was made.
   abbrev pub StopsAt : Site → (n : ℕ) → List ℕ → Halt → Site → Type 0
-  StopsAt old n line how new = Halts trusted hall_places choice n (line_of line) old.machine how new.machine × IsTimely old.machine new.machine × (trusted → IsThereWhole told new.machine) × (new.notes ≡ old.notes)
+  StopsAt old n line how new = Halts trusted hall_places choice n (line_of line) old.machine how new.machine × IsTimely old.machine new.machine × IsInOrder new.machine × (trusted → IsThereWhole told new.machine) × (new.notes ≡ old.notes)
