@@ -17,14 +17,16 @@ use Rattle.admin_words.specs.declared.policy.NamedSet.{NamedSet}
 use Rattle.admin_commands.specs.declared.work.Work.{Work}
 use Rattle.entries.specs.declared.change.Change.{Change}
 use Rattle.reports.specs.declared.shown.Shown.{Shown}
+use Rattle.reuse_delay.specs.Reusing.{VolumeReuse}
 use Rattle.sessions.specs.Changing.{Changing}
 use Rattle.sessions.specs.InTurn.{OrMemory}
 use Rattle.sessions.specs.Putting.{Puts}
-use Rattle.steps.proofs.Joining.{call_of_none, does_made, so_call}
+use Rattle.steps.proofs.Joining.{GoesOn, call_of_none, does_made, so_call, then_call}
 use Rattle.steps.specs.Calls.{Call, Does as DoesStep, Made}
 use Rattle.steps.specs.Events.{Event}
-use Rattle.steps.specs.Events.Deed.{Ask}
-use Rattle.command_steps.specs.Doing.{Does, DoesOwn, DoesWork, Gives, PutsText, Told, Validates, validated_by, within_memory}
+use Rattle.steps.specs.Events.Deed.{Ask, Force}
+use Rattle.command_steps.specs.Behind.{Behind, behind, forces, no_more, reuses, with_reused}
+use Rattle.command_steps.specs.Doing.{Does, DoesOwn, DoesWork, EndsWork, Forcing, Gives, PutsText, Reusing, Told, Validates, behind_force, validated_by, within_memory}
 use Rattle.command_steps.specs.Owns.{Own, file_put, last_of, row_put}
 use Rattle.command_steps.specs.declared.outcome.Outcome.{Outcome}
 use Rattle.command_steps.specs.declared.outcome.Outcome.TheVariants.{Said}
@@ -88,17 +90,54 @@ puts-text did p q choice put row files answer result is there said a =
     so_call did (λ events. Puts put.node put.filespace choice (file_of (Some files) row.path) row events answer) (λ events. PutsText choice put events result) p q a
     (λ xs f. text-put choice put row files xs answer result is there (within-said answer result said) f)
 
+-- ---- what comes behind work
+
+pub reused : {S : Type 0} (did : S → List Event → S → Type 0) (p q : S) (it : Outcome) (number : ℕ) (line : Outcome) → line ≡ with_reused number it → Call did p q (λ events. VolumeReuse events (Ok number))
+    → Call did p q (λ events. Reusing (Ok it) events (Ok line))
+reused did p q it number line is a = given did p q VolumeReuse (λ n. with_reused n it) (Ok number) (Ok line) a (ap (λ (o : Outcome). Ok o) is)
+
+pub reused-not : {S : Type 0} (did : S → List Event → S → Type 0) (p q : S) (it : Outcome) (e : Refusal) → Call did p q (λ events. VolumeReuse events (Err e)) → Call did p q (λ events. Reusing (Ok it) events (Err e))
+reused-not did p q it e a = gives-err did p q VolumeReuse (λ n. with_reused n it) e a
+
+pub reuses-none : {S : Type 0} (did : S → List Event → S → Type 0) (p : S) (e : Refusal) → did p [] p → Call did p p (λ events. Reusing (Err e) events (Err e))
+reuses-none did p e stays = call_of_none did (λ events. Reusing (Err e) events (Err e)) p p stays (refl, refl)
+
+pub forced : {S : Type 0} (did : S → List Event → S → Type 0) (p q : S) (said result : Result Outcome Refusal) (answer : Result ℕ Refusal) → DoesStep did p q (Force answer) → result ≡ behind_force said answer
+    → Call did p q (λ events. Forcing said events result)
+forced did p q said result answer d is =
+    so_call did (λ events. Made (Force answer) events) (λ events. Forcing said events result) p q (does_made did p q (Force answer) d) (λ xs f. (answer, f, is))
+
+pub ends-none : {S : Type 0} (did : S → List Event → S → Type 0) (p : S) (said : Result Outcome Refusal) → did p [] p → Call did p p (λ events. EndsWork no_more said events said)
+ends-none did p said stays = call_of_none did (λ events. EndsWork no_more said events said) p p stays (refl, refl)
+
+pub ends-forced : {S : Type 0} (did : S → List Event → S → Type 0) (p q : S) (said result : Result Outcome Refusal) → Call did p q (λ events. Forcing said events result)
+    → Call did p q (λ events. EndsWork forces said events result)
+ends-forced did p q said result a = so_call did (λ events. Forcing said events result) (λ events. EndsWork forces said events result) p q a (λ xs f. f)
+
+pub ends-reused : {S : Type 0} (did : S → List Event → S → Type 0) → GoesOn did → (p q r : S) (said came result : Result Outcome Refusal) → Call did p q (λ events. Reusing said events came)
+    → Call did q r (λ events. Forcing came events result) → Call did p r (λ events. EndsWork reuses said events result)
+ends-reused did goes p q r said came result a b =
+    so_call did (λ events. Then (λ xs. Reusing said xs came) (λ ys. Forcing came ys result) events) (λ events. EndsWork reuses said events result) p r
+    (then_call did goes (λ events. Reusing said events came) (λ events. Forcing came events result) p q r a b) (λ xs f. (came, f))
+
 -- ---- work that is done, or refused before it begins
+
+pub done-with : {S : Type 0} (did : S → List Event → S → Type 0) → GoesOn did → (p q r : S) (choice : List Rule) (c : Command) (work : Work) (kind : Behind) (said result : Result Outcome Refusal) → kind ≡ behind c
+    → Call did p q (λ events. Does choice c work events said) → Call did q r (λ events. EndsWork kind said events result) → Call did p r (λ events. DoesWork choice c (Ok work) events result)
+done-with did goes p q r choice c work kind said result is a b =
+    so_call did (λ events. Then (λ xs. Does choice c work xs said) (λ ys. EndsWork (behind c) said ys result) events) (λ events. DoesWork choice c (Ok work) events result) p r
+    (then_call did goes (λ events. Does choice c work events said) (λ events. EndsWork (behind c) said events result) p q r a
+    (subst (λ (k : Behind). Call did q r (λ events. EndsWork k said events result)) is b)) (λ xs f. (said, f))
 
 pub owned : {S : Type 0} (did : S → List Event → S → Type 0) (p q : S) (choice : List Rule) (own said : Own) (numbers : List ℕ) (result : Result Outcome Refusal) → own ≡ said
     → Call did p q (λ events. DoesOwn choice own numbers events result) → Call did p q (λ events. DoesOwn choice said numbers events result)
 owned did p q choice own said numbers result is a = subst (λ (it : Own). Call did p q (λ events. DoesOwn choice it numbers events result)) is a
 
 pub worked : {S : Type 0} (did : S → List Event → S → Type 0) (p q : S) (choice : List Rule) (c : Command) (work : Work) (said : Result Work Refusal) (result : Result Outcome Refusal) → said ≡ Ok work
-    → Call did p q (λ events. Does choice c work events result) → Call did p q (λ events. OrMemory (DoesWork choice c said) events result)
+    → Call did p q (λ events. DoesWork choice c (Ok work) events result) → Call did p q (λ events. OrMemory (DoesWork choice c said) events result)
 worked did p q choice c work said result is a =
     subst (λ (it : Result Work Refusal). Call did p q (λ events. OrMemory (DoesWork choice c it) events result)) (sym is)
-    (so_call did (λ events. Does choice c work events result) (λ events. OrMemory (DoesWork choice c (Ok work)) events result) p q a (λ xs f. inl f))
+    (so_call did (λ events. DoesWork choice c (Ok work) events result) (λ events. OrMemory (DoesWork choice c (Ok work)) events result) p q a (λ xs f. inl f))
 
 pub declined : {S : Type 0} (did : S → List Event → S → Type 0) (p : S) (choice : List Rule) (c : Command) (said : Result Work Refusal) (e : Refusal) → did p [] p → (e ≡ Memory) ⊎ (said ≡ Err e)
     → Call did p p (λ events. OrMemory (DoesWork choice c said) events (Err e))

@@ -1,7 +1,7 @@
 -- What a command does, step by step, whoever makes the steps.
-use Rattle.std.specs.Prelude.{◌≡◌, ◌⊎◌, ℕ, List, [], ◌∷◌, ◌++◌, None, Some, Result, Ok, Err}
+use Rattle.std.specs.Prelude.{◌≡◌, ◌⊎◌, ℕ, true, List, [], ◌∷◌, ◌++◌, None, Some, Result, Ok, Err}
 use Rattle.kinds.specs.declared.refusal.Refusal.{Refusal}
-use Rattle.kinds.specs.declared.refusal.Refusal.TheVariants.{Memory, TreeFault, UnknownWord}
+use Rattle.kinds.specs.declared.refusal.Refusal.TheVariants.{LogFault, Memory, RunFull, TreeFault, UnknownWord}
 use Rattle.choosers.specs.declared.rule.Rule.{Rule}
 use Rattle.inventory_rows.specs.version_groups.Entries.{on_ok}
 use Rattle.inventory_answers.specs.declared.query.Query.{Query}
@@ -15,7 +15,12 @@ use Rattle.admin_words.specs.declared.policy.NamedSet.{NamedSet}
 use Rattle.admin_commands.specs.Orders.{needs, work_of}
 use Rattle.admin_commands.specs.declared.work.Work.{Work}
 use Rattle.admin_commands.specs.declared.work.Work.TheVariants.{Commit, Show, Run}
-use Rattle.reports.specs.declared.shown.Shown.TheVariants.{Done, Stored}
+use Rattle.reports.specs.declared.shown.Shown.TheVariants.{DeletedVolume, DiscardedFilespace, Done, Expired, Reused, Stored}
+use Rattle.deletions.specs.Filespaces.{FilespaceDeletion}
+use Rattle.deletions.specs.Volumes.{VolumeDeletion}
+use Rattle.deletions.specs.declared.copies.Removed.{Removed}
+use Rattle.expiration.specs.Expiring.{Expiration}
+use Rattle.reuse_delay.specs.Reusing.{VolumeReuse}
 use Rattle.sessions.specs.Changing.{Changing}
 use Rattle.sessions.specs.Checkpoints.{Checkpointing}
 use Rattle.sessions.specs.Getting.{Gets}
@@ -24,8 +29,9 @@ use Rattle.sessions.specs.Putting.{Puts}
 use Rattle.sessions.specs.declared.getting.FileRead.{FileRead}
 use Rattle.steps.specs.Calls.{IsStep, Made, Then}
 use Rattle.steps.specs.Events.{Event}
-use Rattle.steps.specs.Events.Deed.{Ask}
-use Rattle.command_steps.specs.Owns.{Own, checkpoint, file_put, get, last_of, none_yet, own_of, put, row_put, validate}
+use Rattle.steps.specs.Events.Deed.{Ask, Force}
+use Rattle.command_steps.specs.Behind.{Behind, behind, forces, no_more, reuses, with_reused}
+use Rattle.command_steps.specs.Owns.{Own, checkpoint, empty_filespace, empty_volume, expire, file_put, get, last_of, none_but_reuse, none_yet, own_of, put, row_put, validate}
 use Rattle.command_steps.specs.declared.outcome.Outcome.{Outcome}
 use Rattle.command_steps.specs.declared.outcome.Outcome.TheVariants.{Read, Rows, Said}
 
@@ -81,12 +87,21 @@ PutsText choice p events result =
     (Puts p.node p.filespace choice (Some (file_put p)) (row_put p) events result × (result ≡ Err TreeFault → ⊥))
     ⊎ (Puts p.node p.filespace choice (Some (file_put p)) (row_put p) events (Err TreeFault) × (result ≡ Err Memory))
 
+-- the number of the one thing that a command names
+abbrev pub the_number : List ℕ → ℕ
+the_number [] = 0
+the_number (number ∷ others) = number
+
 -- work of a command's own, over the numbers of the things that it names; what isn't done so far is refused like an unknown word
 abbrev pub DoesOwn : List Rule → Own → List ℕ → List Event → Result Outcome Refusal → Type 0
 DoesOwn choice (validate set) numbers events result = Validates set events result
 DoesOwn choice (put p) numbers events result = Gives (OrMemory (PutsText choice p)) (λ object. Said (Stored object)) events result
 DoesOwn choice (get g) numbers events result = Gives (OrMemory (Gets g.node g.filespace g.path)) Read events result
 DoesOwn choice checkpoint numbers events result = Gives Checkpointing (λ seq. Said Done) events result
+DoesOwn choice expire numbers events result = Gives Expiration (λ expired. Said (Expired expired 0)) events result
+DoesOwn choice empty_filespace numbers events result = Gives (FilespaceDeletion (the_number numbers)) (λ discarded. Said (DiscardedFilespace discarded 0)) events result
+DoesOwn choice empty_volume numbers events result = Gives (VolumeDeletion true (the_number numbers)) (λ (went : Removed). Said (DeletedVolume went.discarded went.dropped)) events result
+DoesOwn choice none_but_reuse numbers events result = (events ≡ []) × (result ≡ Ok (Said (Reused 0)))
 DoesOwn choice none_yet numbers events result = (events ≡ []) × (result ≡ Err (UnknownWord 1))
 
 -- A command whose work is this does it: its change is committed, its query answered, or its own work done.
@@ -95,9 +110,39 @@ Does choice c (Commit what) events result = Gives (Changing what) (λ number. Sa
 Does choice c (Show q) events result = Gives (Told q) Rows events result
 Does choice c (Run numbers) events result = DoesOwn choice (own_of c) numbers events result
 
--- it is done, or refused before it begins
+-- ---- what comes behind work
+
+-- Where the work was done emptied volumes are reused whose delay is over, and how many is said with it.
+abbrev pub Reusing : (said : Result Outcome Refusal) → List Event → Result Outcome Refusal → Type 0
+Reusing (Ok it) events result = Gives VolumeReuse (λ number. with_reused number it) events result
+Reusing (Err e) events result = (events ≡ []) × (result ≡ Err e)
+
+-- a run that ended can't be forced: what says that it did stands for want of memory
+abbrev pub within_run : Result Outcome Refusal → Result Outcome Refusal
+within_run (Err (LogFault file count)) = Err Memory
+within_run (Err RunFull) = Err Memory
+within_run said = said
+
+-- what is answered where all came to this, and the force behind it was answered so
+abbrev pub behind_force : Result Outcome Refusal → Result ℕ Refusal → Result Outcome Refusal
+behind_force said (Ok number) = within_run said
+behind_force said (Err e) = Err e
+
+-- all is made durable, or that is refused
+abbrev pub Forcing : (said : Result Outcome Refusal) → List Event → Result Outcome Refusal → Type 0
+Forcing said events result = (answer : Result ℕ Refusal) × Made (Force answer) events × (result ≡ behind_force said answer)
+
+-- what comes behind work that came to this
+abbrev pub EndsWork : Behind → (said : Result Outcome Refusal) → List Event → Result Outcome Refusal → Type 0
+EndsWork no_more said events result = (events ≡ []) × (result ≡ said)
+EndsWork forces said events result = Forcing said events result
+EndsWork reuses said events result = (came : Result Outcome Refusal) × Then (λ xs. Reusing said xs came) (λ ys. Forcing came ys result) events
+
+-- ---- a command
+
+-- its work is done with what comes behind it, or it is refused before it begins
 abbrev pub DoesWork : List Rule → Command → Result Work Refusal → List Event → Result Outcome Refusal → Type 0
-DoesWork choice c (Ok work) events result = Does choice c work events result
+DoesWork choice c (Ok work) events result = (said : Result Outcome Refusal) × Then (λ xs. Does choice c work xs said) (λ ys. EndsWork (behind c) said ys result) events
 DoesWork choice c (Err why) events result = (events ≡ []) × (result ≡ Err why)
 
 -- A command: its look-ups are asked, and by their answers its work is done, or it is refused. Memory may be wanted before either.

@@ -1,5 +1,6 @@
 pub mod Answering
 pub mod Answers
+pub mod Behind
 pub mod Doing
 pub mod Lines
 pub mod Owns

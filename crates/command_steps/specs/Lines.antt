@@ -1,27 +1,21 @@
 -- What a line of the script asks.
-use Rattle.std.specs.Prelude.{Bool, true, false, not, if◌then◌else◌, List, ℕ, Result, Ok, Err}
+use Rattle.std.specs.Prelude.{Bool, true, false, if◌then◌else◌, List, ℕ, Result, Ok, Err}
 use Rattle.kinds.specs.declared.refusal.Refusal.{Refusal}
 use Rattle.kinds.specs.declared.refusal.Refusal.TheVariants.{UnknownWord}
 use Rattle.command_words.specs.Comments.{is_comment}
 use Rattle.admin_words.specs.Line.{command}
 use Rattle.admin_words.specs.declared.command.Command.{Command}
 use Rattle.admin_words.specs.declared.command.Command.TheVariants as commands
-use Rattle.admin_words.specs.declared.command.NodeCommand.{NodeCommand}
-use Rattle.admin_words.specs.declared.command.NodeCommand.TheVariants.{DeleteFilespace}
 use Rattle.admin_words.specs.declared.command.PoolCommand.{PoolCommand}
 use Rattle.admin_words.specs.declared.command.PoolCommand.TheVariants.{BackupPool, MigrateAll, MigratePool, ReclaimPool, RestorePool}
 use Rattle.admin_words.specs.declared.command.VolumeCommand.{VolumeCommand}
-use Rattle.admin_words.specs.declared.command.VolumeCommand.TheVariants.{AuditVolume, DeleteVolume, MoveData, RestoreVolume, ReuseVolumes}
+use Rattle.admin_words.specs.declared.command.VolumeCommand.TheVariants.{AuditVolume, MoveData, RestoreVolume}
 use Rattle.admin_words.specs.declared.command.FileCommand.{FileCommand}
 use Rattle.admin_words.specs.declared.command.FileCommand.TheVariants.{Get, Put}
 use Rattle.admin_words.specs.declared.command.DatabaseCommand.{DatabaseCommand}
-use Rattle.admin_words.specs.declared.command.DatabaseCommand.TheVariants.{BackupDatabase, DeleteHistory, ExpireInventory}
+use Rattle.admin_words.specs.declared.command.DatabaseCommand.TheVariants.{BackupDatabase, DeleteHistory}
 
 -- the commands of each family that the server does so far
-abbrev pub does_node : NodeCommand → Bool
-does_node (DeleteFilespace f) = false
-does_node _ = true
-
 abbrev pub does_pool : PoolCommand → Bool
 does_pool (BackupPool b) = false
 does_pool MigrateAll = false
@@ -32,10 +26,8 @@ does_pool _ = true
 
 abbrev pub does_volume : VolumeCommand → Bool
 does_volume (AuditVolume a) = false
-does_volume (DeleteVolume d) = not d.discard_data
 does_volume (MoveData m) = false
 does_volume (RestoreVolume v) = false
-does_volume ReuseVolumes = false
 does_volume _ = true
 
 abbrev pub does_file : FileCommand → Bool
@@ -46,14 +38,13 @@ does_file _ = false
 abbrev pub does_database : DatabaseCommand → Bool
 does_database (BackupDatabase b) = false
 does_database (DeleteHistory h) = false
-does_database ExpireInventory = false
 does_database _ = true
 
 -- whether the server does a command so far; every other one is refused like an unknown word
 abbrev pub is_done : Command → Bool
 is_done (commands.Policy c) = true
 is_done (commands.Class c) = true
-is_done (commands.Node c) = does_node c
+is_done (commands.Node c) = true
 is_done (commands.Pool c) = does_pool c
 is_done (commands.Volume c) = does_volume c
 is_done (commands.File c) = does_file c

@@ -1,5 +1,5 @@
 -- Work of a command that is no one change and no one query.
-use Rattle.std.specs.Prelude.{List, length, ℕ}
+use Rattle.std.specs.Prelude.{if◌then◌else◌, List, length, ℕ}
 use Rattle.kinds.specs.declared.change.PoolChange.TheVariants as store
 use Rattle.kinds.specs.declared.change.Verb.TheVariants as verb
 use Rattle.client_trees.specs.Files.{ClientFile}
@@ -9,23 +9,32 @@ use Rattle.entries.specs.declared.change.Change.TheVariants as change
 use Rattle.admin_words.specs.declared.command.Command.{Command}
 use Rattle.admin_words.specs.declared.command.Command.TheVariants as commands
 use Rattle.admin_words.specs.declared.command.DatabaseCommand.{DatabaseCommand}
-use Rattle.admin_words.specs.declared.command.DatabaseCommand.TheVariants.{Checkpoint}
+use Rattle.admin_words.specs.declared.command.DatabaseCommand.TheVariants.{Checkpoint, ExpireInventory}
 use Rattle.admin_words.specs.declared.command.FileCommand.{FileCommand}
 use Rattle.admin_words.specs.declared.command.FileCommand.TheVariants.{Get, Put}
+use Rattle.admin_words.specs.declared.command.NodeCommand.{NodeCommand}
+use Rattle.admin_words.specs.declared.command.NodeCommand.TheVariants.{DeleteFilespace}
 use Rattle.admin_words.specs.declared.command.PolicyCommand.{PolicyCommand}
 use Rattle.admin_words.specs.declared.command.PolicyCommand.TheVariants.{ValidateSet}
+use Rattle.admin_words.specs.declared.command.VolumeCommand.{VolumeCommand}
+use Rattle.admin_words.specs.declared.command.VolumeCommand.TheVariants.{DeleteVolume, ReuseVolumes}
 use Rattle.admin_words.specs.declared.files.FileGet.{FileGet}
 use Rattle.admin_words.specs.declared.files.FilePut.{FilePut}
 use Rattle.admin_words.specs.declared.policy.NamedSet.{NamedSet}
 use Rattle.reports.specs.declared.shown.Shown.{Shown}
 use Rattle.reports.specs.declared.shown.Shown.TheVariants.{DeletedVolume, Done, Reused}
 
--- VALIDATE of a policy set, PUT, GET, CHECKPOINT; and what isn't done so far
+-- VALIDATE of a policy set, PUT, GET, CHECKPOINT, EXPIRE INVENTORY; DELETE FILESPACE, and DELETE VOLUME with its data, over the number of what they name; REUSE VOLUMES, which does nothing but what
+-- comes behind it; and what isn't done so far
 pub data Own : Type 0 where
   validate : (set : NamedSet) → Own
   put : (file : FilePut) → Own
   get : (file : FileGet) → Own
   checkpoint : Own
+  expire : Own
+  empty_filespace : Own
+  empty_volume : Own
+  none_but_reuse : Own
   none_yet : Own
 
 abbrev pub policy_own : PolicyCommand → Own
@@ -39,10 +48,22 @@ file_own _ = none_yet
 
 abbrev pub database_own : DatabaseCommand → Own
 database_own Checkpoint = checkpoint
+database_own ExpireInventory = expire
 database_own _ = none_yet
+
+abbrev pub node_own : NodeCommand → Own
+node_own (DeleteFilespace f) = empty_filespace
+node_own _ = none_yet
+
+abbrev pub volume_own : VolumeCommand → Own
+volume_own (DeleteVolume d) = if d.discard_data then empty_volume else none_yet
+volume_own ReuseVolumes = none_but_reuse
+volume_own _ = none_yet
 
 abbrev pub own_of : Command → Own
 own_of (commands.Policy c) = policy_own c
+own_of (commands.Node c) = node_own c
+own_of (commands.Volume c) = volume_own c
 own_of (commands.File c) = file_own c
 own_of (commands.Database c) = database_own c
 own_of _ = none_yet
@@ -54,8 +75,7 @@ file_put p = record { bytes = p.text; mtime = p.mtime }
 abbrev pub row_put : FilePut → FileRow
 row_put p = record { path = p.path; size = length p.text; mtime = p.mtime }
 
--- the last line of a change: of a new day with how many volumes are used again, of which there are none as long as no command takes copies away; of a volume that is
--- taken off its pool, on which nothing lay
+-- the last line of a change: of a new day with how many volumes are used again, before any is; of a volume that is taken off its pool, on which nothing lay
 abbrev pub last_of : Change → Shown
 last_of (change.Day day) = Reused 0
 last_of (change.Pool (store.Volume verb.Delete name pool file capacity access)) = DeletedVolume 0 0

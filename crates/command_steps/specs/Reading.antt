@@ -1,10 +1,13 @@
--- The code's values of what a line is, and of work of a command's own.
+-- The code's values of what a line is, of work of a command's own, and of what comes behind it.
+use Rattle.command_steps.specs.Behind as comes
 use Rattle.command_steps.specs.Lines.{Line, asks, comment, refused}
 use Rattle.command_steps.specs.Owns as owns
+use Rattle.command_steps.specs.declared.behind.Behind.{Behind}
+use Rattle.command_steps.specs.declared.behind.Behind.TheVariants.{Forces, NoMore, Reuses}
 use Rattle.command_steps.specs.declared.lines.Line as code
 use Rattle.command_steps.specs.declared.lines.Line.TheVariants.{Asks, Comment, Refused}
 use Rattle.command_steps.specs.declared.own.Own.{Own}
-use Rattle.command_steps.specs.declared.own.Own.TheVariants.{Checkpoint, Get, NoneYet, Put, Validate}
+use Rattle.command_steps.specs.declared.own.Own.TheVariants.{Checkpoint, EmptyFilespace, EmptyVolume, Expire, Get, NoneButReuse, NoneYet, Put, Validate}
 
 -- what the code's value stands for
 abbrev pub line_view : code.Line → Line
@@ -17,4 +20,13 @@ own_view (Validate set) = owns.validate set.now
 own_view (Put file) = owns.put file.now
 own_view (Get file) = owns.get file.now
 own_view Checkpoint = owns.checkpoint
+own_view Expire = owns.expire
+own_view EmptyFilespace = owns.empty_filespace
+own_view EmptyVolume = owns.empty_volume
+own_view NoneButReuse = owns.none_but_reuse
 own_view NoneYet = owns.none_yet
+
+abbrev pub behind_view : Behind → comes.Behind
+behind_view NoMore = comes.no_more
+behind_view Forces = comes.forces
+behind_view Reuses = comes.reuses

@@ -1,5 +1,5 @@
 // What a command does.
-ghost use Rattle.std.specs.Prelude.{◌≡◌, ◌≤◌, ◌^◌, Some, length, IfErr, IfOk};
+ghost use Rattle.std.specs.Prelude.{◌≡◌, ◌≤◌, ◌^◌, true, Ok, Some, length, IfErr, IfOk};
 ghost use Rattle.kinds.specs.declared.refusal.Refusal.TheVariants.{Memory};
 ghost use Rattle.entries.specs.declared.change.Change.TheVariants.{Pool};
 ghost use Rattle.client_trees.specs.Files.{file_at};
@@ -11,10 +11,14 @@ ghost use Rattle.sessions.specs.Checkpoints.{Checkpointing};
 ghost use Rattle.sessions.specs.Getting.{Gets};
 ghost use Rattle.sessions.specs.InTurn.{OrMemory};
 ghost use Rattle.steps.specs.Calls.{Call};
-ghost use Rattle.command_steps.specs.Doing.{Does, DoesOwn, DoesWork, Doing, Gives, PutsText, Told, Validates, validated_by, validity, within_memory};
+ghost use Rattle.deletions.specs.Filespaces.{FilespaceDeletion};
+ghost use Rattle.deletions.specs.Volumes.{VolumeDeletion};
+ghost use Rattle.expiration.specs.Expiring.{Expiration};
+ghost use Rattle.command_steps.specs.Doing.{Does, DoesOwn, DoesWork, Doing, Gives, PutsText, Told, Validates, the_number, validated_by, validity, within_memory};
 ghost use Rattle.command_steps.specs.Owns.{file_put, last_of, own_of, row_put};
 ghost use Rattle.command_steps.specs.declared.outcome.Outcome.TheVariants as outcome;
 
+use crate::behind::{behind, end_work};
 use crate::looking::look_up;
 use crate::outcome::Outcome;
 use crate::own::{Own, own_of};
@@ -24,7 +28,9 @@ use admin_words::files::{FileGet, FilePut};
 use admin_words::policy::NamedSet;
 use choosers::Binder;
 use client_trees::{FileRow, MemTree, Tree};
+use deletions::{Removed, delete_filespace, delete_volume};
 use entries::Change;
+use expiration::expire;
 use inventory_answers::{Answer, Query, Rows};
 use kinds::{FilespaceName, Name, NodeName, Path, PoolChange, Refusal, Verb};
 use reports::Shown;
@@ -321,6 +327,51 @@ fn keep<P: Stepper>(p: &mut P) -> Result<Outcome, Refusal>
     }
 }
 
+/// Removes what isn't retained.
+fn expire_all<P: Stepper>(alloc: Global, p: &mut P) -> Result<Outcome, Refusal>
+    ensures { Call P.did p.old p.new (λ events. Gives Expiration (λ expired. outcome.Said (shown.Expired expired 0)) events result) }
+{
+    match expire(alloc, p) {
+        Ok(expired) => Ok(Outcome::Said(Shown::Expired { expired, reused: 0 })),
+        Err(refusal) => Err(refusal),
+    }
+}
+
+/// The number of the one thing that a command names.
+fn the_number(numbers: &[u32]) -> u32
+    ensures { result ≡ the_number numbers.now }
+{
+    match numbers {
+        [number, ..] => *number,
+        _ => 0,
+    }
+}
+
+/// Deletes a filespace with what is kept in it.
+fn empty_filespace<P: Stepper>(alloc: Global, p: &mut P, filespace: u32) -> Result<Outcome, Refusal>
+    ensures { Call P.did p.old p.new (λ events. Gives (FilespaceDeletion filespace) (λ discarded. outcome.Said (shown.DiscardedFilespace discarded 0)) events result) }
+{
+    match delete_filespace(alloc, p, filespace) {
+        Ok(discarded) => Ok(Outcome::Said(Shown::DiscardedFilespace {
+            discarded,
+            reused: 0,
+        })),
+        Err(refusal) => Err(refusal),
+    }
+}
+
+/// Deletes a volume with what lies on it.
+fn empty_volume<P: Stepper>(alloc: Global, p: &mut P, file: u32) -> Result<Outcome, Refusal>
+    ensures { Call P.did p.old p.new (λ events. Gives (VolumeDeletion true file) (λ went. outcome.Said (shown.DeletedVolume went.discarded went.dropped)) events result) }
+{
+    match delete_volume(alloc, p, file, true) {
+        Ok(Removed { discarded, dropped }) => {
+            Ok(Outcome::Said(Shown::DeletedVolume { discarded, dropped }))
+        }
+        Err(refusal) => Err(refusal),
+    }
+}
+
 /// Does what is no one change and no one query, over the numbers of the things that the command names.
 fn run_own<P: Stepper>(
     alloc: Global,
@@ -335,12 +386,15 @@ fn run_own<P: Stepper>(
     ensures does { Call P.did p.old p.new (λ events. DoesOwn binder.now (own_of command.now) numbers.now events result) }
     ensures long { length buffer.new ≡ length buffer.old }
 {
-    let _numbers = numbers;
     match own_of(command) {
         Own::Validate(set) => validate(p, set),
         Own::Put(file) => put(alloc, p, binder, buffer, file),
         Own::Get(file) => get(alloc, p, buffer, file),
         Own::Checkpoint => keep(p),
+        Own::Expire => expire_all(alloc, p),
+        Own::EmptyFilespace => empty_filespace(alloc, p, the_number(numbers)),
+        Own::EmptyVolume => empty_volume(alloc, p, the_number(numbers)),
+        Own::NoneButReuse => Ok(Outcome::Said(Shown::Reused { reused: 0 })),
         Own::NoneYet => Err(Refusal::UnknownWord(1)),
     }
 }
@@ -376,6 +430,24 @@ fn do_work<P: Stepper>(
     }
 }
 
+/// Does a command's work, and what comes behind it.
+fn do_all<P: Stepper>(
+    alloc: Global,
+    p: &mut P,
+    binder: &Binder,
+    buffer: &mut [u8],
+    command: &Command,
+    work: Work,
+) -> Result<Outcome, Refusal>
+    requires some { 1 ≤ length buffer.old }
+    requires few { length buffer.old ≤ 2 ^ 16 }
+    ensures does { Call P.did p.old p.new (λ events. DoesWork binder.now command.now (Ok work) events result) }
+    ensures long { length buffer.new ≡ length buffer.old }
+{
+    let said = do_work(alloc, p, binder, buffer, command, work);
+    end_work(p, behind(command), said)
+}
+
 /// Does the work of a command, by the answers to its look-ups.
 fn work_on<P: Stepper>(
     alloc: Global,
@@ -391,7 +463,7 @@ fn work_on<P: Stepper>(
     ensures long { length buffer.new ≡ length buffer.old }
 {
     match work_of(alloc, command, answers) {
-        Ok(work) => do_work(alloc, p, binder, buffer, command, work),
+        Ok(work) => do_all(alloc, p, binder, buffer, command, work),
         Err(refusal) => Err(refusal),
     }
 }

@@ -2,6 +2,7 @@
 #![tactic(auto)]
 
 mod answering;
+mod behind;
 mod doing;
 mod lines;
 mod looking;

@@ -1,10 +1,10 @@
 // What a line of the script is.
 ghost use Rattle.std.specs.Prelude.{◌≡◌, ◌<◌, ◌-◌, ◌^◌, false, length, IfOk, IfErr};
 ghost use Rattle.kinds.specs.declared.refusal.Refusal.TheVariants.{Memory};
-ghost use Rattle.command_steps.specs.Lines.{does_node, does_pool, does_volume, does_file, does_database, is_done, line_of};
+ghost use Rattle.command_steps.specs.Lines.{does_pool, does_volume, does_file, does_database, is_done, line_of};
 ghost use Rattle.command_steps.specs.Reading.{line_view};
 
-use admin_words::command::{DatabaseCommand, FileCommand, NodeCommand, PoolCommand, VolumeCommand};
+use admin_words::command::{DatabaseCommand, FileCommand, PoolCommand, VolumeCommand};
 use admin_words::{Command, read_line};
 use command_words::is_comment;
 use kinds::Refusal;
@@ -19,15 +19,6 @@ pub(crate) enum Line {
     Refused(Refusal),
     /// A command that the server does.
     Asks(Command),
-}
-
-fn does_node(command: &NodeCommand) -> bool
-    ensures { result ≡ does_node command.now }
-{
-    match command {
-        NodeCommand::DeleteFilespace(_) => false,
-        _ => true,
-    }
 }
 
 fn does_pool(command: &PoolCommand) -> bool
@@ -47,11 +38,9 @@ fn does_volume(command: &VolumeCommand) -> bool
     ensures { result ≡ does_volume command.now }
 {
     match command {
-        VolumeCommand::DeleteVolume(it) => !it.discard_data,
         VolumeCommand::AuditVolume(_)
         | VolumeCommand::MoveData(_)
-        | VolumeCommand::RestoreVolume(_)
-        | VolumeCommand::ReuseVolumes => false,
+        | VolumeCommand::RestoreVolume(_) => false,
         _ => true,
     }
 }
@@ -69,9 +58,7 @@ fn does_database(command: &DatabaseCommand) -> bool
     ensures { result ≡ does_database command.now }
 {
     match command {
-        DatabaseCommand::BackupDatabase(_)
-        | DatabaseCommand::DeleteHistory(_)
-        | DatabaseCommand::ExpireInventory => false,
+        DatabaseCommand::BackupDatabase(_) | DatabaseCommand::DeleteHistory(_) => false,
         _ => true,
     }
 }
@@ -81,8 +68,7 @@ fn is_done(command: &Command) -> bool
     ensures { result ≡ is_done command.now }
 {
     match command {
-        Command::Policy(_) | Command::Class(_) => true,
-        Command::Node(it) => does_node(it),
+        Command::Policy(_) | Command::Class(_) | Command::Node(_) => true,
         Command::Pool(it) => does_pool(it),
         Command::Volume(it) => does_volume(it),
         Command::File(it) => does_file(it),

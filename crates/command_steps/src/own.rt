@@ -1,10 +1,12 @@
 // Work that is no one change and no one query.
 ghost use Rattle.std.specs.Prelude.{◌≡◌};
-ghost use Rattle.command_steps.specs.Owns.{policy_own, file_own, database_own, own_of};
+ghost use Rattle.command_steps.specs.Owns.{policy_own, node_own, volume_own, file_own, database_own, own_of};
 ghost use Rattle.command_steps.specs.Reading.{own_view};
 
 use admin_words::Command;
-use admin_words::command::{DatabaseCommand, FileCommand, PolicyCommand};
+use admin_words::command::{
+    DatabaseCommand, FileCommand, NodeCommand, PolicyCommand, VolumeCommand,
+};
 use admin_words::files::{FileGet, FilePut};
 use admin_words::policy::NamedSet;
 
@@ -19,6 +21,14 @@ pub(crate) enum Own<'a> {
     Get(&'a FileGet),
     /// CHECKPOINT.
     Checkpoint,
+    /// EXPIRE INVENTORY.
+    Expire,
+    /// DELETE FILESPACE, over the filespace's number.
+    EmptyFilespace,
+    /// DELETE VOLUME with its data, over the number of the volume's file.
+    EmptyVolume,
+    /// REUSE VOLUMES, which does nothing but what comes behind it.
+    NoneButReuse,
     /// What isn't done so far.
     NoneYet,
 }
@@ -47,6 +57,32 @@ fn database_own(command: &DatabaseCommand) -> Own<'_>
 {
     match command {
         DatabaseCommand::Checkpoint => Own::Checkpoint,
+        DatabaseCommand::ExpireInventory => Own::Expire,
+        _ => Own::NoneYet,
+    }
+}
+
+fn node_own(command: &NodeCommand) -> Own<'_>
+    ensures { own_view result ≡ node_own command.now }
+{
+    match command {
+        NodeCommand::DeleteFilespace(_) => Own::EmptyFilespace,
+        _ => Own::NoneYet,
+    }
+}
+
+fn volume_own(command: &VolumeCommand) -> Own<'_>
+    ensures { own_view result ≡ volume_own command.now }
+{
+    match command {
+        VolumeCommand::DeleteVolume(it) => {
+            if it.discard_data {
+                Own::EmptyVolume
+            } else {
+                Own::NoneYet
+            }
+        }
+        VolumeCommand::ReuseVolumes => Own::NoneButReuse,
         _ => Own::NoneYet,
     }
 }
@@ -57,6 +93,8 @@ pub(crate) fn own_of(command: &Command) -> Own<'_>
 {
     match command {
         Command::Policy(it) => policy_own(it),
+        Command::Node(it) => node_own(it),
+        Command::Volume(it) => volume_own(it),
         Command::File(it) => file_own(it),
         Command::Database(it) => database_own(it),
         _ => Own::NoneYet,

@@ -86,7 +86,7 @@ own-why : (what : Change) (old : Machine) (o : Option Refusal) → is_plain what
 own-why what old o plain rest h = ap foremost (sym (own-is what old plain rest)) ∙ h
 
 -- no ticket is spent
-spent-none : (c : Core) → c.tickets ≡ [] → with_tickets (without 0 [] c.tickets) c ≡ c
+pub spent-none : (c : Core) → c.tickets ≡ [] → with_tickets (without 0 [] c.tickets) c ≡ c
 spent-none c h = ap (λ (ts : List Ticket). with_tickets (without 0 [] ts) c) h ∙ ap (λ (ts : List Ticket). with_tickets ts c) (sym h)
 
 committed-is : (what drawn : Change) (c : Core) → c.tickets ≡ [] → Some drawn ≡ Some what → committed 0 what [] c ≡ made 0 drawn c

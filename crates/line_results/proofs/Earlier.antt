@@ -23,9 +23,10 @@ use Rattle.machine.specs.State.{Machine, Place}
 use Rattle.sessions.specs.Homes.{home_of}
 use Rattle.sessions.specs.declared.getting.FileRead.{FileRead}
 use Rattle.sessions.specs.declared.homes.Home.{Home}
-use Rattle.command_steps.specs.Owns.{Own, checkpoint, get, none_yet, own_of, put, validate}
+use Rattle.command_steps.specs.Behind.{Behind, forces, no_more, reuses}
+use Rattle.command_steps.specs.Owns.{Own, checkpoint, empty_filespace, empty_volume, expire, get, none_but_reuse, none_yet, own_of, put, validate}
 use Rattle.command_steps.specs.declared.outcome.Outcome.{Outcome}
-use Rattle.line_results.specs.Commands.{Does, DoesOwn, Tells, drawn}
+use Rattle.line_results.specs.Commands.{Does, DoesOwn, Processes, Tells, Works, WorksWith, drawn}
 use Rattle.line_results.specs.Files.{Gets, GetsNot, GetsOf, GetsUnder, Puts, PutsBy, PutsHome, PutsOf, PutsUnder, Shows, ShowsFound, Stores, StoresAt, StoresBy, active_at, why_no_place}
 use Rattle.line_results.specs.Resting.{Breaks, EndsRun, RoseFrom, database}
 use Rattle.line_results.proofs.Runs.{Became, is-as, onward-then, rose-from}
@@ -129,18 +130,52 @@ module _ (trusted : Type 0) (old mid new : Machine) (b : Became old.core old mid
 -- ---- work
 
 module _ (trusted : Type 0) (places : Places) (choice : List Rule) (result : Result Outcome Refusal) (added : List Entry) (old mid new : Machine) (b : Became old.core old mid) where
-  own-as : (own : Own) → DoesOwn trusted places choice own (later_of old mid) new result added → DoesOwn trusted places choice own old new result added
-  own-as (validate set) h = tells-as _ result added old mid new b h
-  own-as (put p) (answer, puts, is, image) = (answer, puts-as places choice p answer old mid new b added puts, is, image)
-  own-as (get g) (answer, gets, is, none, image, bytes) = (answer, gets-as trusted old mid new b g answer gets, is, none, image, bytes)
-  own-as checkpoint (answer, came, is, none, bytes) = (answer, came-as answer old mid new b came, is, none, bytes)
-  own-as none_yet h = tells-as _ result added old mid new b h
+  processes-as : (numbers : List ℕ) (own : Own) → Processes trusted places choice numbers own (later_of old mid) new result added → Processes trusted places choice numbers own old new result added
+  processes-as numbers own ((start, events, still, alone, did), are, image, bytes) = (
+    (start, events, record { core = still.core; contents = still.contents; onward = onward-then old (later_of old mid) start (on-later old mid b) still.onward }, alone, did),
+    are,
+    image,
+    bytes,
+  )
+
+  own-as : (numbers : List ℕ) (own : Own) → DoesOwn trusted places choice numbers own (later_of old mid) new result added → DoesOwn trusted places choice numbers own old new result added
+  own-as numbers (validate set) h = tells-as _ result added old mid new b h
+  own-as numbers (put p) (answer, puts, is, image) = (answer, puts-as places choice p answer old mid new b added puts, is, image)
+  own-as numbers (get g) (answer, gets, is, none, image, bytes) = (answer, gets-as trusted old mid new b g answer gets, is, none, image, bytes)
+  own-as numbers checkpoint (answer, came, is, none, bytes) = (answer, came-as answer old mid new b came, is, none, bytes)
+  own-as numbers expire h = processes-as numbers expire h
+  own-as numbers empty_filespace h = processes-as numbers empty_filespace h
+  own-as numbers empty_volume h = processes-as numbers empty_volume h
+  own-as numbers none_but_reuse h = tells-as _ result added old mid new b h
+  own-as numbers none_yet h = tells-as _ result added old mid new b h
 
   does-as : (c : Command) (w : Result Work Refusal) → Does trusted places choice c w (later_of old mid) new result added → Does trusted places choice c w old new result added
   does-as c (Err why) h = tells-as (Err why) result added old mid new b h
   does-as c (Ok (Commit what)) (answer, commits, is, image, bytes) = (answer, commits-as (drawn what old) answer added old mid new b commits, is, image, bytes)
   does-as c (Ok (Show q)) h = tells-as _ result added old mid new b h
-  does-as c (Ok (Run numbers)) h = own-as (own_of c) h
+  does-as c (Ok (Run numbers)) h = own-as numbers (own_of c) h
 
-  pub does-since : (c : Command) (w : Result Work Refusal) → Does trusted places choice c w mid new result added → Does trusted places choice c w old new result added
-  does-since c w h = does-as c w (subst (λ (m : Machine). Does trusted places choice c w m new result added) (is-as old.core old mid b) h)
+module _ (trusted : Type 0) (places : Places) (choice : List Rule) (result : Result Outcome Refusal) (added : List Entry) (old mid new : Machine) (b : Became old.core old mid) where
+  with-as : (c : Command) (w : Result Work Refusal) (k : Behind) → WorksWith trusted places choice c w k (later_of old mid) new result added → WorksWith trusted places choice c w k old new result added
+  with-as c w k h = record {
+    said = h.said;
+    mid = h.mid;
+    first = h.first;
+    later = h.later;
+    parts = h.parts;
+    adds = record { base = h.adds.base; journal = h.adds.journal };
+    does = does-as trusted places choice h.said h.first old mid h.mid b c w h.does;
+    ends = h.ends;
+    reused = h.reused;
+    cause = λ e how is halts. ends-as old mid new e b (h.cause e how is halts);
+  }
+
+  works-as : (c : Command) (w : Result Work Refusal) (k : Behind) → Works trusted places choice c w k (later_of old mid) new result added → Works trusted places choice c w k old new result added
+  works-as c w no_more h = does-as trusted places choice result added old mid new b c w h
+  works-as c (Err why) forces h = tells-as (Err why) result added old mid new b h
+  works-as c (Err why) reuses h = tells-as (Err why) result added old mid new b h
+  works-as c (Ok work) forces h = with-as c (Ok work) forces h
+  works-as c (Ok work) reuses h = with-as c (Ok work) reuses h
+
+  pub works-since : (c : Command) (w : Result Work Refusal) (k : Behind) → Works trusted places choice c w k mid new result added → Works trusted places choice c w k old new result added
+  works-since c w k h = works-as c w k (subst (λ (m : Machine). Works trusted places choice c w k m new result added) (is-as old.core old mid b) h)

@@ -67,12 +67,14 @@ use Rattle.sessions.specs.Homes.{home_at, home_in, home_of, home_under}
 use Rattle.sessions.specs.declared.getting.FileRead.{FileRead}
 use Rattle.sessions.specs.declared.homes.Home.{Home}
 use Rattle.command_steps.specs.Answers.{halt_by}
+use Rattle.command_steps.specs.Behind.{Behind, behind, forces, no_more, reuses}
 use Rattle.command_steps.specs.Owns.{Own, checkpoint, get, last_of, none_yet, own_of, put, validate}
 use Rattle.command_steps.specs.declared.outcome.Outcome.{Outcome}
 use Rattle.command_steps.specs.declared.outcome.Outcome.TheVariants.{Read, Rows, Said}
-use Rattle.line_results.specs.Commands.{Comes, Does, DoesOwn, answers_to, drawn, validated, work_over}
+use Rattle.line_results.specs.Commands.{Comes, Does, DoesOwn, Works, answers_to, drawn, validated, work_over}
 use Rattle.line_results.specs.Files.{Checkpoints, Gets, GetsOf, GetsUnder, IsPlacedIn, Puts, PutsBy, PutsHome, PutsOf, PutsUnder, ShowsFound, Stores, StoresAt, StoresBy, active_at, backed_up, filespace_defined, why_no_place}
 use Rattle.line_results.specs.Resting.{Commits, EndsNoRun, EndsRun, database, why_not}
+use Rattle.line_results.proofs.Kinds.{IsPlainOwn, kind}
 use Rattle.line_results.proofs.Mild.{IsMild, is_common, m-after, m-found, m-if, m-on, m-refused, mild-err}
 use Rattle.line_results.proofs.Needs.{IsPlainWork, work-plain}
 use Rattle.line_results.proofs.Runs.{ends-since}
@@ -358,30 +360,45 @@ tells-end told e how old new mild (inl same) is = absurd (not-end e how (mild-er
 tells-end told e how old new mild (inr (f, same, ends)) is = subst (λ (x : Refusal). EndsRun old new x) (sym (ap outcome_error same)) ends
 
 module _ (trusted : Type 0) (places : Places) (goes_on : EndsNoRun places) (choice : List Rule) (e : Refusal) (how : Halt) (is : halt_by e ≡ Some how) (old new : Machine) (added : List Entry) where
-  own-ends : (own : Own) → DoesOwn trusted places choice own old new (Err e) added → EndsRun old new e
-  own-ends (validate set) h =
+  own-ends : (own : Own) (numbers : List ℕ) → IsPlainOwn own → DoesOwn trusted places choice numbers own old new (Err e) added → EndsRun old new e
+  own-ends (validate set) numbers so h =
       tells-end (on_ok (λ it. Said Done) (validated set (database old))) e how old new
       (m-on (λ it. Said Done) (validated set (database old)) (m-on (λ domains. tt {0}) (after (policy.Activate set.domain set.set) (database old).domains) (m-after (policy.Activate set.domain set.set) (database old).domains))) h.0 is
-  own-ends (put p) (answer, puts, same, image) =
+  own-ends (put p) numbers so (answer, puts, same, image) =
       let r = on-err (λ object. Said (Stored object)) answer e (sym same) in
       puts-end places goes_on choice p e how is old new added (subst (λ (x : Refusal). Puts places choice p old new (Err x) added) r.2 (subst (λ (x : Result ℕ Refusal). Puts places choice p old new x added) r.1 puts))
-  own-ends (get g) (answer, gets, same, none, image, bytes) =
+  own-ends (get g) numbers so (answer, gets, same, none, image, bytes) =
       let r = on-err Read answer e (sym same) in
       gets-end trusted g e how is old new (subst (λ (x : Refusal). Gets trusted g old new (Err x)) r.2 (subst (λ (x : Result FileRead Refusal). Gets trusted g old new x) r.1 gets))
-  own-ends checkpoint (answer, came, same, none, bytes) =
+  own-ends checkpoint numbers so (answer, came, same, none, bytes) =
       let r = on-err (λ seq. Said Done) answer e (sym same) in
       checkpoint-ends e how old new (subst (λ (x : Refusal). Checkpoints {A = ℕ} old new (Err x)) r.2 (subst (λ (x : Result ℕ Refusal). Checkpoints old new x) r.1 came)) is
-  own-ends none_yet h = tells-end (Err (refused.UnknownWord 1)) e how old new refl h.0 is
+  own-ends none_yet numbers so h = tells-end (Err (refused.UnknownWord 1)) e how old new refl h.0 is
+  own-ends own numbers so h = absurd so
 
-  does-end : (c : Command) (w : Result Work Refusal) → IsMild w → IsCommonWork w → Does trusted places choice c w old new (Err e) added → EndsRun old new e
-  does-end c (Err why) mild common h = tells-end (Err why) e how old new mild h.0 is
-  does-end c (Ok (Commit what)) mild common (answer, commits, same, image, bytes) =
+  does-end : (c : Command) (w : Result Work Refusal) → IsPlainOwn (own_of c) → IsMild w → IsCommonWork w → Does trusted places choice c w old new (Err e) added → EndsRun old new e
+  does-end c (Err why) so mild common h = tells-end (Err why) e how old new mild h.0 is
+  does-end c (Ok (Commit what)) so mild common (answer, commits, same, image, bytes) =
       let r = on-err (λ number. Said (last_of what)) answer e (sym same) in
       commits-end ℕ (drawn what old) e how old new added (filled-common old.core.next_file (database old) what common)
       (subst (λ (x : Refusal). Commits {A = ℕ} (drawn what old) old new (Err x) added) r.2 (subst (λ (x : Result ℕ Refusal). Commits (drawn what old) old new x added) r.1 commits)) is
-  does-end c (Ok (Show q)) mild common h = tells-end (on_ok Rows (answered q (database old))) e how old new (m-on Rows (answered q (database old)) (m-answered q (database old))) h.0 is
-  does-end c (Ok (Run numbers)) mild common h = own-ends (own_of c) h
+  does-end c (Ok (Show q)) so mild common h = tells-end (on_ok Rows (answered q (database old))) e how old new (m-on Rows (answered q (database old)) (m-answered q (database old))) h.0 is
+  does-end c (Ok (Run numbers)) so mild common h = own-ends (own_of c) numbers so h
+
+  -- of a process it says so itself
+  process-end : (c : Command) (w : Result Work Refusal) (b : Behind) → (b ≡ no_more → ⊥) → IsMild w → Works trusted places choice c w b old new (Err e) added → EndsRun old new e
+  process-end c w no_more some mild h = absurd (some refl)
+  process-end c (Err why) forces some mild h = tells-end (Err why) e how old new mild h.0 is
+  process-end c (Err why) reuses some mild h = tells-end (Err why) e how old new mild h.0 is
+  process-end c (Ok work) forces some mild h = h.cause e how refl is
+  process-end c (Ok work) reuses some mild h = h.cause e how refl is
+
+  work-end : (c : Command) (w : Result Work Refusal) → IsMild w → IsCommonWork w → Works trusted places choice c w (behind c) old new (Err e) added → EndsRun old new e
+  work-end c w mild common h = elim (kind c) as (λ _. EndsRun old new e) [
+    | inl it ↦ does-end c w it.1 mild common (subst (λ (b : Behind). Works trusted places choice c w b old new (Err e) added) it.0 h)
+    | inr it ↦ process-end c w (behind c) it.some mild h
+  ]
 
   pub comes-end : (c : Command) → Comes trusted places choice c old new (Err e) added → EndsRun old new e
   comes-end c (inl (f, same, ends, none, image, bytes), full) = subst (λ (x : Refusal). EndsRun old new x) (sym (ap outcome_error same)) ends
-  comes-end c (inr does, full) = does-end c (work_over c (database old)) (m-work c (database old)) (c-work c (database old)) does
+  comes-end c (inr does, full) = work-end c (work_over c (database old)) (m-work c (database old)) (c-work c (database old)) does

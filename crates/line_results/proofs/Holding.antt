@@ -1,6 +1,7 @@
 -- What holds of a line that was answered.
 use Rattle.std.proofs.Common.{◌≡◌, ◌⊎◌, inl, inr, ℕ, zero, suc, ◌+◌, ◌^◌, ◌<◌, ◌≤◌, ◌&&◌, nat_lt, true, false, if◌then◌else◌, Contains, slice_index_or, is_none, find, option_and_then, List, [], ◌∷◌, ◌++◌, length, Option, None, Some, Result, Ok, Err, refl, sym, ap, subst, ◌∙◌, arith}
 use Rattle.std.proofs.lemmas.Bool.{and_parts, false≢true}
+use Rattle.std.proofs.lemmas.Option.{same_Some}
 use Rattle.std.specs.List.{AllByRecursion, list_all}
 use Rattle.kinds.specs.declared.refusal.Refusal.{Refusal}
 use Rattle.kinds.specs.declared.refusal.Refusal.TheVariants as refused
@@ -29,20 +30,26 @@ use Rattle.admin_commands.specs.declared.work.Work.TheVariants.{Commit, Show, Ru
 use Rattle.reports.specs.Lines.{shown_line}
 use Rattle.reports.specs.declared.shown.Shown.TheVariants.{Done, Stored}
 use Rattle.script_loop.specs.Reply.{Answer}
+use Rattle.steps.specs.Calls.{Made}
+use Rattle.steps.specs.Events.{Event, has_number, is_listed}
+use Rattle.steps.specs.Events.Deed.{Force}
 use Rattle.machine.specs.Machine.{Places}
 use Rattle.machine.specs.Pieces.{IsCopyLost, IsUnavailable}
 use Rattle.machine.specs.State.{Machine}
 use Rattle.sessions.specs.declared.getting.FileRead.{FileRead}
 use Rattle.command_steps.specs.Answers.{Ends, done, halt_by, outcome_lines, refusal, row_lines}
 use Rattle.command_steps.specs.Lines.{Line, asks, comment, refused as refused_line}
-use Rattle.command_steps.specs.Owns.{Own, checkpoint, get, last_of, none_yet, own_of, put, validate}
+use Rattle.command_steps.specs.Behind.{Behind, behind, forces, no_more, reuses}
+use Rattle.command_steps.specs.Doing.{Forcing, Reusing, within_run}
+use Rattle.command_steps.specs.Owns.{Own, checkpoint, empty_filespace, empty_volume, expire, get, last_of, none_but_reuse, none_yet, own_of, put, validate}
 use Rattle.command_steps.specs.declared.outcome.Outcome.{Outcome}
 use Rattle.command_steps.specs.declared.outcome.Outcome.TheVariants.{Read, Rows, Said}
-use Rattle.line_results.specs.Clauses.{BytesBy, CauseBy, CauseOwn, DidBy, Holds, IsRows, ItemsBy, ItemsOf, MayBy, MayGet, MayOwn, OrderedBy, RowsBy, orders}
-use Rattle.line_results.specs.Commands.{Comes, Does, DoesOwn, drawn, validated, work_over}
+use Rattle.line_results.specs.Clauses.{BytesBy, BytesOwn, CauseBy, CauseOwn, CauseWith, DidBy, DidWith, Holds, IsRefusedBehind, IsRows, ItemsBy, ItemsOf, ItemsOwn, MayBy, MayGet, MayOwn, OrderedBy, OrderedWith, RowsBy, orders}
+use Rattle.line_results.specs.Commands.{Comes, Does, DoesOwn, EndsWith, IsReuse, Tells, Works, WorksWith, drawn, validated, work_over}
 use Rattle.line_results.specs.Files.{Checkpoints, Gets, GetsOf, GetsUnder, Puts, ShowsFound, active_at}
 use Rattle.line_results.specs.Lines.{Replies, Says}
 use Rattle.line_results.specs.Resting.{Commits, EndsRun, RoseFrom, database, why_not}
+use Rattle.line_results.proofs.Kinds.{IsPlainOwn, IsProcess, IsProcessOwn, IsRowless, kind, over-rowless}
 use Rattle.line_results.proofs.PutHeld.{IsMild, PutHeld, no-end, no-put, put-held}
 
 -- ---- answers
@@ -268,43 +275,296 @@ told-as n old mid answer told said shown (inr (e, is, ends)) =
     absurd (no-end e old mid ends by.0)
 
 module _ (trusted : Type 0) (places : Places) (choice : List Rule) (n : ℕ) (old mid : Machine) (answer : Answer) (added : List Entry) where
-  own-held : (own : Own) (numbers : List ℕ) (said : Result Outcome Refusal) → DoesOwn trusted places choice own old mid said added → IsShown n said answer
+  own-held : (own : Own) (numbers : List ℕ) (said : Result Outcome Refusal) → IsPlainOwn own → DoesOwn trusted places choice numbers own old mid said added → IsShown n said answer
       → HeldBy trusted places choice n own (Ok (Run numbers)) old mid answer added
-  own-held (validate set) numbers said h shown =
+  own-held (validate set) numbers said so h shown =
       let is = told-as n old mid answer (on_ok (λ it. Said Done) (validated set (database old))) said shown h.0 in
       validate-held trusted places choice n numbers old mid answer added set (validated set (database old)) refl h.1 (subst (λ (r : Result Outcome Refusal). IsShown n r answer) is shown)
-  own-held (put p) numbers said (r, puts, is, image) shown =
+  own-held (put p) numbers said so (r, puts, is, image) shown =
       let by = subst (λ (x : Result Outcome Refusal). IsShown n x answer) is shown in
       let mild = mild-shown trusted places choice n numbers old mid answer added r by in
       put-by trusted places choice n numbers old mid answer added p r puts (put-held places choice p r old mid added mild puts) mild by
-  own-held (get g) numbers said (r, gets, is, none, image, bytes) shown =
+  own-held (get g) numbers said so (r, gets, is, none, image, bytes) shown =
       get-held trusted places choice n numbers old mid answer added g r gets none (subst (λ (x : Result Outcome Refusal). IsShown n x answer) is shown)
-  own-held checkpoint numbers said (r, came, is, none, bytes) shown =
+  own-held checkpoint numbers said so (r, came, is, none, bytes) shown =
       checkpoint-held trusted places choice n numbers old mid answer added r came none (subst (λ (x : Result Outcome Refusal). IsShown n x answer) is shown)
-  own-held none_yet numbers said h shown =
+  own-held none_yet numbers said so h shown =
       let is = told-as n old mid answer (Err (refused.UnknownWord 1)) said shown h.0 in
       let by : IsShown n (Err (refused.UnknownWord 1)) answer = subst (λ (r : Result Outcome Refusal). IsShown n r answer) is shown in
       refused-own trusted places choice n numbers old mid answer added none_yet (refused.UnknownWord 1) by.1 h.1 tt refl (λ rose may. may)
+  own-held own numbers said so h shown = absurd so
 
-  does-held : (c : Command) (w : Result Work Refusal) (said : Result Outcome Refusal) → Does trusted places choice c w old mid said added → IsShown n said answer
+  does-held : (c : Command) (w : Result Work Refusal) (said : Result Outcome Refusal) → IsPlainOwn (own_of c) → Does trusted places choice c w old mid said added → IsShown n said answer
       → HeldBy trusted places choice n (own_of c) w old mid answer added
-  does-held c (Err given) said h shown =
+  does-held c (Err given) said so h shown =
       let is = told-as n old mid answer (Err given) said shown h.0 in
       let by : IsShown n (Err given) answer = subst (λ (r : Result Outcome Refusal). IsShown n r answer) is shown in
       given-held trusted places choice n (own_of c) old mid answer added given h.1 by.1
-  does-held c (Ok (Commit what)) said (r, commits, is, image, bytes) shown =
+  does-held c (Ok (Commit what)) said so (r, commits, is, image, bytes) shown =
       commit-held trusted places choice n (own_of c) old mid answer added what r commits (subst (λ (x : Result Outcome Refusal). IsShown n x answer) is shown)
-  does-held c (Ok (Show q)) said h shown =
+  does-held c (Ok (Show q)) said so h shown =
       let is = told-as n old mid answer (on_ok Rows (answered q (database old))) said shown h.0 in
       show-held trusted places choice n (own_of c) old mid answer added q (answered q (database old)) refl h.1 (subst (λ (r : Result Outcome Refusal). IsShown n r answer) is shown)
-  does-held c (Ok (Run numbers)) said h shown = own-held (own_of c) numbers said h shown
+  does-held c (Ok (Run numbers)) said so h shown = own-held (own_of c) numbers said so h shown
 
-  comes-held : (c : Command) (said : Result Outcome Refusal) → Comes trusted places choice c old mid said added → IsShown n said answer
-      → HeldBy trusted places choice n (own_of c) (work_over c (database old)) old mid answer added
-  comes-held c said (inl (e, is, ends, none, image, bytes), full) shown =
+-- ---- a process
+
+-- what holds of a command with what comes behind its work
+pub record HeldWith (trusted : Type 0) (places : Places) (choice : List Rule) (n : ℕ) (c : Command) (b : Behind) (old mid : Machine) (answer : Answer) (added : List Entry) : Type 0 where
+  pub journal : AllByRecursion (λ e. (e.actor ≡ 0) × OrderedWith b (own_of c) (work_over c (database old)) old e.change) added
+  pub queries : RowsBy n (database old) (work_over c (database old)) answer
+  pub bytes : BytesBy trusted n (own_of c) (work_over c (database old)) old mid answer
+  pub items : AllByRecursion (λ e. ItemsBy (own_of c) (work_over c (database old)) mid e.change) added
+  pub causes : answer.tally.refused ≡ 1 → (why : Refusal) × (answer ≡ refusal n why) × CauseWith trusted places choice c b old mid why added
+  pub done : answer.tally.refused ≡ 0 → DidWith trusted places choice n c b old mid answer added
+  pub complete : ((file : ℕ) → RoseFrom old mid file → ⊥) → MayBy places choice (own_of c) (work_over c (database old)) old → (answer.tally.refused ≡ 0) ⊎ IsRefusedBehind trusted places choice n c b old mid answer
+
+rows-none : (n : ℕ) (v : Inv) (w : Result Work Refusal) (answer : Answer) → IsRowless w → RowsBy n v w answer
+rows-none n v (Ok (Commit what)) answer so = tt
+rows-none n v (Ok (Show q)) answer so = absurd so
+rows-none n v (Ok (Run numbers)) answer so = tt
+rows-none n v (Err why) answer so = tt
+
+own-bytes-none : (trusted : Type 0) (n : ℕ) (own : Own) (old mid : Machine) (answer : Answer) → IsProcessOwn own → BytesOwn trusted n own old mid answer
+own-bytes-none trusted n (get g) old mid answer so = absurd so
+own-bytes-none trusted n own old mid answer so = tt
+
+bytes-none : (trusted : Type 0) (n : ℕ) (own : Own) (w : Result Work Refusal) (old mid : Machine) (answer : Answer) → IsProcessOwn own → BytesBy trusted n own w old mid answer
+bytes-none trusted n own (Ok (Commit what)) old mid answer so = tt
+bytes-none trusted n own (Ok (Show q)) old mid answer so = tt
+bytes-none trusted n own (Ok (Run numbers)) old mid answer so = own-bytes-none trusted n own old mid answer so
+bytes-none trusted n own (Err why) old mid answer so = tt
+
+own-items-none : (own : Own) (mid : Machine) (c : Change) → IsProcessOwn own → ItemsOwn own mid c
+own-items-none (put p) mid c so = absurd so
+own-items-none own mid c so = tt
+
+items-none : (own : Own) (w : Result Work Refusal) (mid : Machine) (c : Change) → IsProcessOwn own → ItemsBy own w mid c
+items-none own (Ok (Commit what)) mid c so = tt
+items-none own (Ok (Show q)) mid c so = tt
+items-none own (Ok (Run numbers)) mid c so = own-items-none own mid c so
+items-none own (Err why) mid c so = tt
+
+all-items-none : (own : Own) (w : Result Work Refusal) (mid : Machine) (added : List Entry) → IsProcessOwn own → AllByRecursion (λ e. ItemsBy own w mid e.change) added
+all-items-none own w mid [] so = tt
+all-items-none own w mid (e ∷ added) so = (items-none own w mid e.change so, all-items-none own w mid added so)
+
+-- ---- which transactions
+
+abbrev AreBy : Own → Result Work Refusal → Machine → List Entry → Type 0
+AreBy own w old added = AllByRecursion (λ e. (e.actor ≡ 0) × OrderedBy own w old e.change) added
+
+commits-ordered : {A : Type 0} (own : Own) (what : Change) (old mid : Machine) (r : Result A Refusal) (added : List Entry) → Commits (drawn what old) old mid r added → AreBy own (Ok (Commit what)) old added
+commits-ordered own what old mid (Ok x) added h = subst (λ (l : List Entry). AreBy own (Ok (Commit what)) old l) (sym h.1) ((refl, refl), tt)
+commits-ordered own what old mid (Err e) added (inl h) = no-entries (λ x. (x.actor ≡ 0) × OrderedBy own (Ok (Commit what)) old x.change) added h.1
+commits-ordered own what old mid (Err e) added (inr (ends, inl none)) = no-entries (λ x. (x.actor ≡ 0) × OrderedBy own (Ok (Commit what)) old x.change) added none
+commits-ordered own what old mid (Err e) added (inr (ends, inr h)) = subst (λ (l : List Entry). AreBy own (Ok (Commit what)) old l) (sym h.1) ((refl, refl), tt)
+
+process-ordered : (trusted : Type 0) (places : Places) (choice : List Rule) (numbers : List ℕ) (own : Own) (old mid : Machine) (said : Result Outcome Refusal) (added : List Entry) → IsProcessOwn own
+    → DoesOwn trusted places choice numbers own old mid said added → AreBy own (Ok (Run numbers)) old added
+process-ordered trusted places choice numbers expire old mid said added so h = h.1
+process-ordered trusted places choice numbers empty_filespace old mid said added so h = h.1
+process-ordered trusted places choice numbers empty_volume old mid said added so h = h.1
+process-ordered trusted places choice numbers none_but_reuse old mid said added so h = no-entries (λ x. (x.actor ≡ 0) × OrderedBy none_but_reuse (Ok (Run numbers)) old x.change) added h.1
+process-ordered trusted places choice numbers none_yet old mid said added so h = no-entries (λ x. (x.actor ≡ 0) × OrderedBy none_yet (Ok (Run numbers)) old x.change) added h.1
+process-ordered trusted places choice numbers own old mid said added so h = absurd so
+
+work-ordered : (trusted : Type 0) (places : Places) (choice : List Rule) (c : Command) (w : Work) (old mid : Machine) (said : Result Outcome Refusal) (added : List Entry) → IsProcessOwn (own_of c) → IsRowless (Ok w)
+    → Does trusted places choice c (Ok w) old mid said added → AreBy (own_of c) (Ok w) old added
+work-ordered trusted places choice c (Commit what) old mid said added so rowless (r, commits, is, image, bytes) = commits-ordered (own_of c) what old mid r added commits
+work-ordered trusted places choice c (Show q) old mid said added so rowless h = absurd rowless
+work-ordered trusted places choice c (Run numbers) old mid said added so rowless h = process-ordered trusted places choice numbers (own_of c) old mid said added so h
+
+-- of both parts
+abbrev AreWith : Behind → Own → Result Work Refusal → Machine → List Entry → Type 0
+AreWith b own w old added = AllByRecursion (λ e. (e.actor ≡ 0) × OrderedWith b own w old e.change) added
+
+some-with : (b : Behind) (own : Own) (w : Result Work Refusal) (old : Machine) (c : Change) → (b ≡ no_more → ⊥) → OrderedBy own w old c ⊎ IsReuse b c → OrderedWith b own w old c
+some-with no_more own w old c some h = absurd (some refl)
+some-with forces own w old c some h = h
+some-with reuses own w old c some h = h
+
+both-ordered : (b : Behind) (own : Own) (w : Result Work Refusal) (old : Machine) (first later : List Entry) → (b ≡ no_more → ⊥) → AreBy own w old first → AllByRecursion (λ e. (e.actor ≡ 0) × IsReuse b e.change) later
+    → AreWith b own w old (first ++ later)
+both-ordered b own w old [] [] some h k = tt
+both-ordered b own w old [] (e ∷ later) some h k = ((k.0.0, some-with b own w old e.change some (inr k.0.1)), both-ordered b own w old [] later some tt k.1)
+both-ordered b own w old (e ∷ first) later some h k = ((h.0.0, some-with b own w old e.change some (inl h.0.1)), both-ordered b own w old first later some h.1 k)
+
+-- ---- put together
+
+cause-with : (trusted : Type 0) (places : Places) (choice : List Rule) (c : Command) (b : Behind) (old mid : Machine) (why : Refusal) (added : List Entry) → (b ≡ no_more → ⊥)
+    → Works trusted places choice c (work_over c (database old)) b old mid (Err why) added → CauseWith trusted places choice c b old mid why added
+cause-with trusted places choice c no_more old mid why added some h = absurd (some refl)
+cause-with trusted places choice c forces old mid why added some h = h
+cause-with trusted places choice c reuses old mid why added some h = h
+
+did-with : (trusted : Type 0) (places : Places) (choice : List Rule) (n : ℕ) (c : Command) (b : Behind) (old mid : Machine) (answer : Answer) (it : Outcome) (added : List Entry) → (b ≡ no_more → ⊥)
+    → answer ≡ done (outcome_lines n it) → Works trusted places choice c (work_over c (database old)) b old mid (Ok it) added → DidWith trusted places choice n c b old mid answer added
+did-with trusted places choice n c no_more old mid answer it added some is h = absurd (some refl)
+did-with trusted places choice n c forces old mid answer it added some is h = (it, is, h)
+did-with trusted places choice n c reuses old mid answer it added some is h = (it, is, h)
+
+-- ---- a process that was refused
+
+-- the refusal of a force ends the run
+abbrev IsEnd : Refusal → Type 0
+IsEnd e = halt_by e ≡ None → ⊥
+
+force-listed : (e : Refusal) → has_number (40 ∷ 41 ∷ []) e ≡ true → IsEnd e
+force-listed (refused.LogFault file count) h = λ none. cc
+force-listed refused.RunFull h = λ none. cc
+force-listed e h = absurd cc
+
+listed-force : (e : Refusal) → is_listed (Force (Err e)) ≡ true → has_number (40 ∷ 41 ∷ []) e ≡ true
+unfolding is_listed
+listed-force e h = h
+
+force-ends : (e : Refusal) (events : List Event) → Made (Force (Err e)) events → IsEnd e
+force-ends e events (inl (number, is, listed)) = force-listed e (listed-force e listed)
+force-ends e events (inr (memory, none)) = λ mild. (let is : e ≡ refused.Memory = same_Some e refused.Memory memory in let odd : None ≡ halt_by refused.Memory = sym mild ∙ ap (λ (x : Refusal). halt_by x) is in absurd cc)
+
+abbrev no_said : Refusal → Result Outcome Refusal
+no_said e = Err e
+
+abbrev said_error : Result Outcome Refusal → Refusal
+said_error (Ok it) = refused.Memory
+said_error (Err e) = e
+
+said-same : (e f : Refusal) → no_said e ≡ no_said f → e ≡ f
+said-same e f h = ap said_error h
+
+-- what a force that was made leaves of a refusal by which no run ends is that
+within-same : (f e : Refusal) → no_said e ≡ within_run (Err f) → halt_by e ≡ None → e ≡ f
+within-same (refused.LogFault file count) e h mild = (let is : e ≡ refused.Memory = said-same e refused.Memory h in let odd : None ≡ halt_by refused.Memory = sym mild ∙ ap (λ (x : Refusal). halt_by x) is in absurd cc)
+within-same refused.RunFull e h mild = (let is : e ≡ refused.Memory = said-same e refused.Memory h in let odd : None ≡ halt_by refused.Memory = sym mild ∙ ap (λ (x : Refusal). halt_by x) is in absurd cc)
+within-same f e h mild = said-same e f h
+
+forced-same : (f e : Refusal) (events : List Event) → Forcing (Err f) events (Err e) → halt_by e ≡ None → e ≡ f
+forced-same f e events (Ok number, made, is) mild = within-same f e is mild
+forced-same f e events (Err x, made, is) mild = absurd (force-ends x events made (subst (λ (y : Refusal). halt_by y ≡ None) (said-same e x is) mild))
+
+reused-same : (f : Refusal) (came : Result Outcome Refusal) (e : Refusal) (xs ys : List Event) → Reusing (Err f) xs came → Forcing came ys (Err e) → halt_by e ≡ None → e ≡ f
+reused-same f came e xs ys (none, is) forcing mild = forced-same f e ys (subst (λ (r : Result Outcome Refusal). Forcing r ys (Err e)) is forcing) mild
+
+-- the work's own refusal is answered, if no run ends
+own-refused : (trusted : Type 0) (places : Places) (b : Behind) (f e : Refusal) (mid new : Machine) → (b ≡ no_more → ⊥) → EndsWith trusted places b (Err f) mid new (Err e) → halt_by e ≡ None → e ≡ f
+own-refused trusted places no_more f e mid new some h mild = absurd (some refl)
+own-refused trusted places forces f e mid new some (events, alone, ends, image, bytes) mild = forced-same f e events ends mild
+own-refused trusted places reuses f e mid new some (events, alone, (came, (xs, ys, cut, reusing, forcing)), image, bytes) mild = reused-same f came e xs ys reusing forcing mild
+
+commit-legal : (A : Type 0) (what : Change) (f : Refusal) (old mid : Machine) (added : List Entry) → why_not (drawn what old) old.core ≡ None → halt_by f ≡ None → Commits {A = A} (drawn what old) old mid (Err f) added → ⊥
+commit-legal A what f old mid added may mild (inl h) = work-none (why_not (drawn what old) old.core) f may h.0
+commit-legal A what f old mid added may mild (inr h) = no-end f old mid h.0 mild
+
+answer-legal : (what : Change) (f : Refusal) (r : Result ℕ Refusal) (old mid : Machine) (added : List Entry) → why_not (drawn what old) old.core ≡ None → halt_by f ≡ None → no_said f ≡ on_ok (λ number. Said (last_of what)) r
+    → Commits (drawn what old) old mid r added → ⊥
+answer-legal what f (Ok number) old mid added may mild is h = absurd cc
+answer-legal what f (Err x) old mid added may mild is h = commit-legal ℕ what x old mid added may (subst (λ (y : Refusal). halt_by y ≡ None) (said-same f x is) mild) h
+
+never-own : (places : Places) (choice : List Rule) (own : Own) (old : Machine) → IsProcessOwn own → MayOwn places choice own old → ⊥
+never-own places choice (validate set) old so may = so
+never-own places choice (put p) old so may = so
+never-own places choice (get g) old so may = so
+never-own places choice checkpoint old so may = so
+never-own places choice own old so may = may
+
+module _ (trusted : Type 0) (places : Places) (choice : List Rule) (c : Command) (old : Machine) where
+  -- work that is legal isn't refused
+  never-refused : (w : Result Work Refusal) (f : Refusal) (between : Machine) (first : List Entry) → IsProcessOwn (own_of c) → IsRowless w → MayBy places choice (own_of c) w old → halt_by f ≡ None
+      → Does trusted places choice c w old between (Err f) first → ⊥
+  never-refused (Err why) f between first so rowless may mild h = may
+  never-refused (Ok (Commit what)) f between first so rowless may mild (r, commits, is, image, bytes) = answer-legal what f r old between first may mild is commits
+  never-refused (Ok (Show q)) f between first so rowless may mild h = rowless
+  never-refused (Ok (Run numbers)) f between first so rowless may mild h = never-own places choice (own_of c) old so may
+
+-- what comes behind this work, which was done, was refused so
+abbrev BehindIn : (trusted : Type 0) → Places → List Rule → (n : ℕ) → Command → Result Work Refusal → Behind → (old mid : Machine) → Answer → Type 0
+BehindIn trusted places choice n c w b old mid answer =
+    (why : Refusal) × (answer ≡ refusal n why) × (it : Outcome) × (between : Machine) × (first : List Entry)
+    × Does trusted places choice c w old between (Ok it) first × EndsWith trusted places b (Ok it) between mid (Err why)
+
+-- where a result is a refusal by which no run ends, of work that is legal, what comes behind it was refused
+abbrev Blames : (trusted : Type 0) → Places → List Rule → (n : ℕ) → Command → Result Work Refusal → Behind → (old mid : Machine) → Answer → Result Outcome Refusal → Type 0
+Blames trusted places choice n c w b old mid answer said =
+    (why : Refusal) → said ≡ Err why → answer ≡ refusal n why → halt_by why ≡ None → MayBy places choice (own_of c) w old → BehindIn trusted places choice n c w b old mid answer
+
+module _ (trusted : Type 0) (places : Places) (choice : List Rule) (n : ℕ) (c : Command) (own : IsProcessOwn (own_of c)) (old mid : Machine) (answer : Answer) where
+  -- what comes behind it was refused, unless the work wasn't legal
+  refused-behind : (b : Behind) (w : Result Work Refusal) (why : Refusal) (said : Result Outcome Refusal) (between : Machine) (first : List Entry) → (b ≡ no_more → ⊥) → IsRowless w → answer ≡ refusal n why → halt_by why ≡ None
+      → Does trusted places choice c w old between said first → EndsWith trusted places b said between mid (Err why) → MayBy places choice (own_of c) w old → BehindIn trusted places choice n c w b old mid answer
+  refused-behind b w why (Ok it) between first some rowless is mild does ends may = (why, is, it, between, first, does, ends)
+  refused-behind b w why (Err f) between first some rowless is mild does ends may =
+      let same : why ≡ f = own-refused trusted places b f why between mid some ends mild in
+      absurd (never-refused trusted places choice c old w f between first own rowless may (subst (λ (x : Refusal). halt_by x ≡ None) same mild) does)
+
+  with-parts : (b : Behind) (w : Work) (said : Result Outcome Refusal) (added : List Entry) → (b ≡ no_more → ⊥) → IsRowless (Ok w) → WorksWith trusted places choice c (Ok w) b old mid said added
+      → AreWith b (own_of c) (Ok w) old added × Blames trusted places choice n c (Ok w) b old mid answer said
+  with-parts b w said added some rowless h = (
+    subst (λ (l : List Entry). AreWith b (own_of c) (Ok w) old l) (sym h.parts)
+        (both-ordered b (own_of c) (Ok w) old h.first h.later some (work-ordered trusted places choice c w old h.mid h.said h.first own rowless h.does) h.reused),
+    λ why same is mild may. refused-behind b (Ok w) why h.said h.mid h.first some rowless is mild h.does (subst (λ (r : Result Outcome Refusal). EndsWith trusted places b h.said h.mid mid r) same h.ends) may,
+  )
+
+  given-parts : (b : Behind) (given : Refusal) (said : Result Outcome Refusal) (added : List Entry) → Tells (Err given) old mid said added
+      → AreWith b (own_of c) (Err given) old added × Blames trusted places choice n c (Err given) b old mid answer said
+  given-parts b given said added h = (no-entries (λ e. (e.actor ≡ 0) × OrderedWith b (own_of c) (Err given) old e.change) added h.1, λ why same is mild may. absurd may)
+
+  parts : (b : Behind) (w : Result Work Refusal) (said : Result Outcome Refusal) (added : List Entry) → (b ≡ no_more → ⊥) → IsRowless w → Works trusted places choice c w b old mid said added
+      → AreWith b (own_of c) w old added × Blames trusted places choice n c w b old mid answer said
+  parts no_more w said added some rowless h = absurd (some refl)
+  parts forces (Err given) said added some rowless h = given-parts forces given said added h
+  parts reuses (Err given) said added some rowless h = given-parts reuses given said added h
+  parts forces (Ok w) said added some rowless h = with-parts forces w said added some rowless h
+  parts reuses (Ok w) said added some rowless h = with-parts reuses w said added some rowless h
+
+module _ (trusted : Type 0) (places : Places) (choice : List Rule) (n : ℕ) (c : Command) (p : IsProcess c) (old mid : Machine) (answer : Answer) (added : List Entry) where
+  held-with : (b : Behind) (said : Result Outcome Refusal) → (b ≡ no_more → ⊥) → Works trusted places choice c (work_over c (database old)) b old mid said added
+      → AreWith b (own_of c) (work_over c (database old)) old added → Blames trusted places choice n c (work_over c (database old)) b old mid answer said → IsShown n said answer
+      → HeldWith trusted places choice n c b old mid answer added
+  held-with b (Ok it) some works are blames shown = record {
+    journal = are;
+    queries = rows-none n (database old) (work_over c (database old)) answer (over-rowless c (database old) p);
+    bytes = bytes-none trusted n (own_of c) (work_over c (database old)) old mid answer p.own;
+    items = all-items-none (own_of c) (work_over c (database old)) mid added p.own;
+    causes = λ one. absurd (zero-one answer.tally.refused (none-refused (outcome_lines n it) answer shown) one);
+    done = λ none. did-with trusted places choice n c b old mid answer it added some shown works;
+    complete = λ rose may. inl (none-refused (outcome_lines n it) answer shown);
+  }
+  held-with b (Err e) some works are blames shown = record {
+    journal = are;
+    queries = rows-none n (database old) (work_over c (database old)) answer (over-rowless c (database old) p);
+    bytes = bytes-none trusted n (own_of c) (work_over c (database old)) old mid answer p.own;
+    items = all-items-none (own_of c) (work_over c (database old)) mid added p.own;
+    causes = λ one. (e, shown.1, cause-with trusted places choice c b old mid e added some works);
+    done = λ none. absurd (zero-one answer.tally.refused none (one-refused n e answer shown.1));
+    complete = λ rose may. inr (blames e refl shown.1 shown.0 may);
+  }
+
+  process-held : (b : Behind) (said : Result Outcome Refusal) → (b ≡ no_more → ⊥) → Works trusted places choice c (work_over c (database old)) b old mid said added → IsShown n said answer
+      → HeldWith trusted places choice n c b old mid answer added
+  process-held b said some works shown =
+      let h = parts trusted places choice n c p.own old mid answer b (work_over c (database old)) said added some (over-rowless c (database old) p) works in
+      held-with b said some works h.0 h.1 shown
+
+-- what holds of a command behind whose work nothing comes, with what may have come
+module _ (trusted : Type 0) (places : Places) (choice : List Rule) (n : ℕ) (c : Command) (old mid : Machine) (answer : Answer) (added : List Entry) where
+  plain-held : HeldBy trusted places choice n (own_of c) (work_over c (database old)) old mid answer added → HeldWith trusted places choice n c no_more old mid answer added
+  plain-held h = record { journal = h.journal; queries = h.queries; bytes = h.bytes; items = h.items; causes = h.causes; done = h.done; complete = λ rose may. inl (h.complete rose may) }
+
+  works-held : (said : Result Outcome Refusal) → Works trusted places choice c (work_over c (database old)) (behind c) old mid said added → IsShown n said answer
+      → HeldWith trusted places choice n c (behind c) old mid answer added
+  works-held said h shown = elim (kind c) as (λ _. HeldWith trusted places choice n c (behind c) old mid answer added) [
+    | inl it ↦ subst (λ (b : Behind). HeldWith trusted places choice n c b old mid answer added) (sym it.0)
+        (plain-held (does-held trusted places choice n old mid answer added c (work_over c (database old)) said it.1
+        (subst (λ (b : Behind). Works trusted places choice c (work_over c (database old)) b old mid said added) it.0 h) shown))
+    | inr it ↦ process-held trusted places choice n c it old mid answer added (behind c) said it.some h shown
+  ]
+
+  comes-held : (said : Result Outcome Refusal) → Comes trusted places choice c old mid said added → IsShown n said answer → HeldWith trusted places choice n c (behind c) old mid answer added
+  comes-held said (inl (e, is, ends, none, image, bytes), full) shown =
       let by : IsShown n (Err e) answer = subst (λ (r : Result Outcome Refusal). IsShown n r answer) is shown in
       absurd (no-end e old mid ends by.0)
-  comes-held c said (inr does, full) shown = does-held c (work_over c (database old)) said does shown
+  comes-held said (inr works, full) shown = works-held said works shown
 
 -- ---- a line
 
@@ -329,7 +589,7 @@ module _ (trusted : Type 0) (places : Places) (choice : List Rule) (n : ℕ) (ol
     complete = λ rose may. absurd may;
   }
   says-held (asks c) why (said, comes, ends) =
-      let h = comes-held trusted places choice n old mid answer added c said comes (shown-of n said answer why ends) in
+      let h = comes-held trusted places choice n c old mid answer added said comes (shown-of n said answer why ends) in
       record { journal = h.journal; queries = h.queries; bytes = h.bytes; items = h.items; causes = h.causes; done = h.done; complete = h.complete }
 
 -- what holds of a line that was answered so

@@ -6,7 +6,7 @@ use Rattle.kinds.specs.declared.refusal.Refusal.{Refusal}
 use Rattle.machine.specs.Machine.{records_length}
 use Rattle.machine.specs.State.{Core, Machine}
 use Rattle.entries.specs.declared.entry.Entry.{Entry}
-use Rattle.line_results.specs.Resting.{Adds, HasSizes, IsAtRest, IsNearlyDurable, Leaves, LogEnds, has_broken, has_ended}
+use Rattle.line_results.specs.Resting.{Adds, HasSizes, IsAtRest, IsNearlyDurable, Leaves, LogEnds, Onward, has_broken, has_ended}
 use Rattle.line_results.proofs.Runs.{Became, is-as}
 
 pub rest-as : (c d : Core) → c ≡ d → IsAtRest d → IsAtRest c
@@ -21,6 +21,18 @@ nearly-joined stamps journal e all = let long : length (journal ++ e ∷ []) ≡
 
 pub nearly-as : (c d : Core) → c ≡ d → IsNearlyDurable d → IsNearlyDurable c
 nearly-as c d same nearly = subst IsNearlyDurable (sym same) nearly
+
+-- What every command leaves, whatever may be in doubt behind it: unless the run ended the machine is at rest; and each transaction is durable unless a fault or a full run ended it, or memory was
+-- wanted behind one that was made.
+pub record Left {A : Type 0} (result : Result A Refusal) (added : List Entry) (old new : Machine) : Type 0 where
+  pub adds : Adds added old new
+  pub onward : Onward old new
+  pub log : LogEnds added old new
+  pub rests : has_ended result ≡ false → IsAtRest new.core
+  pub durable : has_broken result ≡ false → (length new.core.stamps ≡ length new.core.journal) ⊎ ((has_ended result ≡ true) × (added ≡ [] → ⊥))
+
+pub left-of : {A : Type 0} (result : Result A Refusal) (added : List Entry) (old new : Machine) → Leaves result added old new → Left result added old new
+left-of result added old new l = record { adds = l.adds; onward = l.onward; log = l.log; rests = l.rests; durable = l.durable }
 
 -- nothing joined, and the log is as long as it was
 pub record IsQuiet (c d : Core) : Type 0 where

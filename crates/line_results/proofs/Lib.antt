@@ -9,10 +9,12 @@ pub mod Followed
 pub mod Forced
 pub mod Got
 pub mod Holding
+pub mod Kinds
 pub mod Leaving
 pub mod Line
 pub mod Mild
 pub mod Needs
+pub mod Processed
 pub mod PutHeld
 pub mod PutHomes
 pub mod PutIn
@@ -24,4 +26,6 @@ pub mod PutStoring
 pub mod Putting
 pub mod Read
 pub mod Runs
+pub mod Settling
 pub mod Since
+pub mod Walking

@@ -1,5 +1,5 @@
 -- What a line's steps come to, put together: the line itself, and what follows it.
-use Rattle.std.proofs.Common.{◌≡◌, ◌⊎◌, inl, inr, ℕ, Bool, true, false, List, [], ◌∷◌, length, Option, None, Some, Result, Ok, Err, refl, sym, ap, subst, ◌∙◌}
+use Rattle.std.proofs.Common.{◌≡◌, ◌⊎◌, inl, inr, ℕ, ◌+◌, ◌≤◌, Bool, true, false, List, [], ◌∷◌, length, Option, None, Some, Result, Ok, Err, refl, sym, ap, subst, ◌∙◌}
 use Rattle.std.proofs.lemmas.List.{append-nil}
 use Rattle.std.proofs.lemmas.Option.{same_Some}
 use Rattle.kinds.specs.declared.refusal.Refusal.{Refusal}
@@ -16,15 +16,16 @@ use Rattle.machine.specs.Machine.{Places}
 use Rattle.machine.specs.State.{Core, Machine}
 use Rattle.command_steps.specs.Answering.{AnswersLine, DoesOrWants}
 use Rattle.command_steps.specs.Answers.{Ends, halt_by, nothing}
+use Rattle.command_steps.specs.Behind.{behind}
 use Rattle.command_steps.specs.Lines.{Line, asks, comment, refused as refused_line}
 use Rattle.command_steps.specs.declared.outcome.Outcome.{Outcome}
-use Rattle.line_results.specs.Lines.{EndsAt, EndsBehind, EndsFollowing, Halts, Replies, Says}
+use Rattle.line_results.specs.Lines.{EndsAt, EndsBehind, EndsFollowing, Halts, Replies, Says, doubtful}
 use Rattle.line_results.specs.Commands.{Comes}
-use Rattle.line_results.specs.Resting.{Adds, EndsNoRun, EndsRun, HasSizes, IsAtRest, Leaves, LogEnds, Onward, has_broken, has_ended}
-use Rattle.line_results.proofs.Did.{GetsAs, PutsAs, command-did}
+use Rattle.line_results.specs.Resting.{Adds, EndsNoRun, EndsRun, HasSizes, IsAtRest, IsNearlyDurable, LogEnds, Onward, has_broken, has_ended}
+use Rattle.line_results.proofs.Did.{GetsAs, PutsAs, command-did, newest-doubt}
 use Rattle.line_results.proofs.Ending.{comes-end}
 use Rattle.line_results.proofs.Followed.{followed}
-use Rattle.line_results.proofs.Leaving.{nearly-all, quiet-adds, quiet-log, same-quiet}
+use Rattle.line_results.proofs.Leaving.{Left, nearly-all, quiet-adds, quiet-log, same-quiet}
 use Rattle.line_results.proofs.Runs.{alone-none, alone-parts, became-same, onward-then, rose-from}
 
 -- ---- the line itself
@@ -100,10 +101,10 @@ module _ (trusted : Type 0) (places : Places) (choice : List Rule) (puts : PutsA
       record {
         added = d.added;
         says = (said, d.comes, ends);
-        adds = d.leaves.adds;
-        log = d.leaves.log;
-        onward = d.leaves.onward;
-        rests = d.leaves.rests (answered-rests n said (answer, why) ends);
+        adds = d.left.adds;
+        log = d.left.log;
+        onward = d.left.onward;
+        rests = d.left.rests (answered-rests n said (answer, why) ends);
       }
   line-did n line events answer why old mid rest sizes (inr (none, is)) f = absurd cc
 
@@ -151,12 +152,18 @@ module _ (trusted : Type 0) (places : Places) (choice : List Rule) where
 adds-behind : (added : List Entry) (old mid new : Machine) → Adds added old mid → Adds [] mid new → Adds added old new
 adds-behind added old mid new a b = record { base = b.base ∙ a.base; journal = b.journal ∙ append-nil mid.core.journal ∙ a.journal }
 
+-- where the newest transaction may be in doubt at most
+line-doubt : (line : Line) (added : List Entry) (new : Machine) → IsNearlyDurable new.core → length new.core.journal ≤ length new.core.stamps + doubtful line added
+line-doubt comment added new nearly = nearly
+line-doubt (refused_line given) added new nearly = nearly
+line-doubt (asks c) added new nearly = newest-doubt (behind c) added new nearly
+
 -- what a command leaves whose answer wanted memory
 abbrev IsDurable : (n : ℕ) → List Entry → Halt → Machine → Type 0
 IsDurable n added how new =
     (length new.core.stamps ≡ length new.core.journal) ⊎ ((added ≡ [] → ⊥) ⊎ ((said : Result Outcome Refusal) × (has_broken said ≡ true) × Ends n said (Err how)))
 
-kept-durable : (n : ℕ) (said : Result Outcome Refusal) (added : List Entry) (how : Halt) (old new : Machine) → Leaves said added old new → Ends n said (Err how) → (broken : Bool) → has_broken said ≡ broken
+kept-durable : (n : ℕ) (said : Result Outcome Refusal) (added : List Entry) (how : Halt) (old new : Machine) → Left said added old new → Ends n said (Err how) → (broken : Bool) → has_broken said ≡ broken
     → IsDurable n added how new
 kept-durable n said added how old new l ends true is = inr (inr (said, is, ends))
 kept-durable n said added how old new l ends false is = elim (l.durable is) as (λ _. IsDurable n added how new) [
@@ -200,7 +207,7 @@ module _ (trusted : Type 0) (places : Places) (choice : List Rule) (puts : PutsA
         log = quiet-log old.core old new (same-quiet old.core) b;
         onward = b.onward;
         cause = why;
-        nearly = nearly-all new.core (subst (λ (m : Machine). IsAtRest m.core) (sym same) rest).durable;
+        nearly = line-doubt line [] new (nearly-all new.core (subst (λ (m : Machine). IsAtRest m.core) (sym same) rest).durable);
         durable = λ h. inl (subst (λ (m : Machine). IsAtRest m.core) (sym same) rest).durable;
       }
 
@@ -215,12 +222,12 @@ module _ (trusted : Type 0) (places : Places) (choice : List Rule) (puts : PutsA
       record {
         added = d.added;
         ends = inr (said, new, d.comes, inl (refl, ends));
-        adds = d.leaves.adds;
-        log = d.leaves.log;
-        onward = d.leaves.onward;
+        adds = d.left.adds;
+        log = d.left.log;
+        onward = d.left.onward;
         cause = command-behind trusted places goes_on choice n c said how old new d.added d.comes ends;
-        nearly = d.leaves.nearly;
-        durable = λ h. kept-durable n said d.added how old new d.leaves ends (has_broken said) refl;
+        nearly = d.doubt;
+        durable = λ h. kept-durable n said d.added how old new d.left ends (has_broken said) refl;
       }
   ends-line n line events how old new rest sizes (inr (none, is)) f =
       let same : new ≡ old = alone-none trusted places 0 events old new none f in
@@ -240,6 +247,6 @@ module _ (trusted : Type 0) (places : Places) (choice : List Rule) (puts : PutsA
         log = log-behind d.added how old parts.0 new d.log (b.off how halts);
         onward = onward-then old parts.0 new d.onward b.onward;
         cause = behind-since how old parts.0 new d.onward (b.off how halts).cause;
-        nearly = b.nearly;
+        nearly = line-doubt line d.added new b.nearly;
         durable = λ h. inl (b.durable (halts ∙ ap Some h));
       }

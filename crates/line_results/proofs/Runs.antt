@@ -195,7 +195,7 @@ full-leads None = refl
 full-leads (Some refused.RunFull) = refl
 full-leads (Some e) = refl
 
-late-first : (soon : Bool) (fault : Option (ℕ × ℕ)) (own : List Refusal) → soon ≡ false → foremost ((unless soon refused.RunFull ++ halted fault) ++ own) ≡ Some refused.RunFull
+pub late-first : (soon : Bool) (fault : Option (ℕ × ℕ)) (own : List Refusal) → soon ≡ false → foremost ((unless soon refused.RunFull ++ halted fault) ++ own) ≡ Some refused.RunFull
 late-first soon fault own f = ap (λ (b : Bool). foremost ((unless b refused.RunFull ++ halted fault) ++ own)) f ∙ full-leads (foremost (halted fault ++ own))
 
 -- it is refused so, or memory is wanted

@@ -9,6 +9,7 @@ use Rattle.line_results.specs.Files.{Checkpoints}
 use Rattle.line_results.specs.Resting.{Commits, EndsRun, IsLate, Leaves, Onward}
 use Rattle.line_results.proofs.Changed.{Changed}
 use Rattle.line_results.proofs.Checkpointed.{Checkpointed}
+use Rattle.line_results.proofs.Leaving.{Left}
 use Rattle.line_results.proofs.Runs.{Became, as_is, ends-since, is-as, late-on, onward-then}
 
 -- the earlier state with the later one's counts and moment
@@ -30,6 +31,18 @@ leaves-as result added old mid new b l = record {
 
 pub leaves-since : {A : Type 0} (result : Result A Refusal) (added : List Entry) (old mid new : Machine) → Became old.core old mid → Leaves result added mid new → Leaves result added old new
 leaves-since result added old mid new b l = leaves-as result added old mid new b (subst (λ (m : Machine). Leaves result added m new) (is-as old.core old mid b) l)
+
+left-as : {A : Type 0} (result : Result A Refusal) (added : List Entry) (old mid new : Machine) → Became old.core old mid → Left result added (later_of old mid) new → Left result added old new
+left-as result added old mid new b l = record {
+  adds = record { base = l.adds.base; journal = l.adds.journal };
+  onward = onward-then old (later_of old mid) new (on-later old mid b) l.onward;
+  log = l.log;
+  rests = l.rests;
+  durable = l.durable;
+}
+
+pub left-since : {A : Type 0} (result : Result A Refusal) (added : List Entry) (old mid new : Machine) → Became old.core old mid → Left result added mid new → Left result added old new
+left-since result added old mid new b l = left-as result added old mid new b (subst (λ (m : Machine). Left result added m new) (is-as old.core old mid b) l)
 
 pub ends-as : (old mid new : Machine) (e : Refusal) → Became old.core old mid → EndsRun (later_of old mid) new e → EndsRun old new e
 ends-as old mid new e b h = ends-since old (later_of old mid) new e (on-later old mid b) h

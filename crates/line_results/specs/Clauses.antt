@@ -35,10 +35,13 @@ use Rattle.machine.specs.State.{Core, Machine, Place}
 use Rattle.sessions.specs.Homes.{home_of}
 use Rattle.sessions.specs.declared.getting.FileRead.{FileRead}
 use Rattle.sessions.specs.declared.homes.Home.{Home}
-use Rattle.command_steps.specs.Answers.{done, file_lines, refusal, row_lines}
+use Rattle.command_steps.specs.Answers.{done, file_lines, outcome_lines, refusal, row_lines}
+use Rattle.command_steps.specs.Behind.{Behind, behind, no_more}
 use Rattle.command_steps.specs.Lines.{Line, asks, comment, refused}
-use Rattle.command_steps.specs.Owns.{Own, checkpoint, get, last_of, none_yet, own_of, put, validate}
-use Rattle.line_results.specs.Commands.{drawn, validated, work_over}
+use Rattle.command_steps.specs.Owns.{Own, checkpoint, get, last_of, own_of, put, validate}
+use Rattle.command_steps.specs.declared.outcome.Outcome.{Outcome}
+use Rattle.admin_words.specs.declared.command.Command.{Command}
+use Rattle.line_results.specs.Commands.{Does, EndsWith, IsReuse, MayMake, Works, drawn, validated, work_over}
 use Rattle.line_results.specs.Files.{Gets, IsPlacedIn, Puts, backed_up, filespace_defined, why_no_place}
 use Rattle.line_results.specs.Resting.{Makes, RoseFrom, database, entry, why_not}
 
@@ -50,25 +53,27 @@ IsOfFile p c =
     ((node : ℕ) × (number : ℕ) × (c ≡ change.Object (client.Filespace two.Define node p.filespace number)))
     ⊎ ((filespace : ℕ) × (class : List ℕ) × (place : Place) × (at : Core) × (c ≡ backed_up filespace p class place at))
 
-abbrev pub OrderedOwn : Own → Change → Type 0
-OrderedOwn (validate set) c = ⊥
-OrderedOwn (put file) c = IsOfFile file c
-OrderedOwn (get file) c = ⊥
-OrderedOwn checkpoint c = ⊥
-OrderedOwn none_yet c = ⊥
+abbrev pub OrderedOwn : (numbers : List ℕ) → Own → Change → Type 0
+OrderedOwn numbers (put file) c = IsOfFile file c
+OrderedOwn numbers own c = MayMake numbers own c
 
 -- a change makes the one transaction that it names, and a query none
 abbrev pub OrderedBy : Own → Result Work Refusal → Machine → Change → Type 0
 OrderedBy own (Err why) old c = ⊥
 OrderedBy own (Ok (Commit what)) old c = c ≡ drawn what old
 OrderedBy own (Ok (Show query)) old c = ⊥
-OrderedBy own (Ok (Run numbers)) old c = OrderedOwn own c
+OrderedBy own (Ok (Run numbers)) old c = OrderedOwn numbers own c
+
+-- behind some commands volumes are reused
+abbrev pub OrderedWith : Behind → Own → Result Work Refusal → Machine → Change → Type 0
+OrderedWith no_more own w old c = OrderedBy own w old c
+OrderedWith b own w old c = OrderedBy own w old c ⊎ IsReuse b c
 
 -- which transactions a line may make
 abbrev pub orders : Line → Machine → Change → Type 0
 orders comment old c = ⊥
 orders (refused why) old c = ⊥
-orders (asks command) old c = OrderedBy (own_of command) (work_over command (database old)) old c
+orders (asks command) old c = OrderedWith (behind command) (own_of command) (work_over command (database old)) old c
 
 -- each transaction of a line is of the script, actor 0, and its command orders it
 abbrev pub AreOrdered : Line → (old : Machine) → (added : List Entry) → Type 0
@@ -102,10 +107,7 @@ ShowsFile trusted n g old mid answer =
 
 abbrev pub BytesOwn : (trusted : Type 0) → (n : ℕ) → Own → (old mid : Machine) → Answer → Type 0
 BytesOwn trusted n (get g) old mid answer = ShowsFile trusted n g old mid answer
-BytesOwn trusted n (validate set) old mid answer = Unit {0}
-BytesOwn trusted n (put file) old mid answer = Unit {0}
-BytesOwn trusted n checkpoint old mid answer = Unit {0}
-BytesOwn trusted n none_yet old mid answer = Unit {0}
+BytesOwn trusted n own old mid answer = Unit {0}
 
 abbrev pub BytesBy : (trusted : Type 0) → (n : ℕ) → Own → Result Work Refusal → (old mid : Machine) → Answer → Type 0
 BytesBy trusted n own (Ok (Run numbers)) old mid answer = BytesOwn trusted n own old mid answer
@@ -151,7 +153,7 @@ CauseOwn trusted places choice (validate set) old mid why added = validated set 
 CauseOwn trusted places choice (put p) old mid why added = Puts places choice p old mid (Err why) added
 CauseOwn trusted places choice (get g) old mid why added = Gets trusted g old mid (Err why)
 CauseOwn trusted places choice checkpoint old mid why added = (why ≡ InventoryFull) × (2 ^ 62 ≤ old.core.generation + 1)
-CauseOwn trusted places choice none_yet old mid why added = why ≡ UnknownWord 1
+CauseOwn trusted places choice own old mid why added = why ≡ UnknownWord 1
 
 -- a look-up or the command's own words refuse it; the database refuses its change, or its query
 abbrev pub CauseBy : (trusted : Type 0) → Places → List Rule → Own → Result Work Refusal → (old mid : Machine) → Refusal → (added : List Entry) → Type 0
@@ -160,11 +162,16 @@ CauseBy trusted places choice own (Ok (Commit what)) old mid why added = why_not
 CauseBy trusted places choice own (Ok (Show query)) old mid why added = answered query (database old) ≡ Err why
 CauseBy trusted places choice own (Ok (Run numbers)) old mid why added = CauseOwn trusted places choice own old mid why added
 
+-- where something comes behind a command's work, the steps of both say why it is refused
+abbrev pub CauseWith : (trusted : Type 0) → Places → List Rule → Command → Behind → (old mid : Machine) → Refusal → (added : List Entry) → Type 0
+CauseWith trusted places choice c no_more old mid why added = CauseBy trusted places choice (own_of c) (work_over c (database old)) old mid why added
+CauseWith trusted places choice c b old mid why added = Works trusted places choice c (work_over c (database old)) b old mid (Err why) added
+
 -- the cause of a line's refusal
 abbrev pub Cause : (trusted : Type 0) → Places → List Rule → Line → (old mid : Machine) → Refusal → (added : List Entry) → Type 0
 Cause trusted places choice comment old mid why added = ⊥
 Cause trusted places choice (refused given) old mid why added = why ≡ given
-Cause trusted places choice (asks command) old mid why added = CauseBy trusted places choice (own_of command) (work_over command (database old)) old mid why added
+Cause trusted places choice (asks command) old mid why added = CauseWith trusted places choice command (behind command) old mid why added
 
 -- a line that counts as refused prints a refusal that has its cause
 abbrev pub HasCause : (trusted : Type 0) → Places → List Rule → (n : ℕ) → Line → (old mid : Machine) → Answer → (added : List Entry) → Type 0
@@ -180,7 +187,7 @@ DidOwn n (put p) old mid answer added =
     × (added ≡ earlier ++ entry (backed_up filespace p class place at) ∷ []) × (answer ≡ done (shown_line n (Stored at.next_object)))
 DidOwn n (get g) old mid answer added = added ≡ []
 DidOwn n checkpoint old mid answer added = (mid.core.generation ≡ old.core.generation + 1) × (added ≡ [])
-DidOwn n none_yet old mid answer added = ⊥
+DidOwn n own old mid answer added = ⊥
 
 abbrev pub DidBy : (n : ℕ) → Own → Result Work Refusal → (old mid : Machine) → Answer → (added : List Entry) → Type 0
 DidBy n own (Err given) old mid answer added = ⊥
@@ -188,14 +195,20 @@ DidBy n own (Ok (Commit what)) old mid answer added = (added ≡ entry (drawn wh
 DidBy n own (Ok (Show query)) old mid answer added = added ≡ []
 DidBy n own (Ok (Run numbers)) old mid answer added = DidOwn n own old mid answer added
 
-abbrev pub Did : (n : ℕ) → Line → (old mid : Machine) → Answer → (added : List Entry) → Type 0
-Did n comment old mid answer added = added ≡ []
-Did n (refused given) old mid answer added = ⊥
-Did n (asks command) old mid answer added = DidBy n (own_of command) (work_over command (database old)) old mid answer added
+-- where something comes behind a command's work, the steps of both say what was done, and that is printed
+abbrev pub DidWith : (trusted : Type 0) → Places → List Rule → (n : ℕ) → Command → Behind → (old mid : Machine) → Answer → (added : List Entry) → Type 0
+DidWith trusted places choice n c no_more old mid answer added = DidBy n (own_of c) (work_over c (database old)) old mid answer added
+DidWith trusted places choice n c b old mid answer added =
+    (it : Outcome) × (answer ≡ done (outcome_lines n it)) × Works trusted places choice c (work_over c (database old)) b old mid (Ok it) added
+
+abbrev pub Did : (trusted : Type 0) → Places → List Rule → (n : ℕ) → Line → (old mid : Machine) → Answer → (added : List Entry) → Type 0
+Did trusted places choice n comment old mid answer added = added ≡ []
+Did trusted places choice n (refused given) old mid answer added = ⊥
+Did trusted places choice n (asks command) old mid answer added = DidWith trusted places choice n command (behind command) old mid answer added
 
 -- a line that doesn't count as refused did what it names
-abbrev pub IsDone : (n : ℕ) → Line → (old mid : Machine) → Answer → (added : List Entry) → Type 0
-IsDone n line old mid answer added = answer.tally.refused ≡ 0 → Did n line old mid answer added
+abbrev pub IsDone : (trusted : Type 0) → Places → List Rule → (n : ℕ) → Line → (old mid : Machine) → Answer → (added : List Entry) → Type 0
+IsDone trusted places choice n line old mid answer added = answer.tally.refused ≡ 0 → Did trusted places choice n line old mid answer added
 
 -- ---- complete: which lines are not refused
 
@@ -229,7 +242,7 @@ MayOwn places choice (validate set) old = validated set (database old) ≡ Ok tt
 MayOwn places choice (put p) old = MayPut places choice p old
 MayOwn places choice (get g) old = MayGet g (database old)
 MayOwn places choice checkpoint old = old.core.generation + 1 < 2 ^ 62
-MayOwn places choice none_yet old = ⊥
+MayOwn places choice own old = ⊥
 
 -- what the command names is there; and the database has no reason against its change, or shows its rows
 abbrev pub MayBy : Places → List Rule → Own → Result Work Refusal → (old : Machine) → Type 0
@@ -244,9 +257,19 @@ IsLegal places choice comment old = Unit {0}
 IsLegal places choice (refused why) old = ⊥
 IsLegal places choice (asks command) old = MayBy places choice (own_of command) (work_over command (database old)) old
 
--- a line that is legal, and in which no count of faults rose, doesn't count as refused
-abbrev pub IsComplete : Places → List Rule → Line → (old mid : Machine) → Answer → Type 0
-IsComplete places choice line old mid answer = ((file : ℕ) → RoseFrom old mid file → ⊥) → IsLegal places choice line old → answer.tally.refused ≡ 0
+-- what comes behind its work, which was done, was refused so
+abbrev pub IsRefusedBehind : (trusted : Type 0) → Places → List Rule → (n : ℕ) → Command → Behind → (old mid : Machine) → Answer → Type 0
+IsRefusedBehind trusted places choice n c b old mid answer =
+    (why : Refusal) × (answer ≡ refusal n why) × (it : Outcome) × (between : Machine) × (first : List Entry)
+    × Does trusted places choice c (work_over c (database old)) old between (Ok it) first × EndsWith trusted places b (Ok it) between mid (Err why)
+
+abbrev pub IsAnswered : (trusted : Type 0) → Places → List Rule → (n : ℕ) → Line → (old mid : Machine) → Answer → Type 0
+IsAnswered trusted places choice n (asks c) old mid answer = (answer.tally.refused ≡ 0) ⊎ IsRefusedBehind trusted places choice n c (behind c) old mid answer
+IsAnswered trusted places choice n line old mid answer = answer.tally.refused ≡ 0
+
+-- A line that is legal, and in which no count of faults rose, doesn't count as refused, unless what comes behind its work is.
+abbrev pub IsComplete : (trusted : Type 0) → Places → List Rule → (n : ℕ) → Line → (old mid : Machine) → Answer → Type 0
+IsComplete trusted places choice n line old mid answer = ((file : ℕ) → RoseFrom old mid file → ⊥) → IsLegal places choice line old → IsAnswered trusted places choice n line old mid answer
 
 -- ---- all of them
 
@@ -257,5 +280,5 @@ pub record Holds (trusted : Type 0) (places : Places) (choice : List Rule) (n : 
   pub bytes : ShowsBytes trusted n line old mid answer
   pub items : AreItems line old mid added
   pub causes : HasCause trusted places choice n line old mid answer added
-  pub done : IsDone n line old mid answer added
-  pub complete : IsComplete places choice line old mid answer
+  pub done : IsDone trusted places choice n line old mid answer added
+  pub complete : IsComplete trusted places choice n line old mid answer

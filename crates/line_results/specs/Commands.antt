@@ -1,10 +1,23 @@
 -- What a command comes to where one actor has the machine alone.
-use Rattle.std.specs.Prelude.{◌≡◌, ◌⊎◌, ℕ, List, [], ◌∷◌, Result, Ok, Err}
+use Rattle.std.specs.Prelude.{◌≡◌, ◌⊎◌, ℕ, List, [], ◌∷◌, ◌++◌, Some, Result, Ok, Err}
+use Rattle.std.specs.List.{AllByRecursion}
+use Rattle.kinds.specs.declared.change.DefineOrDelete.TheVariants as two
+use Rattle.kinds.specs.declared.change.ObjectChange.TheVariants as client
 use Rattle.kinds.specs.declared.change.PolicyChange.TheVariants as policy
+use Rattle.kinds.specs.declared.change.PoolChange.TheVariants as store
+use Rattle.kinds.specs.declared.change.Verb.TheVariants as verb
+use Rattle.kinds.specs.declared.pool.Access.{Access}
 use Rattle.kinds.specs.declared.refusal.Refusal.{Refusal}
 use Rattle.kinds.specs.declared.refusal.Refusal.TheVariants.{Memory, RunFull, UnknownWord}
 use Rattle.choosers.specs.declared.rule.Rule.{Rule}
+use Rattle.entries.specs.change_items.declared.items.DiscardedVersion.{DiscardedVersion}
+use Rattle.entries.specs.change_items.declared.items.DroppedCopy.{DroppedCopy}
+use Rattle.entries.specs.change_items.declared.items.NamedVersion.{NamedVersion}
+use Rattle.entries.specs.change_items.declared.reasons.DiscardReason.{DiscardReason}
+use Rattle.entries.specs.change_items.declared.reasons.DiscardReason.TheVariants as because
+use Rattle.entries.specs.change_items.declared.reasons.DropReason.TheVariants as since
 use Rattle.entries.specs.declared.change.Change.{Change}
+use Rattle.entries.specs.declared.change.Change.TheVariants as change
 use Rattle.entries.specs.declared.entry.Entry.{Entry}
 use Rattle.inventory_rows.specs.policy_domains.Changes.{after}
 use Rattle.inventory_rows.specs.version_groups.Entries.{on_ok}
@@ -18,16 +31,23 @@ use Rattle.admin_words.specs.declared.policy.NamedSet.{NamedSet}
 use Rattle.admin_commands.specs.Orders.{needs, work_of}
 use Rattle.admin_commands.specs.declared.work.Work.{Work}
 use Rattle.admin_commands.specs.declared.work.Work.TheVariants.{Commit, Show, Run}
-use Rattle.reports.specs.declared.shown.Shown.TheVariants.{Done, Stored}
+use Rattle.reports.specs.declared.shown.Shown.TheVariants.{Done, Reused, Stored}
+use Rattle.script_loop.specs.declared.ends.Halt.{Halt}
 use Rattle.sessions.specs.declared.getting.FileRead.{FileRead}
+use Rattle.steps.specs.Events.{Event}
+use Rattle.machine.specs.Alone.{Alone}
 use Rattle.machine.specs.Changes.{filled}
 use Rattle.machine.specs.Machine.{Places}
 use Rattle.machine.specs.State.{Machine}
-use Rattle.command_steps.specs.Owns.{Own, checkpoint, get, last_of, none_yet, own_of, put, validate}
+use Rattle.command_steps.specs.Answers.{halt_by}
+use Rattle.command_steps.specs.Behind.{Behind, behind, no_more, reuses}
+use Rattle.command_steps.specs.Doing as steps
+use Rattle.command_steps.specs.Doing.{EndsWork, the_number}
+use Rattle.command_steps.specs.Owns.{Own, checkpoint, empty_filespace, empty_volume, expire, get, last_of, none_but_reuse, none_yet, own_of, put, validate}
 use Rattle.command_steps.specs.declared.outcome.Outcome.{Outcome}
 use Rattle.command_steps.specs.declared.outcome.Outcome.TheVariants.{Read, Rows, Said}
 use Rattle.line_results.specs.Files.{Checkpoints, Gets, Puts}
-use Rattle.line_results.specs.Resting.{Commits, EndsRun, IsLate, SameBytes, SameImage, database}
+use Rattle.line_results.specs.Resting.{Adds, Commits, EndsRun, IsLate, Onward, SameBytes, SameImage, database}
 
 -- ---- what a command asks for
 
@@ -56,16 +76,55 @@ drawn c m = filled m.core.next_file (database m) c
 abbrev pub Tells : Result Outcome Refusal → (old new : Machine) → Result Outcome Refusal → (added : List Entry) → Type 0
 Tells told old new result added = ((result ≡ told) ⊎ ((e : Refusal) × (result ≡ Err e) × EndsRun old new e)) × (added ≡ []) × SameImage old new × SameBytes old new
 
--- work of a command's own; what isn't done so far is refused like an unknown word
-abbrev pub DoesOwn : (trusted : Type 0) → Places → List Rule → Own → (old new : Machine) → Result Outcome Refusal → (added : List Entry) → Type 0
-DoesOwn trusted places choice (validate set) old new result added = Tells (on_ok (λ done. Said Done) (validated set (database old))) old new result added
-DoesOwn trusted places choice (put p) old new result added =
+-- ---- processes, which are said by their steps
+
+-- nothing changed but the moment and the counts of faults
+pub record IsStill (old new : Machine) : Type 0 where
+  pub core : new.core ≡ old.core
+  pub contents : new.contents ≡ old.contents
+  pub onward : Onward old new
+
+-- The script made these steps, which did this, alone, behind steps that changed nothing.
+abbrev pub Ran : (trusted : Type 0) → Places → (Did : List Event → Type 0) → (old new : Machine) → Type 0
+Ran trusted places Did old new = (mid : Machine) × (events : List Event) × IsStill old mid × Alone trusted places 0 events mid new × Did events
+
+-- objects are discarded for this reason
+abbrev pub IsDiscard : DiscardReason → Change → Type 0
+IsDiscard reason c = (items : List DiscardedVersion) × (c ≡ change.Discard (record { reason = reason; items = items }))
+
+-- the transactions that a process may make over the numbers of the things that it names: objects that aren't retained go; objects of the filespace are discarded, or its row goes; copies on the
+-- volume are dropped, objects are discarded for it, or its row goes
+abbrev pub MayMake : (numbers : List ℕ) → Own → Change → Type 0
+MayMake numbers expire c = (filespace : ℕ) × (items : List NamedVersion) × (c ≡ change.Expire (record { filespace = filespace; items = items }))
+MayMake numbers empty_filespace c =
+    IsDiscard (because.Filespace (the_number numbers)) c ⊎ ((name : List ℕ) × (c ≡ change.Object (client.Filespace two.Delete 0 name (the_number numbers))))
+MayMake numbers empty_volume c =
+    ((items : List DroppedCopy) × (c ≡ change.DropCopies (record { reason = since.Volume (the_number numbers); items = items })))
+    ⊎ IsDiscard (because.Volume (the_number numbers)) c
+    ⊎ ((name : List ℕ) × (capacity : ℕ) × (access : Access) × (c ≡ change.Pool (store.Volume verb.Delete name 0 (the_number numbers) capacity access)))
+MayMake numbers _ c = ⊥
+
+-- A process ran: its own contract says what its steps did; and each transaction that it made is one of these.
+abbrev pub Processes : (trusted : Type 0) → Places → List Rule → (numbers : List ℕ) → Own → (old new : Machine) → Result Outcome Refusal → (added : List Entry) → Type 0
+Processes trusted places choice numbers own old new result added =
+    Ran trusted places (λ events. steps.DoesOwn choice own numbers events result) old new × AllByRecursion (λ e. (e.actor ≡ 0) × MayMake numbers own e.change) added × SameImage old new × SameBytes old new
+
+-- ---- work
+
+-- work of a command's own, over the numbers of the things that it names; what isn't done so far is refused like an unknown word
+abbrev pub DoesOwn : (trusted : Type 0) → Places → List Rule → (numbers : List ℕ) → Own → (old new : Machine) → Result Outcome Refusal → (added : List Entry) → Type 0
+DoesOwn trusted places choice numbers (validate set) old new result added = Tells (on_ok (λ done. Said Done) (validated set (database old))) old new result added
+DoesOwn trusted places choice numbers (put p) old new result added =
     (answer : Result ℕ Refusal) × Puts places choice p old new answer added × (result ≡ on_ok (λ object. Said (Stored object)) answer) × SameImage old new
-DoesOwn trusted places choice (get g) old new result added =
+DoesOwn trusted places choice numbers (get g) old new result added =
     (answer : Result FileRead Refusal) × Gets trusted g old new answer × (result ≡ on_ok Read answer) × (added ≡ []) × SameImage old new × SameBytes old new
-DoesOwn trusted places choice checkpoint old new result added =
+DoesOwn trusted places choice numbers checkpoint old new result added =
     (answer : Result ℕ Refusal) × Checkpoints old new answer × (result ≡ on_ok (λ seq. Said Done) answer) × (added ≡ []) × SameBytes old new
-DoesOwn trusted places choice none_yet old new result added = Tells (Err (UnknownWord 1)) old new result added
+DoesOwn trusted places choice numbers expire old new result added = Processes trusted places choice numbers expire old new result added
+DoesOwn trusted places choice numbers empty_filespace old new result added = Processes trusted places choice numbers empty_filespace old new result added
+DoesOwn trusted places choice numbers empty_volume old new result added = Processes trusted places choice numbers empty_volume old new result added
+DoesOwn trusted places choice numbers none_but_reuse old new result added = Tells (Ok (Said (Reused 0))) old new result added
+DoesOwn trusted places choice numbers none_yet old new result added = Tells (Err (UnknownWord 1)) old new result added
 
 -- A command whose work over the database is this: it is done, or it is refused before that.
 abbrev pub Does : (trusted : Type 0) → Places → List Rule → Command → Result Work Refusal → (old new : Machine) → Result Outcome Refusal → (added : List Entry) → Type 0
@@ -73,7 +132,36 @@ Does trusted places choice c (Err why) old new result added = Tells (Err why) ol
 Does trusted places choice c (Ok (Commit what)) old new result added =
     (answer : Result ℕ Refusal) × Commits (drawn what old) old new answer added × (result ≡ on_ok (λ number. Said (last_of what)) answer) × SameImage old new × SameBytes old new
 Does trusted places choice c (Ok (Show query)) old new result added = Tells (on_ok Rows (answered query (database old))) old new result added
-Does trusted places choice c (Ok (Run numbers)) old new result added = DoesOwn trusted places choice (own_of c) old new result added
+Does trusted places choice c (Ok (Run numbers)) old new result added = DoesOwn trusted places choice numbers (own_of c) old new result added
+
+-- What comes behind work that came to this: nothing, or what its steps did.
+abbrev pub EndsWith : (trusted : Type 0) → Places → Behind → (said : Result Outcome Refusal) → (mid new : Machine) → Result Outcome Refusal → Type 0
+EndsWith trusted places no_more said mid new result = (new ≡ mid) × (result ≡ said)
+EndsWith trusted places b said mid new result = (events : List Event) × Alone trusted places 0 events mid new × EndsWork b said events result × SameImage mid new × SameBytes mid new
+
+-- volumes are reused where that comes behind the work
+abbrev pub IsReuse : Behind → Change → Type 0
+IsReuse reuses c = (file : ℕ) × (c ≡ change.Reuse file)
+IsReuse b c = ⊥
+
+-- Work is done, and then what comes behind it: `first` are the transactions of the work, and `later` those behind it. Where the run ended, that has its cause.
+pub record WorksWith (trusted : Type 0) (places : Places) (choice : List Rule) (c : Command) (w : Result Work Refusal) (b : Behind) (old new : Machine) (result : Result Outcome Refusal) (added : List Entry) : Type 0 where
+  pub said : Result Outcome Refusal
+  pub mid : Machine
+  pub first : List Entry
+  pub later : List Entry
+  pub parts : added ≡ first ++ later
+  pub adds : Adds first old mid
+  pub does : Does trusted places choice c w old mid said first
+  pub ends : EndsWith trusted places b said mid new result
+  pub reused : AllByRecursion (λ e. (e.actor ≡ 0) × IsReuse b e.change) later
+  pub cause : (e : Refusal) (how : Halt) → result ≡ Err e → halt_by e ≡ Some how → EndsRun old new e
+
+-- A command's work over the database, with what comes behind it; or it is refused before any.
+abbrev pub Works : (trusted : Type 0) → Places → List Rule → Command → Result Work Refusal → Behind → (old new : Machine) → Result Outcome Refusal → (added : List Entry) → Type 0
+Works trusted places choice c w no_more old new result added = Does trusted places choice c w old new result added
+Works trusted places choice c (Err why) b old new result added = Tells (Err why) old new result added
+Works trusted places choice c (Ok work) b old new result added = WorksWith trusted places choice c (Ok work) b old new result added
 
 -- the run ended before the command's work was known
 abbrev pub BeginsNot : (old new : Machine) → Result Outcome Refusal → (added : List Entry) → Type 0
@@ -97,4 +185,4 @@ IsFull c old result = IsLate old → IsStopped result ⊎ IsRefusedAsRead c resu
 -- What a command comes to.
 abbrev pub Comes : (trusted : Type 0) → Places → List Rule → Command → (old new : Machine) → Result Outcome Refusal → (added : List Entry) → Type 0
 Comes trusted places choice c old new result added =
-    (BeginsNot old new result added ⊎ Does trusted places choice c (work_over c (database old)) old new result added) × IsFull c old result
+    (BeginsNot old new result added ⊎ Works trusted places choice c (work_over c (database old)) (behind c) old new result added) × IsFull c old result

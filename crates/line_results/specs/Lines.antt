@@ -1,5 +1,5 @@
 -- What a line of a script comes to where one actor has the machine alone.
-use Rattle.std.specs.Prelude.{◌≡◌, ◌⊎◌, ℕ, ◌+◌, ◌^◌, ◌<◌, ◌≤◌, true, List, [], length, Option, None, Some, Result, Ok, Err}
+use Rattle.std.specs.Prelude.{◌≡◌, ◌⊎◌, ℕ, ◌+◌, ◌^◌, ◌<◌, ◌≤◌, max, true, List, [], length, Option, None, Some, Result, Ok, Err}
 use Rattle.kinds.specs.declared.refusal.Refusal.{Refusal}
 use Rattle.choosers.specs.declared.rule.Rule.{Rule}
 use Rattle.entries.specs.declared.entry.Entry.{Entry}
@@ -10,10 +10,11 @@ use Rattle.machine.specs.Machine.{Places}
 use Rattle.machine.specs.State.{Machine}
 use Rattle.command_steps.specs.Answering.{long_log}
 use Rattle.command_steps.specs.Answers.{Ends, nothing, refusal}
+use Rattle.command_steps.specs.Behind.{Behind, behind, no_more}
 use Rattle.command_steps.specs.Lines.{Line, asks, comment, refused}
 use Rattle.command_steps.specs.declared.outcome.Outcome.{Outcome}
 use Rattle.line_results.specs.Commands.{Comes}
-use Rattle.line_results.specs.Resting.{Adds, IsAtRest, IsLate, IsNearlyDurable, LogEnds, Onward, RoseFrom, SameBytes, SameImage, has_broken}
+use Rattle.line_results.specs.Resting.{Adds, IsAtRest, IsLate, LogEnds, Onward, RoseFrom, SameBytes, SameImage, has_broken}
 
 -- Behind a line a checkpoint is made where the log is long, by which the newest image has the next generation and its log is empty; none is made where it is short, and none can be where the
 -- moment is all but the last, or the newest image of the last generation.
@@ -65,7 +66,16 @@ EndsAt trusted places choice n (asks c) old how added new =
 EndsAt trusted places choice n comment old how added new = (added ≡ []) × EndsFollowing old new how
 EndsAt trusted places choice n (refused given) old how added new = (added ≡ []) × EndsFollowing old new how
 
--- A line may end the run so, and which transactions it adds. But for the newest each transaction is durable. Where the run ended for want of memory, each is, unless it was wanted behind one
+-- how many of a line's transactions may be in doubt behind it where it ended the run: the newest; of a command behind whose work all is forced together all of them
+abbrev pub in_doubt : Behind → List Entry → ℕ
+in_doubt no_more added = 1
+in_doubt b added = max 1 (length added)
+
+abbrev pub doubtful : Line → List Entry → ℕ
+doubtful (asks c) added = in_doubt (behind c) added
+doubtful line added = 1
+
+-- A line may end the run so, and which transactions it adds. But for those in doubt each transaction is durable. Where the run ended for want of memory, each is, unless it was wanted behind one
 -- that was made, or for the answer to a command that a fault or a full run ended. A fault and a full run have their cause.
 pub record Halts (trusted : Type 0) (places : Places) (choice : List Rule) (n : ℕ) (line : Line) (old : Machine) (how : Halt) (new : Machine) : Type 0 where
   pub added : List Entry
@@ -74,6 +84,6 @@ pub record Halts (trusted : Type 0) (places : Places) (choice : List Rule) (n : 
   pub log : LogEnds added old new
   pub onward : Onward old new
   pub cause : EndsBehind old new how
-  pub nearly : IsNearlyDurable new.core
+  pub nearly : length new.core.journal ≤ length new.core.stamps + doubtful line added
   pub durable : how ≡ halt.Memory
       → (length new.core.stamps ≡ length new.core.journal) ⊎ ((added ≡ [] → ⊥) ⊎ ((said : Result Outcome Refusal) × (has_broken said ≡ true) × Ends n said (Err how)))

@@ -1,8 +1,14 @@
 use Rattle.command_steps.proofs.Worked.{owned}
-use Rattle.command_steps.specs.Doing.{DoesOwn}
-use Rattle.command_steps.specs.Owns.{checkpoint, get, none_yet, own_of, put, validate}
+use Rattle.command_steps.specs.Doing.{DoesOwn, Gives}
+use Rattle.command_steps.specs.Owns.{checkpoint, empty_filespace, empty_volume, expire, get, none_but_reuse, none_yet, own_of, put, validate}
 use Rattle.kinds.specs.declared.refusal.Refusal.TheVariants.{UnknownWord}
-use Rattle.std.proofs.Common.{Err, refl}
+use Rattle.std.proofs.Common.{ℕ, true, Err, Ok, refl, subst}
+use Rattle.deletions.specs.Filespaces.{FilespaceDeletion}
+use Rattle.deletions.specs.Volumes.{VolumeDeletion}
+use Rattle.deletions.specs.declared.copies.Removed.{Removed}
+use Rattle.reports.specs.declared.shown.Shown.TheVariants.{DeletedVolume, DiscardedFilespace, Reused}
+use Rattle.command_steps.specs.declared.outcome.Outcome.TheVariants.{Said}
+use Rattle.steps.specs.Calls.{Call}
 use Rattle.steps.proofs.Joining.{call_of_none}
 use Rattle.command_steps.proofs.doing.run_own.Goals as goal
 
@@ -21,3 +27,18 @@ returns-in-Checkpoint-clause-does g c = owned g.P.Stepper.did c.args.p.now c.kee
 pub returns-in-NoneYet-clause-does : goal.returns-in-NoneYet-clause-does
 returns-in-NoneYet-clause-does g c = owned g.P.Stepper.did c.args.p.now c.args.p.now c.args.binder.now none_yet (own_of c.args.command.now) c.args.numbers.now (Err (UnknownWord 1)) c.in-NoneYet.ensures
     (call_of_none g.P.Stepper.did (λ events. DoesOwn c.args.binder.now none_yet c.args.numbers.now events (Err (UnknownWord 1))) c.args.p.now c.args.p.now (g.met.P.Stepper.stays c.args.p.now) (refl, refl))
+
+pub returns-in-Expire-clause-does : goal.returns-in-Expire-clause-does
+returns-in-Expire-clause-does g c = owned g.P.Stepper.did c.args.p.now c.expire_all.new.p c.args.binder.now expire (own_of c.args.command.now) c.args.numbers.now c.expire_all.result c.in-Expire.ensures c.expire_all.ensures
+
+pub returns-in-EmptyFilespace-clause-does : goal.returns-in-EmptyFilespace-clause-does
+returns-in-EmptyFilespace-clause-does g c = owned g.P.Stepper.did c.args.p.now c.empty_filespace.new.p c.args.binder.now empty_filespace (own_of c.args.command.now) c.args.numbers.now c.empty_filespace.result c.in-EmptyFilespace.ensures
+    (subst (λ (k : ℕ). Call g.P.Stepper.did c.args.p.now c.empty_filespace.new.p (λ events. Gives (FilespaceDeletion k) (λ discarded. Said (DiscardedFilespace discarded 0)) events c.empty_filespace.result)) c.the_number.ensures c.empty_filespace.ensures)
+
+pub returns-in-EmptyVolume-clause-does : goal.returns-in-EmptyVolume-clause-does
+returns-in-EmptyVolume-clause-does g c = owned g.P.Stepper.did c.args.p.now c.empty_volume.new.p c.args.binder.now empty_volume (own_of c.args.command.now) c.args.numbers.now c.empty_volume.result c.in-EmptyVolume.ensures
+    (subst (λ (k : ℕ). Call g.P.Stepper.did c.args.p.now c.empty_volume.new.p (λ events. Gives (VolumeDeletion true k) (λ (went : Removed). Said (DeletedVolume went.discarded went.dropped)) events c.empty_volume.result)) c.the_number.ensures c.empty_volume.ensures)
+
+pub returns-in-NoneButReuse-clause-does : goal.returns-in-NoneButReuse-clause-does
+returns-in-NoneButReuse-clause-does g c = owned g.P.Stepper.did c.args.p.now c.args.p.now c.args.binder.now none_but_reuse (own_of c.args.command.now) c.args.numbers.now (Ok (Said (Reused 0))) c.in-NoneButReuse.ensures
+    (call_of_none g.P.Stepper.did (λ events. DoesOwn c.args.binder.now none_but_reuse c.args.numbers.now events (Ok (Said (Reused 0)))) c.args.p.now c.args.p.now (g.met.P.Stepper.stays c.args.p.now) (refl, refl))

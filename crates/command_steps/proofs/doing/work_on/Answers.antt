@@ -3,7 +3,7 @@ use Rattle.admin_commands.specs.Orders.{work_of}
 use Rattle.command_steps.proofs.doing.work_on.Goals as goal
 
 pub returns-in-Ok-clause-does : goal.returns-in-Ok-clause-does
-returns-in-Ok-clause-does g c = worked g.P.Stepper.did c.args.p.now c.do_work.new.p c.args.binder.now c.args.command.now c.in-Ok.work (work_of c.args.command.now c.args.answers.now) c.do_work.result c.in-Ok.ensures.value c.do_work.ensures.does
+returns-in-Ok-clause-does g c = worked g.P.Stepper.did c.args.p.now c.do_all.new.p c.args.binder.now c.args.command.now c.in-Ok.work (work_of c.args.command.now c.args.answers.now) c.do_all.result c.in-Ok.ensures.value c.do_all.ensures.does
 
 pub returns-in-Err-clause-does : goal.returns-in-Err-clause-does
 returns-in-Err-clause-does g c = declined g.P.Stepper.did c.args.p.now c.args.binder.now c.args.command.now (work_of c.args.command.now c.args.answers.now) c.in-Err.refusal (g.met.P.Stepper.stays c.args.p.now) c.in-Err.ensures.value

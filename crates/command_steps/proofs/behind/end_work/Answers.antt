@@ -1,0 +1,11 @@
+use Rattle.command_steps.proofs.Worked.{ends-forced, ends-none, ends-reused}
+use Rattle.command_steps.proofs.behind.end_work.Goals as goal
+
+pub returns-in-NoMore : goal.returns-in-NoMore
+returns-in-NoMore g c = ends-none g.P.Stepper.did c.args.p.now c.args.said (g.met.P.Stepper.stays c.args.p.now)
+
+pub returns-in-Forces : goal.returns-in-Forces
+returns-in-Forces g c = ends-forced g.P.Stepper.did c.args.p.now c.force_behind.new.p c.args.said c.force_behind.result c.force_behind.ensures
+
+pub returns-in-Reuses : goal.returns-in-Reuses
+returns-in-Reuses g c = ends-reused g.P.Stepper.did g.met.P.Stepper.goes_on c.args.p.now c.reuse_behind-came.new.p c.force_behind.new.p c.args.said c.reuse_behind-came.result c.force_behind.result c.reuse_behind-came.ensures c.force_behind.ensures

@@ -1,0 +1,121 @@
+-- Which commands are processes, behind whose work something comes.
+use Rattle.std.proofs.Common.{◌≡◌, ◌⊎◌, inl, inr, ℕ, Bool, true, false, if◌then◌else◌, List, [], ◌∷◌, Option, None, Some, Result, Ok, Err, refl}
+use Rattle.kinds.specs.declared.refusal.Refusal.{Refusal}
+use Rattle.inventory_rows.specs.version_groups.Entries.{if_found}
+use Rattle.inventory_rows.specs.State.{Inv}
+use Rattle.inventory_answers.specs.declared.reply.Answer.{Answer}
+use Rattle.command_words.specs.Reading.{◌>>=◌}
+use Rattle.admin_words.specs.declared.command.Command.{Command}
+use Rattle.admin_words.specs.declared.command.Command.TheVariants as commands
+use Rattle.admin_words.specs.declared.command.DatabaseCommand.{DatabaseCommand}
+use Rattle.admin_words.specs.declared.command.DatabaseCommand.TheVariants.{Checkpoint, Day, ExpireInventory}
+use Rattle.admin_words.specs.declared.command.FileCommand.{FileCommand}
+use Rattle.admin_words.specs.declared.command.FileCommand.TheVariants.{Get, Put}
+use Rattle.admin_words.specs.declared.command.NodeCommand.{NodeCommand}
+use Rattle.admin_words.specs.declared.command.NodeCommand.TheVariants.{DeleteFilespace}
+use Rattle.admin_words.specs.declared.command.PolicyCommand.{PolicyCommand}
+use Rattle.admin_words.specs.declared.command.PolicyCommand.TheVariants.{ValidateSet}
+use Rattle.admin_words.specs.declared.command.VolumeCommand.{VolumeCommand}
+use Rattle.admin_words.specs.declared.command.VolumeCommand.TheVariants.{DeleteVolume, ReuseVolumes}
+use Rattle.admin_commands.specs.Found.{filespace_named, number_found}
+use Rattle.admin_commands.specs.Orders.{needs, run, work_of}
+use Rattle.admin_commands.specs.Stores.{delete_volume}
+use Rattle.admin_commands.specs.Orders.{run_found}
+use Rattle.admin_commands.specs.declared.work.Work.{Work}
+use Rattle.admin_commands.specs.declared.work.Work.TheVariants as work
+use Rattle.command_steps.specs.Behind.{Behind, behind, database_behind, forces, node_behind, no_more, reuses, volume_behind}
+use Rattle.command_steps.specs.Owns.{Own, checkpoint, database_own, empty_filespace, empty_volume, expire, file_own, get, node_own, none_but_reuse, none_yet, own_of, policy_own, put, validate, volume_own}
+use Rattle.line_results.specs.Commands.{answers_to, work_over}
+
+-- work of a command's own that is done by the steps of a process, or isn't done so far
+abbrev pub IsProcessOwn : Own → Type 0
+IsProcessOwn (validate set) = ⊥
+IsProcessOwn (put p) = ⊥
+IsProcessOwn (get g) = ⊥
+IsProcessOwn checkpoint = ⊥
+IsProcessOwn own = Unit {0}
+
+-- work of a command's own that isn't
+abbrev pub IsPlainOwn : Own → Type 0
+IsPlainOwn expire = ⊥
+IsPlainOwn empty_filespace = ⊥
+IsPlainOwn empty_volume = ⊥
+IsPlainOwn none_but_reuse = ⊥
+IsPlainOwn own = Unit {0}
+
+-- it shows no rows
+abbrev pub IsRowless : Result Work Refusal → Type 0
+IsRowless (Ok (work.Show q)) = ⊥
+IsRowless w = Unit {0}
+
+pub record IsProcess (c : Command) : Type 0 where
+  pub some : behind c ≡ no_more → ⊥
+  pub own : IsProcessOwn (own_of c)
+  pub rowless : (answers : List Answer) → IsRowless (work_of c answers)
+
+-- nothing comes behind a command's work, or it is a process
+abbrev pub Kind : Command → Type 0
+Kind c = ((behind c ≡ no_more) × IsPlainOwn (own_of c)) ⊎ IsProcess c
+
+found-rowless : {X : Type 0} (o : Option X) (f : X → Result Work Refusal) → ((x : X) → IsRowless (f x)) → IsRowless (if_found o f)
+found-rowless None f h = tt
+found-rowless (Some x) f h = h x
+
+policy-kind : (c : PolicyCommand) → Kind (commands.Policy c)
+policy-kind (ValidateSet s) = inl (refl, tt)
+policy-kind c = inl (refl, tt)
+
+node-kind : (c : NodeCommand) → Kind (commands.Node c)
+node-kind (DeleteFilespace f) = inr (record { some = λ is. cc; own = tt; rowless = λ answers. found-rowless (filespace_named f.filespace answers) (λ it. run (it.number ∷ [])) (λ it. tt) })
+node-kind c = inl (refl, tt)
+
+-- DELETE VOLUME is one where its data goes
+abbrev deleted_behind : Bool → Behind
+deleted_behind discard = if discard then forces else no_more
+
+abbrev deleted_own : Bool → Own
+deleted_own discard = if discard then empty_volume else none_yet
+
+abbrev DeletedKind : (discard : Bool) → (work : List Answer → Result Work Refusal) → Type 0
+DeletedKind discard work =
+    ((deleted_behind discard ≡ no_more) × IsPlainOwn (deleted_own discard))
+    ⊎ ((deleted_behind discard ≡ no_more → ⊥) × IsProcessOwn (deleted_own discard) × ((answers : List Answer) → IsRowless (work answers)))
+
+deleted-kind : (discard : Bool) (volume : List ℕ) → DeletedKind discard (λ answers. if discard then run_found answers else delete_volume volume answers)
+deleted-kind true volume = inr (λ is. cc, tt, λ answers. found-rowless (number_found answers) (λ number. run (number ∷ [])) (λ number. tt))
+deleted-kind false volume = inl (refl, tt)
+
+volume-kind : (c : VolumeCommand) → Kind (commands.Volume c)
+volume-kind (DeleteVolume d) = elim (deleted-kind d.discard_data d.volume) as (λ _. Kind (commands.Volume (DeleteVolume d))) [
+  | inl plain ↦ inl plain
+  | inr process ↦ inr (record { some = process.0; own = process.1; rowless = process.2 })
+]
+volume-kind ReuseVolumes = inr (record { some = λ is. cc; own = tt; rowless = λ answers. tt })
+volume-kind c = inl (refl, tt)
+
+file-kind : (c : FileCommand) → Kind (commands.File c)
+file-kind (Put p) = inl (refl, tt)
+file-kind (Get g) = inl (refl, tt)
+file-kind c = inl (refl, tt)
+
+database-kind : (c : DatabaseCommand) → Kind (commands.Database c)
+database-kind (Day d) = inr (record { some = λ is. cc; own = tt; rowless = λ answers. tt })
+database-kind ExpireInventory = inr (record { some = λ is. cc; own = tt; rowless = λ answers. tt })
+database-kind Checkpoint = inl (refl, tt)
+database-kind c = inl (refl, tt)
+
+pub kind : (c : Command) → Kind c
+kind (commands.Policy c) = policy-kind c
+kind (commands.Node c) = node-kind c
+kind (commands.Volume c) = volume-kind c
+kind (commands.File c) = file-kind c
+kind (commands.Database c) = database-kind c
+kind c = inl (refl, tt)
+
+-- a process shows no rows, over any database
+then-rowless : (r : Result (List Answer) Refusal) (f : List Answer → Result Work Refusal) → ((x : List Answer) → IsRowless (f x)) → IsRowless (r >>= f)
+then-rowless (Ok x) f h = h x
+then-rowless (Err e) f h = tt
+
+pub over-rowless : (c : Command) (v : Inv) → IsProcess c → IsRowless (work_over c v)
+over-rowless c v p = then-rowless (answers_to (needs c) v) (λ answers. work_of c answers) p.rowless

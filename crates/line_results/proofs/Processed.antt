@@ -1,0 +1,244 @@
+-- What comes of a process, and of what comes behind it.
+use Rattle.std.proofs.Common.{◌≡◌, ◌⊎◌, inl, inr, ℕ, ◌≤◌, ◌+◌, true, List, [], ◌∷◌, ◌++◌, length, map, Some, Result, Ok, Err, refl, sym, ap, subst, ◌∙◌}
+use Rattle.std.proofs.lemmas.Bool.{and_parts}
+use Rattle.std.proofs.lemmas.List.{append-nil, append_cancel_left}
+use Rattle.std.proofs.lemmas.Option.{same_Some}
+use Rattle.std.specs.List.{AllByRecursion}
+use Rattle.kinds.specs.declared.change.DefineOrDelete.TheVariants as two
+use Rattle.kinds.specs.declared.change.ObjectChange.TheVariants as client
+use Rattle.kinds.specs.declared.change.PoolChange.TheVariants as store
+use Rattle.kinds.specs.declared.change.Verb.TheVariants as verb
+use Rattle.kinds.specs.declared.refusal.Refusal.{Refusal}
+use Rattle.kinds.specs.declared.refusal.Refusal.TheVariants as refused
+use Rattle.choosers.specs.declared.rule.Rule.{Rule}
+use Rattle.entries.specs.change_items.declared.reasons.DiscardReason.{DiscardReason}
+use Rattle.entries.specs.change_items.declared.reasons.DiscardReason.TheVariants as because
+use Rattle.entries.specs.change_items.declared.reasons.DropReason.TheVariants as since
+use Rattle.entries.specs.declared.change.Change.{Change}
+use Rattle.entries.specs.declared.change.Change.TheVariants as change
+use Rattle.entries.specs.declared.entry.Entry.{Entry}
+use Rattle.inventory_rows.specs.State.{Inv}
+use Rattle.inventory_rows.specs.version_groups.Entries.{on_ok}
+use Rattle.admin_words.specs.declared.command.Command.{Command}
+use Rattle.admin_commands.specs.declared.work.Work.{Work}
+use Rattle.admin_commands.specs.declared.work.Work.TheVariants.{Commit as CommitWork, Run, Show}
+use Rattle.copy_runs.specs.Ends.{IsEnding}
+use Rattle.deletions.specs.Discarding.{IsDiscarding, discarded}
+use Rattle.deletions.specs.Dropping.{IsTaking, dropped}
+use Rattle.deletions.specs.Filespaces as filespaces
+use Rattle.deletions.specs.Volumes as volumes
+use Rattle.expiration.specs.Expiring.{IsExpiring, named}
+use Rattle.reuse_delay.specs.Reusing.{IsReusing, VolumeReuse}
+use Rattle.script_loop.specs.declared.ends.Halt.{Halt}
+use Rattle.sessions.specs.Changing.{Changing, IsOf}
+use Rattle.steps.specs.declared.asked.Asked.{Asked}
+use Rattle.steps.specs.declared.asked.Asked.TheVariants.{Plain}
+use Rattle.steps.specs.Events.{Deed, Event}
+use Rattle.steps.specs.Events.Deed.{Ask, Commit, Force, Reuse}
+use Rattle.machine.specs.Alone.{Alone}
+use Rattle.machine.specs.Causes.{is_plain}
+use Rattle.machine.specs.Changes.{filled}
+use Rattle.machine.specs.Machine.{Places, asked_change}
+use Rattle.machine.specs.State.{Core, Machine, inventory}
+use Rattle.command_steps.specs.Answers.{halt_by}
+use Rattle.command_steps.specs.Behind.{Behind, behind, forces, no_more, reuses, with_reused}
+use Rattle.command_steps.specs.Doing.{Does as DoesBy, DoesOwn as DoesOwnBy, DoesWork, EndsWork, Forcing, Reusing, the_number}
+use Rattle.command_steps.specs.Owns.{Own, checkpoint, empty_filespace, empty_volume, expire, get, last_of, none_but_reuse, none_yet, own_of, put, validate}
+use Rattle.command_steps.specs.declared.outcome.Outcome.{Outcome}
+use Rattle.command_steps.specs.declared.outcome.Outcome.TheVariants.{Said}
+use Rattle.line_results.specs.Commands.{Does, DoesOwn, EndsWith, IsReuse, IsStill, IsStopped, MayMake, Processes, Ran, Tells, Works, WorksWith}
+use Rattle.line_results.specs.Resting.{Adds, EndsRun, IsAtRest, IsLate, SameBytes, SameImage}
+use Rattle.line_results.proofs.Changed.{changes}
+use Rattle.line_results.proofs.Kinds.{IsProcess, IsProcessOwn, IsRowless}
+use Rattle.line_results.proofs.Leaving.{Left}
+use Rattle.line_results.proofs.Mild.{is_common}
+use Rattle.line_results.proofs.Needs.{IsPlainWork}
+use Rattle.line_results.proofs.Runs.{alone-none, alone-parts, onward-none}
+use Rattle.line_results.proofs.Settling.{Settled, settles}
+use Rattle.line_results.proofs.Walking.{AllWalk, AreOf, Under, Walked, Walks, all-walk, walk, walked-none, walked-on}
+
+-- ---- steps of processes
+
+ending-walks : (P : Change → Type 0) (d : Deed) → IsEnding d → Walks P d
+ending-walks P d (inl (q, answer, is)) = subst (λ (x : Deed). Walks P x) (sym is) tt
+ending-walks P d (inr (answer, is)) = subst (λ (x : Deed). Walks P x) (sym is) tt
+
+-- what joins by a change that is asked as it stands
+joined-plain : (P : Change → Type 0) (w c : Change) (core : Core) → P (filled core.next_file (inventory core) w) → asked_change 0 (Plain w) [] core ≡ Some c → P c
+joined-plain P w c core p is = subst P (same_Some (filled core.next_file (inventory core) w) c is) p
+
+plain-walks : (P : Change → Type 0) (d : Deed) (w : Change) (answer : Result ℕ Refusal) → ((next_file : ℕ) (v : Inv) → P (filled next_file v w)) → d ≡ Commit (Plain w) [] answer → Walks P d
+plain-walks P d w answer p is = subst (λ (x : Deed). Walks P x) (sym is) (refl, λ c core joins. joined-plain P w c core (p core.next_file (inventory core)) joins)
+
+asked-walks : (P : Change → Type 0) (asked : Asked) (tickets : List ℕ) (answer : Result ℕ Refusal) (w : Change) → ((next_file : ℕ) (v : Inv) → P (filled next_file v w)) → asked ≡ Plain w → tickets ≡ [] → Walks P (Commit asked tickets answer)
+asked-walks P asked tickets answer w p is none = (none, λ c core joins. joined-plain P w c core (p core.next_file (inventory core)) (subst (λ (a : Asked). asked_change 0 a [] core ≡ Some c) is joins))
+
+expiring-walks : (numbers : List ℕ) (d : Deed) → IsExpiring d → Walks (MayMake numbers expire) d
+expiring-walks numbers (Ask query answer) h = tt
+expiring-walks numbers (Force answer) h = tt
+expiring-walks numbers (Commit asked tickets answer) (filespace, lines, is, none) =
+    asked-walks (MayMake numbers expire) asked tickets answer (change.Expire (record { filespace = filespace; items = map named lines })) (λ next_file v. (filespace, map named lines, refl)) is none
+expiring-walks numbers d h = absurd h
+
+discarding-walks : (P : Change → Type 0) (reason : DiscardReason) (d : Deed) → ((items : List _) → P (change.Discard (record { reason = reason; items = items }))) → IsDiscarding reason d → Walks P d
+discarding-walks P reason d p (objects, answer, is) =
+    plain-walks P d (change.Discard (record { reason = reason; items = map discarded objects })) answer (λ next_file v. p (map discarded objects)) is
+
+filespace-walks : (numbers : List ℕ) (d : Deed) → filespaces.IsDeleting (the_number numbers) d → Walks (MayMake numbers empty_filespace) d
+filespace-walks numbers d (inl h) = ending-walks (MayMake numbers empty_filespace) d h
+filespace-walks numbers d (inr (inl h)) = discarding-walks (MayMake numbers empty_filespace) (because.Filespace (the_number numbers)) d (λ items. inl (items, refl)) h
+filespace-walks numbers d (inr (inr (name, answer, is))) =
+    plain-walks (MayMake numbers empty_filespace) d (change.Object (client.Filespace two.Delete 0 name (the_number numbers))) answer (λ next_file v. inr (name, refl)) is
+
+taking-walks : (numbers : List ℕ) (d : Deed) → IsTaking (the_number numbers) d → Walks (MayMake numbers empty_volume) d
+taking-walks numbers d (inl (lines, answer, is)) =
+    plain-walks (MayMake numbers empty_volume) d (change.DropCopies (record { reason = since.Volume (the_number numbers); items = map dropped lines })) answer (λ next_file v. inl (map dropped lines, refl)) is
+taking-walks numbers d (inr h) = discarding-walks (MayMake numbers empty_volume) (because.Volume (the_number numbers)) d (λ items. inr (inl (items, refl))) h
+
+volume-walks : (numbers : List ℕ) (d : Deed) → volumes.IsDeleting true (the_number numbers) d → Walks (MayMake numbers empty_volume) d
+volume-walks numbers d (inl (inl h)) = ending-walks (MayMake numbers empty_volume) d h
+volume-walks numbers d (inl (inr (row, answer, is))) =
+    plain-walks (MayMake numbers empty_volume) d (change.Pool (store.Volume verb.Delete row.name 0 (the_number numbers) row.capacity row.access)) answer
+    (λ next_file v. inr (inr (row.name, row.capacity, row.access, refl))) is
+volume-walks numbers d (inr h) = taking-walks numbers d h
+
+reusing-walks : (files : List ℕ) (d : Deed) → IsReusing files d → Walks (IsReuse reuses) d
+reusing-walks files d (inl h) = ending-walks (IsReuse reuses) d h
+reusing-walks files d (inr (file, answer, among, is)) = subst (λ (x : Deed). Walks (IsReuse reuses) x) (sym is) (file, refl)
+
+abbrev IsAny : Change → Type 0
+IsAny c = Unit {0}
+
+changing-walks : (what : Change) (d : Deed) → IsOf what d → Walks IsAny d
+changing-walks what (Commit asked tickets answer) h = (h.1, λ c core joins. tt)
+changing-walks what (Force answer) h = tt
+changing-walks what d h = absurd h
+
+-- ---- the work
+
+-- The work of a process came to this, and these transactions were made.
+pub record Began (trusted : Type 0) (places : Places) (choice : List Rule) (c : Command) (w : Work) (b : Behind) (old mid : Machine) (said : Result Outcome Refusal) : Type 0 where
+  pub first : List Entry
+  pub does : Does trusted places choice c (Ok w) old mid said first
+  pub walked : Walked (IsReuse b) first [] old mid
+
+still-none : (m : Machine) → IsStill m m
+still-none m = record { core = refl; contents = refl; onward = onward-none m }
+
+module _ (trusted : Type 0) (places : Places) (choice : List Rule) (b : Behind) where
+  -- steps of a process, each of which is one of these
+  process-began : (numbers : List ℕ) (own : Own) (said : Result Outcome Refusal) (events : List Event) (old mid : Machine) → IsAtRest old.core → DoesOwnBy choice own numbers events said → AllWalk (MayMake numbers own) events
+      → Alone trusted places 0 events old mid → (first : List Entry) × Processes trusted places choice numbers own old mid said first × Walked (IsReuse b) first [] old mid
+  process-began numbers own said events old mid rest did all f =
+      let r = walk trusted places (MayMake numbers own) [] events [] old old mid all (walked-none (MayMake numbers own) old rest) f in (
+        r.0,
+        ((old, events, still-none old, f, did), r.1.are, r.1.core.generation, r.1.contents),
+        walked-on (MayMake numbers own) (IsReuse b) r.0 old mid r.1,
+      )
+
+  -- what made no step
+  none-began : (told said : Result Outcome Refusal) (events : List Event) (old mid : Machine) → IsAtRest old.core → events ≡ [] → said ≡ told → Alone trusted places 0 events old mid
+      → Tells told old mid said [] × Walked (IsReuse b) [] [] old mid
+  none-began told said events old mid rest none is f =
+      let same : mid ≡ old = alone-none trusted places 0 events old mid none f in (
+        (inl is, refl, ap (λ (m : Machine). m.core.generation) same, ap (λ (m : Machine). m.contents) same),
+        subst (λ (m : Machine). Walked (IsReuse b) [] [] old m) (sym same) (walked-none (IsReuse b) old rest),
+      )
+
+  own-began : (c : Command) (own : Own) (numbers : List ℕ) (said : Result Outcome Refusal) (events : List Event) (old mid : Machine) → IsProcessOwn own → IsAtRest old.core → DoesOwnBy choice own numbers events said
+      → Alone trusted places 0 events old mid → (first : List Entry) × DoesOwn trusted places choice numbers own old mid said first × Walked (IsReuse b) first [] old mid
+  own-began c expire numbers said events old mid so rest h f = process-began numbers expire said events old mid rest h (all-walk IsExpiring (MayMake numbers expire) (expiring-walks numbers) events h.1.only) f
+  own-began c empty_filespace numbers said events old mid so rest h f =
+      process-began numbers empty_filespace said events old mid rest h (all-walk (filespaces.IsDeleting (the_number numbers)) (MayMake numbers empty_filespace) (filespace-walks numbers) events h.1.only) f
+  own-began c empty_volume numbers said events old mid so rest h f =
+      process-began numbers empty_volume said events old mid rest h (all-walk (volumes.IsDeleting true (the_number numbers)) (MayMake numbers empty_volume) (volume-walks numbers) events h.1.only) f
+  own-began c none_but_reuse numbers said events old mid so rest h f = let r = none-began _ said events old mid rest h.0 h.1 f in ([], r.0, r.1)
+  own-began c none_yet numbers said events old mid so rest h f = let r = none-began _ said events old mid rest h.0 h.1 f in ([], r.0, r.1)
+  own-began c own numbers said events old mid so rest h f = absurd so
+
+  -- a change, which is known by what it makes of the database
+  same-first : (first more : List Entry) (old mid : Machine) → Adds first old mid → Walked IsAny [] more old mid → Walked (IsReuse b) first [] old mid
+  same-first first more old mid adds w =
+      let same : more ≡ first = append_cancel_left old.core.journal more first (sym w.core.journal ∙ adds.journal) in
+      subst (λ (l : List Entry). Walked (IsReuse b) l [] old mid) same (walked-on IsAny (IsReuse b) more old mid w)
+
+  change-began : (c : Command) (what : Change) (said : Result Outcome Refusal) (events : List Event) (old mid : Machine) → is_plain what ≡ true → IsAtRest old.core → DoesBy choice c (CommitWork what) events said
+      → Alone trusted places 0 events old mid → Began trusted places choice c (CommitWork what) b old mid said
+  change-began c what said events old mid plain rest (answer, called, is) f =
+      let r = changes trusted places what events answer old mid plain rest called.order f in
+      let w = walk trusted places IsAny [] events [] old old mid (all-walk (IsOf what) IsAny (changing-walks what) events called.only) (walked-none IsAny old rest) f in
+      record { first = r.added; does = (answer, r.commits, is, r.image, r.bytes); walked = same-first r.added w.0 old mid r.leaves.adds w.1 }
+
+  began : (c : Command) (w : Work) (said : Result Outcome Refusal) (events : List Event) (old mid : Machine) → IsProcessOwn (own_of c) → IsRowless (Ok w) → IsPlainWork (Ok w) → IsAtRest old.core → DoesBy choice c w events said
+      → Alone trusted places 0 events old mid → Began trusted places choice c w b old mid said
+  began c (CommitWork what) said events old mid own rowless plain rest h f = change-began c what said events old mid (and_parts (is_plain what) (is_common what) plain).0 rest h f
+  began c (Show q) said events old mid own rowless plain rest h f = absurd rowless
+  began c (Run numbers) said events old mid own rowless plain rest h f =
+      let r = own-began c (own_of c) numbers said events old mid own rest h f in
+      record { first = r.0; does = r.1; walked = r.2 }
+
+-- ---- what comes behind it
+
+-- All that came of it, and what is left.
+pub record Processed (trusted : Type 0) (places : Places) (choice : List Rule) (c : Command) (w : Work) (b : Behind) (old new : Machine) (result : Result Outcome Refusal) : Type 0 where
+  pub added : List Entry
+  pub works : WorksWith trusted places choice c (Ok w) b old new result added
+  pub settled : Settled added old new result
+
+-- volumes were reused, or nothing was done
+reusing-walk : (said came : Result Outcome Refusal) (events : List Event) → Reusing said events came → AllWalk (IsReuse reuses) events
+reusing-walk (Ok it) came events (answer, called, is) = all-walk (IsReusing called.files) (IsReuse reuses) (reusing-walks called.files) events called.only
+reusing-walk (Err e) came events h = subst (λ (l : List Event). AllWalk (IsReuse reuses) l) (sym h.0) tt
+
+module _ (trusted : Type 0) (places : Places) (choice : List Rule) (c : Command) (w : Work) where
+  ended : (b : Behind) (said result : Result Outcome Refusal) (events : List Event) (old mid new : Machine) (g : Began trusted places choice c w b old mid said) (later : List Entry) → AreOf (IsReuse b) later
+      → EndsWith trusted places b said mid new result → Settled (g.first ++ later) old new result → Processed trusted places choice c w b old new result
+  ended b said result events old mid new g later are ends s = record {
+    added = g.first ++ later;
+    works = record {
+      said = said;
+      mid = mid;
+      first = g.first;
+      later = later;
+      parts = refl;
+      adds = (let journal : mid.core.journal ≡ old.core.journal ++ (g.first ++ []) = g.walked.core.journal in record { base = g.walked.core.base; journal = journal ∙ ap (λ (l : List Entry). old.core.journal ++ l) (append-nil g.first) });
+      does = g.does;
+      ends = ends;
+      reused = are;
+      cause = s.ends;
+    };
+    settled = s;
+  }
+
+  -- the newest image and the objects' bytes are what they were between
+  since-image : (added : List Entry) (b : Behind) (first : List Entry) (old mid new : Machine) (result : Result Outcome Refusal) → Walked (IsReuse b) first [] old mid → Settled added old new result → SameImage mid new
+  since-image added b first old mid new result g s = s.image ∙ sym g.core.generation
+
+  since-bytes : (added : List Entry) (b : Behind) (first : List Entry) (old mid new : Machine) (result : Result Outcome Refusal) → Walked (IsReuse b) first [] old mid → Settled added old new result → SameBytes mid new
+  since-bytes added b first old mid new result g s = s.bytes ∙ sym g.contents
+
+  behind-did : (b : Behind) (said result : Result Outcome Refusal) (events : List Event) (old mid new : Machine) → (b ≡ no_more → ⊥) → IsAtRest old.core → Began trusted places choice c w b old mid said → EndsWork b said events result
+      → Alone trusted places 0 events mid new → Processed trusted places choice c w b old new result
+  behind-did no_more said result events old mid new some rest g h f = absurd (some refl)
+  behind-did forces said result events old mid new some rest g h f =
+      let s = settles trusted places (IsReuse forces) g.first [] said result events old mid new rest g.walked h f in
+      ended forces said result events old mid new g [] tt
+      (events, f, h, since-image (g.first ++ []) forces g.first old mid new result g.walked s, since-bytes (g.first ++ []) forces g.first old mid new result g.walked s) s
+  behind-did reuses said result events old mid new some rest g (came, (xs, ys, cut, reusing, forcing)) f =
+      let parts = alone-parts trusted places 0 events xs ys mid new cut f in
+      let r = walk trusted places (IsReuse reuses) g.first xs [] old mid parts.0 (reusing-walk said came xs reusing) g.walked parts.1 in
+      let s = settles trusted places (IsReuse reuses) g.first r.0 came result ys old parts.0 new rest r.1 forcing parts.2 in
+      ended reuses said result events old mid new g r.0 r.1.are (
+        events,
+        f,
+        (came, (xs, ys, cut, reusing, forcing)),
+        since-image (g.first ++ r.0) reuses g.first old mid new result g.walked s,
+        since-bytes (g.first ++ r.0) reuses g.first old mid new result g.walked s,
+      ) s
+
+  pub processed : (result : Result Outcome Refusal) (events : List Event) (old new : Machine) → IsProcess c → IsRowless (Ok w) → IsPlainWork (Ok w) → IsAtRest old.core → DoesWork choice c (Ok w) events result
+      → Alone trusted places 0 events old new → Processed trusted places choice c w (behind c) old new result
+  processed result events old new p rowless plain rest (said, (xs, ys, cut, does, ends)) f =
+      let parts = alone-parts trusted places 0 events xs ys old new cut f in
+      let g = began trusted places choice (behind c) c w said xs old parts.0 p.own rowless plain rest does parts.1 in
+      behind-did (behind c) said result ys old parts.0 new p.some rest g ends parts.2
