@@ -22,7 +22,7 @@ use Rattle.sessions.specs.Changing.{Changing}
 use Rattle.sessions.specs.InTurn.{OrMemory}
 use Rattle.sessions.specs.Putting.{Puts}
 use Rattle.steps.proofs.Joining.{GoesOn, call_of_none, does_made, so_call, then_call}
-use Rattle.steps.specs.Calls.{Call, Does as DoesStep, Made}
+use Rattle.steps.specs.Calls.{Call, Does as DoesStep, Made, Then}
 use Rattle.steps.specs.Events.{Event}
 use Rattle.steps.specs.Events.Deed.{Ask, Force}
 use Rattle.command_steps.specs.Behind.{Behind, behind, forces, no_more, reuses, with_reused}

@@ -61,9 +61,22 @@ outcome_lines n (Rows answer) = row_lines n answer
 abbrev pub nothing : Answer
 nothing = record { text = []; tally = no_tally }
 
--- the answer of a command that was done, with these printed lines
+-- the answer of a command that was done, with these printed lines, in which so many files or objects failed
+abbrev pub counting : List ℕ → ℕ → Answer
+counting text failed = record { text = text; tally = record { commands = 1; refused = 0; failed = failed } }
+
+-- one in which none failed
 abbrev pub done : List ℕ → Answer
-done text = record { text = text; tally = record { commands = 1; refused = 0; failed = 0 } }
+done text = counting text 0
+
+-- how many failed
+abbrev pub failed_in : Outcome → ℕ
+failed_in (Said (shown.Copied copied failed)) = failed
+failed_in it = 0
+
+-- the answer of a command in line n that came to this
+abbrev pub answer_of : (n : ℕ) → Outcome → Answer
+answer_of n it = counting (outcome_lines n it) (failed_in it)
 
 -- the answer of a command in line n that was refused so
 abbrev pub refusal : (n : ℕ) → Refusal → Answer
@@ -83,7 +96,7 @@ IsRefused n why (Err how) = how ≡ halt.Memory
 
 -- What came of a command is answered, beside why it was refused; or it ends the run, for want of memory also where there is none for the printed lines.
 abbrev pub Ends : (n : ℕ) → Result Outcome Refusal → Result (Answer × Option Refusal) Halt → Type 0
-Ends n (Ok it) (Ok reply) = reply ≡ (done (outcome_lines n it), None)
+Ends n (Ok it) (Ok reply) = reply ≡ (answer_of n it, None)
 Ends n (Ok it) (Err how) = how ≡ halt.Memory
 Ends n (Err e) (Ok reply) = (halt_by e ≡ None) × (reply ≡ (refusal n e, Some e))
 Ends n (Err e) (Err how) = (halt_by e ≡ Some how) ⊎ (how ≡ halt.Memory)

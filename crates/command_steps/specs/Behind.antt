@@ -6,6 +6,8 @@ use Rattle.admin_words.specs.declared.command.DatabaseCommand.{DatabaseCommand}
 use Rattle.admin_words.specs.declared.command.DatabaseCommand.TheVariants.{Day, ExpireInventory}
 use Rattle.admin_words.specs.declared.command.NodeCommand.{NodeCommand}
 use Rattle.admin_words.specs.declared.command.NodeCommand.TheVariants.{DeleteFilespace}
+use Rattle.admin_words.specs.declared.command.PoolCommand.{PoolCommand}
+use Rattle.admin_words.specs.declared.command.PoolCommand.TheVariants.{BackupPool}
 use Rattle.admin_words.specs.declared.command.VolumeCommand.{VolumeCommand}
 use Rattle.admin_words.specs.declared.command.VolumeCommand.TheVariants.{DeleteVolume, ReuseVolumes}
 use Rattle.reports.specs.declared.shown.Shown.{Shown}
@@ -23,6 +25,10 @@ abbrev pub node_behind : NodeCommand → Behind
 node_behind (DeleteFilespace f) = reuses
 node_behind _ = no_more
 
+abbrev pub pool_behind : PoolCommand → Behind
+pool_behind (BackupPool b) = forces
+pool_behind _ = no_more
+
 abbrev pub volume_behind : VolumeCommand → Behind
 volume_behind (DeleteVolume d) = if d.discard_data then forces else no_more
 volume_behind ReuseVolumes = reuses
@@ -36,6 +42,7 @@ database_behind _ = no_more
 -- what comes behind a command's work
 abbrev pub behind : Command → Behind
 behind (commands.Node c) = node_behind c
+behind (commands.Pool c) = pool_behind c
 behind (commands.Volume c) = volume_behind c
 behind (commands.Database c) = database_behind c
 behind _ = no_more

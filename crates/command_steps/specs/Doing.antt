@@ -15,7 +15,9 @@ use Rattle.admin_words.specs.declared.policy.NamedSet.{NamedSet}
 use Rattle.admin_commands.specs.Orders.{needs, work_of}
 use Rattle.admin_commands.specs.declared.work.Work.{Work}
 use Rattle.admin_commands.specs.declared.work.Work.TheVariants.{Commit, Show, Run}
-use Rattle.reports.specs.declared.shown.Shown.TheVariants.{DeletedVolume, DiscardedFilespace, Done, Expired, Reused, Stored}
+use Rattle.reports.specs.declared.shown.Shown.TheVariants.{Copied, DeletedVolume, DiscardedFilespace, Done, Expired, Reused, Stored}
+use Rattle.copy_pools.specs.Backups.{Backup}
+use Rattle.copy_runs.specs.declared.wanted.Moved.{Moved}
 use Rattle.deletions.specs.Filespaces.{FilespaceDeletion}
 use Rattle.deletions.specs.Volumes.{VolumeDeletion}
 use Rattle.deletions.specs.declared.copies.Removed.{Removed}
@@ -31,7 +33,7 @@ use Rattle.steps.specs.Calls.{IsStep, Made, Then}
 use Rattle.steps.specs.Events.{Event}
 use Rattle.steps.specs.Events.Deed.{Ask, Force}
 use Rattle.command_steps.specs.Behind.{Behind, behind, forces, no_more, reuses, with_reused}
-use Rattle.command_steps.specs.Owns.{Own, checkpoint, empty_filespace, empty_volume, expire, file_put, get, last_of, none_but_reuse, none_yet, own_of, put, row_put, validate}
+use Rattle.command_steps.specs.Owns.{Own, back_up_pool, checkpoint, empty_filespace, empty_volume, expire, file_put, get, last_of, none_but_reuse, none_yet, own_of, put, row_put, validate}
 use Rattle.command_steps.specs.declared.outcome.Outcome.{Outcome}
 use Rattle.command_steps.specs.declared.outcome.Outcome.TheVariants.{Read, Rows, Said}
 
@@ -92,6 +94,11 @@ abbrev pub the_number : List ℕ → ℕ
 the_number [] = 0
 the_number (number ∷ others) = number
 
+-- the number of the second thing
+abbrev pub the_second : List ℕ → ℕ
+the_second [] = 0
+the_second (number ∷ others) = the_number others
+
 -- work of a command's own, over the numbers of the things that it names; what isn't done so far is refused like an unknown word
 abbrev pub DoesOwn : List Rule → Own → List ℕ → List Event → Result Outcome Refusal → Type 0
 DoesOwn choice (validate set) numbers events result = Validates set events result
@@ -101,6 +108,7 @@ DoesOwn choice checkpoint numbers events result = Gives Checkpointing (λ seq. S
 DoesOwn choice expire numbers events result = Gives Expiration (λ expired. Said (Expired expired 0)) events result
 DoesOwn choice empty_filespace numbers events result = Gives (FilespaceDeletion (the_number numbers)) (λ discarded. Said (DiscardedFilespace discarded 0)) events result
 DoesOwn choice empty_volume numbers events result = Gives (VolumeDeletion true (the_number numbers)) (λ (went : Removed). Said (DeletedVolume went.discarded went.dropped)) events result
+DoesOwn choice back_up_pool numbers events result = Gives (Backup (the_number numbers) (the_second numbers)) (λ (copies : Moved). Said (Copied copies.moved copies.failed)) events result
 DoesOwn choice none_but_reuse numbers events result = (events ≡ []) × (result ≡ Ok (Said (Reused 0)))
 DoesOwn choice none_yet numbers events result = (events ≡ []) × (result ≡ Err (UnknownWord 1))
 

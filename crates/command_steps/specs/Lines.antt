@@ -7,7 +7,7 @@ use Rattle.admin_words.specs.Line.{command}
 use Rattle.admin_words.specs.declared.command.Command.{Command}
 use Rattle.admin_words.specs.declared.command.Command.TheVariants as commands
 use Rattle.admin_words.specs.declared.command.PoolCommand.{PoolCommand}
-use Rattle.admin_words.specs.declared.command.PoolCommand.TheVariants.{BackupPool, MigrateAll, MigratePool, ReclaimPool, RestorePool}
+use Rattle.admin_words.specs.declared.command.PoolCommand.TheVariants.{MigrateAll, MigratePool, ReclaimPool, RestorePool}
 use Rattle.admin_words.specs.declared.command.VolumeCommand.{VolumeCommand}
 use Rattle.admin_words.specs.declared.command.VolumeCommand.TheVariants.{AuditVolume, MoveData, RestoreVolume}
 use Rattle.admin_words.specs.declared.command.FileCommand.{FileCommand}
@@ -17,7 +17,6 @@ use Rattle.admin_words.specs.declared.command.DatabaseCommand.TheVariants.{Backu
 
 -- the commands of each family that the server does so far
 abbrev pub does_pool : PoolCommand → Bool
-does_pool (BackupPool b) = false
 does_pool MigrateAll = false
 does_pool (MigratePool m) = false
 does_pool (ReclaimPool r) = false

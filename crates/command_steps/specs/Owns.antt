@@ -16,6 +16,8 @@ use Rattle.admin_words.specs.declared.command.NodeCommand.{NodeCommand}
 use Rattle.admin_words.specs.declared.command.NodeCommand.TheVariants.{DeleteFilespace}
 use Rattle.admin_words.specs.declared.command.PolicyCommand.{PolicyCommand}
 use Rattle.admin_words.specs.declared.command.PolicyCommand.TheVariants.{ValidateSet}
+use Rattle.admin_words.specs.declared.command.PoolCommand.{PoolCommand}
+use Rattle.admin_words.specs.declared.command.PoolCommand.TheVariants.{BackupPool}
 use Rattle.admin_words.specs.declared.command.VolumeCommand.{VolumeCommand}
 use Rattle.admin_words.specs.declared.command.VolumeCommand.TheVariants.{DeleteVolume, ReuseVolumes}
 use Rattle.admin_words.specs.declared.files.FileGet.{FileGet}
@@ -25,7 +27,7 @@ use Rattle.reports.specs.declared.shown.Shown.{Shown}
 use Rattle.reports.specs.declared.shown.Shown.TheVariants.{DeletedVolume, Done, Reused}
 
 -- VALIDATE of a policy set, PUT, GET, CHECKPOINT, EXPIRE INVENTORY; DELETE FILESPACE, and DELETE VOLUME with its data, over the number of what they name; REUSE VOLUMES, which does nothing but what
--- comes behind it; and what isn't done so far
+-- comes behind it; BACKUP STGPOOL, over the numbers of a primary pool and of a copy pool; and what isn't done so far
 pub data Own : Type 0 where
   validate : (set : NamedSet) → Own
   put : (file : FilePut) → Own
@@ -35,6 +37,7 @@ pub data Own : Type 0 where
   empty_filespace : Own
   empty_volume : Own
   none_but_reuse : Own
+  back_up_pool : Own
   none_yet : Own
 
 abbrev pub policy_own : PolicyCommand → Own
@@ -55,6 +58,10 @@ abbrev pub node_own : NodeCommand → Own
 node_own (DeleteFilespace f) = empty_filespace
 node_own _ = none_yet
 
+abbrev pub pool_own : PoolCommand → Own
+pool_own (BackupPool b) = back_up_pool
+pool_own _ = none_yet
+
 abbrev pub volume_own : VolumeCommand → Own
 volume_own (DeleteVolume d) = if d.discard_data then empty_volume else none_yet
 volume_own ReuseVolumes = none_but_reuse
@@ -63,6 +70,7 @@ volume_own _ = none_yet
 abbrev pub own_of : Command → Own
 own_of (commands.Policy c) = policy_own c
 own_of (commands.Node c) = node_own c
+own_of (commands.Pool c) = pool_own c
 own_of (commands.Volume c) = volume_own c
 own_of (commands.File c) = file_own c
 own_of (commands.Database c) = database_own c

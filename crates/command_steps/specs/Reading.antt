@@ -7,7 +7,7 @@ use Rattle.command_steps.specs.declared.behind.Behind.TheVariants.{Forces, NoMor
 use Rattle.command_steps.specs.declared.lines.Line as code
 use Rattle.command_steps.specs.declared.lines.Line.TheVariants.{Asks, Comment, Refused}
 use Rattle.command_steps.specs.declared.own.Own.{Own}
-use Rattle.command_steps.specs.declared.own.Own.TheVariants.{Checkpoint, EmptyFilespace, EmptyVolume, Expire, Get, NoneButReuse, NoneYet, Put, Validate}
+use Rattle.command_steps.specs.declared.own.Own.TheVariants.{BackUpPool, Checkpoint, EmptyFilespace, EmptyVolume, Expire, Get, NoneButReuse, NoneYet, Put, Validate}
 
 -- what the code's value stands for
 abbrev pub line_view : code.Line → Line
@@ -24,6 +24,7 @@ own_view Expire = owns.expire
 own_view EmptyFilespace = owns.empty_filespace
 own_view EmptyVolume = owns.empty_volume
 own_view NoneButReuse = owns.none_but_reuse
+own_view BackUpPool = owns.back_up_pool
 own_view NoneYet = owns.none_yet
 
 abbrev pub behind_view : Behind → comes.Behind

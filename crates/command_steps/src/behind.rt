@@ -1,13 +1,13 @@
 // What comes behind a command's work.
 ghost use Rattle.std.specs.Prelude.{◌≡◌};
 ghost use Rattle.steps.specs.Calls.{Call};
-ghost use Rattle.command_steps.specs.Behind.{node_behind, volume_behind, database_behind, behind, line_reused, with_reused};
+ghost use Rattle.command_steps.specs.Behind.{node_behind, pool_behind, volume_behind, database_behind, behind, line_reused, with_reused};
 ghost use Rattle.command_steps.specs.Doing.{EndsWork, Forcing, Reusing, behind_force, within_run};
 ghost use Rattle.command_steps.specs.Reading.{behind_view};
 
 use crate::outcome::Outcome;
 use admin_words::Command;
-use admin_words::command::{DatabaseCommand, NodeCommand, VolumeCommand};
+use admin_words::command::{DatabaseCommand, NodeCommand, PoolCommand, VolumeCommand};
 use kinds::Refusal;
 use reports::Shown;
 use reuse_delay::reuse_ready;
@@ -29,6 +29,15 @@ fn node_behind(command: &NodeCommand) -> Behind
 {
     match command {
         NodeCommand::DeleteFilespace(_) => Behind::Reuses,
+        _ => Behind::NoMore,
+    }
+}
+
+fn pool_behind(command: &PoolCommand) -> Behind
+    ensures { behind_view result ≡ pool_behind command.now }
+{
+    match command {
+        PoolCommand::BackupPool(_) => Behind::Forces,
         _ => Behind::NoMore,
     }
 }
@@ -59,11 +68,12 @@ fn database_behind(command: &DatabaseCommand) -> Behind
 }
 
 /// What comes behind a command's work.
-pub(crate) fn behind(command: &Command) -> Behind
+pub(crate) fn behind_of(command: &Command) -> Behind
     ensures { behind_view result ≡ behind command.now }
 {
     match command {
         Command::Node(it) => node_behind(it),
+        Command::Pool(it) => pool_behind(it),
         Command::Volume(it) => volume_behind(it),
         Command::Database(it) => database_behind(it),
         _ => Behind::NoMore,

@@ -11,14 +11,15 @@ ghost use Rattle.sessions.specs.Checkpoints.{Checkpointing};
 ghost use Rattle.sessions.specs.Getting.{Gets};
 ghost use Rattle.sessions.specs.InTurn.{OrMemory};
 ghost use Rattle.steps.specs.Calls.{Call};
+ghost use Rattle.copy_pools.specs.Backups.{Backup};
 ghost use Rattle.deletions.specs.Filespaces.{FilespaceDeletion};
 ghost use Rattle.deletions.specs.Volumes.{VolumeDeletion};
 ghost use Rattle.expiration.specs.Expiring.{Expiration};
-ghost use Rattle.command_steps.specs.Doing.{Does, DoesOwn, DoesWork, Doing, Gives, PutsText, Told, Validates, the_number, validated_by, validity, within_memory};
+ghost use Rattle.command_steps.specs.Doing.{Does, DoesOwn, DoesWork, Doing, Gives, PutsText, Told, Validates, the_number, the_second, validated_by, validity, within_memory};
 ghost use Rattle.command_steps.specs.Owns.{file_put, last_of, own_of, row_put};
 ghost use Rattle.command_steps.specs.declared.outcome.Outcome.TheVariants as outcome;
 
-use crate::behind::{behind, end_work};
+use crate::behind::{behind_of, end_work};
 use crate::looking::look_up;
 use crate::outcome::Outcome;
 use crate::own::{Own, own_of};
@@ -28,7 +29,9 @@ use admin_words::files::{FileGet, FilePut};
 use admin_words::policy::NamedSet;
 use choosers::Binder;
 use client_trees::{FileRow, MemTree, Tree};
-use deletions::{Removed, delete_filespace, delete_volume};
+use copy_pools::backup_pool;
+use copy_runs::Moved;
+use deletions::{delete_filespace, delete_volume};
 use entries::Change;
 use expiration::expire;
 use inventory_answers::{Answer, Query, Rows};
@@ -347,6 +350,34 @@ fn the_number(numbers: &[u32]) -> u32
     }
 }
 
+/// The number of the second thing that a command names.
+fn the_second(numbers: &[u32]) -> u32
+    ensures { result ≡ the_second numbers.now }
+{
+    match numbers {
+        [_, others @ ..] => the_number(others),
+        _ => 0,
+    }
+}
+
+/// Copies what a primary pool holds into a copy pool that lacks it.
+fn back_up_pool<P: Stepper>(
+    alloc: Global,
+    p: &mut P,
+    primary: u32,
+    copy: u32,
+) -> Result<Outcome, Refusal>
+    ensures { Call P.did p.old p.new (λ events. Gives (Backup primary copy) (λ copies. outcome.Said (shown.Copied copies.moved copies.failed)) events result) }
+{
+    match backup_pool(alloc, p, primary, copy) {
+        Ok(copies) => Ok(Outcome::Said(Shown::Copied {
+            copied: copies.moved,
+            failed: copies.failed,
+        })),
+        Err(refusal) => Err(refusal),
+    }
+}
+
 /// Deletes a filespace with what is kept in it.
 fn empty_filespace<P: Stepper>(alloc: Global, p: &mut P, filespace: u32) -> Result<Outcome, Refusal>
     ensures { Call P.did p.old p.new (λ events. Gives (FilespaceDeletion filespace) (λ discarded. outcome.Said (shown.DiscardedFilespace discarded 0)) events result) }
@@ -365,9 +396,10 @@ fn empty_volume<P: Stepper>(alloc: Global, p: &mut P, file: u32) -> Result<Outco
     ensures { Call P.did p.old p.new (λ events. Gives (VolumeDeletion true file) (λ went. outcome.Said (shown.DeletedVolume went.discarded went.dropped)) events result) }
 {
     match delete_volume(alloc, p, file, true) {
-        Ok(Removed { discarded, dropped }) => {
-            Ok(Outcome::Said(Shown::DeletedVolume { discarded, dropped }))
-        }
+        Ok(went) => Ok(Outcome::Said(Shown::DeletedVolume {
+            discarded: went.discarded,
+            dropped: went.dropped,
+        })),
         Err(refusal) => Err(refusal),
     }
 }
@@ -394,6 +426,7 @@ fn run_own<P: Stepper>(
         Own::Expire => expire_all(alloc, p),
         Own::EmptyFilespace => empty_filespace(alloc, p, the_number(numbers)),
         Own::EmptyVolume => empty_volume(alloc, p, the_number(numbers)),
+        Own::BackUpPool => { back_up_pool(alloc, p, the_number(numbers), the_second(numbers)) }
         Own::NoneButReuse => Ok(Outcome::Said(Shown::Reused { reused: 0 })),
         Own::NoneYet => Err(Refusal::UnknownWord(1)),
     }
@@ -445,7 +478,7 @@ fn do_all<P: Stepper>(
     ensures long { length buffer.new ≡ length buffer.old }
 {
     let said = do_work(alloc, p, binder, buffer, command, work);
-    end_work(p, behind(command), said)
+    end_work(p, behind_of(command), said)
 }
 
 /// Does the work of a command, by the answers to its look-ups.

@@ -25,8 +25,7 @@ fn does_pool(command: &PoolCommand) -> bool
     ensures { result ≡ does_pool command.now }
 {
     match command {
-        PoolCommand::BackupPool(_)
-        | PoolCommand::MigrateAll
+        PoolCommand::MigrateAll
         | PoolCommand::MigratePool(_)
         | PoolCommand::ReclaimPool(_)
         | PoolCommand::RestorePool(_) => false,

@@ -1,11 +1,11 @@
 // Work that is no one change and no one query.
 ghost use Rattle.std.specs.Prelude.{◌≡◌};
-ghost use Rattle.command_steps.specs.Owns.{policy_own, node_own, volume_own, file_own, database_own, own_of};
+ghost use Rattle.command_steps.specs.Owns.{policy_own, node_own, pool_own, volume_own, file_own, database_own, own_of};
 ghost use Rattle.command_steps.specs.Reading.{own_view};
 
 use admin_words::Command;
 use admin_words::command::{
-    DatabaseCommand, FileCommand, NodeCommand, PolicyCommand, VolumeCommand,
+    DatabaseCommand, FileCommand, NodeCommand, PolicyCommand, PoolCommand, VolumeCommand,
 };
 use admin_words::files::{FileGet, FilePut};
 use admin_words::policy::NamedSet;
@@ -29,6 +29,8 @@ pub(crate) enum Own<'a> {
     EmptyVolume,
     /// REUSE VOLUMES, which does nothing but what comes behind it.
     NoneButReuse,
+    /// BACKUP STGPOOL, over the numbers of a primary pool and of a copy pool.
+    BackUpPool,
     /// What isn't done so far.
     NoneYet,
 }
@@ -71,6 +73,15 @@ fn node_own(command: &NodeCommand) -> Own<'_>
     }
 }
 
+fn pool_own(command: &PoolCommand) -> Own<'_>
+    ensures { own_view result ≡ pool_own command.now }
+{
+    match command {
+        PoolCommand::BackupPool(_) => Own::BackUpPool,
+        _ => Own::NoneYet,
+    }
+}
+
 fn volume_own(command: &VolumeCommand) -> Own<'_>
     ensures { own_view result ≡ volume_own command.now }
 {
@@ -94,6 +105,7 @@ pub(crate) fn own_of(command: &Command) -> Own<'_>
     match command {
         Command::Policy(it) => policy_own(it),
         Command::Node(it) => node_own(it),
+        Command::Pool(it) => pool_own(it),
         Command::Volume(it) => volume_own(it),
         Command::File(it) => file_own(it),
         Command::Database(it) => database_own(it),

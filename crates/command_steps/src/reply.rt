@@ -1,11 +1,11 @@
 // The replies to a command.
 ghost use Rattle.std.specs.Prelude.{◌≡◌, Err};
-ghost use Rattle.command_steps.specs.Answers.{Ends, IsRefused, halt_by};
+ghost use Rattle.command_steps.specs.Answers.{Ends, IsRefused, counting, failed_in, halt_by};
 
 use crate::outcome::Outcome;
 use crate::text::outcome_lines;
 use kinds::Refusal;
-use reports::print_refused;
+use reports::{Shown, print_refused};
 use script_loop::{Halt, Reply};
 use std::alloc::Global;
 
@@ -45,6 +45,25 @@ fn refused(alloc: Global, line: u32, why: Refusal) -> Result<(Reply, Option<Refu
     }
 }
 
+/// How many files or objects failed in what a command came to.
+fn failed_in(outcome: &Outcome) -> u64
+    ensures { result ≡ failed_in outcome.now }
+{
+    match outcome {
+        Outcome::Said(Shown::Copied { copied: _, failed }) => *failed,
+        _ => 0,
+    }
+}
+
+/// The reply to a command that was done, with these printed lines, in which so many files or objects failed.
+fn counting(text: Vec<u8>, failed: u64) -> Reply
+    ensures { result ≡ counting text.items failed }
+{
+    let mut reply = Reply::command(text);
+    reply.tally.failed = failed;
+    reply
+}
+
 /// The reply to what came of a command in this line.
 pub(crate) fn ends(
     alloc: Global,
@@ -55,10 +74,11 @@ pub(crate) fn ends(
 {
     match said {
         Ok(outcome) => {
+            let failed = failed_in(&outcome);
             let text = outcome_lines(alloc, line, &outcome);
             drop(outcome);
             match text {
-                Ok(text) => Ok((Reply::command(text), None)),
+                Ok(text) => Ok((counting(text, failed), None)),
                 Err(_) => Err(Halt::Memory),
             }
         }

@@ -7,7 +7,10 @@ use Rattle.kinds.specs.declared.refusal.Refusal.{Refusal}
 use Rattle.kinds.specs.declared.refusal.Refusal.TheVariants as refused
 use Rattle.kinds.specs.declared.segment.Segment.{Segment}
 use Rattle.choosers.specs.declared.rule.Rule.{Rule}
+use Rattle.kinds.specs.declared.change.PoolChange.TheVariants as store
+use Rattle.kinds.specs.declared.change.Verb.TheVariants as verb
 use Rattle.entries.specs.declared.change.Change.{Change}
+use Rattle.entries.specs.declared.change.Change.TheVariants as change
 use Rattle.entries.specs.declared.entry.Entry.{Entry}
 use Rattle.inventory_rows.specs.object_rows.Filespaces.{group_at}
 use Rattle.inventory_rows.specs.object_rows.Names.{filespace_named}
@@ -37,11 +40,11 @@ use Rattle.machine.specs.Machine.{Places}
 use Rattle.machine.specs.Pieces.{IsCopyLost, IsUnavailable}
 use Rattle.machine.specs.State.{Machine}
 use Rattle.sessions.specs.declared.getting.FileRead.{FileRead}
-use Rattle.command_steps.specs.Answers.{Ends, done, halt_by, outcome_lines, refusal, row_lines}
+use Rattle.command_steps.specs.Answers.{Ends, answer_of, counting, done, failed_in, halt_by, outcome_lines, refusal, row_lines}
 use Rattle.command_steps.specs.Lines.{Line, asks, comment, refused as refused_line}
 use Rattle.command_steps.specs.Behind.{Behind, behind, forces, no_more, reuses}
 use Rattle.command_steps.specs.Doing.{Forcing, Reusing, within_run}
-use Rattle.command_steps.specs.Owns.{Own, checkpoint, empty_filespace, empty_volume, expire, get, last_of, none_but_reuse, none_yet, own_of, put, validate}
+use Rattle.command_steps.specs.Owns.{Own, back_up_pool, checkpoint, empty_filespace, empty_volume, expire, get, last_of, none_but_reuse, none_yet, own_of, put, validate}
 use Rattle.command_steps.specs.declared.outcome.Outcome.{Outcome}
 use Rattle.command_steps.specs.declared.outcome.Outcome.TheVariants.{Read, Rows, Said}
 use Rattle.line_results.specs.Clauses.{BytesBy, BytesOwn, CauseBy, CauseOwn, CauseWith, DidBy, DidWith, Holds, IsRefusedBehind, IsRows, ItemsBy, ItemsOf, ItemsOwn, MayBy, MayGet, MayOwn, OrderedBy, OrderedWith, RowsBy, orders}
@@ -56,12 +59,24 @@ use Rattle.line_results.proofs.PutHeld.{IsMild, PutHeld, no-end, no-put, put-hel
 
 -- how a result is answered
 abbrev IsShown : ℕ → Result Outcome Refusal → Answer → Type 0
-IsShown n (Ok it) answer = answer ≡ done (outcome_lines n it)
+IsShown n (Ok it) answer = answer ≡ answer_of n it
 IsShown n (Err e) answer = (halt_by e ≡ None) × (answer ≡ refusal n e)
 
 shown-of : (n : ℕ) (said : Result Outcome Refusal) (answer : Answer) (why : Option Refusal) → Ends n said (Ok (answer, why)) → IsShown n said answer
 shown-of n (Ok it) answer why h = ap (λ (p : Answer × Option Refusal). p.0) h
 shown-of n (Err e) answer why h = (h.0, ap (λ (p : Answer × Option Refusal). p.0) h.1)
+
+came-refused : (n : ℕ) (it : Outcome) (answer : Answer) → answer ≡ answer_of n it → answer.tally.refused ≡ 0
+came-refused n it answer h = ap (λ (a : Answer). a.tally.refused) h
+
+-- no file fails in a change
+last-failed : (what : Change) → failed_in (Said (last_of what)) ≡ 0
+last-failed (change.Day day) = refl
+last-failed (change.Pool (store.Volume verb.Delete name pool file capacity access)) = refl
+last-failed what = refl
+
+last-shown : (n : ℕ) (what : Change) (answer : Answer) → answer ≡ answer_of n (Said (last_of what)) → answer ≡ done (shown_line n (last_of what))
+last-shown n what answer h = h ∙ ap (λ (k : ℕ). counting (shown_line n (last_of what)) k) (last-failed what)
 
 none-refused : (text : List ℕ) (answer : Answer) → answer ≡ done text → answer.tally.refused ≡ 0
 none-refused text answer h = ap (λ (a : Answer). a.tally.refused) h
@@ -126,9 +141,9 @@ module _ (trusted : Type 0) (places : Places) (choice : List Rule) (n : ℕ) (ow
   commit-held : (what : Change) (r : Result ℕ Refusal) → Commits (drawn what old) old mid r added → IsShown n (on_ok (λ number. Said (last_of what)) r) answer
       → HeldBy trusted places choice n own (Ok (Commit what)) old mid answer added
   commit-held what (Ok number) (legal, is) shown =
-      as-done trusted places choice n old mid answer added own (Ok (Commit what)) (shown_line n (last_of what)) shown
+      as-done trusted places choice n old mid answer added own (Ok (Commit what)) (shown_line n (last_of what)) (last-shown n what answer shown)
       (subst (λ (l : List Entry). AllByRecursion (λ x. (x.actor ≡ 0) × (x.change ≡ drawn what old)) l) (sym is) ((refl, refl), tt)) tt tt
-      (subst (λ (l : List Entry). AllByRecursion (λ x. ItemsBy own (Ok (Commit what)) mid x.change) l) (sym is) (tt, tt)) (is, shown)
+      (subst (λ (l : List Entry). AllByRecursion (λ x. ItemsBy own (Ok (Commit what)) mid x.change) l) (sym is) (tt, tt)) (is, last-shown n what answer shown)
   commit-held what (Err e) (inl (why, none)) shown =
       as-refused trusted places choice n old mid answer added own (Ok (Commit what)) e shown.1 (no-entries (λ x. (x.actor ≡ 0) × OrderedBy own (Ok (Commit what)) old x.change) added none) tt tt
       (no-entries (λ x. ItemsBy own (Ok (Commit what)) mid x.change) added none) why (λ rose may. work-none (why_not (drawn what old) old.core) e may why)
@@ -365,6 +380,7 @@ process-ordered : (trusted : Type 0) (places : Places) (choice : List Rule) (num
 process-ordered trusted places choice numbers expire old mid said added so h = h.1
 process-ordered trusted places choice numbers empty_filespace old mid said added so h = h.1
 process-ordered trusted places choice numbers empty_volume old mid said added so h = h.1
+process-ordered trusted places choice numbers back_up_pool old mid said added so h = h.1
 process-ordered trusted places choice numbers none_but_reuse old mid said added so h = no-entries (λ x. (x.actor ≡ 0) × OrderedBy none_but_reuse (Ok (Run numbers)) old x.change) added h.1
 process-ordered trusted places choice numbers none_yet old mid said added so h = no-entries (λ x. (x.actor ≡ 0) × OrderedBy none_yet (Ok (Run numbers)) old x.change) added h.1
 process-ordered trusted places choice numbers own old mid said added so h = absurd so
@@ -399,7 +415,7 @@ cause-with trusted places choice c forces old mid why added some h = h
 cause-with trusted places choice c reuses old mid why added some h = h
 
 did-with : (trusted : Type 0) (places : Places) (choice : List Rule) (n : ℕ) (c : Command) (b : Behind) (old mid : Machine) (answer : Answer) (it : Outcome) (added : List Entry) → (b ≡ no_more → ⊥)
-    → answer ≡ done (outcome_lines n it) → Works trusted places choice c (work_over c (database old)) b old mid (Ok it) added → DidWith trusted places choice n c b old mid answer added
+    → answer ≡ answer_of n it → Works trusted places choice c (work_over c (database old)) b old mid (Ok it) added → DidWith trusted places choice n c b old mid answer added
 did-with trusted places choice n c no_more old mid answer it added some is h = absurd (some refl)
 did-with trusted places choice n c forces old mid answer it added some is h = (it, is, h)
 did-with trusted places choice n c reuses old mid answer it added some is h = (it, is, h)
@@ -526,9 +542,9 @@ module _ (trusted : Type 0) (places : Places) (choice : List Rule) (n : ℕ) (c 
     queries = rows-none n (database old) (work_over c (database old)) answer (over-rowless c (database old) p);
     bytes = bytes-none trusted n (own_of c) (work_over c (database old)) old mid answer p.own;
     items = all-items-none (own_of c) (work_over c (database old)) mid added p.own;
-    causes = λ one. absurd (zero-one answer.tally.refused (none-refused (outcome_lines n it) answer shown) one);
+    causes = λ one. absurd (zero-one answer.tally.refused (came-refused n it answer shown) one);
     done = λ none. did-with trusted places choice n c b old mid answer it added some shown works;
-    complete = λ rose may. inl (none-refused (outcome_lines n it) answer shown);
+    complete = λ rose may. inl (came-refused n it answer shown);
   }
   held-with b (Err e) some works are blames shown = record {
     journal = are;

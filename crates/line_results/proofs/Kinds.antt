@@ -17,14 +17,16 @@ use Rattle.admin_words.specs.declared.command.PolicyCommand.{PolicyCommand}
 use Rattle.admin_words.specs.declared.command.PolicyCommand.TheVariants.{ValidateSet}
 use Rattle.admin_words.specs.declared.command.VolumeCommand.{VolumeCommand}
 use Rattle.admin_words.specs.declared.command.VolumeCommand.TheVariants.{DeleteVolume, ReuseVolumes}
-use Rattle.admin_commands.specs.Found.{filespace_named, number_found}
+use Rattle.admin_words.specs.declared.command.PoolCommand.{PoolCommand}
+use Rattle.admin_words.specs.declared.command.PoolCommand.TheVariants.{BackupPool}
+use Rattle.admin_commands.specs.Found.{behind as others, filespace_named, number_found}
 use Rattle.admin_commands.specs.Orders.{needs, run, work_of}
 use Rattle.admin_commands.specs.Stores.{delete_volume}
 use Rattle.admin_commands.specs.Orders.{run_found}
 use Rattle.admin_commands.specs.declared.work.Work.{Work}
 use Rattle.admin_commands.specs.declared.work.Work.TheVariants as work
-use Rattle.command_steps.specs.Behind.{Behind, behind, database_behind, forces, node_behind, no_more, reuses, volume_behind}
-use Rattle.command_steps.specs.Owns.{Own, checkpoint, database_own, empty_filespace, empty_volume, expire, file_own, get, node_own, none_but_reuse, none_yet, own_of, policy_own, put, validate, volume_own}
+use Rattle.command_steps.specs.Behind.{Behind, behind, database_behind, forces, node_behind, no_more, pool_behind, reuses, volume_behind}
+use Rattle.command_steps.specs.Owns.{Own, back_up_pool, checkpoint, database_own, empty_filespace, empty_volume, expire, file_own, get, node_own, none_but_reuse, none_yet, own_of, policy_own, pool_own, put, validate, volume_own}
 use Rattle.line_results.specs.Commands.{answers_to, work_over}
 
 -- work of a command's own that is done by the steps of a process, or isn't done so far
@@ -40,6 +42,7 @@ abbrev pub IsPlainOwn : Own → Type 0
 IsPlainOwn expire = ⊥
 IsPlainOwn empty_filespace = ⊥
 IsPlainOwn empty_volume = ⊥
+IsPlainOwn back_up_pool = ⊥
 IsPlainOwn none_but_reuse = ⊥
 IsPlainOwn own = Unit {0}
 
@@ -68,6 +71,15 @@ policy-kind c = inl (refl, tt)
 node-kind : (c : NodeCommand) → Kind (commands.Node c)
 node-kind (DeleteFilespace f) = inr (record { some = λ is. cc; own = tt; rowless = λ answers. found-rowless (filespace_named f.filespace answers) (λ it. run (it.number ∷ [])) (λ it. tt) })
 node-kind c = inl (refl, tt)
+
+pool-kind : (c : PoolCommand) → Kind (commands.Pool c)
+pool-kind (BackupPool b) = inr (record {
+  some = λ is. cc;
+  own = tt;
+  rowless = λ answers. found-rowless (number_found answers) (λ primary. if_found (number_found (others answers)) (λ copy. run (primary ∷ copy ∷ [])))
+      (λ primary. found-rowless (number_found (others answers)) (λ copy. run (primary ∷ copy ∷ [])) (λ copy. tt));
+})
+pool-kind c = inl (refl, tt)
 
 -- DELETE VOLUME is one where its data goes
 abbrev deleted_behind : Bool → Behind
@@ -107,6 +119,7 @@ database-kind c = inl (refl, tt)
 pub kind : (c : Command) → Kind c
 kind (commands.Policy c) = policy-kind c
 kind (commands.Node c) = node-kind c
+kind (commands.Pool c) = pool-kind c
 kind (commands.Volume c) = volume-kind c
 kind (commands.File c) = file-kind c
 kind (commands.Database c) = database-kind c

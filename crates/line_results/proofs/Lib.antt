@@ -2,6 +2,7 @@ pub mod Asked
 pub mod Changed
 pub mod Checkpointed
 pub mod Chosen
+pub mod Copying
 pub mod Did
 pub mod Earlier
 pub mod Ending

@@ -49,7 +49,7 @@ use Rattle.admin_commands.specs.Policy.{archive_changed, destination_for, group_
 use Rattle.admin_commands.specs.Orders.{class_needs, class_work, clients, database_needs, database_work, dev_class, file_needs, file_work, for_move, if_given, if_next, needs, node_needs, node_work, policies, policy_needs, policy_work, pool, pool_needs, pool_row, pool_work, run, run_found, run_in, show, stores, volume, volume_needs, volume_row, volume_work, work_of}
 use Rattle.admin_commands.specs.Stores.{access_changed, capacity_for, class_deleted, collocates_disk, delete_volume, is_definition, is_ordered, may_move, move_data, moved, moved_from, new_settings, new_volume, next_for, other_settings, pool_changed, update_found, update_settings, volume_deleted}
 use Rattle.machine.specs.Causes.{is_plain}
-use Rattle.command_steps.specs.Owns.{database_own, empty_volume, file_own, node_own, none_yet, own_of, policy_own, put, volume_own}
+use Rattle.command_steps.specs.Owns.{database_own, empty_volume, file_own, node_own, none_yet, own_of, policy_own, pool_own, put, volume_own}
 use Rattle.command_steps.specs.Answers.{halt_by}
 use Rattle.line_results.proofs.Asked.{AreUnlogged, is_log}
 use Rattle.line_results.proofs.Mild.{is_common}
@@ -343,9 +343,14 @@ volume-put : (c : VolumeCommand) (p : FilePut) → volume_own c ≡ put p → �
 volume-put (DeleteVolume d) p h = deleted-put d.discard_data p h
 volume-put c p h = cc
 
+pool-put : (c : PoolCommand) (p : FilePut) → pool_own c ≡ put p → ⊥
+pool-put (BackupPool b) p h = cc
+pool-put c p h = cc
+
 pub put-asks : (c : Command) (p : FilePut) → own_of c ≡ put p → needs c ≡ [] → ⊥
 put-asks (commands.Policy c) p h none = policy-put c p h
 put-asks (commands.Node c) p h none = node-put c p h
+put-asks (commands.Pool c) p h none = pool-put c p h
 put-asks (commands.Volume c) p h none = volume-put c p h
 put-asks (commands.File c) p h none = file-put c p h none
 put-asks (commands.Database c) p h none = database-put c p h

@@ -1,5 +1,5 @@
 -- What comes of a process, and of what comes behind it.
-use Rattle.std.proofs.Common.{◌≡◌, ◌⊎◌, inl, inr, ℕ, ◌≤◌, ◌+◌, true, List, [], ◌∷◌, ◌++◌, length, map, Some, Result, Ok, Err, refl, sym, ap, subst, ◌∙◌}
+use Rattle.std.proofs.Common.{◌≡◌, ◌⊎◌, inl, inr, ℕ, ◌≤◌, ◌+◌, true, false, List, [], ◌∷◌, ◌++◌, length, map, Some, Result, Ok, Err, refl, sym, ap, subst, ◌∙◌}
 use Rattle.std.proofs.lemmas.Bool.{and_parts}
 use Rattle.std.proofs.lemmas.List.{append-nil, append_cancel_left}
 use Rattle.std.proofs.lemmas.Option.{same_Some}
@@ -22,7 +22,10 @@ use Rattle.inventory_rows.specs.version_groups.Entries.{on_ok}
 use Rattle.admin_words.specs.declared.command.Command.{Command}
 use Rattle.admin_commands.specs.declared.work.Work.{Work}
 use Rattle.admin_commands.specs.declared.work.Work.TheVariants.{Commit as CommitWork, Run, Show}
+use Rattle.copy_attempts.specs.Outcomes.{AreSettled}
+use Rattle.copy_pools.specs.Backups.{IsBackup, Came as BackupCame}
 use Rattle.copy_runs.specs.Ends.{IsEnding}
+use Rattle.copy_runs.specs.declared.wanted.Moved.{Moved}
 use Rattle.deletions.specs.Discarding.{IsDiscarding, discarded}
 use Rattle.deletions.specs.Dropping.{IsTaking, dropped}
 use Rattle.deletions.specs.Filespaces as filespaces
@@ -34,7 +37,7 @@ use Rattle.sessions.specs.Changing.{Changing, IsOf}
 use Rattle.steps.specs.declared.asked.Asked.{Asked}
 use Rattle.steps.specs.declared.asked.Asked.TheVariants.{Plain}
 use Rattle.steps.specs.Events.{Deed, Event}
-use Rattle.steps.specs.Events.Deed.{Ask, Commit, Force, Reuse}
+use Rattle.steps.specs.Events.Deed.{Ask, Commit, CopyPiece, DropTicket, Force, OpenCopy, Reuse, Seal}
 use Rattle.machine.specs.Alone.{Alone}
 use Rattle.machine.specs.Causes.{is_plain}
 use Rattle.machine.specs.Changes.{filled}
@@ -42,20 +45,22 @@ use Rattle.machine.specs.Machine.{Places, asked_change}
 use Rattle.machine.specs.State.{Core, Machine, inventory}
 use Rattle.command_steps.specs.Answers.{halt_by}
 use Rattle.command_steps.specs.Behind.{Behind, behind, forces, no_more, reuses, with_reused}
-use Rattle.command_steps.specs.Doing.{Does as DoesBy, DoesOwn as DoesOwnBy, DoesWork, EndsWork, Forcing, Reusing, the_number}
-use Rattle.command_steps.specs.Owns.{Own, checkpoint, empty_filespace, empty_volume, expire, get, last_of, none_but_reuse, none_yet, own_of, put, validate}
+use Rattle.command_steps.specs.Doing.{Does as DoesBy, DoesOwn as DoesOwnBy, DoesWork, EndsWork, Forcing, Reusing, the_number, the_second}
+use Rattle.command_steps.specs.Owns.{Own, back_up_pool, checkpoint, empty_filespace, empty_volume, expire, get, last_of, none_but_reuse, none_yet, own_of, put, validate}
 use Rattle.command_steps.specs.declared.outcome.Outcome.{Outcome}
 use Rattle.command_steps.specs.declared.outcome.Outcome.TheVariants.{Said}
 use Rattle.line_results.specs.Commands.{Does, DoesOwn, EndsWith, IsReuse, IsStill, IsStopped, MayMake, Processes, Ran, Tells, Works, WorksWith}
 use Rattle.line_results.specs.Resting.{Adds, EndsRun, IsAtRest, IsLate, SameBytes, SameImage}
+use Rattle.reports.specs.declared.shown.Shown.TheVariants.{Copied, Reused}
 use Rattle.line_results.proofs.Changed.{changes}
+use Rattle.line_results.proofs.Copying.{AllCopy, Copies, copied-none, copies-walk, is_further, settled-free}
 use Rattle.line_results.proofs.Kinds.{IsProcess, IsProcessOwn, IsRowless}
 use Rattle.line_results.proofs.Leaving.{Left}
 use Rattle.line_results.proofs.Mild.{is_common}
 use Rattle.line_results.proofs.Needs.{IsPlainWork}
 use Rattle.line_results.proofs.Runs.{alone-none, alone-parts, onward-none}
-use Rattle.line_results.proofs.Settling.{Settled, settles}
-use Rattle.line_results.proofs.Walking.{AllWalk, AreOf, Under, Walked, Walks, all-walk, walk, walked-none, walked-on}
+use Rattle.line_results.proofs.Settling.{Settled, may_stay, settles}
+use Rattle.line_results.proofs.Walking.{AllWalk, AreOf, Grew, Under, Walked, Walks, all-walk, grew-none, grew-on, walk, walked-none}
 
 -- ---- steps of processes
 
@@ -106,6 +111,26 @@ reusing-walks : (files : List ℕ) (d : Deed) → IsReusing files d → Walks (I
 reusing-walks files d (inl h) = ending-walks (IsReuse reuses) d h
 reusing-walks files d (inr (file, answer, among, is)) = subst (λ (x : Deed). Walks (IsReuse reuses) x) (sym is) (file, refl)
 
+backup-copies-one : (copy : ℕ) (d : Deed) → IsBackup copy d → Copies d
+backup-copies-one copy d (inl (inl (q, answer, is))) = subst (λ (x : Deed). Copies x) (sym is) tt
+backup-copies-one copy d (inl (inr (answer, is))) = subst (λ (x : Deed). Copies x) (sym is) tt
+backup-copies-one copy (OpenCopy number to other answer) (inr (object, (one, is, none))) = ap is_further is
+backup-copies-one copy (CopyPiece number answer) (inr h) = tt
+backup-copies-one copy (Seal number answer) (inr h) = tt
+backup-copies-one copy (DropTicket number answer) (inr h) = tt
+backup-copies-one copy (Force answer) (inr h) = tt
+backup-copies-one copy (Commit asked tickets answer) (inr (object, (number, is, one))) = (number, is, one)
+backup-copies-one copy d (inr (object, h)) = absurd h
+
+backup-copies : (copy : ℕ) (events : List Event) → AllByRecursion (λ e. IsBackup copy e.deed) events → AllCopy events
+backup-copies copy [] h = tt
+backup-copies copy (e ∷ events) h = (backup-copies-one copy e.deed h.0, backup-copies copy events h.1)
+
+backup-settled : (primary copy : ℕ) (events : List Event) (answer : Result Moved Refusal) (said : Result Outcome Refusal) → BackupCame primary copy events answer
+    → said ≡ on_ok (λ (copies : Moved). Said (Copied copies.moved copies.failed)) answer → may_stay said ≡ false → AreSettled events
+backup-settled primary copy events (Ok m) said h is leave = h.settled
+backup-settled primary copy events (Err e) said h is leave = h.settled (ap may_stay (sym is) ∙ leave)
+
 abbrev IsAny : Change → Type 0
 IsAny c = Unit {0}
 
@@ -120,62 +145,90 @@ changing-walks what d h = absurd h
 pub record Began (trusted : Type 0) (places : Places) (choice : List Rule) (c : Command) (w : Work) (b : Behind) (old mid : Machine) (said : Result Outcome Refusal) : Type 0 where
   pub first : List Entry
   pub does : Does trusted places choice c (Ok w) old mid said first
-  pub walked : Walked (IsReuse b) first [] old mid
+  pub grew : Grew (IsReuse b) first [] old mid
+  pub free : may_stay said ≡ false → mid.core.tickets ≡ []
+
+-- work of a command's own
+pub record OwnBegan (trusted : Type 0) (places : Places) (Did : List Entry → Type 0) (b : Behind) (old mid : Machine) (said : Result Outcome Refusal) : Type 0 where
+  pub first : List Entry
+  pub does : Did first
+  pub grew : Grew (IsReuse b) first [] old mid
+  pub free : may_stay said ≡ false → mid.core.tickets ≡ []
 
 still-none : (m : Machine) → IsStill m m
 still-none m = record { core = refl; contents = refl; onward = onward-none m }
 
 module _ (trusted : Type 0) (places : Places) (choice : List Rule) (b : Behind) where
-  -- steps of a process, each of which is one of these
+  -- steps of a process without tickets, each of which is one of these
   process-began : (numbers : List ℕ) (own : Own) (said : Result Outcome Refusal) (events : List Event) (old mid : Machine) → IsAtRest old.core → DoesOwnBy choice own numbers events said → AllWalk (MayMake numbers own) events
-      → Alone trusted places 0 events old mid → (first : List Entry) × Processes trusted places choice numbers own old mid said first × Walked (IsReuse b) first [] old mid
+      → Alone trusted places 0 events old mid → OwnBegan trusted places (λ added. Processes trusted places choice numbers own old mid said added) b old mid said
   process-began numbers own said events old mid rest did all f =
-      let r = walk trusted places (MayMake numbers own) [] events [] old old mid all (walked-none (MayMake numbers own) old rest) f in (
-        r.0,
-        ((old, events, still-none old, f, did), r.1.are, r.1.core.generation, r.1.contents),
-        walked-on (MayMake numbers own) (IsReuse b) r.0 old mid r.1,
-      )
+      let r = walk trusted places (MayMake numbers own) [] events [] old old mid all (walked-none (MayMake numbers own) old rest) f in
+      record {
+        first = r.0;
+        does = ((old, events, still-none old, f, did), r.1.grew.are, r.1.grew.core.generation, r.1.grew.contents);
+        grew = grew-on (MayMake numbers own) (IsReuse b) r.0 old mid r.1.grew;
+        free = λ h. r.1.free;
+      }
+
+  -- steps that make copies
+  copies-began : (numbers : List ℕ) (said : Result Outcome Refusal) (events : List Event) (old mid : Machine) → IsAtRest old.core → DoesOwnBy choice back_up_pool numbers events said → AllCopy events
+      → (may_stay said ≡ false → AreSettled events) → Alone trusted places 0 events old mid
+      → OwnBegan trusted places (λ added. Processes trusted places choice numbers back_up_pool old mid said added) b old mid said
+  copies-began numbers said events old mid rest did all settled f =
+      let r = copies-walk trusted places [] events [] old old mid all (copied-none old rest) f in
+      record {
+        first = r.0;
+        does = ((old, events, still-none old, f, did), r.1.grew.are, r.1.grew.core.generation, r.1.grew.contents);
+        grew = grew-on (MayMake numbers back_up_pool) (IsReuse b) r.0 old mid r.1.grew;
+        free = λ h. settled-free trusted places events old mid rest.tickets all (settled h) f;
+      }
 
   -- what made no step
   none-began : (told said : Result Outcome Refusal) (events : List Event) (old mid : Machine) → IsAtRest old.core → events ≡ [] → said ≡ told → Alone trusted places 0 events old mid
-      → Tells told old mid said [] × Walked (IsReuse b) [] [] old mid
+      → OwnBegan trusted places (λ added. Tells told old mid said added) b old mid said
   none-began told said events old mid rest none is f =
-      let same : mid ≡ old = alone-none trusted places 0 events old mid none f in (
-        (inl is, refl, ap (λ (m : Machine). m.core.generation) same, ap (λ (m : Machine). m.contents) same),
-        subst (λ (m : Machine). Walked (IsReuse b) [] [] old m) (sym same) (walked-none (IsReuse b) old rest),
-      )
+      let same : mid ≡ old = alone-none trusted places 0 events old mid none f in
+      record {
+        first = [];
+        does = (inl is, refl, ap (λ (m : Machine). m.core.generation) same, ap (λ (m : Machine). m.contents) same);
+        grew = subst (λ (m : Machine). Grew (IsReuse b) [] [] old m) (sym same) (grew-none (IsReuse b) old rest);
+        free = λ h. subst (λ (m : Machine). m.core.tickets ≡ []) (sym same) rest.tickets;
+      }
 
-  own-began : (c : Command) (own : Own) (numbers : List ℕ) (said : Result Outcome Refusal) (events : List Event) (old mid : Machine) → IsProcessOwn own → IsAtRest old.core → DoesOwnBy choice own numbers events said
-      → Alone trusted places 0 events old mid → (first : List Entry) × DoesOwn trusted places choice numbers own old mid said first × Walked (IsReuse b) first [] old mid
-  own-began c expire numbers said events old mid so rest h f = process-began numbers expire said events old mid rest h (all-walk IsExpiring (MayMake numbers expire) (expiring-walks numbers) events h.1.only) f
-  own-began c empty_filespace numbers said events old mid so rest h f =
+  own-began : (own : Own) (numbers : List ℕ) (said : Result Outcome Refusal) (events : List Event) (old mid : Machine) → IsProcessOwn own → IsAtRest old.core → DoesOwnBy choice own numbers events said
+      → Alone trusted places 0 events old mid → OwnBegan trusted places (λ added. DoesOwn trusted places choice numbers own old mid said added) b old mid said
+  own-began expire numbers said events old mid so rest h f = process-began numbers expire said events old mid rest h (all-walk IsExpiring (MayMake numbers expire) (expiring-walks numbers) events h.1.only) f
+  own-began empty_filespace numbers said events old mid so rest h f =
       process-began numbers empty_filespace said events old mid rest h (all-walk (filespaces.IsDeleting (the_number numbers)) (MayMake numbers empty_filespace) (filespace-walks numbers) events h.1.only) f
-  own-began c empty_volume numbers said events old mid so rest h f =
+  own-began empty_volume numbers said events old mid so rest h f =
       process-began numbers empty_volume said events old mid rest h (all-walk (volumes.IsDeleting true (the_number numbers)) (MayMake numbers empty_volume) (volume-walks numbers) events h.1.only) f
-  own-began c none_but_reuse numbers said events old mid so rest h f = let r = none-began _ said events old mid rest h.0 h.1 f in ([], r.0, r.1)
-  own-began c none_yet numbers said events old mid so rest h f = let r = none-began _ said events old mid rest h.0 h.1 f in ([], r.0, r.1)
-  own-began c own numbers said events old mid so rest h f = absurd so
+  own-began back_up_pool numbers said events old mid so rest h f =
+      copies-began numbers said events old mid rest h (backup-copies (the_second numbers) events h.1.only) (backup-settled (the_number numbers) (the_second numbers) events h.0 said h.1.came h.2) f
+  own-began none_but_reuse numbers said events old mid so rest h f = none-began (Ok (Said (Reused 0))) said events old mid rest h.0 h.1 f
+  own-began none_yet numbers said events old mid so rest h f = none-began (Err (refused.UnknownWord 1)) said events old mid rest h.0 h.1 f
+  own-began own numbers said events old mid so rest h f = absurd so
 
   -- a change, which is known by what it makes of the database
-  same-first : (first more : List Entry) (old mid : Machine) → Adds first old mid → Walked IsAny [] more old mid → Walked (IsReuse b) first [] old mid
+  same-first : (first more : List Entry) (old mid : Machine) → Adds first old mid → Grew IsAny [] more old mid → Grew (IsReuse b) first [] old mid
   same-first first more old mid adds w =
       let same : more ≡ first = append_cancel_left old.core.journal more first (sym w.core.journal ∙ adds.journal) in
-      subst (λ (l : List Entry). Walked (IsReuse b) l [] old mid) same (walked-on IsAny (IsReuse b) more old mid w)
+      subst (λ (l : List Entry). Grew (IsReuse b) l [] old mid) same (grew-on IsAny (IsReuse b) more old mid w)
 
   change-began : (c : Command) (what : Change) (said : Result Outcome Refusal) (events : List Event) (old mid : Machine) → is_plain what ≡ true → IsAtRest old.core → DoesBy choice c (CommitWork what) events said
       → Alone trusted places 0 events old mid → Began trusted places choice c (CommitWork what) b old mid said
   change-began c what said events old mid plain rest (answer, called, is) f =
       let r = changes trusted places what events answer old mid plain rest called.order f in
       let w = walk trusted places IsAny [] events [] old old mid (all-walk (IsOf what) IsAny (changing-walks what) events called.only) (walked-none IsAny old rest) f in
-      record { first = r.added; does = (answer, r.commits, is, r.image, r.bytes); walked = same-first r.added w.0 old mid r.leaves.adds w.1 }
+      record { first = r.added; does = (answer, r.commits, is, r.image, r.bytes); grew = same-first r.added w.0 old mid r.leaves.adds w.1.grew; free = λ h. w.1.free }
 
   began : (c : Command) (w : Work) (said : Result Outcome Refusal) (events : List Event) (old mid : Machine) → IsProcessOwn (own_of c) → IsRowless (Ok w) → IsPlainWork (Ok w) → IsAtRest old.core → DoesBy choice c w events said
       → Alone trusted places 0 events old mid → Began trusted places choice c w b old mid said
   began c (CommitWork what) said events old mid own rowless plain rest h f = change-began c what said events old mid (and_parts (is_plain what) (is_common what) plain).0 rest h f
   began c (Show q) said events old mid own rowless plain rest h f = absurd rowless
   began c (Run numbers) said events old mid own rowless plain rest h f =
-      let r = own-began c (own_of c) numbers said events old mid own rest h f in
-      record { first = r.0; does = r.1; walked = r.2 }
+      let r = own-began (own_of c) numbers said events old mid own rest h f in
+      record { first = r.first; does = r.does; grew = r.grew; free = r.free }
 
 -- ---- what comes behind it
 
@@ -185,10 +238,19 @@ pub record Processed (trusted : Type 0) (places : Places) (choice : List Rule) (
   pub works : WorksWith trusted places choice c (Ok w) b old new result added
   pub settled : Settled added old new result
 
--- volumes were reused, or nothing was done
-reusing-walk : (said came : Result Outcome Refusal) (events : List Event) → Reusing said events came → AllWalk (IsReuse reuses) events
-reusing-walk (Ok it) came events (answer, called, is) = all-walk (IsReusing called.files) (IsReuse reuses) (reusing-walks called.files) events called.only
-reusing-walk (Err e) came events h = subst (λ (l : List Event). AllWalk (IsReuse reuses) l) (sym h.0) tt
+-- the reuse of volumes behind work that came to this
+reused-grew : (trusted : Type 0) (places : Places) (first : List Entry) (said came : Result Outcome Refusal) (events : List Event) (old mid new : Machine) → Grew (IsReuse reuses) first [] old mid
+    → (may_stay said ≡ false → mid.core.tickets ≡ []) → Reusing said events came → Alone trusted places 0 events mid new
+    → (more : List Entry) × Grew (IsReuse reuses) first more old new × (may_stay came ≡ false → new.core.tickets ≡ [])
+reused-grew trusted places first (Ok it) came events old mid new g free (answer, called, is) f =
+    let r = walk trusted places (IsReuse reuses) first events [] old mid new (all-walk (IsReusing called.files) (IsReuse reuses) (reusing-walks called.files) events called.only) (record { grew = g; free = free refl }) f in
+    (r.0, r.1.grew, λ h. r.1.free)
+reused-grew trusted places first (Err e) came events old mid new g free (none, is) f =
+    let same : new ≡ mid = alone-none trusted places 0 events mid new none f in (
+      [],
+      subst (λ (m : Machine). Grew (IsReuse reuses) first [] old m) (sym same) g,
+      λ h. subst (λ (m : Machine). m.core.tickets ≡ []) (sym same) (free (ap may_stay (sym is) ∙ h)),
+    )
 
 module _ (trusted : Type 0) (places : Places) (choice : List Rule) (c : Command) (w : Work) where
   ended : (b : Behind) (said result : Result Outcome Refusal) (events : List Event) (old mid new : Machine) (g : Began trusted places choice c w b old mid said) (later : List Entry) → AreOf (IsReuse b) later
@@ -201,7 +263,7 @@ module _ (trusted : Type 0) (places : Places) (choice : List Rule) (c : Command)
       first = g.first;
       later = later;
       parts = refl;
-      adds = (let journal : mid.core.journal ≡ old.core.journal ++ (g.first ++ []) = g.walked.core.journal in record { base = g.walked.core.base; journal = journal ∙ ap (λ (l : List Entry). old.core.journal ++ l) (append-nil g.first) });
+      adds = (let journal : mid.core.journal ≡ old.core.journal ++ (g.first ++ []) = g.grew.core.journal in record { base = g.grew.core.base; journal = journal ∙ ap (λ (l : List Entry). old.core.journal ++ l) (append-nil g.first) });
       does = g.does;
       ends = ends;
       reused = are;
@@ -211,29 +273,29 @@ module _ (trusted : Type 0) (places : Places) (choice : List Rule) (c : Command)
   }
 
   -- the newest image and the objects' bytes are what they were between
-  since-image : (added : List Entry) (b : Behind) (first : List Entry) (old mid new : Machine) (result : Result Outcome Refusal) → Walked (IsReuse b) first [] old mid → Settled added old new result → SameImage mid new
+  since-image : (added : List Entry) (b : Behind) (first : List Entry) (old mid new : Machine) (result : Result Outcome Refusal) → Grew (IsReuse b) first [] old mid → Settled added old new result → SameImage mid new
   since-image added b first old mid new result g s = s.image ∙ sym g.core.generation
 
-  since-bytes : (added : List Entry) (b : Behind) (first : List Entry) (old mid new : Machine) (result : Result Outcome Refusal) → Walked (IsReuse b) first [] old mid → Settled added old new result → SameBytes mid new
+  since-bytes : (added : List Entry) (b : Behind) (first : List Entry) (old mid new : Machine) (result : Result Outcome Refusal) → Grew (IsReuse b) first [] old mid → Settled added old new result → SameBytes mid new
   since-bytes added b first old mid new result g s = s.bytes ∙ sym g.contents
 
   behind-did : (b : Behind) (said result : Result Outcome Refusal) (events : List Event) (old mid new : Machine) → (b ≡ no_more → ⊥) → IsAtRest old.core → Began trusted places choice c w b old mid said → EndsWork b said events result
       → Alone trusted places 0 events mid new → Processed trusted places choice c w b old new result
   behind-did no_more said result events old mid new some rest g h f = absurd (some refl)
   behind-did forces said result events old mid new some rest g h f =
-      let s = settles trusted places (IsReuse forces) g.first [] said result events old mid new rest g.walked h f in
+      let s = settles trusted places (IsReuse forces) g.first [] said result events old mid new rest g.grew g.free h f in
       ended forces said result events old mid new g [] tt
-      (events, f, h, since-image (g.first ++ []) forces g.first old mid new result g.walked s, since-bytes (g.first ++ []) forces g.first old mid new result g.walked s) s
+      (events, f, h, since-image (g.first ++ []) forces g.first old mid new result g.grew s, since-bytes (g.first ++ []) forces g.first old mid new result g.grew s) s
   behind-did reuses said result events old mid new some rest g (came, (xs, ys, cut, reusing, forcing)) f =
       let parts = alone-parts trusted places 0 events xs ys mid new cut f in
-      let r = walk trusted places (IsReuse reuses) g.first xs [] old mid parts.0 (reusing-walk said came xs reusing) g.walked parts.1 in
-      let s = settles trusted places (IsReuse reuses) g.first r.0 came result ys old parts.0 new rest r.1 forcing parts.2 in
+      let r = reused-grew trusted places g.first said came xs old mid parts.0 g.grew g.free reusing parts.1 in
+      let s = settles trusted places (IsReuse reuses) g.first r.0 came result ys old parts.0 new rest r.1 r.2 forcing parts.2 in
       ended reuses said result events old mid new g r.0 r.1.are (
         events,
         f,
         (came, (xs, ys, cut, reusing, forcing)),
-        since-image (g.first ++ r.0) reuses g.first old mid new result g.walked s,
-        since-bytes (g.first ++ r.0) reuses g.first old mid new result g.walked s,
+        since-image (g.first ++ r.0) reuses g.first old mid new result g.grew s,
+        since-bytes (g.first ++ r.0) reuses g.first old mid new result g.grew s,
       ) s
 
   pub processed : (result : Result Outcome Refusal) (events : List Event) (old new : Machine) → IsProcess c → IsRowless (Ok w) → IsPlainWork (Ok w) → IsAtRest old.core → DoesWork choice c (Ok w) events result

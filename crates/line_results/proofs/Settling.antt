@@ -24,7 +24,7 @@ use Rattle.line_results.proofs.Asked.{stopped-err}
 use Rattle.line_results.proofs.Forced.{stamped-durable}
 use Rattle.line_results.proofs.Leaving.{Left}
 use Rattle.line_results.proofs.Runs.{AreLast, ends-since, late-first, late-on, none-full, one-or-none, onward-later, onward-none, onward-then, rose-from, rose-on}
-use Rattle.line_results.proofs.Walking.{RoseIn, Under, Walked, force-walk}
+use Rattle.line_results.proofs.Walking.{Grew, RoseIn, Under, force-free, force-grew}
 
 -- ---- why a force is refused
 
@@ -89,16 +89,25 @@ not-made old m new (Err e) h = inr (inl (same_Some e refused.Memory h))
 
 -- the force, and what was made until then
 pub record WasForced (P : Change → Type 0) (first later : List Entry) (old m new : Machine) (answer : Result ℕ Refusal) : Type 0 where
-  pub walked : Walked P first later old new
+  pub grew : Grew P first later old new
+  pub free : m.core.tickets ≡ [] → new.core.tickets ≡ []
   pub forced : Forced old m new answer
 
 module _ (trusted : Type 0) (places : Places) (P : Change → Type 0) (first later : List Entry) where
-  pub forced-behind : (answer : Result ℕ Refusal) (events : List Event) (old m new : Machine) → Walked P first later old m → Made (Force answer) events → Alone trusted places 0 events m new
+  pub forced-behind : (answer : Result ℕ Refusal) (events : List Event) (old m new : Machine) → Grew P first later old m → Made (Force answer) events → Alone trusted places 0 events m new
       → WasForced P first later old m new answer
   forced-behind answer events old m new w made f =
       elim (one-or-none trusted places (Force answer) events m new (λ contents seen h. h) (λ contents x. refl) made f) as (λ _. WasForced P first later old m new answer) [
-        | inl s ↦ record { walked = force-walk P first later old m new w s.0 answer s.1; forced = made-forced old m new answer w.fault w.onward s.0 s.1 }
-        | inr s ↦ record { walked = subst (λ (x : Machine). Walked P first later old x) (sym s.1) w; forced = not-made old m new answer s.0 }
+        | inl s ↦ record {
+          grew = force-grew P first later old m new answer w (onward-later m new s.0) s.1;
+          free = λ none. force-free m new answer s.1 ∙ none;
+          forced = made-forced old m new answer w.fault w.onward s.0 s.1;
+        }
+        | inr s ↦ record {
+          grew = subst (λ (x : Machine). Grew P first later old x) (sym s.1) w;
+          free = λ none. subst (λ (x : Machine). x.core.tickets ≡ []) (sym s.1) none;
+          forced = not-made old m new answer s.0;
+        }
       ]
 
 -- ---- what is left
@@ -161,59 +170,86 @@ durable-or added [] old new over is so at u = inl (under-durable added old new a
 durable-or added (e ∷ rest) old new over is so at u = inr (so, λ none. (let odd : e ∷ rest ≡ [] = sym is ∙ none in cc))
 
 -- at rest, behind a force that was made
-forced-rest : (added : List Entry) (moment : ℕ) (m : Core) (old new : Core) → Under added old m → Under added old new → m.fault ≡ None → new ≡ stamped moment m → IsAtRest new
-forced-rest added moment m old new u v none is = record {
-  tickets = v.tickets;
+forced-rest : (added : List Entry) (moment : ℕ) (m : Core) (old new : Core) → Under added old m → Under added old new → new.tickets ≡ [] → m.fault ≡ None → new ≡ stamped moment m → IsAtRest new
+forced-rest added moment m old new u v free none is = record {
+  tickets = free;
   image = v.image;
   durable = subst (λ (k : Core). length k.stamps ≡ length k.journal) (sym is) (stamped-durable moment m u.few);
   fault = ap (λ (k : Core). k.fault) is ∙ none;
 }
 
-module _ (P : Change → Type 0) (first later : List Entry) (old m new : Machine) (rest : IsAtRest old.core) (w : Walked P first later old m) where
-  forced-settled : (number : ℕ) (came result : Result Outcome Refusal) → WasForced P first later old m new (Ok number) → result ≡ within_run came → Settled (first ++ later) old new result
-  forced-settled number came result f is =
-      let v : Under (first ++ later) old.core new.core = f.walked.core in
-      let at : IsAtRest new.core = forced-rest (first ++ later) new.moment m.core old.core new.core w.core v f.forced.0 f.forced.2 in
+module _ (P : Change → Type 0) (first later : List Entry) (old m new : Machine) (rest : IsAtRest old.core) (w : Grew P first later old m) where
+  forced-settled : (number : ℕ) (came result : Result Outcome Refusal) → (has_ended result ≡ false → m.core.tickets ≡ []) → WasForced P first later old m new (Ok number) → result ≡ within_run came → Settled (first ++ later) old new result
+  forced-settled number came result free f is =
+      let v : Under (first ++ later) old.core new.core = f.grew.core in
+      let all : length new.core.stamps ≡ length new.core.journal = subst (λ (k : Core). length k.stamps ≡ length k.journal) (sym f.forced.2) (stamped-durable new.moment m.core w.core.few) in
       record {
         left = record {
           adds = under-adds (first ++ later) old new v;
-          onward = f.walked.onward;
+          onward = f.grew.onward;
           log = under-log (first ++ later) old new v;
-          rests = λ h. at;
-          durable = λ h. inl at.durable;
+          rests = λ h. forced-rest (first ++ later) new.moment m.core old.core new.core w.core v (f.free (free h)) f.forced.0 f.forced.2;
+          durable = λ h. inl all;
         };
         doubt = under-doubt (first ++ later) old.core new.core rest v;
         image = v.generation;
-        bytes = f.walked.contents;
+        bytes = f.grew.contents;
         ends = λ e how same halts. (let memory : e ≡ refused.Memory = within-ends came e how (sym is ∙ same) halts in subst (λ (x : Refusal). EndsRun old new x) (sym memory) tt);
         late = λ l. absurd (f.forced.1 (late-on old m w.onward l));
       }
 
   refused-settled : (e : Refusal) (result : Result Outcome Refusal) → WasForced P first later old m new (Err e) → result ≡ Err e → Settled (first ++ later) old new result
   refused-settled e result f is =
-      let v : Under (first ++ later) old.core new.core = f.walked.core in
+      let v : Under (first ++ later) old.core new.core = f.grew.core in
       let over : has_ended result ≡ true = ap (λ (r : Result Outcome Refusal). has_ended r) is ∙ has-ended old m new e f.forced in
       record {
         left = record {
           adds = under-adds (first ++ later) old new v;
-          onward = f.walked.onward;
+          onward = f.grew.onward;
           log = under-log (first ++ later) old new v;
           rests = λ h. absurd (false≢true (sym h ∙ over));
           durable = λ h. durable-or (first ++ later) (first ++ later) old.core new.core (has_ended result) refl over rest v;
         };
         doubt = under-doubt (first ++ later) old.core new.core rest v;
         image = v.generation;
-        bytes = f.walked.contents;
+        bytes = f.grew.contents;
         ends = λ x how same halts. (let one : e ≡ x = (let both : Err e ≡ Err x = sym is ∙ same in cc) in subst (λ (y : Refusal). EndsRun old new y) one (ends-of old m new e f.forced));
         late = λ l. subst (λ (r : Result Outcome Refusal). IsStopped r) (sym is) (stopped-err Outcome e (last-of old m new e f.forced (late-on old m w.onward l)));
       }
 
-  settled : (answer : Result ℕ Refusal) (came result : Result Outcome Refusal) → WasForced P first later old m new answer → result ≡ behind_force came answer → Settled (first ++ later) old new result
-  settled (Ok number) came result f is = forced-settled number came result f is
-  settled (Err e) came result f is = refused-settled e result f is
+  settled : (answer : Result ℕ Refusal) (came result : Result Outcome Refusal) → (has_ended result ≡ false → m.core.tickets ≡ []) → WasForced P first later old m new answer → result ≡ behind_force came answer → Settled (first ++ later) old new result
+  settled (Ok number) came result free f is = forced-settled number came result free f is
+  settled (Err e) came result free f is = refused-settled e result f is
 
--- steps of which P holds, and then the force
+-- ---- tickets
+
+-- a ticket may be left where nobody can give it back: the hall is halted, or the run is full
+abbrev pub may_stay : Result Outcome Refusal → Bool
+may_stay (Ok it) = false
+may_stay (Err e) = has_number (40 ∷ 41 ∷ []) e
+
+within-stays : (came : Result Outcome Refusal) → has_ended (within_run came) ≡ false → may_stay came ≡ false
+within-stays (Ok it) h = refl
+within-stays (Err (refused.LogFault file count)) h = absurd (false≢true (sym h))
+within-stays (Err refused.RunFull) h = absurd (false≢true (sym h))
+within-stays (Err e) h = refl
+
+refused-over : (e : Refusal) (events : List Event) → Made (Force (Err e)) events → has_number (40 ∷ 41 ∷ 50 ∷ []) e ≡ true
+unfolding is_listed
+refused-over e events (inl (n, is, listed)) = over-listed e listed where
+  over-listed : (x : Refusal) → has_number (40 ∷ 41 ∷ []) x ≡ true → has_number (40 ∷ 41 ∷ 50 ∷ []) x ≡ true
+  over-listed (refused.LogFault file count) h = refl
+  over-listed refused.RunFull h = refl
+  over-listed x h = absurd (false≢true h)
+refused-over e events (inr (memory, none)) = ap (λ (x : Refusal). has_number (40 ∷ 41 ∷ 50 ∷ []) x) (same_Some e refused.Memory memory)
+
+-- where the run goes on none may
+pub goes-on : (came result : Result Outcome Refusal) (events : List Event) → Forcing came events result → has_ended result ≡ false → may_stay came ≡ false
+goes-on came result events (Ok number, made, is) h = within-stays came (ap (λ (r : Result Outcome Refusal). has_ended r) (sym is) ∙ h)
+goes-on came result events (Err e, made, is) h = absurd (false≢true (sym h ∙ (ap (λ (r : Result Outcome Refusal). has_ended r) is ∙ refused-over e events made)))
+
+-- steps of which P holds, and then the force; no ticket is left, unless one may be
 pub settles : (trusted : Type 0) (places : Places) (P : Change → Type 0) (first later : List Entry) (came result : Result Outcome Refusal) (events : List Event) (old m new : Machine) → IsAtRest old.core
-    → Walked P first later old m → Forcing came events result → Alone trusted places 0 events m new → Settled (first ++ later) old new result
-settles trusted places P first later came result events old m new rest w (answer, made, is) f =
-    settled P first later old m new rest w answer came result (forced-behind trusted places P first later answer events old m new w made f) is
+    → Grew P first later old m → (may_stay came ≡ false → m.core.tickets ≡ []) → Forcing came events result → Alone trusted places 0 events m new → Settled (first ++ later) old new result
+settles trusted places P first later came result events old m new rest w free (answer, made, is) f =
+    settled P first later old m new rest w answer came result (λ h. free (goes-on came result events (answer, made, is) h)) (forced-behind trusted places P first later answer events old m new w made f) is

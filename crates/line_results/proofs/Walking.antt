@@ -40,19 +40,18 @@ pub all-walk : (Is : Deed → Type 0) (P : Change → Type 0) → ((d : Deed) �
 all-walk Is P so [] h = tt
 all-walk Is P so (e ∷ events) h = (so e.deed h.0, all-walk Is P so events h.1)
 
-are-more : (P : Change → Type 0) (added : List Entry) (w : Change) → AreOf P added → P w → AreOf P (added ++ entry w ∷ [])
+pub are-more : (P : Change → Type 0) (added : List Entry) (w : Change) → AreOf P added → P w → AreOf P (added ++ entry w ∷ [])
 are-more P [] w h p = ((refl, p), tt)
 are-more P (e ∷ added) w h p = (h.0, are-more P added w h.1 p)
 
 -- ---- the hall
 
--- behind these transactions of the script nothing is held and nothing is in progress, and what had a stamp has it
+-- behind these transactions of the script no image is in progress, and what had a stamp has it
 pub record Under (added : List Entry) (old c : Core) : Type 0 where
   pub base : c.base ≡ old.base
   pub journal : c.journal ≡ old.journal ++ added
   pub generation : c.generation ≡ old.generation
   pub log_length : c.log_length ≡ old.log_length + records_length added
-  pub tickets : c.tickets ≡ []
   pub image : c.image ≡ None
   pub fresh : List ℕ
   pub stamps : c.stamps ≡ old.stamps ++ fresh
@@ -67,7 +66,6 @@ under-none c rest = record {
   journal = sym (append-nil c.journal);
   generation = refl;
   log_length = no-records c.log_length;
-  tickets = rest.tickets;
   image = rest.image;
   fresh = [];
   stamps = sym (append-nil c.stamps);
@@ -88,7 +86,6 @@ made-under added w old c u = record {
   journal = ap (λ (l : List Entry). l ++ entry w ∷ []) u.journal ∙ append_assoc old.journal added (entry w ∷ []);
   generation = u.generation;
   log_length = (let more = records-more added (entry w) in let long : c.log_length ≡ old.log_length + records_length added = u.log_length in omega (arith, more, long));
-  tickets = u.tickets;
   image = u.image;
   fresh = u.fresh;
   stamps = u.stamps;
@@ -101,7 +98,6 @@ halting-under added file count old c u = record {
   journal = u.journal;
   generation = u.generation;
   log_length = u.log_length;
-  tickets = u.tickets;
   image = u.image;
   fresh = u.fresh;
   stamps = u.stamps;
@@ -114,7 +110,6 @@ stamped-under added moment old c u = record {
   journal = u.journal;
   generation = u.generation;
   log_length = u.log_length;
-  tickets = u.tickets;
   image = u.image;
   fresh = u.fresh ++ replicate (length (unforced c)) moment;
   stamps = ap (λ (l : List ℕ). l ++ replicate (length (unforced c)) moment) u.stamps ∙ append_assoc old.stamps u.fresh (replicate (length (unforced c)) moment);
@@ -125,8 +120,11 @@ under-as : (added : List Entry) (old c d : Core) → d ≡ c → Under added old
 under-as added old c d same u = subst (λ (k : Core). Under added old k) (sym same) u
 
 -- one more joined behind these
-joined-under : (first later : List Entry) (w : Change) (old c : Core) → Under (first ++ later) old c → Under (first ++ (later ++ entry w ∷ [])) old (made 0 w c)
+pub joined-under : (first later : List Entry) (w : Change) (old c : Core) → Under (first ++ later) old c → Under (first ++ (later ++ entry w ∷ [])) old (made 0 w c)
 joined-under first later w old c u = subst (λ (l : List Entry). Under l old (made 0 w c)) (append_assoc first later (entry w ∷ [])) (made-under (first ++ later) w old c u)
+
+pub under-tickets : (added : List Entry) (tickets : List Ticket) (old c : Core) → Under added old c → Under added old (with_tickets tickets c)
+under-tickets added tickets old c u = record { base = u.base; journal = u.journal; generation = u.generation; log_length = u.log_length; image = u.image; fresh = u.fresh; stamps = u.stamps; few = u.few }
 
 -- no ticket is spent
 spent-same : (w : Change) (c : Core) → c.tickets ≡ [] → committed 0 w [] c ≡ made 0 w c
@@ -144,15 +142,15 @@ rose-in-on old m n None x h = tt
 rose-in-on old m n (Some f) x h = (h.0, rose-on old m n f.0 h.1 x)
 
 -- Transactions were made, and behind them others, of each of which P holds; no object's bytes changed.
-pub record Walked (P : Change → Type 0) (first later : List Entry) (old m : Machine) : Type 0 where
+pub record Grew (P : Change → Type 0) (first later : List Entry) (old m : Machine) : Type 0 where
   pub core : Under (first ++ later) old.core m.core
   pub are : AreOf P later
   pub contents : m.contents ≡ old.contents
   pub onward : Onward old m
   pub fault : RoseIn old m m.core.fault
 
-pub walked-none : (P : Change → Type 0) (m : Machine) → IsAtRest m.core → Walked P [] [] m m
-walked-none P m rest = record {
+pub grew-none : (P : Change → Type 0) (m : Machine) → IsAtRest m.core → Grew P [] [] m m
+grew-none P m rest = record {
   core = under-none m.core rest;
   are = tt;
   contents = refl;
@@ -161,73 +159,116 @@ walked-none P m rest = record {
 }
 
 -- the machine became this, which no fault halted that hadn't before
-walked-as : (P : Change → Type 0) (first later more : List Entry) (d : Core) (old m next : Machine) → Walked P first later old m → Under (first ++ more) old.core d → AreOf P more → d.fault ≡ m.core.fault → Later m next → next.core ≡ d
-    → next.contents ≡ m.contents → Walked P first more old next
-walked-as P first later more d old m next w u are same since is bytes = record {
+pub grew-as : (P : Change → Type 0) (first later more : List Entry) (d : Core) (old m next : Machine) → Grew P first later old m → Under (first ++ more) old.core d → AreOf P more → d.fault ≡ m.core.fault → Onward m next → next.core ≡ d
+    → next.contents ≡ m.contents → Grew P first more old next
+grew-as P first later more d old m next w u are same since is bytes = record {
   core = under-as (first ++ more) old.core d next.core is u;
   are = are;
   contents = bytes ∙ w.contents;
-  onward = onward-then old m next w.onward (onward-later m next since);
-  fault = subst (λ (f : Option (ℕ × ℕ)). RoseIn old next f) (sym (ap (λ (k : Core). k.fault) is ∙ same)) (rose-in-on old m next m.core.fault (onward-later m next since) w.fault);
+  onward = onward-then old m next w.onward since;
+  fault = subst (λ (f : Option (ℕ × ℕ)). RoseIn old next f) (sym (ap (λ (k : Core). k.fault) is ∙ same)) (rose-in-on old m next m.core.fault since w.fault);
 }
 
 -- a fault halted it
-walked-halts : (P : Change → Type 0) (first later more : List Entry) (d : Core) (file count : ℕ) (old m next : Machine) → Walked P first later old m → Under (first ++ more) old.core d → AreOf P more → IsLogFault m next file count → Later m next
-    → next.core ≡ halting file count d → next.contents ≡ m.contents → Walked P first more old next
-walked-halts P first later more d file count old m next w u are fault since is bytes = record {
+pub grew-halts : (P : Change → Type 0) (first later more : List Entry) (d : Core) (file count : ℕ) (old m next : Machine) → Grew P first later old m → Under (first ++ more) old.core d → AreOf P more → IsLogFault m next file count → Onward m next
+    → next.core ≡ halting file count d → next.contents ≡ m.contents → Grew P first more old next
+grew-halts P first later more d file count old m next w u are fault since is bytes = record {
   core = under-as (first ++ more) old.core (halting file count d) next.core is (halting-under (first ++ more) file count old.core d u);
   are = are;
   contents = bytes ∙ w.contents;
-  onward = onward-then old m next w.onward (onward-later m next since);
+  onward = onward-then old m next w.onward since;
   fault = subst (λ (f : Option (ℕ × ℕ)). RoseIn old next f) (sym (ap (λ (k : Core). k.fault) is)) (fault.0, rose-from old m next file w.onward fault.1);
 }
 
-walked-stays : (P : Change → Type 0) (first later : List Entry) (old m next : Machine) → Walked P first later old m → Later m next → Stays m next → Walked P first later old next
-walked-stays P first later old m next w since s = walked-as P first later later m.core old m next w w.core w.are refl since s.core s.contents
+pub grew-stays : (P : Change → Type 0) (first later : List Entry) (old m next : Machine) → Grew P first later old m → Onward m next → Stays m next → Grew P first later old next
+grew-stays P first later old m next w since h = grew-as P first later later m.core old m next w w.core w.are refl since h.core h.contents
+
+-- only tickets changed
+pub grew-tickets : (P : Change → Type 0) (first later : List Entry) (tickets : List Ticket) (old m next : Machine) → Grew P first later old m → Onward m next → next.core ≡ with_tickets tickets m.core → next.contents ≡ m.contents
+    → Grew P first later old next
+grew-tickets P first later tickets old m next w since is bytes =
+    grew-as P first later later (with_tickets tickets m.core) old m next w (under-tickets (first ++ later) tickets old.core m.core w.core) w.are refl since is bytes
+
+-- a force
+pub force-grew : (P : Change → Type 0) (first later : List Entry) (old m next : Machine) (answer : Result ℕ Refusal) → Grew P first later old m → Onward m next → Forces 0 m next answer → Grew P first later old next
+force-grew P first later old m next (Ok number) w since h =
+    grew-as P first later later (stamped next.moment m.core) old m next w (stamped-under (first ++ later) next.moment old.core m.core w.core) w.are refl since h.1.1.core h.1.1.contents
+force-grew P first later old m next (Err e) w since (inl h) = grew-stays P first later old m next w since h.1
+force-grew P first later old m next (Err e) w since (inr (none, (file, count, is, fault, becomes))) =
+    grew-halts P first later later m.core file count old m next w w.core w.are fault since becomes.core becomes.contents
+
+-- a force leaves the tickets
+pub force-free : (m next : Machine) (answer : Result ℕ Refusal) → Forces 0 m next answer → next.core.tickets ≡ m.core.tickets
+force-free m next (Ok number) h = ap (λ (c : Core). c.tickets) h.1.1.core
+force-free m next (Err e) (inl h) = ap (λ (c : Core). c.tickets) h.1.core
+force-free m next (Err e) (inr (none, (file, count, is, fault, becomes))) = ap (λ (c : Core). c.tickets) becomes.core
 
 -- ---- each step
+
+-- So it is, and no ticket is held.
+pub record Walked (P : Change → Type 0) (first later : List Entry) (old m : Machine) : Type 0 where
+  pub grew : Grew P first later old m
+  pub free : m.core.tickets ≡ []
+
+pub walked-none : (P : Change → Type 0) (m : Machine) → IsAtRest m.core → Walked P [] [] m m
+walked-none P m rest = record { grew = grew-none P m rest; free = rest.tickets }
 
 abbrev Went : (P : Change → Type 0) → (first : List Entry) → (old next : Machine) → Type 0
 Went P first old next = (more : List Entry) × Walked P first more old next
 
-module _ (P : Change → Type 0) (first later : List Entry) (old m next : Machine) (w : Walked P first later old m) (since : Later m next) where
+module _ (P : Change → Type 0) (first later : List Entry) (old m next : Machine) (w : Walked P first later old m) (since : Onward m next) where
+  stays-walk : Stays m next → Walked P first later old next
+  stays-walk h = record { grew = grew-stays P first later old m next w.grew since h; free = ap (λ (c : Core). c.tickets) h.core ∙ w.free }
+
   ask-walk : (query : Query) (answer : Result Answer Refusal) → Asks 0 query m next answer → Walked P first later old next
-  ask-walk query (Ok told) h = walked-stays P first later old m next w since h.1.1
-  ask-walk query (Err e) (inl h) = walked-stays P first later old m next w since h.1
+  ask-walk query (Ok told) h = stays-walk h.1.1
+  ask-walk query (Err e) (inl h) = stays-walk h.1
   ask-walk query (Err e) (inr h) = absurd h.1
 
-  pub force-walk : (answer : Result ℕ Refusal) → Forces 0 m next answer → Walked P first later old next
-  force-walk (Ok number) h =
-      walked-as P first later later (stamped next.moment m.core) old m next w (stamped-under (first ++ later) next.moment old.core m.core w.core) w.are refl since h.1.1.core h.1.1.contents
-  force-walk (Err e) (inl h) = walked-stays P first later old m next w since h.1
-  force-walk (Err e) (inr (none, (file, count, is, fault, becomes))) =
-      walked-halts P first later later m.core file count old m next w w.core w.are fault since becomes.core becomes.contents
+  force-walk : (answer : Result ℕ Refusal) → Forces 0 m next answer → Walked P first later old next
+  force-walk answer h = record { grew = force-grew P first later old m next answer w.grew since h; free = force-free m next answer h ∙ w.free }
+
+  -- one more joined
+  join-made : (c : Change) → P c → next.core ≡ committed 0 c [] m.core → next.contents ≡ m.contents → Walked P first (later ++ entry c ∷ []) old next
+  join-made c p is bytes =
+      let same : next.core ≡ made 0 c m.core = is ∙ spent-same c m.core w.free in
+      record {
+        grew = grew-as P first later (later ++ entry c ∷ []) (made 0 c m.core) old m next w.grew (joined-under first later c old.core m.core w.grew.core) (are-more P later c w.grew.are p) refl since same bytes;
+        free = ap (λ (k : Core). k.tickets) same ∙ w.free;
+      }
+
+  -- one more joined, and a fault halted the machine
+  join-halts : (c : Change) (file count : ℕ) → P c → IsLogFault m next file count → next.core ≡ halting file count (committed 0 c [] m.core) → next.contents ≡ m.contents → Walked P first (later ++ entry c ∷ []) old next
+  join-halts c file count p fault is bytes =
+      let same : next.core ≡ halting file count (made 0 c m.core) = is ∙ ap (λ (k : Core). halting file count k) (spent-same c m.core w.free) in
+      record {
+        grew = grew-halts P first later (later ++ entry c ∷ []) (made 0 c m.core) file count old m next w.grew (joined-under first later c old.core m.core w.grew.core) (are-more P later c w.grew.are p) fault since same bytes;
+        free = ap (λ (k : Core). k.tickets) same ∙ w.free;
+      }
 
   join-walk : (asked : Asked) (answer : Result ℕ Refusal) → ((c : Change) (core : Core) → asked_change 0 asked [] core ≡ Some c → P c) → Commits 0 asked [] m next answer → Went P first old next
-  join-walk asked (Ok number) p (none, (c, is, numbered, joins)) = (
-    later ++ entry c ∷ [],
-    walked-as P first later (later ++ entry c ∷ []) (made 0 c m.core) old m next w (joined-under first later c old.core m.core w.core) (are-more P later c w.are (p c m.core is)) refl since
-        (joins.0 ∙ spent-same c m.core w.core.tickets) joins.1,
-  )
-  join-walk asked (Err e) p (inl h) = (later, walked-stays P first later old m next w since h.1)
-  join-walk asked (Err e) p (inr (none, (c, file, count, is, why, fault, joins))) = (
-    later ++ entry c ∷ [],
-    walked-halts P first later (later ++ entry c ∷ []) (made 0 c m.core) file count old m next w (joined-under first later c old.core m.core w.core) (are-more P later c w.are (p c m.core is)) fault since
-        (joins.0 ∙ ap (λ (k : Core). halting file count k) (spent-same c m.core w.core.tickets)) joins.1,
-  )
+  join-walk asked (Ok number) p (none, (c, is, numbered, joins)) = (later ++ entry c ∷ [], join-made c (p c m.core is) joins.0 joins.1)
+  join-walk asked (Err e) p (inl h) = (later, stays-walk h.1)
+  join-walk asked (Err e) p (inr (none, (c, file, count, is, why, fault, joins))) = (later ++ entry c ∷ [], join-halts c file count (p c m.core is) fault joins.0 joins.1)
 
   reuse-walk : (file : ℕ) (answer : Result ℕ Refusal) → P (change.Reuse file) → Reuses 0 file m next answer → Went P first old next
   reuse-walk file (Ok number) p h = (
     later ++ entry (change.Reuse file) ∷ [],
-    walked-as P first later (later ++ entry (change.Reuse file) ∷ []) (stamped next.moment (made 0 (change.Reuse file) m.core)) old m next w
-        (stamped-under (first ++ (later ++ entry (change.Reuse file) ∷ [])) next.moment old.core (made 0 (change.Reuse file) m.core) (joined-under first later (change.Reuse file) old.core m.core w.core))
-        (are-more P later (change.Reuse file) w.are p) refl since h.1.1.core h.1.1.contents,
+    record {
+      grew = grew-as P first later (later ++ entry (change.Reuse file) ∷ []) (stamped next.moment (made 0 (change.Reuse file) m.core)) old m next w.grew
+          (stamped-under (first ++ (later ++ entry (change.Reuse file) ∷ [])) next.moment old.core (made 0 (change.Reuse file) m.core) (joined-under first later (change.Reuse file) old.core m.core w.grew.core))
+          (are-more P later (change.Reuse file) w.grew.are p) refl since h.1.1.core h.1.1.contents;
+      free = ap (λ (k : Core). k.tickets) h.1.1.core ∙ w.free;
+    },
   )
-  reuse-walk file (Err e) p (inl h) = (later, walked-stays P first later old m next w since h.1)
+  reuse-walk file (Err e) p (inl h) = (later, stays-walk h.1)
   reuse-walk file (Err e) p (inr (none, (log, count, is, fault, becomes))) = (
     later ++ entry (change.Reuse file) ∷ [],
-    walked-halts P first later (later ++ entry (change.Reuse file) ∷ []) (made 0 (change.Reuse file) m.core) log count old m next w (joined-under first later (change.Reuse file) old.core m.core w.core)
-        (are-more P later (change.Reuse file) w.are p) fault since becomes.core becomes.contents,
+    record {
+      grew = grew-halts P first later (later ++ entry (change.Reuse file) ∷ []) (made 0 (change.Reuse file) m.core) log count old m next w.grew
+          (joined-under first later (change.Reuse file) old.core m.core w.grew.core) (are-more P later (change.Reuse file) w.grew.are p) fault since becomes.core becomes.contents;
+      free = ap (λ (k : Core). k.tickets) becomes.core ∙ w.free;
+    },
   )
 
   deed-walk : (places : Places) (d : Deed) → Walks P d → Case places 0 d m next → Went P first old next
@@ -259,12 +300,12 @@ module _ (trusted : Type 0) (places : Places) (P : Change → Type 0) (first : L
   walk [] later old m new all w same = (later, subst (λ (x : Machine). Walked P first later old x) (sym same) w)
   walk (e ∷ events) later old m new all w (next, moved, rest) =
       let s = stepped trusted places e.n e.deed (e ∷ []) m next (seen-same trusted P e.deed all.0) (left-same P e.deed all.0) refl (next, moved, refl) in
-      let r = deed-walk P first later old m next w s.0 places e.deed all.0 s.1 in
+      let r = deed-walk P first later old m next w (onward-later m next s.0) places e.deed all.0 s.1 in
       walk events r.0 old next new all.1 r.1 rest
 
 -- what was made is in front of what is to come
-pub walked-on : (P Q : Change → Type 0) (later : List Entry) (old m : Machine) → Walked P [] later old m → Walked Q later [] old m
-walked-on P Q later old m w = record {
+pub grew-on : (P Q : Change → Type 0) (later : List Entry) (old m : Machine) → Grew P [] later old m → Grew Q later [] old m
+grew-on P Q later old m w = record {
   core = subst (λ (l : List Entry). Under l old.core m.core) (sym (append-nil later)) w.core;
   are = tt;
   contents = w.contents;

@@ -35,7 +35,7 @@ use Rattle.machine.specs.State.{Core, Machine, Place}
 use Rattle.sessions.specs.Homes.{home_of}
 use Rattle.sessions.specs.declared.getting.FileRead.{FileRead}
 use Rattle.sessions.specs.declared.homes.Home.{Home}
-use Rattle.command_steps.specs.Answers.{done, file_lines, outcome_lines, refusal, row_lines}
+use Rattle.command_steps.specs.Answers.{answer_of, done, file_lines, refusal, row_lines}
 use Rattle.command_steps.specs.Behind.{Behind, behind, no_more}
 use Rattle.command_steps.specs.Lines.{Line, asks, comment, refused}
 use Rattle.command_steps.specs.Owns.{Own, checkpoint, get, last_of, own_of, put, validate}
@@ -199,7 +199,7 @@ DidBy n own (Ok (Run numbers)) old mid answer added = DidOwn n own old mid answe
 abbrev pub DidWith : (trusted : Type 0) → Places → List Rule → (n : ℕ) → Command → Behind → (old mid : Machine) → Answer → (added : List Entry) → Type 0
 DidWith trusted places choice n c no_more old mid answer added = DidBy n (own_of c) (work_over c (database old)) old mid answer added
 DidWith trusted places choice n c b old mid answer added =
-    (it : Outcome) × (answer ≡ done (outcome_lines n it)) × Works trusted places choice c (work_over c (database old)) b old mid (Ok it) added
+    (it : Outcome) × (answer ≡ answer_of n it) × Works trusted places choice c (work_over c (database old)) b old mid (Ok it) added
 
 abbrev pub Did : (trusted : Type 0) → Places → List Rule → (n : ℕ) → Line → (old mid : Machine) → Answer → (added : List Entry) → Type 0
 Did trusted places choice n comment old mid answer added = added ≡ []

@@ -13,6 +13,8 @@ use Rattle.choosers.specs.declared.rule.Rule.{Rule}
 use Rattle.entries.specs.change_items.declared.items.DiscardedVersion.{DiscardedVersion}
 use Rattle.entries.specs.change_items.declared.items.DroppedCopy.{DroppedCopy}
 use Rattle.entries.specs.change_items.declared.items.NamedVersion.{NamedVersion}
+use Rattle.entries.specs.change_items.declared.items.NewCopy.{NewCopy}
+use Rattle.entries.specs.change_items.declared.items.ScratchVolume.{ScratchVolume}
 use Rattle.entries.specs.change_items.declared.reasons.DiscardReason.{DiscardReason}
 use Rattle.entries.specs.change_items.declared.reasons.DiscardReason.TheVariants as because
 use Rattle.entries.specs.change_items.declared.reasons.DropReason.TheVariants as since
@@ -43,7 +45,7 @@ use Rattle.command_steps.specs.Answers.{halt_by}
 use Rattle.command_steps.specs.Behind.{Behind, behind, no_more, reuses}
 use Rattle.command_steps.specs.Doing as steps
 use Rattle.command_steps.specs.Doing.{EndsWork, the_number}
-use Rattle.command_steps.specs.Owns.{Own, checkpoint, empty_filespace, empty_volume, expire, get, last_of, none_but_reuse, none_yet, own_of, put, validate}
+use Rattle.command_steps.specs.Owns.{Own, back_up_pool, checkpoint, empty_filespace, empty_volume, expire, get, last_of, none_but_reuse, none_yet, own_of, put, validate}
 use Rattle.command_steps.specs.declared.outcome.Outcome.{Outcome}
 use Rattle.command_steps.specs.declared.outcome.Outcome.TheVariants.{Read, Rows, Said}
 use Rattle.line_results.specs.Files.{Checkpoints, Gets, Puts}
@@ -93,7 +95,7 @@ abbrev pub IsDiscard : DiscardReason → Change → Type 0
 IsDiscard reason c = (items : List DiscardedVersion) × (c ≡ change.Discard (record { reason = reason; items = items }))
 
 -- the transactions that a process may make over the numbers of the things that it names: objects that aren't retained go; objects of the filespace are discarded, or its row goes; copies on the
--- volume are dropped, objects are discarded for it, or its row goes
+-- volume are dropped, objects are discarded for it, or its row goes; copies are added
 abbrev pub MayMake : (numbers : List ℕ) → Own → Change → Type 0
 MayMake numbers expire c = (filespace : ℕ) × (items : List NamedVersion) × (c ≡ change.Expire (record { filespace = filespace; items = items }))
 MayMake numbers empty_filespace c =
@@ -102,6 +104,7 @@ MayMake numbers empty_volume c =
     ((items : List DroppedCopy) × (c ≡ change.DropCopies (record { reason = since.Volume (the_number numbers); items = items })))
     ⊎ IsDiscard (because.Volume (the_number numbers)) c
     ⊎ ((name : List ℕ) × (capacity : ℕ) × (access : Access) × (c ≡ change.Pool (store.Volume verb.Delete name 0 (the_number numbers) capacity access)))
+MayMake numbers back_up_pool c = (scratch : List ScratchVolume) × (items : List NewCopy) × (c ≡ change.Copy (record { scratch = scratch; items = items }))
 MayMake numbers _ c = ⊥
 
 -- A process ran: its own contract says what its steps did; and each transaction that it made is one of these.
@@ -123,6 +126,7 @@ DoesOwn trusted places choice numbers checkpoint old new result added =
 DoesOwn trusted places choice numbers expire old new result added = Processes trusted places choice numbers expire old new result added
 DoesOwn trusted places choice numbers empty_filespace old new result added = Processes trusted places choice numbers empty_filespace old new result added
 DoesOwn trusted places choice numbers empty_volume old new result added = Processes trusted places choice numbers empty_volume old new result added
+DoesOwn trusted places choice numbers back_up_pool old new result added = Processes trusted places choice numbers back_up_pool old new result added
 DoesOwn trusted places choice numbers none_but_reuse old new result added = Tells (Ok (Said (Reused 0))) old new result added
 DoesOwn trusted places choice numbers none_yet old new result added = Tells (Err (UnknownWord 1)) old new result added
 

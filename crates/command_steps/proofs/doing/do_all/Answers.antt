@@ -3,4 +3,4 @@ use Rattle.command_steps.specs.Reading.{behind_view}
 use Rattle.command_steps.proofs.doing.do_all.Goals as goal
 
 pub returns-clause-does : goal.returns-clause-does
-returns-clause-does g c = done-with g.P.Stepper.did g.met.P.Stepper.goes_on c.args.p.now c.do_work-said.new.p c.end_work.new.p c.args.binder.now c.args.command.now c.args.work (behind_view c.behind.result) c.do_work-said.result c.end_work.result c.behind.ensures c.do_work-said.ensures.does c.end_work.ensures
+returns-clause-does g c = done-with g.P.Stepper.did g.met.P.Stepper.goes_on c.args.p.now c.do_work-said.new.p c.end_work.new.p c.args.binder.now c.args.command.now c.args.work (behind_view c.behind_of.result) c.do_work-said.result c.end_work.result c.behind_of.ensures c.do_work-said.ensures.does c.end_work.ensures

@@ -1,12 +1,14 @@
 use Rattle.command_steps.proofs.Worked.{owned}
-use Rattle.command_steps.specs.Doing.{DoesOwn, Gives}
-use Rattle.command_steps.specs.Owns.{checkpoint, empty_filespace, empty_volume, expire, get, none_but_reuse, none_yet, own_of, put, validate}
+use Rattle.command_steps.specs.Doing.{DoesOwn, Gives, the_second}
+use Rattle.command_steps.specs.Owns.{back_up_pool, checkpoint, empty_filespace, empty_volume, expire, get, none_but_reuse, none_yet, own_of, put, validate}
 use Rattle.kinds.specs.declared.refusal.Refusal.TheVariants.{UnknownWord}
 use Rattle.std.proofs.Common.{ℕ, true, Err, Ok, refl, subst}
+use Rattle.copy_pools.specs.Backups.{Backup}
+use Rattle.copy_runs.specs.declared.wanted.Moved.{Moved}
 use Rattle.deletions.specs.Filespaces.{FilespaceDeletion}
 use Rattle.deletions.specs.Volumes.{VolumeDeletion}
 use Rattle.deletions.specs.declared.copies.Removed.{Removed}
-use Rattle.reports.specs.declared.shown.Shown.TheVariants.{DeletedVolume, DiscardedFilespace, Reused}
+use Rattle.reports.specs.declared.shown.Shown.TheVariants.{Copied, DeletedVolume, DiscardedFilespace, Reused}
 use Rattle.command_steps.specs.declared.outcome.Outcome.TheVariants.{Said}
 use Rattle.steps.specs.Calls.{Call}
 use Rattle.steps.proofs.Joining.{call_of_none}
@@ -37,8 +39,13 @@ returns-in-EmptyFilespace-clause-does g c = owned g.P.Stepper.did c.args.p.now c
 
 pub returns-in-EmptyVolume-clause-does : goal.returns-in-EmptyVolume-clause-does
 returns-in-EmptyVolume-clause-does g c = owned g.P.Stepper.did c.args.p.now c.empty_volume.new.p c.args.binder.now empty_volume (own_of c.args.command.now) c.args.numbers.now c.empty_volume.result c.in-EmptyVolume.ensures
-    (subst (λ (k : ℕ). Call g.P.Stepper.did c.args.p.now c.empty_volume.new.p (λ events. Gives (VolumeDeletion true k) (λ (went : Removed). Said (DeletedVolume went.discarded went.dropped)) events c.empty_volume.result)) c.the_number.ensures c.empty_volume.ensures)
+    (subst (λ (k : ℕ). Call g.P.Stepper.did c.args.p.now c.empty_volume.new.p (λ events. Gives (VolumeDeletion true k) (λ (went : Removed). Said (DeletedVolume went.discarded went.dropped)) events c.empty_volume.result)) c.the_number-in-EmptyVolume.ensures c.empty_volume.ensures)
 
 pub returns-in-NoneButReuse-clause-does : goal.returns-in-NoneButReuse-clause-does
 returns-in-NoneButReuse-clause-does g c = owned g.P.Stepper.did c.args.p.now c.args.p.now c.args.binder.now none_but_reuse (own_of c.args.command.now) c.args.numbers.now (Ok (Said (Reused 0))) c.in-NoneButReuse.ensures
     (call_of_none g.P.Stepper.did (λ events. DoesOwn c.args.binder.now none_but_reuse c.args.numbers.now events (Ok (Said (Reused 0)))) c.args.p.now c.args.p.now (g.met.P.Stepper.stays c.args.p.now) (refl, refl))
+
+pub returns-in-BackUpPool-clause-does : goal.returns-in-BackUpPool-clause-does
+returns-in-BackUpPool-clause-does g c = owned g.P.Stepper.did c.args.p.now c.back_up_pool.new.p c.args.binder.now back_up_pool (own_of c.args.command.now) c.args.numbers.now c.back_up_pool.result c.in-BackUpPool.ensures
+    (subst (λ (k : ℕ). Call g.P.Stepper.did c.args.p.now c.back_up_pool.new.p (λ events. Gives (Backup k (the_second c.args.numbers.now)) (λ (copies : Moved). Said (Copied copies.moved copies.failed)) events c.back_up_pool.result)) c.the_number-in-BackUpPool.ensures
+    (subst (λ (k : ℕ). Call g.P.Stepper.did c.args.p.now c.back_up_pool.new.p (λ events. Gives (Backup c.the_number-in-BackUpPool.result k) (λ (copies : Moved). Said (Copied copies.moved copies.failed)) events c.back_up_pool.result)) c.the_second.ensures c.back_up_pool.ensures))
