@@ -1,5 +1,5 @@
--- What holds of each object that is kept, and of what a transaction brings, holds of each object that it leaves; and so of their copies.
-use Rattle.std.proofs.Common.{◌≡◌, ◌⊎◌, inl, inr, ℕ, zero, suc, ◌<◌, eqb, Bool, true, false, cond, not, List, [], ◌∷◌, ◌++◌, map, length, Option, None, Some, Result, Ok, Err, IfOk, is_some, refl, sym, subst, arith}
+-- What holds of each object that is kept, and of what a transaction brings, holds of each object that it leaves; and so of their copies, where it holds of those that it places.
+use Rattle.std.proofs.Common.{◌≡◌, ◌⊎◌, inl, inr, ℕ, zero, suc, ◌+◌, ◌<◌, eqb, Bool, true, false, cond, not, List, [], ◌∷◌, ◌++◌, map, length, Option, None, Some, Result, Ok, Err, IfOk, is_some, refl, sym, subst, arith}
 use Rattle.std.specs.Prelude.{nat_lt}
 use Rattle.std.specs.List.{AllByRecursion, Contains, filter, find, flat_map, slice_index_or}
 use Rattle.std.specs.BTreeMap.{insert_entry}
@@ -61,7 +61,8 @@ use Rattle.inventory_rules.specs.Segments.{make_scratch, take_away}
 use Rattle.inventory_rules.specs.Stores.{store_changed}
 use Rattle.inventory_rules.specs.Transactions.{changed, effect}
 use Rattle.inventory_rules.specs.Versions.{back_up, change_group, copies_at, discard, expire, held_too, hold, inserted, mark_gone, new_held, new_version, rebind, take_versions}
-use Rattle.inventory_laws.specs.Origins.{ComesFrom, IsPlaced, Known, known, new_objects, placed_segments}
+use Rattle.inventory_laws.specs.Origins.{ComesFrom, HasOldOrNew, IsOldOrNew, IsPlaced, Known, known, new_objects, placed_segments}
+use Rattle.inventory_laws.specs.Volumes.{OnlyVolumes}
 use Rattle.inventory_laws.proofs.Lists.{each_also, each_any, each_joined, each_mapped}
 use Rattle.inventory_laws.proofs.Said.{if_either, if_some, kept_or, on_ok_if, unless_used_if}
 use Rattle.inventory_laws.proofs.VersionVolumes.{all_scratch_only, all_taken_only, put_only, taken_only}
@@ -149,7 +150,7 @@ contained_holds P xs x c h = holds_at P xs c.0 x c.1 c.2 h
 
 -- ---- what is kept
 
-module _ (H : ℕ → ℕ → Digest → Type 0) (K : ℕ → CopyRow → Type 0) where
+module _ (H : ℕ → ℕ → Digest → Type 0) (K : ℕ → CopyRow → Type 0) (N : ℕ → Type 0) where
   -- H of what is kept of an object, and K of each of its copies
   pub record Has (w : Version) : Type 0 where
     pub is : H w.object w.size w.digest
@@ -341,12 +342,13 @@ module _ (H : ℕ → ℕ → Digest → Type 0) (K : ℕ → CopyRow → Type 0
 
   -- ---- the steps of a transaction
 
+  -- N of the number of the transaction that is made on it
   abbrev In : Inv → Type 0
-  In v = InRows v.clients
+  In v = InRows v.clients × N (this v)
 
-  -- the same objects are kept
-  still : (v w : Inv) → w.clients ≡ v.clients → In v → In w
-  still v w same h = subst InRows (sym same) h
+  -- the same objects are kept, and the same number comes next
+  still : (v w : Inv) → OnlyVolumes v w → In v → In w
+  still v w o h = (subst InRows (sym o.clients) h.0, subst (λ (n : ℕ). N (n + 1)) (sym o.number) h.1)
 
   each_step : {X : Type 0} (P : X → Type 0) (step : X → Inv → Inv) (xs : List X) → ((x : X) (v : Inv) → P x → In v → In (step x v)) → (v : Inv) → AllByRecursion P xs → In v → In (each step xs v)
   each_step P step [] one v p h = h
@@ -355,73 +357,83 @@ module _ (H : ℕ → ℕ → Digest → Type 0) (K : ℕ → CopyRow → Type 0
   each_free : {X : Type 0} (step : X → Inv → Inv) (xs : List X) → ((x : X) (v : Inv) → In v → In (step x v)) → (v : Inv) → In v → In (each step xs v)
   each_free {X} step xs one v h = each_step (λ (x : X). Unit {0}) step xs (λ x w p have. one x w have) v (each_any (λ (x : X). Unit {0}) xs (λ x. tt)) h
 
-  -- K of a copy of an object with these segments, in whatever pool and whenever it is placed
+  -- K of a copy of an object with these segments, in whatever pool, that is placed by a transaction with such a number
   abbrev pub Places : ℕ → List Segment → Type 0
-  Places object segments = (pool placed : ℕ) → K object (record { pool = pool; placed = placed; segments = segments })
+  Places object segments = (pool placed : ℕ) → N placed → K object (record { pool = pool; placed = placed; segments = segments })
 
   insert_step : (filespace : ℕ) (item : NewVersion) (v : Inv) → H item.object item.size item.digest × Places item.object item.segments → In v → In (inserted filespace item v)
-  insert_step filespace item v new h = record {
-    filespaces = kept_or Filespaces v.clients.filespaces (filespaces_with filespace item.path item.class (new_version v item) v.clients.filespaces) h.filespaces
-        (have_filespaces_with filespace item.path item.class (new_version v item) v.clients.filespaces (record { is = new.0; copies = (new.1 item.pool (this v), tt) }) h.filespaces);
-    held = h.held;
-  }
+  insert_step filespace item v new h = (
+    record {
+      filespaces = kept_or Filespaces v.clients.filespaces (filespaces_with filespace item.path item.class (new_version v item) v.clients.filespaces) h.0.filespaces
+          (have_filespaces_with filespace item.path item.class (new_version v item) v.clients.filespaces (record { is = new.0; copies = (new.1 item.pool (this v) h.1, tt) }) h.0.filespaces);
+      held = h.0.held;
+    },
+    h.1,
+  )
 
   back_up_step : (filespace : ℕ) (item : NewVersion) (v : Inv) → H item.object item.size item.digest × Places item.object item.segments → In v → In (back_up filespace item v)
-  back_up_step filespace item v new h = still (inserted filespace item v) (back_up filespace item v) (put_only item.object item.segments (inserted filespace item v)).clients
+  back_up_step filespace item v new h = still (inserted filespace item v) (back_up filespace item v) (put_only item.object item.segments (inserted filespace item v))
       (insert_step filespace item v new h)
 
   hold_step : (filespace : ℕ) (item : NewHeldObject) (v : Inv) → H item.object item.size item.digest × Places item.object item.segments → In v → In (hold filespace item v)
   hold_step filespace item v new h =
-      still (held_too filespace item v) (hold filespace item v) (put_only item.object item.segments (held_too filespace item v)).clients (record {
-        filespaces = h.filespaces;
-        held = values_with HasRow nat_cmp v.clients.held item.object (record { filespace = filespace; held = new_held v item }) (record { is = new.0; copies = (new.1 item.pool (this v), tt) }) h.held;
-      })
+      still (held_too filespace item v) (hold filespace item v) (put_only item.object item.segments (held_too filespace item v)) (
+        record {
+          filespaces = h.0.filespaces;
+          held = values_with HasRow nat_cmp v.clients.held item.object (record { filespace = filespace; held = new_held v item }) (record { is = new.0; copies = (new.1 item.pool (this v) h.1, tt) }) h.0.held;
+        },
+        h.1,
+      )
 
   group_step : (filespace : ℕ) (path : List ℕ) (c : GroupChange) (v : Inv) → In v → In (change_group filespace path c v)
-  group_step filespace path c v h = record {
-    filespaces = kept_or Filespaces v.clients.filespaces (filespaces_after filespace path c v.clients.filespaces) h.filespaces
-        (have_filespaces_after filespace path c v.clients.filespaces h.filespaces);
-    held = h.held;
-  }
+  group_step filespace path c v h = (
+    record {
+      filespaces = kept_or Filespaces v.clients.filespaces (filespaces_after filespace path c v.clients.filespaces) h.0.filespaces
+          (have_filespaces_after filespace path c v.clients.filespaces h.0.filespaces);
+      held = h.0.held;
+    },
+    h.1,
+  )
 
   taken_step : (object : ℕ) (v : Inv) → In v → In (take_versions object v)
-  taken_step object v h = still v (take_versions object v) (all_taken_only object (copies_at object v) v).clients h
+  taken_step object v h = still v (take_versions object v) (all_taken_only object (copies_at object v) v) h
 
   expire_step : (filespace : ℕ) (item : NamedVersion) (v : Inv) → In v → In (expire filespace item v)
   expire_step filespace item v h =
       let w = take_versions item.object v in
-      kept_or InRows w.clients (rows_cleared filespace item.path item.object w.clients) (taken_step item.object v h)
-      (in_rows_cleared filespace item.path item.object w.clients (taken_step item.object v h))
+      let t = taken_step item.object v h in
+      (kept_or InRows w.clients (rows_cleared filespace item.path item.object w.clients) t.0 (in_rows_cleared filespace item.path item.object w.clients t.0), t.1)
 
   discard_step : (item : DiscardedVersion) (v : Inv) → In v → In (discard item v)
   discard_step item v h =
       let w = take_versions item.object v in
-      kept_or InRows w.clients (rows_without item.object w.clients) (taken_step item.object v h) (in_rows_without item.object w.clients (taken_step item.object v h))
+      let t = taken_step item.object v h in
+      (kept_or InRows w.clients (rows_without item.object w.clients) t.0 (in_rows_without item.object w.clients t.0), t.1)
 
   copy_step : (object : ℕ) (c : CopyChange) (v : Inv) → Brings (K object) c → In v → In (change_copy object c v)
-  copy_step object c v new h = kept_or InRows v.clients (rows_altered object c v.clients) h (in_rows_altered object c v.clients new h)
+  copy_step object c v new h = (kept_or InRows v.clients (rows_altered object c v.clients) h.0 (in_rows_altered object c v.clients new h.0), h.1)
 
   add_step : (item : NewCopy) (v : Inv) → Places item.object item.segments → In v → In (add_copy item v)
   add_step item v new h =
       let c = copy.Add (placed_now item.pool item.segments v) in
-      still (change_copy item.object c v) (add_copy item v) (put_only item.object item.segments (change_copy item.object c v)).clients (copy_step item.object c v (new item.pool (this v)) h)
+      still (change_copy item.object c v) (add_copy item v) (put_only item.object item.segments (change_copy item.object c v)) (copy_step item.object c v (new item.pool (this v) h.1) h)
 
   move_step : (item : MovedCopy) (v : Inv) → Places item.object item.segments → In v → In (move_copy item v)
   move_step item v new h =
       let left = segments_in item.from (version_at item.object v) in
-      copy_step item.object (copy.Replace item.from (placed_now item.pool item.segments v)) (take_away item.object left v) (new item.pool (this v))
-      (still v (take_away item.object left v) (taken_only item.object left v).clients h)
+      copy_step item.object (copy.Replace item.from (placed_now item.pool item.segments v)) (take_away item.object left v) (new item.pool (this v) h.1)
+      (still v (take_away item.object left v) (taken_only item.object left v) h)
 
   drop_step : (item : DroppedCopy) (v : Inv) → In v → In (drop_copy item v)
   drop_step item v h =
       let left = segments_in item.pool (version_at item.object v) in
-      copy_step item.object (copy.Drop item.pool) (take_away item.object left v) tt (still v (take_away item.object left v) (taken_only item.object left v).clients h)
+      copy_step item.object (copy.Drop item.pool) (take_away item.object left v) tt (still v (take_away item.object left v) (taken_only item.object left v) h)
 
   put_step : (item : MovedCopy) (v : Inv) → In v → In (put_moved item v)
-  put_step item v h = still v (put_moved item v) (put_only item.object item.segments v).clients h
+  put_step item v h = still v (put_moved item v) (put_only item.object item.segments v) h
 
   scratch_step : (scratch : List ScratchVolume) (v : Inv) → In v → In (each make_scratch scratch v)
-  scratch_step scratch v h = still v (each make_scratch scratch v) (all_scratch_only scratch v).clients h
+  scratch_step scratch v h = still v (each make_scratch scratch v) (all_scratch_only scratch v) h
 
   -- ---- nodes and filespaces
 
@@ -430,20 +442,24 @@ module _ (H : ℕ → ℕ → Digest → Type 0) (K : ℕ → CopyRow → Type 0
   nodes_step rows (Err e) h = h
 
   clients_step : (c : ObjectChange) (v : Inv) → In v → In (client_changed c v)
-  clients_step (client.Node two.Define name domain) v h = nodes_step v.clients (nodes_with name domain v.next_node v.clients.nodes) h
-  clients_step (client.Node two.Delete name domain) v h = nodes_step v.clients (nodes_without name v.clients.filespaces v.clients.nodes) h
-  clients_step (client.Filespace two.Define node name n) v h =
-      kept_or InRows v.clients (with_filespaces v.clients (filespaces_defined node name n v.clients.nodes v.clients.filespaces)) h
-      (in_filespaces v.clients (filespaces_defined node name n v.clients.nodes v.clients.filespaces) h
-      (if_some Filespaces (lookup (at_number node) v.clients.nodes) _ (λ x there.
-      if_either Filespaces (is_some (filespace_named node name v.clients.filespaces)) (Err refusal.Exists)
-      (Ok (insert_entry nat_cmp v.clients.filespaces n (record { node = node; name = name; groups = [] }))) (λ is. tt)
-      (λ isnt. values_with HasFilespace nat_cmp v.clients.filespaces n (record { node = node; name = name; groups = [] }) tt h.filespaces))))
-  clients_step (client.Filespace two.Delete node name n) v h =
-      kept_or InRows v.clients (with_filespaces v.clients (filespaces_without n v.clients.held v.clients.filespaces)) h
-      (in_filespaces v.clients (filespaces_without n v.clients.held v.clients.filespaces) h
-      (if_some Filespaces (lookup (at_number n) v.clients.filespaces) _
-      (λ f there. unless_used_if Filespaces _ (remove_entry (at_number n) v.clients.filespaces) (values_left HasFilespace (at_number n) v.clients.filespaces h.filespaces))))
+  clients_step (client.Node two.Define name domain) v h = (nodes_step v.clients (nodes_with name domain v.next_node v.clients.nodes) h.0, h.1)
+  clients_step (client.Node two.Delete name domain) v h = (nodes_step v.clients (nodes_without name v.clients.filespaces v.clients.nodes) h.0, h.1)
+  clients_step (client.Filespace two.Define node name n) v h = (
+    kept_or InRows v.clients (with_filespaces v.clients (filespaces_defined node name n v.clients.nodes v.clients.filespaces)) h.0
+        (in_filespaces v.clients (filespaces_defined node name n v.clients.nodes v.clients.filespaces) h.0
+        (if_some Filespaces (lookup (at_number node) v.clients.nodes) _ (λ x there.
+        if_either Filespaces (is_some (filespace_named node name v.clients.filespaces)) (Err refusal.Exists)
+        (Ok (insert_entry nat_cmp v.clients.filespaces n (record { node = node; name = name; groups = [] }))) (λ is. tt)
+        (λ isnt. values_with HasFilespace nat_cmp v.clients.filespaces n (record { node = node; name = name; groups = [] }) tt h.0.filespaces)))),
+    h.1,
+  )
+  clients_step (client.Filespace two.Delete node name n) v h = (
+    kept_or InRows v.clients (with_filespaces v.clients (filespaces_without n v.clients.held v.clients.filespaces)) h.0
+        (in_filespaces v.clients (filespaces_without n v.clients.held v.clients.filespaces) h.0
+        (if_some Filespaces (lookup (at_number n) v.clients.filespaces) _
+        (λ f there. unless_used_if Filespaces _ (remove_entry (at_number n) v.clients.filespaces) (values_left HasFilespace (at_number n) v.clients.filespaces h.0.filespaces)))),
+    h.1,
+  )
 
   stores_step : (c : PoolChange) (v : Inv) → In v → In (store_changed c v)
   stores_step (store.DevClass v1 name capacity) v h = h
@@ -499,18 +515,22 @@ module _ (H : ℕ → ℕ → Digest → Type 0) (K : ℕ → CopyRow → Type 0
   changed_step (change.DbEnd file) v b h = h
   changed_step (change.DbDelete file) v b h = h
 
-  pub effect_has : (c : Change) (v : Inv) → Brought c → AllByRecursion Has (versions v) → AllByRecursion Has (versions (effect c v))
+  pub effect_has : (c : Change) (v : Inv) → Brought c → N (this v) → AllByRecursion Has (versions v) → AllByRecursion Has (versions (effect c v))
   unfolding effect
-  effect_has c v b h = of_rows (changed c v).clients (changed_step c v b (rows_of v.clients h))
+  effect_has c v b n h = of_rows (changed c v).clients (changed_step c v b (rows_of v.clients h, n)).0
 
 -- ---- where each comes from
+
+-- of whatever number
+abbrev Any : ℕ → Type 0
+Any n = Unit {0}
 
 module _ (c : Change) (v : Inv) where
   abbrev IsKnown : ℕ → ℕ → Digest → Type 0
   IsKnown object size digest = let k : Known = record { object = object; size = size; digest = digest } in Contains (map known (versions v)) k ⊎ Contains (new_objects c) k
 
   have_places : (ws : List Version) → AllByRecursion (λ (e : ℕ × CopyRow). Contains (copies v) e) (flat_map (λ (w : Version). map (λ (x : CopyRow). (w.object, x)) w.copies) ws)
-      → AllByRecursion (λ (k : Known). Contains (map known (versions v)) k) (map known ws) → AllByRecursion (Has IsKnown (IsPlaced c v)) ws
+      → AllByRecursion (λ (k : Known). Contains (map known (versions v)) k) (map known ws) → AllByRecursion (Has IsKnown (IsPlaced c v) Any) ws
   have_places [] placed is = tt
   have_places (w ∷ ws) placed is =
       let parts = each_joined (λ (e : ℕ × CopyRow). Contains (copies v) e) (map (λ (x : CopyRow). (w.object, x)) w.copies)
@@ -525,9 +545,41 @@ module _ (c : Change) (v : Inv) where
 
   pub comes_from : AllByRecursion (ComesFrom c v) (versions (effect c v))
   comes_from =
-      each_also (Has IsKnown (IsPlaced c v)) (ComesFrom c v) (versions (effect c v)) (λ w h. record { object = h.is; copies = h.copies })
-      (effect_has IsKnown (IsPlaced c v) c v (record {
+      each_also (Has IsKnown (IsPlaced c v) Any) (ComesFrom c v) (versions (effect c v)) (λ w h. record { object = h.is; copies = h.copies })
+      (effect_has IsKnown (IsPlaced c v) Any c v (record {
         objects = each_also (λ (o : Known). Contains (new_objects c) o) (λ (o : Known). IsKnown o.object o.size o.digest) (new_objects c) (λ o there. inr there) (each_contained (new_objects c));
-        places = each_also (λ (e : ℕ × List Segment). Contains (placed_segments c) e) (λ (e : ℕ × List Segment). Places IsKnown (IsPlaced c v) e.0 e.1) (placed_segments c)
-            (λ e there pool placed. inr there) (each_contained (placed_segments c));
-      }) (have_places (versions v) (each_contained (copies v)) (each_contained (map known (versions v)))))
+        places = each_also (λ (e : ℕ × List Segment). Contains (placed_segments c) e) (λ (e : ℕ × List Segment). Places IsKnown (IsPlaced c v) Any e.0 e.1) (placed_segments c)
+            (λ e there pool placed any. inr there) (each_contained (placed_segments c));
+      }) tt (have_places (versions v) (each_contained (copies v)) (each_contained (map known (versions v)))))
+
+-- ---- copies are there, or are placed now
+
+module _ (c : Change) (v : Inv) where
+  -- of whatever object
+  abbrev AnyOf : ℕ → ℕ → Digest → Type 0
+  AnyOf object size digest = Unit {0}
+
+  abbrev IsNext : ℕ → Type 0
+  IsNext n = n ≡ this v
+
+  have_old : (ws : List Version) → AllByRecursion (λ (e : ℕ × CopyRow). Contains (copies v) e) (flat_map (λ (w : Version). map (λ (x : CopyRow). (w.object, x)) w.copies) ws)
+      → AllByRecursion (Has AnyOf (IsOldOrNew v) IsNext) ws
+  have_old [] placed = tt
+  have_old (w ∷ ws) placed =
+      let parts = each_joined (λ (e : ℕ × CopyRow). Contains (copies v) e) (map (λ (x : CopyRow). (w.object, x)) w.copies)
+      (flat_map (λ (w : Version). map (λ (x : CopyRow). (w.object, x)) w.copies) ws) placed in (
+        record {
+          is = tt;
+          copies = each_also (λ (x : CopyRow). Contains (copies v) (w.object, x)) (IsOldOrNew v w.object) w.copies (λ x there. inl there)
+              (each_mapped (λ (e : ℕ × CopyRow). Contains (copies v) e) (λ (x : CopyRow). (w.object, x)) w.copies parts.0);
+        },
+        have_old ws parts.1,
+      )
+
+  pub old_or_new : AllByRecursion (HasOldOrNew v) (versions (effect c v))
+  old_or_new =
+      each_also (Has AnyOf (IsOldOrNew v) IsNext) (HasOldOrNew v) (versions (effect c v)) (λ w h. h.copies)
+      (effect_has AnyOf (IsOldOrNew v) IsNext c v (record {
+        objects = each_any (λ (o : Known). AnyOf o.object o.size o.digest) (new_objects c) (λ o. tt);
+        places = each_any (λ (e : ℕ × List Segment). Places AnyOf (IsOldOrNew v) IsNext e.0 e.1) (placed_segments c) (λ e pool placed is. inr is);
+      }) refl (have_old (versions v) (each_contained (copies v))))

@@ -1,5 +1,5 @@
 -- Where the objects that are kept come from, and their copies.
-use Rattle.std.specs.Prelude.{◌⊎◌, ℕ, List, [], map, Contains}
+use Rattle.std.specs.Prelude.{◌≡◌, ◌⊎◌, ℕ, List, [], map, Contains}
 use Rattle.std.specs.List.{AllByRecursion}
 use Rattle.kinds.specs.declared.segment.Digest.{Digest}
 use Rattle.kinds.specs.declared.segment.Segment.{Segment}
@@ -9,6 +9,7 @@ use Rattle.inventory_rows.specs.version_groups.declared.copies.CopyRow.{CopyRow}
 use Rattle.inventory_rows.specs.version_groups.declared.versions.Version.{Version}
 use Rattle.inventory_rows.specs.Search.{copies, versions}
 use Rattle.inventory_rows.specs.State.{Inv}
+use Rattle.inventory_rules.specs.Common.{this}
 
 -- an object by its number, how many bytes it has, and their digest
 pub record Known : Type 0 where
@@ -41,3 +42,11 @@ IsPlaced c v object copy = Contains (copies v) (object, copy) ⊎ Contains (plac
 pub record ComesFrom (c : Change) (v : Inv) (w : Version) : Type 0 where
   pub object : Contains (map known (versions v)) (known w) ⊎ Contains (new_objects c) (known w)
   pub copies : AllByRecursion (IsPlaced c v w.object) w.copies
+
+-- a copy of an object was there, or is placed by the transaction that comes next
+abbrev pub IsOldOrNew : Inv → (object : ℕ) → CopyRow → Type 0
+IsOldOrNew v object copy = Contains (copies v) (object, copy) ⊎ (copy.placed ≡ this v)
+
+-- so is each of an object's copies
+abbrev pub HasOldOrNew : Inv → Version → Type 0
+HasOldOrNew v w = AllByRecursion (IsOldOrNew v w.object) w.copies
