@@ -1,4 +1,4 @@
--- Steps of the script that makes further copies of objects, one after the other: what they leave, and that no ticket is left where each was spent.
+-- Steps of the script that makes further copies of objects, or moves copies, one after the other: what they leave, and that no ticket is left where each was spent.
 use Rattle.std.proofs.Common.{◌≡◌, ◌⊎◌, inl, inr, ℕ, ◌==◌, ◌&&◌, ◌||◌, ◌<◌, ◌≤◌, not, Bool, true, false, if◌then◌else◌, List, [], ◌∷◌, ◌++◌, find, length, filter, is_some, map, Option, None, Some, Result, Ok, Err, refl, sym, ap, subst, ◌∙◌}
 use Rattle.std.proofs.lemmas.Bool.{eq-eqb, eqb-true, false≢true, ne_eqb}
 use Rattle.std.proofs.lemmas.Option.{same_Some}
@@ -7,6 +7,7 @@ use Rattle.std.specs.Option.{option_map_or}
 use Rattle.kinds.specs.Refusals.{foremost, number_of}
 use Rattle.kinds.specs.declared.refusal.Refusal.{Refusal}
 use Rattle.kinds.specs.declared.refusal.Refusal.TheVariants as refused
+use Rattle.entries.specs.change_items.declared.items.MovedCopy.{MovedCopy}
 use Rattle.entries.specs.change_items.declared.items.NewCopy.{NewCopy}
 use Rattle.entries.specs.change_items.declared.items.ScratchVolume.{ScratchVolume}
 use Rattle.entries.specs.declared.change.Change.{Change}
@@ -17,7 +18,6 @@ use Rattle.inventory_answers.specs.declared.reply.Answer.{Answer}
 use Rattle.inventory_rows.specs.State.{Inv}
 use Rattle.inventory_rows.specs.version_groups.Entries.{is_nil}
 use Rattle.space.specs.declared.aim.Aim.{Aim}
-use Rattle.space.specs.declared.aim.Aim.TheVariants as aim
 use Rattle.copy_attempts.specs.Outcomes.{AreSettled, IsSettled, is_spent, spends}
 use Rattle.steps.specs.declared.asked.Asked.{Asked}
 use Rattle.steps.specs.declared.asked.Asked.TheVariants.{Placed}
@@ -25,7 +25,7 @@ use Rattle.steps.specs.Events.{Deed, Event}
 use Rattle.steps.specs.Events.Deed.{Ask, Commit, CopyPiece, DropTicket, Force, OpenCopy, Seal}
 use Rattle.machine.specs.Alone.{Alone, AreBytes, behind}
 use Rattle.machine.specs.Causes.{copying_refused, drop_refused, seal_refused}
-use Rattle.machine.specs.Changes.{copy_from, is_moved, is_moved_by, move_from, placed_change, scratch_of}
+use Rattle.machine.specs.Changes.{copy_from, is_moved, is_moved_by, is_moving, move_from, placed_change, scratch_of}
 use Rattle.machine.specs.Fits.{is_write_fault}
 use Rattle.machine.specs.Machine.{Asks, Becomes, Case, Commits, CopiesPiece, Drops, DropsTicket, Forces, OpensCopy, Places, Seals, Stays, asked_change, committed, dropping, ended, halting, made, opened, storing_contents, with_tickets}
 use Rattle.machine.specs.State.{Core, Machine, Place, Purpose, Ticket, copying, inventory, is_among, is_storing, is_ticket, object_of, own_tickets, sealed, sealing, sight, storing, taking, ticket, took, without}
@@ -37,37 +37,33 @@ use Rattle.line_results.proofs.Walking.{Grew, Under, are-more, force-free, force
 
 -- ---- steps
 
-abbrev pub is_further : Aim → Bool
-is_further (aim.New number) = false
-is_further (aim.Move from placed to along) = false
-is_further (aim.Copy to) = true
+-- It asks, forces, opens a ticket for a copy that moves, or for a further one, fills, seals or drops one, or commits one.
+abbrev pub Copies : (moves : Bool) → Deed → Type 0
+Copies moves (Ask query answer) = Unit {0}
+Copies moves (Force answer) = Unit {0}
+Copies moves (OpenCopy object a avoid answer) = is_moving a ≡ moves
+Copies moves (CopyPiece number answer) = Unit {0}
+Copies moves (Seal number answer) = Unit {0}
+Copies moves (DropTicket number answer) = Unit {0}
+Copies moves (Commit asked tickets answer) = (number : ℕ) × (asked ≡ Placed) × (tickets ≡ number ∷ [])
+Copies moves _ = ⊥
 
--- It asks, forces, opens a ticket for a further copy, fills, seals or drops one, or commits one.
-abbrev pub Copies : Deed → Type 0
-Copies (Ask query answer) = Unit {0}
-Copies (Force answer) = Unit {0}
-Copies (OpenCopy object a avoid answer) = is_further a ≡ true
-Copies (CopyPiece number answer) = Unit {0}
-Copies (Seal number answer) = Unit {0}
-Copies (DropTicket number answer) = Unit {0}
-Copies (Commit asked tickets answer) = (number : ℕ) × (asked ≡ Placed) × (tickets ≡ number ∷ [])
-Copies _ = ⊥
+abbrev pub AllCopy : (moves : Bool) → List Event → Type 0
+AllCopy moves events = AllByRecursion (λ e. Copies moves e.deed) events
 
-abbrev pub AllCopy : List Event → Type 0
-AllCopy events = AllByRecursion (λ e. Copies e.deed) events
-
--- the transaction adds copies
-abbrev pub IsCopy : Change → Type 0
-IsCopy c = (scratch : List ScratchVolume) × (items : List NewCopy) × (c ≡ change.Copy (record { scratch = scratch; items = items }))
+-- the transaction moves copies, or adds some
+abbrev pub IsCopy : (moves : Bool) → Change → Type 0
+IsCopy true c = (scratch : List ScratchVolume) × (items : List MovedCopy) × (c ≡ change.Move (record { scratch = scratch; items = items }))
+IsCopy false c = (scratch : List ScratchVolume) × (items : List NewCopy) × (c ≡ change.Copy (record { scratch = scratch; items = items }))
 
 -- ---- tickets
 
--- the script's, for a further copy
-abbrev IsFor : Ticket → Type 0
-IsFor t = (t.actor ≡ 0) × (object : ℕ) × (to : ℕ) × (t.purpose ≡ copying object (aim.Copy to))
+-- the script's, for a copy that moves, or for a further one
+abbrev IsFor : (moves : Bool) → Ticket → Type 0
+IsFor moves t = (t.actor ≡ 0) × (object : ℕ) × (a : Aim) × (is_moving a ≡ moves) × (t.purpose ≡ copying object a)
 
-abbrev AreFor : List Ticket → Type 0
-AreFor tickets = AllByRecursion IsFor tickets
+abbrev AreFor : (moves : Bool) → List Ticket → Type 0
+AreFor moves tickets = AllByRecursion (IsFor moves) tickets
 
 all-push : (Q : Ticket → Type 0) (tickets : List Ticket) (t : Ticket) → AllByRecursion Q tickets → Q t → AllByRecursion Q (tickets ++ t ∷ [])
 all-push Q [] t h q = (q, tt)
@@ -90,37 +86,32 @@ all-without Q R numbers so (t ∷ tickets) h =
       | false ↦ λ is. (so t h.0 is, all-without Q R numbers so tickets h.1)
     ] refl
 
-for-took : (number : ℕ) (bytes : List ℕ) (t : Ticket) → IsFor t → IsFor (if is_ticket 0 number t then took bytes t else t)
-for-took number bytes t h = elim (is_ticket 0 number t) as (λ b. IsFor (if b then took bytes t else t)) [
+for-took : (moves : Bool) (number : ℕ) (bytes : List ℕ) (t : Ticket) → IsFor moves t → IsFor moves (if is_ticket 0 number t then took bytes t else t)
+for-took moves number bytes t h = elim (is_ticket 0 number t) as (λ b. IsFor moves (if b then took bytes t else t)) [
   | true ↦ h
   | false ↦ h
 ]
 
-for-sealed : (number : ℕ) (t : Ticket) → IsFor t → IsFor (if is_ticket 0 number t then sealed t else t)
-for-sealed number t h = elim (is_ticket 0 number t) as (λ b. IsFor (if b then sealed t else t)) [
+for-sealed : (moves : Bool) (number : ℕ) (t : Ticket) → IsFor moves t → IsFor moves (if is_ticket 0 number t then sealed t else t)
+for-sealed moves number t h = elim (is_ticket 0 number t) as (λ b. IsFor moves (if b then sealed t else t)) [
   | true ↦ h
   | false ↦ h
 ]
 
-for-own : (tickets : List Ticket) → AreFor tickets → AreFor (own_tickets 0 tickets)
-for-own [] h = tt
-for-own (t ∷ tickets) h = elim (t.actor == 0) as (λ b. AreFor (if b then t ∷ own_tickets 0 tickets else own_tickets 0 tickets)) [
-  | true ↦ (h.0, for-own tickets h.1)
-  | false ↦ for-own tickets h.1
+for-own : (moves : Bool) (tickets : List Ticket) → AreFor moves tickets → AreFor moves (own_tickets 0 tickets)
+for-own moves [] h = tt
+for-own moves (t ∷ tickets) h = elim (t.actor == 0) as (λ b. AreFor moves (if b then t ∷ own_tickets 0 tickets else own_tickets 0 tickets)) [
+  | true ↦ (h.0, for-own moves tickets h.1)
+  | false ↦ for-own moves tickets h.1
 ]
 
-for-found : (number : ℕ) (tickets : List Ticket) (t : Ticket) → AreFor tickets → ticket number tickets ≡ Some t → IsFor t
-for-found number [] t h is = absurd cc
-for-found number (x ∷ tickets) t h is =
-    elim (x.number == number) as (λ b. (if b then Some x else ticket number tickets) ≡ Some t → IsFor t) [
-      | true ↦ λ same. subst IsFor (same_Some x t same) h.0
-      | false ↦ λ later. for-found number tickets t h.1 later
+for-found : (moves : Bool) (number : ℕ) (tickets : List Ticket) (t : Ticket) → AreFor moves tickets → ticket number tickets ≡ Some t → IsFor moves t
+for-found moves number [] t h is = absurd cc
+for-found moves number (x ∷ tickets) t h is =
+    elim (x.number == number) as (λ b. (if b then Some x else ticket number tickets) ≡ Some t → IsFor moves t) [
+      | true ↦ λ same. subst (λ (y : Ticket). IsFor moves y) (same_Some x t same) h.0
+      | false ↦ λ later. for-found moves number tickets t h.1 later
     ] is
-
-further-of : (a : Aim) → is_further a ≡ true → (to : ℕ) × (a ≡ aim.Copy to)
-further-of (aim.New number) h = absurd (false≢true h)
-further-of (aim.Move from placed to along) h = absurd (false≢true h)
-further-of (aim.Copy to) h = (to, refl)
 
 -- ---- the transaction of a ticket
 
@@ -130,116 +121,119 @@ the_tickets found = option_map_or (λ t. t ∷ []) found [] ++ []
 abbrev change_with : Inv → Option Ticket → Option Change
 change_with v found = if (length (the_tickets found) == 1 && 1 == 1) && not (is_nil {X = ℕ} (0 ∷ [])) then Some (placed_change v (the_tickets found)) else None
 
-not-moved : (t : Ticket) → IsFor t → is_moved t ≡ false
-not-moved t (own, object, to, is) = ap is_moved_by is
+-- whether it is for a copy that moves
+moved-as : (moves : Bool) (t : Ticket) → IsFor moves t → is_moved t ≡ moves
+moved-as moves t (own, object, a, so, is) = ap is_moved_by is ∙ so
 
-copy-of : (v : Inv) (t : Ticket) (c : Change) → IsFor t → placed_change v (t ∷ []) ≡ c → IsCopy c
-copy-of v t c so is = (
-  scratch_of v (t ∷ []),
-  map copy_from (t ∷ []),
-  sym is ∙ ap (λ (b : Bool). if b && true then change.Move (record { scratch = scratch_of v (t ∷ []); items = flat_map (λ x. move_from x x.purpose) (t ∷ []) }) else change.Copy (record { scratch = scratch_of v (t ∷ []); items = map copy_from (t ∷ []) })) (not-moved t so),
-)
+copy-as : (v : Inv) (t : Ticket) (moves : Bool) → IsCopy moves (if moves && true then change.Move (record { scratch = scratch_of v (t ∷ []); items = flat_map (λ x. move_from x x.purpose) (t ∷ []) }) else change.Copy (record { scratch = scratch_of v (t ∷ []); items = map copy_from (t ∷ []) }))
+copy-as v t true = (scratch_of v (t ∷ []), flat_map (λ x. move_from x x.purpose) (t ∷ []), refl)
+copy-as v t false = (scratch_of v (t ∷ []), map copy_from (t ∷ []), refl)
 
-found-copy : (v : Inv) (found : Option Ticket) (c : Change) → ((t : Ticket) → found ≡ Some t → IsFor t) → change_with v found ≡ Some c → IsCopy c
-found-copy v None c so is = absurd cc
-found-copy v (Some t) c so is = copy-of v t c (so t refl) (same_Some (placed_change v (t ∷ [])) c is)
+copy-of : (moves : Bool) (v : Inv) (t : Ticket) (c : Change) → IsFor moves t → placed_change v (t ∷ []) ≡ c → IsCopy moves c
+copy-of moves v t c so is =
+    subst (λ (x : Change). IsCopy moves x)
+    (sym (ap (λ (b : Bool). if b && true then change.Move (record { scratch = scratch_of v (t ∷ []); items = flat_map (λ x. move_from x x.purpose) (t ∷ []) }) else change.Copy (record { scratch = scratch_of v (t ∷ []); items = map copy_from (t ∷ []) })) (moved-as moves t so)) ∙ is)
+    (copy-as v t moves)
 
-found-contents : (found : Option Ticket) (contents : ℕ → List ℕ) → ((t : Ticket) → found ≡ Some t → IsFor t) → storing_contents (the_tickets found) contents ≡ contents
-found-contents None contents so = refl
-found-contents (Some t) contents so =
-    ap (λ (p : Purpose). λ (object : ℕ). option_map_or (λ (x : Ticket). x.bytes) (if is_storing p && (object_of p == object) then Some t else None) (contents object)) (so t refl).3
+found-copy : (moves : Bool) (v : Inv) (found : Option Ticket) (c : Change) → ((t : Ticket) → found ≡ Some t → IsFor moves t) → change_with v found ≡ Some c → IsCopy moves c
+found-copy moves v None c so is = absurd cc
+found-copy moves v (Some t) c so is = copy-of moves v t c (so t refl) (same_Some (placed_change v (t ∷ [])) c is)
+
+found-contents : (moves : Bool) (found : Option Ticket) (contents : ℕ → List ℕ) → ((t : Ticket) → found ≡ Some t → IsFor moves t) → storing_contents (the_tickets found) contents ≡ contents
+found-contents moves None contents so = refl
+found-contents moves (Some t) contents so =
+    ap (λ (p : Purpose). λ (object : ℕ). option_map_or (λ (x : Ticket). x.bytes) (if is_storing p && (object_of p == object) then Some t else None) (contents object)) (so t refl).4
 
 -- ---- what they leave
 
-pub record Copied (P : Change → Type 0) (first later : List Entry) (old m : Machine) : Type 0 where
-  pub grew : Grew P first later old m
-  pub tickets : AreFor m.core.tickets
+pub record Copied (moves : Bool) (first later : List Entry) (old m : Machine) : Type 0 where
+  pub grew : Grew (IsCopy moves) first later old m
+  pub tickets : AreFor moves m.core.tickets
 
-abbrev Went : (first : List Entry) → (old next : Machine) → Type 0
-Went first old next = (more : List Entry) × Copied IsCopy first more old next
+abbrev Went : (moves : Bool) → (first : List Entry) → (old next : Machine) → Type 0
+Went moves first old next = (more : List Entry) × Copied moves first more old next
 
 opened-under : (added : List Entry) (actor size : ℕ) (p : Purpose) (place : Place) (old c : Core) → Under added old c → Under added old (opened actor size p place c)
 opened-under added actor size p place old c u = record { base = u.base; journal = u.journal; generation = u.generation; log_length = u.log_length; image = u.image; fresh = u.fresh; stamps = u.stamps; few = u.few }
 
-module _ (first later : List Entry) (old m next : Machine) (w : Copied IsCopy first later old m) (since : Onward m next) where
-  stays-copied : Stays m next → Copied IsCopy first later old next
-  stays-copied h = record { grew = grew-stays IsCopy first later old m next w.grew since h; tickets = subst (λ (c : Core). AreFor c.tickets) (sym h.core) w.tickets }
+module _ (moves : Bool) (first later : List Entry) (old m next : Machine) (w : Copied moves first later old m) (since : Onward m next) where
+  stays-copied : Stays m next → Copied moves first later old next
+  stays-copied h = record { grew = grew-stays (IsCopy moves) first later old m next w.grew since h; tickets = subst (λ (c : Core). AreFor moves c.tickets) (sym h.core) w.tickets }
 
-  tickets-copied : (tickets : List Ticket) → AreFor tickets → Becomes (with_tickets tickets m.core) m next → Copied IsCopy first later old next
+  tickets-copied : (tickets : List Ticket) → AreFor moves tickets → Becomes (with_tickets tickets m.core) m next → Copied moves first later old next
   tickets-copied tickets are h = record {
-    grew = grew-tickets IsCopy first later tickets old m next w.grew since h.core h.contents;
-    tickets = subst (λ (c : Core). AreFor c.tickets) (sym h.core) are;
+    grew = grew-tickets (IsCopy moves) first later tickets old m next w.grew since h.core h.contents;
+    tickets = subst (λ (c : Core). AreFor moves c.tickets) (sym h.core) are;
   }
 
-  dropped-copied : (number : ℕ) → Becomes (dropping 0 number m.core) m next → Copied IsCopy first later old next
-  dropped-copied number h = tickets-copied (without 0 (number ∷ []) m.core.tickets) (all-without IsFor IsFor (number ∷ []) (λ t so among. so) m.core.tickets w.tickets) h
+  dropped-copied : (number : ℕ) → Becomes (dropping 0 number m.core) m next → Copied moves first later old next
+  dropped-copied number h = tickets-copied (without 0 (number ∷ []) m.core.tickets) (all-without (IsFor moves) (IsFor moves) (number ∷ []) (λ t so among. so) m.core.tickets w.tickets) h
 
-  ask-copied : (query : Query) (answer : Result Answer Refusal) → Asks 0 query m next answer → Copied IsCopy first later old next
+  ask-copied : (query : Query) (answer : Result Answer Refusal) → Asks 0 query m next answer → Copied moves first later old next
   ask-copied query (Ok told) h = stays-copied h.1.1
   ask-copied query (Err e) (inl h) = stays-copied h.1
   ask-copied query (Err e) (inr h) = absurd h.1
 
-  force-copied : (answer : Result ℕ Refusal) → Forces 0 m next answer → Copied IsCopy first later old next
-  force-copied answer h = record { grew = force-grew IsCopy first later old m next answer w.grew since h; tickets = subst (λ (ts : List Ticket). AreFor ts) (sym (force-free m next answer h)) w.tickets }
+  force-copied : (answer : Result ℕ Refusal) → Forces 0 m next answer → Copied moves first later old next
+  force-copied answer h = record { grew = force-grew (IsCopy moves) first later old m next answer w.grew since h; tickets = subst (λ (ts : List Ticket). AreFor moves ts) (sym (force-free m next answer h)) w.tickets }
 
-  open-copied : (places : Places) (object : ℕ) (a : Aim) (avoid : ℕ) (answer : Result ℕ Refusal) → is_further a ≡ true → OpensCopy places 0 object a avoid m next answer → Copied IsCopy first later old next
+  open-copied : (places : Places) (object : ℕ) (a : Aim) (avoid : ℕ) (answer : Result ℕ Refusal) → is_moving a ≡ moves → OpensCopy places 0 object a avoid m next answer → Copied moves first later old next
   open-copied places object a avoid (Ok number) so (placed, at, (none, (place, is, numbered, becomes))) =
       let t : Ticket = record { number = m.core.next_ticket; actor = 0; purpose = copying object a; size = _; place = place; bytes = []; is_sealed = false } in
-      let further = further-of a so in
       record {
-        grew = grew-as IsCopy first later later _ old m next w.grew (opened-under (first ++ later) 0 _ (copying object a) place old.core m.core w.grew.core) w.grew.are refl since becomes.core becomes.contents;
-        tickets = subst (λ (c : Core). AreFor c.tickets) (sym becomes.core) (all-push IsFor m.core.tickets t w.tickets (refl, object, further.0, ap (λ (x : Aim). copying object x) further.1));
+        grew = grew-as (IsCopy moves) first later later _ old m next w.grew (opened-under (first ++ later) 0 _ (copying object a) place old.core m.core w.grew.core) w.grew.are refl since becomes.core becomes.contents;
+        tickets = subst (λ (c : Core). AreFor moves c.tickets) (sym becomes.core) (all-push (IsFor moves) m.core.tickets t w.tickets (refl, object, a, so, refl));
       }
   open-copied places object a avoid (Err e) so (placed, at, inl h) = stays-copied h.1
   open-copied places object a avoid (Err e) so (placed, at, inr h) = absurd h.1
 
-  piece-copied : (number : ℕ) (answer : Result ℕ Refusal) → CopiesPiece 0 number m next answer → Copied IsCopy first later old next
-  piece-copied number (Ok count) (none, (t, is, counted, takes)) = tickets-copied (taking 0 number _ m.core.tickets) (all-map IsFor IsFor _ (for-took number _) m.core.tickets w.tickets) takes.1
+  piece-copied : (number : ℕ) (answer : Result ℕ Refusal) → CopiesPiece 0 number m next answer → Copied moves first later old next
+  piece-copied number (Ok count) (none, (t, is, counted, takes)) = tickets-copied (taking 0 number _ m.core.tickets) (all-map (IsFor moves) (IsFor moves) _ (for-took moves number _) m.core.tickets w.tickets) takes.1
   piece-copied number (Err e) (inl h) = stays-copied h.1
   piece-copied number (Err e) (inr (none, inl (t, is, why, cant, stays))) = stays-copied stays
   piece-copied number (Err e) (inr (none, inr (t, file, is, has, why, rose, becomes))) = dropped-copied number becomes
 
-  seal-copied : (number : ℕ) (answer : Result (Unit {0}) Refusal) → Seals 0 number m next answer → Copied IsCopy first later old next
-  seal-copied number (Ok done) h = tickets-copied (sealing 0 number m.core.tickets) (all-map IsFor IsFor _ (for-sealed number) m.core.tickets w.tickets) h.1
+  seal-copied : (number : ℕ) (answer : Result (Unit {0}) Refusal) → Seals 0 number m next answer → Copied moves first later old next
+  seal-copied number (Ok done) h = tickets-copied (sealing 0 number m.core.tickets) (all-map (IsFor moves) (IsFor moves) _ (for-sealed moves number) m.core.tickets w.tickets) h.1
   seal-copied number (Err e) (inl h) = stays-copied h.1
   seal-copied number (Err e) (inr (none, (t, file, is, has, why, rose, becomes))) = dropped-copied number becomes
 
-  drop-copied : (number : ℕ) (answer : Result (Unit {0}) Refusal) → Drops 0 number m next answer → Copied IsCopy first later old next
+  drop-copied : (number : ℕ) (answer : Result (Unit {0}) Refusal) → Drops 0 number m next answer → Copied moves first later old next
   drop-copied number (Ok done) h = dropped-copied number h.1
   drop-copied number (Err e) (inl h) = stays-copied h.1
   drop-copied number (Err e) (inr h) = absurd h.1
 
   -- the ticket with this number, where it is the script's
-  found-for : (number : ℕ) (t : Ticket) → ticket number (own_tickets 0 m.core.tickets) ≡ Some t → IsFor t
-  found-for number t is = for-found number (own_tickets 0 m.core.tickets) t (for-own m.core.tickets w.tickets) is
+  found-for : (number : ℕ) (t : Ticket) → ticket number (own_tickets 0 m.core.tickets) ≡ Some t → IsFor moves t
+  found-for number t is = for-found moves number (own_tickets 0 m.core.tickets) t (for-own moves m.core.tickets w.tickets) is
 
-  joined-copied : (number : ℕ) (c : Change) → asked_change 0 Placed (number ∷ []) m.core ≡ Some c → IsCopy c
-  joined-copied number c is = found-copy (inventory m.core) (ticket number (own_tickets 0 m.core.tickets)) c (found-for number) is
+  joined-copied : (number : ℕ) (c : Change) → asked_change 0 Placed (number ∷ []) m.core ≡ Some c → IsCopy moves c
+  joined-copied number c is = found-copy moves (inventory m.core) (ticket number (own_tickets 0 m.core.tickets)) c (found-for number) is
 
-  commit-copied : (number : ℕ) (answer : Result ℕ Refusal) → Commits 0 Placed (number ∷ []) m next answer → Went first old next
+  commit-copied : (number : ℕ) (answer : Result ℕ Refusal) → Commits 0 Placed (number ∷ []) m next answer → Went moves first old next
   commit-copied number (Ok n) (none, (c, is, numbered, joins)) = (
     later ++ entry c ∷ [],
     record {
-      grew = grew-as IsCopy first later (later ++ entry c ∷ []) (committed 0 c (number ∷ []) m.core) old m next w.grew
+      grew = grew-as (IsCopy moves) first later (later ++ entry c ∷ []) (committed 0 c (number ∷ []) m.core) old m next w.grew
           (joined-under first later c old.core (with_tickets (without 0 (number ∷ []) m.core.tickets) m.core) (under-tickets (first ++ later) (without 0 (number ∷ []) m.core.tickets) old.core m.core w.grew.core))
-          (are-more IsCopy later c w.grew.are (joined-copied number c is)) refl since joins.0
-          (joins.1 ∙ found-contents (ticket number (own_tickets 0 m.core.tickets)) m.contents (found-for number));
-      tickets = subst (λ (k : Core). AreFor k.tickets) (sym joins.0) (all-without IsFor IsFor (number ∷ []) (λ t so among. so) m.core.tickets w.tickets);
+          (are-more (IsCopy moves) later c w.grew.are (joined-copied number c is)) refl since joins.0
+          (joins.1 ∙ found-contents moves (ticket number (own_tickets 0 m.core.tickets)) m.contents (found-for number));
+      tickets = subst (λ (k : Core). AreFor moves k.tickets) (sym joins.0) (all-without (IsFor moves) (IsFor moves) (number ∷ []) (λ t so among. so) m.core.tickets w.tickets);
     },
   )
   commit-copied number (Err e) (inl h) = (later, stays-copied h.1)
   commit-copied number (Err e) (inr (none, (c, file, count, is, why, fault, joins))) = (
     later ++ entry c ∷ [],
     record {
-      grew = grew-halts IsCopy first later (later ++ entry c ∷ []) (committed 0 c (number ∷ []) m.core) file count old m next w.grew
+      grew = grew-halts (IsCopy moves) first later (later ++ entry c ∷ []) (committed 0 c (number ∷ []) m.core) file count old m next w.grew
           (joined-under first later c old.core (with_tickets (without 0 (number ∷ []) m.core.tickets) m.core) (under-tickets (first ++ later) (without 0 (number ∷ []) m.core.tickets) old.core m.core w.grew.core))
-          (are-more IsCopy later c w.grew.are (joined-copied number c is)) fault since joins.0
-          (joins.1 ∙ found-contents (ticket number (own_tickets 0 m.core.tickets)) m.contents (found-for number));
-      tickets = subst (λ (k : Core). AreFor k.tickets) (sym joins.0) (all-without IsFor IsFor (number ∷ []) (λ t so among. so) m.core.tickets w.tickets);
+          (are-more (IsCopy moves) later c w.grew.are (joined-copied number c is)) fault since joins.0
+          (joins.1 ∙ found-contents moves (ticket number (own_tickets 0 m.core.tickets)) m.contents (found-for number));
+      tickets = subst (λ (k : Core). AreFor moves k.tickets) (sym joins.0) (all-without (IsFor moves) (IsFor moves) (number ∷ []) (λ t so among. so) m.core.tickets w.tickets);
     },
   )
 
-  deed-copied : (places : Places) (d : Deed) → Copies d → Case places 0 d m next → Went first old next
+  deed-copied : (places : Places) (d : Deed) → Copies moves d → Case places 0 d m next → Went moves first old next
   deed-copied places (Ask query answer) so h = (later, ask-copied query answer h)
   deed-copied places (Force answer) so h = (later, force-copied answer h)
   deed-copied places (OpenCopy object a avoid answer) so h = (later, open-copied places object a avoid answer so h)
@@ -410,66 +404,66 @@ module _ (places : Places) (n : ℕ) (events : List Event) (m next : Machine) wh
   force-due : (answer : Result ℕ Refusal) → AreDue (by (Force answer) ∷ events) m.core.tickets → Forces 0 m next answer → AreDue events next.core.tickets
   force-due answer due h = same-due (by (Force answer)) events m next due (force-free m next answer h) (λ t. refl)
 
-  deed-due : (d : Deed) → Copies d → AreDue (by d ∷ events) m.core.tickets → IsSettled d events → Case places 0 d m next → AreDue events next.core.tickets
-  deed-due (Ask query answer) so due settled h = ask-due query answer due h
-  deed-due (Force answer) so due settled h = force-due answer due h
-  deed-due (OpenCopy object a avoid answer) so due settled h = open-due object a avoid answer due settled h
-  deed-due (CopyPiece number answer) so due settled h = piece-due number answer due h
-  deed-due (Seal number answer) so due settled h = seal-due number answer due h
-  deed-due (DropTicket number answer) so due settled h = drop-due number answer due h
-  deed-due (Commit asked tickets answer) (number, is, one) due settled h = commit-so number asked tickets answer is one due h where
+  deed-due : (moves : Bool) (d : Deed) → Copies moves d → AreDue (by d ∷ events) m.core.tickets → IsSettled d events → Case places 0 d m next → AreDue events next.core.tickets
+  deed-due moves (Ask query answer) so due settled h = ask-due query answer due h
+  deed-due moves (Force answer) so due settled h = force-due answer due h
+  deed-due moves (OpenCopy object a avoid answer) so due settled h = open-due object a avoid answer due settled h
+  deed-due moves (CopyPiece number answer) so due settled h = piece-due number answer due h
+  deed-due moves (Seal number answer) so due settled h = seal-due number answer due h
+  deed-due moves (DropTicket number answer) so due settled h = drop-due number answer due h
+  deed-due moves (Commit asked tickets answer) (number, is, one) due settled h = commit-so number asked tickets answer is one due h where
     commit-so : (number : ℕ) (asked : Asked) (tickets : List ℕ) (answer : Result ℕ Refusal) → asked ≡ Placed → tickets ≡ number ∷ [] → AreDue (by (Commit asked tickets answer) ∷ events) m.core.tickets
         → Commits 0 asked tickets m next answer → AreDue events next.core.tickets
     commit-so number asked tickets answer is one due h =
         commit-due number answer
         (subst (λ (ts : List ℕ). AreDue (by (Commit Placed ts answer) ∷ events) m.core.tickets) one (subst (λ (a : Asked). AreDue (by (Commit a tickets answer) ∷ events) m.core.tickets) is due))
         (subst (λ (ts : List ℕ). Commits 0 Placed ts m next answer) one (subst (λ (a : Asked). Commits 0 a tickets m next answer) is h))
-  deed-due d so due settled h = absurd so
+  deed-due moves d so due settled h = absurd so
 
 -- ---- all steps
 
-seen-same : (trusted : Type 0) (d : Deed) → Copies d → (contents seen : ℕ → List ℕ) → AreBytes trusted d contents seen → seen ≡ contents
-seen-same trusted (Ask query answer) so contents seen h = h
-seen-same trusted (Force answer) so contents seen h = h
-seen-same trusted (OpenCopy object a avoid answer) so contents seen h = h
-seen-same trusted (CopyPiece number answer) so contents seen h = h
-seen-same trusted (Seal number answer) so contents seen h = h
-seen-same trusted (DropTicket number answer) so contents seen h = h
-seen-same trusted (Commit asked tickets answer) so contents seen h = h
-seen-same trusted d so contents seen h = absurd so
+seen-same : (moves : Bool) (trusted : Type 0) (d : Deed) → Copies moves d → (contents seen : ℕ → List ℕ) → AreBytes trusted d contents seen → seen ≡ contents
+seen-same moves trusted (Ask query answer) so contents seen h = h
+seen-same moves trusted (Force answer) so contents seen h = h
+seen-same moves trusted (OpenCopy object a avoid answer) so contents seen h = h
+seen-same moves trusted (CopyPiece number answer) so contents seen h = h
+seen-same moves trusted (Seal number answer) so contents seen h = h
+seen-same moves trusted (DropTicket number answer) so contents seen h = h
+seen-same moves trusted (Commit asked tickets answer) so contents seen h = h
+seen-same moves trusted d so contents seen h = absurd so
 
-left-same : (d : Deed) → Copies d → (contents : ℕ → List ℕ) (m : Machine) → behind d contents m ≡ m
-left-same (Ask query answer) so contents m = refl
-left-same (Force answer) so contents m = refl
-left-same (OpenCopy object a avoid answer) so contents m = refl
-left-same (CopyPiece number answer) so contents m = refl
-left-same (Seal number answer) so contents m = refl
-left-same (DropTicket number answer) so contents m = refl
-left-same (Commit asked tickets answer) so contents m = refl
-left-same d so contents m = absurd so
+left-same : (moves : Bool) (d : Deed) → Copies moves d → (contents : ℕ → List ℕ) (m : Machine) → behind d contents m ≡ m
+left-same moves (Ask query answer) so contents m = refl
+left-same moves (Force answer) so contents m = refl
+left-same moves (OpenCopy object a avoid answer) so contents m = refl
+left-same moves (CopyPiece number answer) so contents m = refl
+left-same moves (Seal number answer) so contents m = refl
+left-same moves (DropTicket number answer) so contents m = refl
+left-same moves (Commit asked tickets answer) so contents m = refl
+left-same moves d so contents m = absurd so
 
 no-tickets : (tickets : List Ticket) → AreDue [] tickets → tickets ≡ []
 no-tickets [] h = refl
 no-tickets (t ∷ tickets) h = absurd (false≢true h.0.1)
 
-pub copied-none : (m : Machine) → IsAtRest m.core → Copied IsCopy [] [] m m
-copied-none m rest = record { grew = grew-none IsCopy m rest; tickets = subst (λ (ts : List Ticket). AreFor ts) (sym rest.tickets) tt }
+pub copied-none : (moves : Bool) (m : Machine) → IsAtRest m.core → Copied moves [] [] m m
+copied-none moves m rest = record { grew = grew-none (IsCopy moves) m rest; tickets = subst (λ (ts : List Ticket). AreFor moves ts) (sym rest.tickets) tt }
 
-module _ (trusted : Type 0) (places : Places) where
-  pub copies-walk : (first : List Entry) (events : List Event) (later : List Entry) (old m new : Machine) → AllCopy events → Copied IsCopy first later old m → Alone trusted places 0 events m new
-      → (more : List Entry) × Copied IsCopy first more old new
-  copies-walk first [] later old m new all w same = (later, subst (λ (x : Machine). Copied IsCopy first later old x) (sym same) w)
+module _ (moves : Bool) (trusted : Type 0) (places : Places) where
+  pub copies-walk : (first : List Entry) (events : List Event) (later : List Entry) (old m new : Machine) → AllCopy moves events → Copied moves first later old m → Alone trusted places 0 events m new
+      → (more : List Entry) × Copied moves first more old new
+  copies-walk first [] later old m new all w same = (later, subst (λ (x : Machine). Copied moves first later old x) (sym same) w)
   copies-walk first (e ∷ events) later old m new all w (next, moved, rest) =
-      let s = stepped trusted places e.n e.deed (e ∷ []) m next (seen-same trusted e.deed all.0) (left-same e.deed all.0) refl (next, moved, refl) in
-      let r = deed-copied first later old m next w (onward-later m next s.0) places e.deed all.0 s.1 in
+      let s = stepped trusted places e.n e.deed (e ∷ []) m next (seen-same moves trusted e.deed all.0) (left-same moves e.deed all.0) refl (next, moved, refl) in
+      let r = deed-copied moves first later old m next w (onward-later m next s.0) places e.deed all.0 s.1 in
       copies-walk first events r.0 old next new all.1 r.1 rest
 
-  due-walk : (events : List Event) (m new : Machine) → AllCopy events → AreSettled events → AreDue events m.core.tickets → Alone trusted places 0 events m new → new.core.tickets ≡ []
+  due-walk : (events : List Event) (m new : Machine) → AllCopy moves events → AreSettled events → AreDue events m.core.tickets → Alone trusted places 0 events m new → new.core.tickets ≡ []
   due-walk [] m new all settled due same = no-tickets new.core.tickets (subst (λ (x : Machine). AreDue [] x.core.tickets) (sym same) due)
   due-walk (e ∷ events) m new all settled due (next, moved, rest) =
-      let s = stepped trusted places e.n e.deed (e ∷ []) m next (seen-same trusted e.deed all.0) (left-same e.deed all.0) refl (next, moved, refl) in
-      due-walk events next new all.1 settled.1 (deed-due places e.n events m next e.deed all.0 due settled.0 s.1) rest
+      let s = stepped trusted places e.n e.deed (e ∷ []) m next (seen-same moves trusted e.deed all.0) (left-same moves e.deed all.0) refl (next, moved, refl) in
+      due-walk events next new all.1 settled.1 (deed-due places e.n events m next moves e.deed all.0 due settled.0 s.1) rest
 
   -- where each was spent none is left
-  pub settled-free : (events : List Event) (m new : Machine) → m.core.tickets ≡ [] → AllCopy events → AreSettled events → Alone trusted places 0 events m new → new.core.tickets ≡ []
+  pub settled-free : (events : List Event) (m new : Machine) → m.core.tickets ≡ [] → AllCopy moves events → AreSettled events → Alone trusted places 0 events m new → new.core.tickets ≡ []
   settled-free events m new none all settled f = due-walk events m new all settled (subst (λ (ts : List Ticket). AreDue events ts) (sym none) tt) f

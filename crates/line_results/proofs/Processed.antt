@@ -1,5 +1,5 @@
 -- What comes of a process, and of what comes behind it.
-use Rattle.std.proofs.Common.{◌≡◌, ◌⊎◌, inl, inr, ℕ, ◌≤◌, ◌+◌, true, false, List, [], ◌∷◌, ◌++◌, length, map, Some, Result, Ok, Err, refl, sym, ap, subst, ◌∙◌}
+use Rattle.std.proofs.Common.{◌≡◌, ◌⊎◌, inl, inr, ℕ, ◌≤◌, ◌+◌, Bool, true, false, List, [], ◌∷◌, ◌++◌, length, map, Some, Result, Ok, Err, refl, sym, ap, subst, ◌∙◌}
 use Rattle.std.proofs.lemmas.Bool.{and_parts}
 use Rattle.std.proofs.lemmas.List.{append-nil, append_cancel_left}
 use Rattle.std.proofs.lemmas.Option.{same_Some}
@@ -40,7 +40,7 @@ use Rattle.steps.specs.Events.{Deed, Event}
 use Rattle.steps.specs.Events.Deed.{Ask, Commit, CopyPiece, DropTicket, Force, OpenCopy, Reuse, Seal}
 use Rattle.machine.specs.Alone.{Alone}
 use Rattle.machine.specs.Causes.{is_plain}
-use Rattle.machine.specs.Changes.{filled}
+use Rattle.machine.specs.Changes.{filled, is_moving}
 use Rattle.machine.specs.Machine.{Places, asked_change}
 use Rattle.machine.specs.State.{Core, Machine, inventory}
 use Rattle.command_steps.specs.Answers.{halt_by}
@@ -53,14 +53,14 @@ use Rattle.line_results.specs.Commands.{Does, DoesOwn, EndsWith, IsReuse, IsStil
 use Rattle.line_results.specs.Resting.{Adds, EndsRun, IsAtRest, IsLate, SameBytes, SameImage}
 use Rattle.reports.specs.declared.shown.Shown.TheVariants.{Copied, Reused}
 use Rattle.line_results.proofs.Changed.{changes}
-use Rattle.line_results.proofs.Copying.{AllCopy, Copies, copied-none, copies-walk, is_further, settled-free}
+use Rattle.line_results.proofs.Copying.{AllCopy, Copies, IsCopy, copied-none, copies-walk, settled-free}
 use Rattle.line_results.proofs.Kinds.{IsProcess, IsProcessOwn, IsRowless}
 use Rattle.line_results.proofs.Leaving.{Left}
 use Rattle.line_results.proofs.Mild.{is_common}
 use Rattle.line_results.proofs.Needs.{IsPlainWork}
 use Rattle.line_results.proofs.Runs.{alone-none, alone-parts, onward-none}
 use Rattle.line_results.proofs.Settling.{Settled, may_stay, settles}
-use Rattle.line_results.proofs.Walking.{AllWalk, AreOf, Grew, Under, Walked, Walks, all-walk, grew-none, grew-on, walk, walked-none}
+use Rattle.line_results.proofs.Walking.{AllWalk, AreOf, Grew, Under, Walked, Walks, all-walk, are-as, grew-none, grew-on, walk, walked-none}
 
 -- ---- steps of processes
 
@@ -111,10 +111,10 @@ reusing-walks : (files : List ℕ) (d : Deed) → IsReusing files d → Walks (I
 reusing-walks files d (inl h) = ending-walks (IsReuse reuses) d h
 reusing-walks files d (inr (file, answer, among, is)) = subst (λ (x : Deed). Walks (IsReuse reuses) x) (sym is) (file, refl)
 
-backup-copies-one : (copy : ℕ) (d : Deed) → IsBackup copy d → Copies d
-backup-copies-one copy d (inl (inl (q, answer, is))) = subst (λ (x : Deed). Copies x) (sym is) tt
-backup-copies-one copy d (inl (inr (answer, is))) = subst (λ (x : Deed). Copies x) (sym is) tt
-backup-copies-one copy (OpenCopy number to other answer) (inr (object, (one, is, none))) = ap is_further is
+backup-copies-one : (copy : ℕ) (d : Deed) → IsBackup copy d → Copies false d
+backup-copies-one copy d (inl (inl (q, answer, is))) = subst (λ (x : Deed). Copies false x) (sym is) tt
+backup-copies-one copy d (inl (inr (answer, is))) = subst (λ (x : Deed). Copies false x) (sym is) tt
+backup-copies-one copy (OpenCopy number to other answer) (inr (object, (one, is, none))) = ap is_moving is
 backup-copies-one copy (CopyPiece number answer) (inr h) = tt
 backup-copies-one copy (Seal number answer) (inr h) = tt
 backup-copies-one copy (DropTicket number answer) (inr h) = tt
@@ -122,7 +122,7 @@ backup-copies-one copy (Force answer) (inr h) = tt
 backup-copies-one copy (Commit asked tickets answer) (inr (object, (number, is, one))) = (number, is, one)
 backup-copies-one copy d (inr (object, h)) = absurd h
 
-backup-copies : (copy : ℕ) (events : List Event) → AllByRecursion (λ e. IsBackup copy e.deed) events → AllCopy events
+backup-copies : (copy : ℕ) (events : List Event) → AllByRecursion (λ e. IsBackup copy e.deed) events → AllCopy false events
 backup-copies copy [] h = tt
 backup-copies copy (e ∷ events) h = (backup-copies-one copy e.deed h.0, backup-copies copy events h.1)
 
@@ -171,17 +171,17 @@ module _ (trusted : Type 0) (places : Places) (choice : List Rule) (b : Behind) 
         free = λ h. r.1.free;
       }
 
-  -- steps that make copies
-  copies-began : (numbers : List ℕ) (said : Result Outcome Refusal) (events : List Event) (old mid : Machine) → IsAtRest old.core → DoesOwnBy choice back_up_pool numbers events said → AllCopy events
-      → (may_stay said ≡ false → AreSettled events) → Alone trusted places 0 events old mid
-      → OwnBegan trusted places (λ added. Processes trusted places choice numbers back_up_pool old mid said added) b old mid said
-  copies-began numbers said events old mid rest did all settled f =
-      let r = copies-walk trusted places [] events [] old old mid all (copied-none old rest) f in
+  -- steps that make further copies, or move some
+  copies-began : (moves : Bool) (numbers : List ℕ) (own : Own) (said : Result Outcome Refusal) (events : List Event) (old mid : Machine) → ((c : Change) → IsCopy moves c → MayMake numbers own c) → IsAtRest old.core
+      → DoesOwnBy choice own numbers events said → AllCopy moves events → (may_stay said ≡ false → AreSettled events) → Alone trusted places 0 events old mid
+      → OwnBegan trusted places (λ added. Processes trusted places choice numbers own old mid said added) b old mid said
+  copies-began moves numbers own said events old mid may rest did all settled f =
+      let r = copies-walk moves trusted places [] events [] old old mid all (copied-none moves old rest) f in
       record {
         first = r.0;
-        does = ((old, events, still-none old, f, did), r.1.grew.are, r.1.grew.core.generation, r.1.grew.contents);
-        grew = grew-on (MayMake numbers back_up_pool) (IsReuse b) r.0 old mid r.1.grew;
-        free = λ h. settled-free trusted places events old mid rest.tickets all (settled h) f;
+        does = ((old, events, still-none old, f, did), are-as (IsCopy moves) (MayMake numbers own) may r.0 r.1.grew.are, r.1.grew.core.generation, r.1.grew.contents);
+        grew = grew-on (IsCopy moves) (IsReuse b) r.0 old mid r.1.grew;
+        free = λ h. settled-free moves trusted places events old mid rest.tickets all (settled h) f;
       }
 
   -- what made no step
@@ -204,7 +204,7 @@ module _ (trusted : Type 0) (places : Places) (choice : List Rule) (b : Behind) 
   own-began empty_volume numbers said events old mid so rest h f =
       process-began numbers empty_volume said events old mid rest h (all-walk (volumes.IsDeleting true (the_number numbers)) (MayMake numbers empty_volume) (volume-walks numbers) events h.1.only) f
   own-began back_up_pool numbers said events old mid so rest h f =
-      copies-began numbers said events old mid rest h (backup-copies (the_second numbers) events h.1.only) (backup-settled (the_number numbers) (the_second numbers) events h.0 said h.1.came h.2) f
+      copies-began false numbers back_up_pool said events old mid (λ c is. is) rest h (backup-copies (the_second numbers) events h.1.only) (backup-settled (the_number numbers) (the_second numbers) events h.0 said h.1.came h.2) f
   own-began none_but_reuse numbers said events old mid so rest h f = none-began (Ok (Said (Reused 0))) said events old mid rest h.0 h.1 f
   own-began none_yet numbers said events old mid so rest h f = none-began (Err (refused.UnknownWord 1)) said events old mid rest h.0 h.1 f
   own-began own numbers said events old mid so rest h f = absurd so

@@ -44,6 +44,11 @@ pub are-more : (P : Change → Type 0) (added : List Entry) (w : Change) → Are
 are-more P [] w h p = ((refl, p), tt)
 are-more P (e ∷ added) w h p = (h.0, are-more P added w h.1 p)
 
+-- of which Q holds too, where it holds of each change of which P does
+pub are-as : (P Q : Change → Type 0) → ((c : Change) → P c → Q c) → (added : List Entry) → AreOf P added → AreOf Q added
+are-as P Q so [] h = tt
+are-as P Q so (e ∷ added) h = ((h.0.0, so e.change h.0.1), are-as P Q so added h.1)
+
 -- ---- the hall
 
 -- behind these transactions of the script no image is in progress, and what had a stamp has it
