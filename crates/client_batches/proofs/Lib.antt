@@ -6,6 +6,8 @@ pub mod Exactly
 pub mod Filled
 pub mod Handled
 pub mod Lengths
+pub mod Ordering
 pub mod Quiet
 pub mod Rounding
 pub mod Settled
+pub mod Spending

@@ -40,20 +40,20 @@ module _ (w : History) (actor : ℕ) (a b : Own) (d : Deed) (events : List Event
 
 -- ---- numbers of refusals
 
-tree-other : (before after : ℕ) (e : Refusal) → TreeFails before after e → (number_of e == 25) ≡ false
+pub tree-other : (before after : ℕ) (e : Refusal) → TreeFails before after e → (number_of e == 25) ≡ false
 tree-other before after e h = subst (λ (x : Refusal). (number_of x == 25) ≡ false) (sym h.0) refl
 
-early-other : (file : Option ClientFile) (at size : ℕ) (e : Refusal) → EndsEarly file at size e → (number_of e == 25) ≡ false
+pub early-other : (file : Option ClientFile) (at size : ℕ) (e : Refusal) → EndsEarly file at size e → (number_of e == 25) ≡ false
 early-other file at size e h = subst (λ (x : Refusal). (number_of x == 25) ≡ false) (sym h.0) refl
 
-longer-other : (file : Option ClientFile) (size : ℕ) (e : Refusal) → GoesOn file size e → (number_of e == 25) ≡ false
+pub longer-other : (file : Option ClientFile) (size : ℕ) (e : Refusal) → GoesOn file size e → (number_of e == 25) ≡ false
 longer-other file size e h = subst (λ (x : Refusal). (number_of x == 25) ≡ false) (sym h.0) refl
 
 -- what writing is refused with is a fault of writing exactly where it was refused so
 unwritten-fault : (why : Refusal) → (number_of why == 25) ≡ true → (number_of (unwritten why) == 25) ≡ true
 unwritten-fault why h = ap (λ (b : Bool). number_of (if b then why else stopping why) == 25) h ∙ h
 
-unwritten-other : (why : Refusal) → (number_of why == 25) ≡ false → (number_of (unwritten why) == 25) ≡ false
+pub unwritten-other : (why : Refusal) → (number_of why == 25) ≡ false → (number_of (unwritten why) == 25) ≡ false
 unwritten-other why h =
     ap (λ (b : Bool). number_of (if b then why else stopping why) == 25) h
     ∙ elim (is_stopping why) as (λ b. (number_of (if b then why else refused.Memory) == 25) ≡ false) [
@@ -68,17 +68,17 @@ one-of-spent k false true c x y z h = inr (inl (eqb-true 40 k y))
 one-of-spent k false false true x y z h = inr (inr (eqb-true 41 k z))
 one-of-spent k false false false x y z h = absurd cc
 
-spent-by : (e : Refusal) → is_spent_by e ≡ true → (25 ≡ number_of e) ⊎ (40 ≡ number_of e) ⊎ (41 ≡ number_of e)
+pub spent-by : (e : Refusal) → is_spent_by e ≡ true → (25 ≡ number_of e) ⊎ (40 ≡ number_of e) ⊎ (41 ≡ number_of e)
 spent-by e h = one-of-spent (number_of e) (25 == number_of e) (40 == number_of e) (41 == number_of e) refl refl refl h
 
 -- the three that the drop of a ticket is refused with
-one-of-dropped : (k : ℕ) (a b c : Bool) → (10 == k) ≡ a → (40 == k) ≡ b → (41 == k) ≡ c → (a || (b || (c || false))) ≡ true → (10 ≡ k) ⊎ (40 ≡ k) ⊎ (41 ≡ k)
+pub one-of-dropped : (k : ℕ) (a b c : Bool) → (10 == k) ≡ a → (40 == k) ≡ b → (41 == k) ≡ c → (a || (b || (c || false))) ≡ true → (10 ≡ k) ⊎ (40 ≡ k) ⊎ (41 ≡ k)
 one-of-dropped k true b c x y z h = inl (eqb-true 10 k x)
 one-of-dropped k false true c x y z h = inr (inl (eqb-true 40 k y))
 one-of-dropped k false false true x y z h = inr (inr (eqb-true 41 k z))
 one-of-dropped k false false false x y z h = absurd cc
 
-abbrev numbered : List ℕ → ℕ → Bool
+abbrev pub numbered : List ℕ → ℕ → Bool
 numbered ns k = list_any (λ n. n == k) ns
 
 -- what is elsewhere among those is lasting

@@ -2,7 +2,6 @@
 use Rattle.std.proofs.Common.{◌≡◌, ◌⊎◌, inl, inr, ℕ, ◌==◌, ◌||◌, ◌&&◌, zero, suc, Bool, true, false, List, [], ◌∷◌, ◌++◌, Option, None, Some, Result, Ok, Err, refl, sym, ap, subst, ◌∙◌, arith, if◌then◌else◌}
 use Rattle.std.proofs.lemmas.Bool.{cond-false, eq-eqb}
 use Rattle.std.proofs.lemmas.List.Elements.{filter-append}
-use Rattle.std.proofs.lemmas.List.Folds.{list_any-append}
 use Rattle.std.specs.List.{AllByRecursion, list_any}
 use Rattle.std.specs.Option.{option_map_or}
 use Rattle.kinds.specs.Refusals.{number_of}
@@ -19,7 +18,9 @@ use Rattle.steps.specs.Receipts.{is_made, made}
 use Rattle.copy_attempts.specs.declared.outcome.Came.{Came}
 use Rattle.copy_attempts.specs.declared.outcome.Came.TheVariants as came
 use Rattle.copy_attempts.specs.Attempts.{Awaits, Copies, Ends, Fills, GivesUp, Goes, Held, IsPiece, Makes, Spends, Tries, Waited, came_of, behind_drop, holder_in, is_passed, is_spent_by, is_stopping, piece_count, stopping, unopened}
-use Rattle.copy_attempts.specs.Outcomes.{AreOf, AreSettled, Attempt, Commits, IsCaused, IsOf, IsSettled, Means, Met, MetBy, MetOf, is_opened, is_spent, may_leave, opens, spends}
+use Rattle.copy_attempts.specs.Outcomes.{AreOf, Attempt, Commits, IsCaused, IsOf, Means, Met, MetBy, MetOf, is_opened, may_leave, opens}
+use Rattle.steps.specs.Spent.{AreSettled, IsSettled, is_spent, spends}
+use Rattle.steps.proofs.Spending.{any-behind, settled-append, spent-before, spent-behind}
 
 -- ---- lists of steps
 
@@ -27,51 +28,17 @@ pub all-append : (P : Event → Type 0) (xs ys : List Event) → AllByRecursion 
 all-append P [] ys a b = b
 all-append P (x ∷ xs) ys a b = (a.0, all-append P xs ys a.1 b)
 
-or-true : (b : Bool) → (b || true) ≡ true
-or-true true = refl
-or-true false = refl
-
-pub any-behind : (test : Event → Bool) (xs ys : List Event) → list_any test ys ≡ true → list_any test (xs ++ ys) ≡ true
-any-behind test xs ys h = list_any-append test xs ys ∙ ap (λ b. list_any test xs || b) h ∙ or-true (list_any test xs)
-
-any-before : (test : Event → Bool) (xs ys : List Event) → list_any test xs ≡ true → list_any test (xs ++ ys) ≡ true
-any-before test xs ys h = list_any-append test xs ys ∙ ap (λ b. b || list_any test ys) h
-
-spent-behind : (ticket : ℕ) (xs ys : List Event) → is_spent ticket ys ≡ true → is_spent ticket (xs ++ ys) ≡ true
-spent-behind ticket xs ys h = any-behind (λ e. spends ticket e.deed) xs ys h
-
-spent-before : (ticket : ℕ) (xs ys : List Event) → is_spent ticket xs ≡ true → is_spent ticket (xs ++ ys) ≡ true
-spent-before ticket xs ys h = any-before (λ e. spends ticket e.deed) xs ys h
-
 opened-behind : (ticket : ℕ) (xs ys : List Event) → is_opened ticket ys ≡ true → is_opened ticket (xs ++ ys) ≡ true
 opened-behind ticket xs ys h = any-behind (λ e. opens ticket e.deed) xs ys h
 
 pub made-append : (xs ys : List Event) → made (xs ++ ys) ≡ made xs ++ made ys
 made-append xs ys = filter-append (λ e. is_made e.deed) xs ys
 
-settled-later : (d : Deed) (later more : List Event) → IsSettled d later → IsSettled d (later ++ more)
-settled-later (OpenNew pool size prefer answer) later more h = tt
-settled-later (OpenCopy object aim avoid (Ok ticket)) later more h = spent-before ticket later more h
-settled-later (OpenCopy object aim avoid (Err e)) later more h = tt
-settled-later (WritePiece ticket bytes answer) later more h = tt
-settled-later (CopyPiece ticket answer) later more h = tt
-settled-later (Seal ticket answer) later more h = tt
-settled-later (Commit a tickets answer) later more h = tt
-settled-later (DropTicket ticket answer) later more h = tt
-settled-later (ReadPiece object kept from offset wanted answer) later more h = tt
-settled-later (Ask query answer) later more h = tt
-settled-later (Image kind answer) later more h = tt
-settled-later (Reuse file answer) later more h = tt
-settled-later (Force answer) later more h = tt
-
-pub settled-append : (xs ys : List Event) → AreSettled xs → AreSettled ys → AreSettled (xs ++ ys)
-settled-append [] ys a b = b
-settled-append (x ∷ xs) ys a b = (settled-later x.deed xs ys a.0, settled-append xs ys a.1 b)
-
 -- ---- steps that were refused, or that neither open nor commit
 
 -- it opens a ticket, or a transaction joins by it
 abbrev pub changes : Deed → Bool
+changes (OpenNew pool size prefer (Ok ticket)) = true
 changes (OpenCopy object aim avoid (Ok ticket)) = true
 changes (Commit a tickets (Ok number)) = true
 changes _ = false
@@ -113,7 +80,8 @@ quiet-made object aim avoid (x ∷ xs) h =
     cond-false (is_made x.deed) (x ∷ made xs) (made xs) (not-made object aim avoid x.deed h.0.0 h.0.1) ∙ quiet-made object aim avoid xs h.1
 
 not-opened : (d : Deed) (later : List Event) → changes d ≡ false → IsSettled d later
-not-opened (OpenNew pool size prefer answer) later q = tt
+not-opened (OpenNew pool size prefer (Ok ticket)) later q = absurd cc
+not-opened (OpenNew pool size prefer (Err e)) later q = tt
 not-opened (OpenCopy object aim avoid (Ok ticket)) later q = absurd cc
 not-opened (OpenCopy object aim avoid (Err e)) later q = tt
 not-opened (WritePiece ticket bytes answer) later q = tt

@@ -1,5 +1,5 @@
 -- What an attempt to make an object's copy came to.
-use Rattle.std.specs.Prelude.{◌≡◌, ◌⊎◌, ℕ, ◌==◌, ◌&&◌, Bool, true, false, List, [], ◌∷◌, Some, Result, Ok, Err}
+use Rattle.std.specs.Prelude.{◌≡◌, ◌⊎◌, ℕ, ◌==◌, Bool, true, false, List, [], ◌∷◌, Some, Result, Ok, Err}
 use Rattle.std.specs.List.{AllByRecursion, list_any}
 use Rattle.std.specs.Option.{option_map_or}
 use Rattle.kinds.specs.Refusals.{number_of}
@@ -11,6 +11,7 @@ use Rattle.steps.specs.Calls.{fails_object}
 use Rattle.steps.specs.Events.{Deed, Event, event, has_number, refusal}
 use Rattle.steps.specs.Events.Deed.{OpenCopy, CopyPiece, Seal, Commit, DropTicket, Force}
 use Rattle.steps.specs.Receipts.{made}
+use Rattle.steps.specs.Spent.{AreSettled}
 use Rattle.copy_attempts.specs.declared.outcome.Came.{Came}
 use Rattle.copy_attempts.specs.declared.outcome.Came.TheVariants as came
 use Rattle.copy_attempts.specs.Attempts.{Goes, is_passed, is_stopping}
@@ -40,28 +41,6 @@ opens ticket _ = false
 
 abbrev pub is_opened : ℕ → List Event → Bool
 is_opened ticket events = list_any (λ e. opens ticket e.deed) events
-
--- the ticket isn't there behind the step: it was committed or dropped, writing to one of its volumes failed, or it was no longer there to be dropped
-abbrev pub spends : ℕ → Deed → Bool
-spends ticket (CopyPiece number (Err e)) = number == ticket && number_of e == 25
-spends ticket (Seal number (Err e)) = number == ticket && number_of e == 25
-spends ticket (Commit a tickets (Ok number)) = list_any (λ t. t == ticket) tickets
-spends ticket (DropTicket number (Ok done)) = number == ticket
-spends ticket (DropTicket number (Err e)) = number == ticket && number_of e == 10
-spends ticket _ = false
-
-abbrev pub is_spent : ℕ → List Event → Bool
-is_spent ticket events = list_any (λ e. spends ticket e.deed) events
-
--- a ticket that the step opened isn't there any more behind the later ones
-abbrev pub IsSettled : Deed → List Event → Type 0
-IsSettled (OpenCopy object aim avoid (Ok ticket)) later = is_spent ticket later ≡ true
-IsSettled _ later = Unit {0}
-
--- no ticket is left
-abbrev pub AreSettled : List Event → Type 0
-AreSettled [] = Unit {0}
-AreSettled (e ∷ events) = IsSettled e.deed events × AreSettled events
 
 -- a ticket may be left only where nobody can give it back: the hall is halted, or the run is full
 abbrev pub may_leave : Result Came Refusal → Bool

@@ -10,10 +10,12 @@ use Rattle.steps.specs.Events.{Event}
 use Rattle.steps.specs.Receipts.{made}
 use Rattle.machine.specs.Fits.{Fits, History, Own}
 use Rattle.machine.proofs.Runs.{fits-cut, fits-rises}
-use Rattle.copy_attempts.proofs.Facts.{all-append, caused-behind, made-append, settled-append}
+use Rattle.copy_attempts.proofs.Facts.{all-append, caused-behind, made-append}
+use Rattle.steps.proofs.Spending.{settled-append}
 use Rattle.copy_attempts.specs.declared.outcome.Came.{Came}
 use Rattle.copy_attempts.specs.declared.outcome.Came.TheVariants as came
-use Rattle.copy_attempts.specs.Outcomes.{AreOf, AreSettled, Attempt, Commits, IsCaused, MetBy, may_leave}
+use Rattle.copy_attempts.specs.Outcomes.{AreOf, Attempt, Commits, IsCaused, MetBy, may_leave}
+use Rattle.steps.specs.Spent.{AreSettled}
 use Rattle.copy_runs.specs.declared.wanted.Moved.{Moved}
 use Rattle.copy_runs.specs.declared.wanted.Wanted.{Wanted}
 use Rattle.copy_runs.specs.Runs.{AreOfThese, Broken, Done, EntersOnly, Handled, HasFailed, IsOfOne, LeavesNone, Run, Runs, Tried, Try, copies_in, failed_by, failed_tries, failing_in, is_among, is_copied, is_failed, is_failing, moved_by, wanted_by}

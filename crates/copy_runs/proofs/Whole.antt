@@ -12,8 +12,9 @@ use Rattle.steps.specs.Events.Deed.{Ask}
 use Rattle.steps.specs.Receipts.{is_forced, is_made, made, receipts}
 use Rattle.machine.specs.Fits.{Fits, History, Own, Step}
 use Rattle.machine.proofs.Runs.{fits-cut, fits-first, fits-rises, step-rises}
-use Rattle.copy_attempts.proofs.Facts.{all-append, caused-behind, made-append, settled-append}
-use Rattle.copy_attempts.specs.Outcomes.{AreSettled, IsSettled}
+use Rattle.copy_attempts.proofs.Facts.{all-append, caused-behind, made-append}
+use Rattle.steps.proofs.Spending.{settled-append}
+use Rattle.steps.specs.Spent.{AreSettled, IsSettled}
 use Rattle.copy_runs.specs.declared.wanted.Moved.{Moved}
 use Rattle.copy_runs.specs.declared.wanted.Wanted.{Wanted}
 use Rattle.copy_runs.specs.Ends.{AreAsking, AreEnding, Finished, IsAsking, IsEnding, last_of}

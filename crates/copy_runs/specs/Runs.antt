@@ -17,7 +17,8 @@ use Rattle.steps.specs.Receipts.{made}
 use Rattle.machine.specs.Fits.{Fits, History, Own}
 use Rattle.copy_attempts.specs.declared.outcome.Came.{Came}
 use Rattle.copy_attempts.specs.declared.outcome.Came.TheVariants as came
-use Rattle.copy_attempts.specs.Outcomes.{AreSettled, Attempt, IsCaused, IsOf, may_leave}
+use Rattle.copy_attempts.specs.Outcomes.{Attempt, IsCaused, IsOf, may_leave}
+use Rattle.steps.specs.Spent.{AreSettled}
 use Rattle.copy_runs.specs.declared.wanted.Moved.{Moved}
 use Rattle.copy_runs.specs.declared.wanted.Wanted.{Wanted}
 use Rattle.copy_runs.specs.Wanting.{IsIn, IsPast, IsWantedAllAlong}

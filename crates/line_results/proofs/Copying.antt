@@ -18,7 +18,7 @@ use Rattle.inventory_answers.specs.declared.reply.Answer.{Answer}
 use Rattle.inventory_rows.specs.State.{Inv}
 use Rattle.inventory_rows.specs.version_groups.Entries.{is_nil}
 use Rattle.space.specs.declared.aim.Aim.{Aim}
-use Rattle.copy_attempts.specs.Outcomes.{AreSettled, IsSettled, is_spent, spends}
+use Rattle.steps.specs.Spent.{AreSettled, IsSettled, is_spent, spends}
 use Rattle.steps.specs.declared.asked.Asked.{Asked}
 use Rattle.steps.specs.declared.asked.Asked.TheVariants.{Placed}
 use Rattle.steps.specs.Events.{Deed, Event}

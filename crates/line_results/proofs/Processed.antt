@@ -22,7 +22,7 @@ use Rattle.inventory_rows.specs.version_groups.Entries.{on_ok}
 use Rattle.admin_words.specs.declared.command.Command.{Command}
 use Rattle.admin_commands.specs.declared.work.Work.{Work}
 use Rattle.admin_commands.specs.declared.work.Work.TheVariants.{Commit as CommitWork, Run, Show}
-use Rattle.copy_attempts.specs.Outcomes.{AreSettled}
+use Rattle.steps.specs.Spent.{AreSettled}
 use Rattle.copy_pools.specs.Backups.{IsBackup, Came as BackupCame}
 use Rattle.copy_runs.specs.Ends.{IsEnding}
 use Rattle.copy_runs.specs.declared.wanted.Moved.{Moved}

@@ -1,2 +1,3 @@
 pub mod Acknowledged
 pub mod Joining
+pub mod Spending
