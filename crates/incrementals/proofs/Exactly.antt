@@ -37,6 +37,8 @@ use Rattle.incrementals.specs.Asking.{AsksAll, AsksFor, AsksNode, AsksNodeRules,
 use Rattle.incrementals.specs.Filespaces.{DefinesAndFinds, DefinesOne, FindsOne, HasFilespace, defining}
 use Rattle.incrementals.specs.Items.{IsWhole}
 use Rattle.incrementals.specs.Planning.{Begins}
+use Rattle.incrementals.proofs.Ordering.{own-increments}
+use Rattle.incrementals.proofs.Spending.{increments-settled}
 use Rattle.incrementals.specs.Process.{CarriesOut, Done, Finishes, Forces, Incremental, Increments, Works, forced_as, is_idle, is_sending, no_outs}
 
 -- ---- items
@@ -352,4 +354,9 @@ pub incremental-of : {S : Type 0} (did : S → List Event → S → Type 0) (p q
     → Call did p q (λ events. Increments node filespace choice told before after events result) → Call did p q (λ events. Incremental node filespace choice told before after events result)
 incremental-of did p q node filespace choice told before after result a =
     so_call did (λ events. Increments node filespace choice told before after events result) (λ events. Incremental node filespace choice told before after events result) p q a
-    (λ xs f. record { order = f; done = done_so node filespace choice told before after xs result f })
+    (λ xs f. record {
+      order = f;
+      done = done_so node filespace choice told before after xs result f;
+      only = own-increments node filespace choice told before after xs result f;
+      settled = increments-settled node filespace choice told before after xs result f;
+    })

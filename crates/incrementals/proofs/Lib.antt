@@ -1,4 +1,6 @@
 pub mod Beginning
 pub mod Exactly
+pub mod Ordering
 pub mod Questions
+pub mod Spending
 pub mod Working

@@ -15,6 +15,9 @@ use Rattle.incrementals.specs.declared.answering.Outs.{Outs}
 use Rattle.incrementals.specs.declared.answering.Sent.{Sent}
 use Rattle.incrementals.specs.declared.planning.Begun.{Begun}
 use Rattle.incrementals.specs.Answering.{sent_of}
+use Rattle.client_batches.specs.Tickets.{is_lasting}
+use Rattle.steps.specs.Spent.{AreSettled}
+use Rattle.incrementals.specs.Orders.{AreOfBackup, AreQuestions}
 use Rattle.incrementals.specs.Filespaces.{HasFilespace}
 use Rattle.client_batches.specs.Items.{ended_by, items_in, rebound_by, stored_by}
 use Rattle.incrementals.specs.Items.{IsWhole}
@@ -96,7 +99,19 @@ pub record Done (node filespace : List ℕ) (choice : List Rule) (told : Option 
   pub exact : IsWhole begun.plan outs events
   pub counts : Counts s events
 
--- What an incremental backup did: its steps came in their order, and it did what it answers.
+-- It only asked; or it began with a plan, and behind that made the steps of a backup alone, and no transaction but what the plan orders.
+abbrev pub Only : (node filespace : List ℕ) → List Rule → Option Files → (before : ℕ) → List Event → Type 0
+Only node filespace choice told before events =
+    AreQuestions events ⊎ ((b : Begun) × (count : ℕ) × Then (λ xs. Begins node filespace choice told before count xs (Ok b) × AreQuestions xs) (λ ys. AreOfBackup b.plan ys) events)
+
+-- the hall is halted, or the run is full: nobody can give a ticket back any more
+abbrev pub may_leave : Result Sent Refusal → Bool
+may_leave (Ok s) = false
+may_leave (Err e) = is_lasting e
+
+-- What an incremental backup did: its steps came in their order, it did what it answers, it made no other steps and transactions than its own, and it left no ticket, unless none could be given back.
 pub record Incremental (node filespace : List ℕ) (choice : List Rule) (told : Option Files) (before after : ℕ) (events : List Event) (result : Result Sent Refusal) : Type 0 where
   pub order : Increments node filespace choice told before after events result
   pub done : IfOk result (λ s. Done node filespace choice told before after s events)
+  pub only : Only node filespace choice told before events
+  pub settled : may_leave result ≡ false → AreSettled events
