@@ -12,7 +12,8 @@
 //! - `first open FOLDER`: a store in that folder; `first close`; and the calls on it, as `first len FILE`. `second`: another one.
 //! - `folder new MOST CALL..`: a store over the files of an empty folder in memory, which write and read at most so many bytes a call,
 //!   and whose calls with these numbers fail, counted from 0; and the calls on it, as `folder len FILE`. `folder stop CHOICE`: the
-//!   machine stops and starts again, and no call of the files fails any more.
+//!   machine stops and starts again, and no call of the files fails any more. `folder again MOST CALL..`: a store whose calls fail that
+//!   have these numbers behind the first stop, counted from 0 again.
 //! - `files new CALL..`: the files of an empty folder in memory, which was entered, and of which the calls with these numbers fail,
 //!   counted from 0, and a renaming or a removal whose number stands there twice is done all the same. `files make NAME BYTES..`: a
 //!   file is made and the bytes are put into it by one call each, and it is printed how many were; `files sync NAME`, `files show NAME`,
