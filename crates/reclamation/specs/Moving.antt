@@ -127,8 +127,8 @@ Begins file to events (Err e) = IsRefused file to events e × AreAsking events
 
 -- ---- the row
 
--- In every history of valid databases that the events fit: a copy that lies on the volume where it begins isn't there at the last step's number, as the same transaction placed it, or its object is
--- counted as failed.
+-- In every history of valid databases that the events fit: a copy that lies on the volume where it begins isn't there at the last step's number, as the same transaction placed it, or its
+-- object is counted as failed.
 abbrev pub IsMovedOff : (file : ℕ) → (failed : List ℕ) → List Event → Type 0
 IsMovedOff file failed events =
     (w : History) (actor : ℕ) (a b : Own) → AreValid w → a.tickets ≡ [] → Fits w actor a events b
@@ -164,8 +164,8 @@ AreMoving file to events = AllByRecursion (λ e. IsMoving file to e.deed) events
 abbrev pub HasFailedOff : (file to : ℕ) → List Event → (object : ℕ) → Type 0
 HasFailedOff file to events object = (x : Wanted) × IsMove to x × HasFailed (x ∷ []) file events object
 
--- What it did where it answered counts: they are those of the copies in its receipts, and of objects that failed, which are no more than its steps that were so refused; the row; the pool that was named
--- is one to which that may move; and no ticket is left.
+-- What it did where it answered counts: they are those of the copies in its receipts, and of objects that failed, which are no more than its steps that were so refused; the row; the pool
+-- that was named is one to which that may move; and no ticket is left.
 pub record MovedOff (file to : ℕ) (events : List Event) (m : Moved) : Type 0 where
   pub failed : List ℕ
   pub moved : m.moved ≡ copies_in (receipts events)
@@ -184,8 +184,8 @@ IsBarred file to events e =
     ⊎ (((to == 0) ≡ false) × GoesSo file to events (Err e))
     ⊎ (((number_of e == 10) ≡ true) × ((object : ℕ) × (from : ℕ) × (placed : ℕ) × MetBy (λ d. d ≡ OpenCopy object (aim.Move from placed (into to from) false) file (Err e)) events))
 
--- What it did where it was refused: the refusal is want of memory, or one that ends a process and that one of its steps met, or what is named isn't there or doesn't go together; and no ticket is left,
--- unless none can be given back.
+-- What it did where it was refused: the refusal is want of memory, or one that ends a process and that one of its steps met, or what is named isn't there or doesn't go together; and no
+-- ticket is left, unless none can be given back.
 pub record Stopped (file to : ℕ) (events : List Event) (e : Refusal) : Type 0 where
   pub cause : IsStopped events e ⊎ IsBarred file to events e
   pub settled : may_leave (Err e) ≡ false → AreSettled events

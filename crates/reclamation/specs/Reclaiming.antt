@@ -201,8 +201,8 @@ HasFailedOn files pool events object = (file : ℕ) × IsIn file files × HasFai
 abbrev pub IsInOrder : (pool threshold : ℕ) → (files : List ℕ) → List Event → Moved → Type 0
 IsInOrder pool threshold files events m = Then (λ xs. Begun pool threshold files xs) (λ ys. Works pool files ys (Ok m)) events
 
--- What it did where it answered counts: they are those of the copies in its receipts, and of objects that failed, which are no more than its steps that were so refused; the row; its steps came in their
--- order; the pool was sequential; and no ticket is left.
+-- What it did where it answered counts: they are those of the copies in its receipts, and of objects that failed, which are no more than its steps that were so refused; the row; its steps
+-- came in their order; the pool was sequential; and no ticket is left.
 pub record Reclaimed (pool threshold : ℕ) (files : List ℕ) (events : List Event) (m : Moved) : Type 0 where
   pub failed : List ℕ
   pub moved : m.moved ≡ copies_in (receipts events)
@@ -222,8 +222,8 @@ IsNotThere pool threshold events e =
     ⊎ ((e ≡ refused.NotFound) × IsSequential pool events false)
     ⊎ IsUnopened pool events e
 
--- What it did where it was refused: the refusal is want of memory, or one that ends a process and that one of its steps met, or the pool isn't there or isn't sequential; and no ticket is left, unless none
--- can be given back.
+-- What it did where it was refused: the refusal is want of memory, or one that ends a process and that one of its steps met, or the pool isn't there or isn't sequential; and no ticket is
+-- left, unless none can be given back.
 pub record Halted (pool threshold : ℕ) (events : List Event) (e : Refusal) : Type 0 where
   pub cause : IsStopped events e ⊎ IsNotThere pool threshold events e
   pub settled : may_leave (Err e) ≡ false → AreSettled events
