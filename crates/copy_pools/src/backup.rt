@@ -42,7 +42,7 @@ fn list<P: Stepper>(p: &mut P, primary: u32, copy: u32) -> Result<Listed<Missing
 }
 
 /// What a pool is for, where it is among these.
-fn kind_of(lines: &[PoolLine], pool: u32) -> Option<PoolKind>
+pub fn kind_of(lines: &[PoolLine], pool: u32) -> Option<PoolKind>
     ensures { result ≡ kind_of pool lines.now }
 {
     match lines.iter().find(|line| line.number == pool) {

@@ -3,4 +3,4 @@
 
 mod backup;
 
-pub use backup::backup_pool;
+pub use backup::{backup_pool, kind_of};

@@ -2,8 +2,10 @@ pub mod Carrying
 pub mod Committed
 pub mod Ending
 pub mod Entries
+pub mod Listing
 pub mod Outcomes
 pub mod Passing
+pub mod Returning
 pub mod Risen
 pub mod Running
 pub mod Told

@@ -58,7 +58,7 @@ fn ask_today<P: Stepper>(p: &mut P) -> Result<(), Refusal>
 }
 
 /// Makes all durable, and asks for the number of the last transaction.
-fn finish<P: Stepper>(p: &mut P) -> Result<(), Refusal>
+pub fn finish<P: Stepper>(p: &mut P) -> Result<(), Refusal>
     ensures { Call P.did p.old p.new (λ events. Finishes events result) }
 {
     match p.force() {

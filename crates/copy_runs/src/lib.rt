@@ -6,6 +6,6 @@ mod ends;
 mod run;
 mod wanted;
 
-pub use ends::{ask_pools, copy_and_finish, unlisted};
+pub use ends::{ask_pools, copy_and_finish, finish, unlisted};
 pub use run::copy_all;
 pub use wanted::{Moved, Wanted};

@@ -1,0 +1,10 @@
+pub mod Asking
+pub mod Clearing
+pub mod Counting
+pub mod Listing
+pub mod Moved
+pub mod Moves
+pub mod Questions
+pub mod Reclaimed
+pub mod Seen
+pub mod Sequential
