@@ -2,8 +2,11 @@ pub mod Carrying
 pub mod Committed
 pub mod Ending
 pub mod Entries
+pub mod Listing
 pub mod Outcomes
+pub mod Parts
 pub mod Passing
+pub mod Returning
 pub mod Risen
 pub mod Running
 pub mod Told

@@ -38,7 +38,7 @@ end-unmade : (d : Deed) → IsEnding d → is_made d ≡ false
 end-unmade d (inl h) = unmade-one d h
 end-unmade d (inr h) = ap is_made h.1
 
-ends-unmade : (xs : List Event) → AreEnding xs → made xs ≡ []
+pub ends-unmade : (xs : List Event) → AreEnding xs → made xs ≡ []
 ends-unmade [] h = refl
 ends-unmade (x ∷ xs) h = ap (λ b. cond b (x ∷ made xs) (made xs)) (end-unmade x.deed h.0) ∙ ends-unmade xs h.1
 
@@ -56,7 +56,7 @@ ends-leave : (w : History) (actor : ℕ) (a b : Own) (n : ℕ) (d : Deed) → Is
 ends-leave w actor a b n d (inl h) s = ask-leaves w actor a b n h.0 h.1 (subst (λ (k : Deed). Step w actor a (event n k) b) h.2 s)
 ends-leave w actor a b n d (inr h) s = force-leaves w actor a b n h.0 (subst (λ (k : Deed). Step w actor a (event n k) b) h.1 s)
 
-ends-none : (xs : List Event) → AreEnding xs → LeavesNone xs
+pub ends-none : (xs : List Event) → AreEnding xs → LeavesNone xs
 ends-none [] h w actor a b none f = ap (λ (o : Own). o.tickets) (fits-empty w actor a b f) ∙ none
 ends-none (x ∷ xs) h w actor a b none f =
     let r = fits-first w actor a b x xs f in
@@ -66,7 +66,7 @@ end-settled : (d : Deed) (later : List Event) → IsEnding d → IsSettled d lat
 end-settled d later (inl h) = ask-settled d later h
 end-settled d later (inr h) = subst (λ (k : Deed). IsSettled k later) (sym h.1) tt
 
-ends-settled : (xs : List Event) → AreEnding xs → AreSettled xs
+pub ends-settled : (xs : List Event) → AreEnding xs → AreSettled xs
 ends-settled [] h = tt
 ends-settled (x ∷ xs) h = (end-settled x.deed xs h.0, ends-settled xs h.1)
 
@@ -111,7 +111,7 @@ reached-last w actor a b e (x ∷ events) f =
     let j : r.0.reached ≤ last_of (x ∷ events) = reached-last w actor r.0 b x events r.2 in
     omega arith
 
-last-behind : (xs : List Event) (y : Event) (ys : List Event) → last_of (xs ++ (y ∷ ys)) ≡ last_of (y ∷ ys)
+pub last-behind : (xs : List Event) (y : Event) (ys : List Event) → last_of (xs ++ (y ∷ ys)) ≡ last_of (y ∷ ys)
 last-behind [] y ys = refl
 last-behind (x ∷ []) y ys = refl
 last-behind (x ∷ k ∷ xs) y ys = last-behind (k ∷ xs) y ys

@@ -1,4 +1,6 @@
 pub mod Ends
+pub mod Parts
 pub mod Processes
+pub mod Returning
 pub mod Runs
 pub mod Wanting
