@@ -1,4 +1,4 @@
-//! Include-exclude lists: which files a client sends, and under which management class.
+//! What an administrator chooses: which files a client sends, and under which management class, by include-exclude lists; and which copy is moved next, by a stored closure.
 //!
 //! The rules stand in a list, and the last rule whose pattern matches a path decides. An INCLUDE rule binds the path to
 //! its class, or to the default class where it names none or one that the node's active policy set doesn't have; an EXCLUDE
@@ -6,12 +6,16 @@
 #![tactic(auto)]
 
 mod binder;
+mod candidate;
+mod chooser;
 mod classes;
 mod matching;
 mod rule;
 mod rule_text;
 
 pub use binder::Binder;
+pub use candidate::Candidate;
+pub use chooser::{Chooser, First};
 pub use classes::Classes;
 pub use matching::match_rules;
 pub use path_patterns::Pattern;

@@ -4,6 +4,7 @@ pub mod Ending
 pub mod Entries
 pub mod Listing
 pub mod Outcomes
+pub mod Parts
 pub mod Passing
 pub mod Returning
 pub mod Risen

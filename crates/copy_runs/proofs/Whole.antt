@@ -112,7 +112,7 @@ reached-last w actor a b e (x ∷ events) f =
     let j : r.0.reached ≤ last_of (x ∷ events) = reached-last w actor r.0 b x events r.2 in
     omega arith
 
-last-behind : (xs : List Event) (y : Event) (ys : List Event) → last_of (xs ++ (y ∷ ys)) ≡ last_of (y ∷ ys)
+pub last-behind : (xs : List Event) (y : Event) (ys : List Event) → last_of (xs ++ (y ∷ ys)) ≡ last_of (y ∷ ys)
 last-behind [] y ys = refl
 last-behind (x ∷ []) y ys = refl
 last-behind (x ∷ k ∷ xs) y ys = last-behind (k ∷ xs) y ys

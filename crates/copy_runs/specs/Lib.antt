@@ -1,4 +1,5 @@
 pub mod Ends
+pub mod Parts
 pub mod Processes
 pub mod Returning
 pub mod Runs

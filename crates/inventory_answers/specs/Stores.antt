@@ -1,5 +1,5 @@
 -- The rows of device classes, storage pools, volumes and database backups.
-use Rattle.std.specs.Prelude.{ℕ, ◌*◌, Bool, List, map, Option, Result, Ok, Err, if◌then◌else◌}
+use Rattle.std.specs.Prelude.{ℕ, ◌+◌, ◌*◌, nat_lt, Bool, List, map, Option, Some, None, Result, Ok, Err, if◌then◌else◌}
 use Rattle.std.specs.List.{flat_map}
 use Rattle.kinds.specs.declared.refusal.Refusal.{Refusal}
 use Rattle.inventory_rows.specs.version_groups.Entries.{on_ok}
@@ -8,7 +8,7 @@ use Rattle.inventory_rows.specs.volume_rows.Holdings.{live_bytes, used_blocks}
 use Rattle.inventory_rows.specs.volume_rows.Volumes.{status_of}
 use Rattle.inventory_rows.specs.pool_tables.declared.pool.Pool.{Pool}
 use Rattle.inventory_rows.specs.pool_rows.PoolRows.{PoolRows, is_sequential}
-use Rattle.inventory_rows.specs.pool_rows.Shares.{percent_of}
+use Rattle.inventory_rows.specs.pool_rows.Shares.{percent_at_most, percent_of}
 use Rattle.inventory_rows.specs.declared.backup.Backup.{Backup}
 use Rattle.inventory_answers.specs.declared.lines.DeviceLine.{DeviceLine}
 use Rattle.inventory_answers.specs.declared.lines.PoolLine.{PoolLine}
@@ -25,6 +25,14 @@ device_line c = record { name = c.0; capacity = c.1 }
 abbrev pub device_lines : PoolRows → List DeviceLine
 device_lines s = map device_line s.classes
 
+-- the first of this percentage and the next one that what is used of a pool doesn't exceed
+abbrev pub first_within : ℕ → ℕ → PoolRows → Option ℕ
+first_within pool percent s = if percent_at_most pool percent s then Some percent else (if percent_at_most pool (percent + 1) s then Some (percent + 1) else None)
+
+-- the least percentage that it doesn't exceed, up to 255: the one that is rounded down, or the next one
+abbrev pub least_of : ℕ → ℕ → PoolRows → Option ℕ
+least_of pool percent s = if nat_lt percent 255 then first_within pool percent s else None
+
 -- a storage pool, with its percentage and the name of the next pool
 abbrev pub pool_line : PoolRows → ℕ × Pool → PoolLine
 pool_line s p = record {
@@ -34,6 +42,7 @@ pool_line s p = record {
   class = p.1.class;
   next = next_name p.1.settings.next s;
   percent = percent_of p.0 s;
+  least = least_of p.0 (percent_of p.0 s) s;
   settings = p.1.settings;
 }
 

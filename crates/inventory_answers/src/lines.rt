@@ -131,6 +131,8 @@ pub struct PoolLine {
     pub next: Option<Name>,
     /// How much of the pool is used, in hundredths, rounded down.
     pub percent: u64,
+    /// The least of all whole percentages that what is used doesn't exceed: `percent`, or the next one. None where that is above 255, or something is used of nothing.
+    pub least: Option<u8>,
     /// The pool's settings, with the number of the next pool.
     pub settings: PoolRule,
 }

@@ -1,9 +1,9 @@
 // Device classes, storage pools, volumes and database backups.
-ghost use Rattle.std.specs.Prelude.{◌≡◌, Some, None};
+ghost use Rattle.std.specs.Prelude.{◌≡◌, ◌<◌, Some, None};
 ghost use Rattle.kinds.specs.Answers.{Answers, AnswersBy};
 ghost use Rattle.inventory_rows.specs.pool_rows.Shares.{percent_of};
 ghost use Rattle.inventory_work.specs.Lists.{Writes};
-ghost use Rattle.inventory_answers.specs.Stores.{device_line, device_lines, pool_line, pool_lines, pools_of, used_on, volume_line, volume_lines_of, volume_lines, volumes_of, backup_line, backup_lines};
+ghost use Rattle.inventory_answers.specs.Stores.{device_line, device_lines, first_within, least_of, pool_line, pool_lines, pools_of, used_on, volume_line, volume_lines_of, volume_lines, volumes_of, backup_line, backup_lines};
 
 use crate::lines::{BackupLine, DeviceLine, PoolLine, VolumeLine};
 use crate::look::{is_asked, name_of_pool, next_name, pool_asked, times, volume_asked};
@@ -45,17 +45,44 @@ fn percent_of(pools: &Pools, pool: u32) -> Result<u64, Refusal>
     }
 }
 
+/// The first of this percentage and the next one that what is used of a pool doesn't exceed.
+fn first_within(pools: &Pools, pool: u32, percent: u8) -> Option<u8>
+    requires { percent < 255 }
+    ensures { result ≡ first_within pool percent pools.now }
+{
+    if pools.percent_at_most(pool, percent) {
+        Some(percent)
+    } else if pools.percent_at_most(pool, percent + 1) {
+        Some(percent + 1)
+    } else {
+        None
+    }
+}
+
+/// The least percentage that what is used of a pool doesn't exceed, where this is the one that is rounded down.
+fn least_of(pools: &Pools, pool: u32, percent: u64) -> Option<u8>
+    ensures { result ≡ least_of pool percent pools.now }
+{
+    if percent < 255 {
+        first_within(pools, pool, percent as u8)
+    } else {
+        None
+    }
+}
+
 fn pool_line(pools: &Pools, number: u32, pool: &Pool) -> Result<PoolLine, Refusal>
     ensures { AnswersBy (λ line. line) result (pool_line pools.now (number, pool.now)) }
 {
     let settings = pool.settings.rule();
+    let percent = percent_of(pools, number)?;
     Ok(PoolLine {
         number,
         name: pool.name.clone()?,
         kind: pool.kind,
         class: pool.class.clone()?,
         next: next_name(pools, settings.next)?,
-        percent: percent_of(pools, number)?,
+        percent,
+        least: least_of(pools, number, percent),
         settings,
     })
 }

@@ -1,0 +1,6 @@
+pub mod Asking
+pub mod Marking
+pub mod Rows
+pub mod Sweeping
+pub mod Turning
+pub mod Whole

@@ -1,0 +1,326 @@
+-- Turns of a migration, one after the other, and how it breaks off.
+use Rattle.std.proofs.Common.{◌≡◌, ◌⊎◌, inl, inr, ℕ, ◌+◌, ◌≤◌, ◌==◌, Bool, true, false, List, [], ◌∷◌, ◌++◌, Option, Some, None, Result, Ok, Err, refl, sym, ap, ap₂, subst, ◌∙◌, arith, append_assoc}
+use Rattle.std.proofs.lemmas.Bool.{false≢true}
+use Rattle.std.proofs.lemmas.List.{append-nil}
+use Rattle.std.specs.List.{AllByRecursion}
+use Rattle.kinds.specs.Refusals.{number_of}
+use Rattle.kinds.specs.declared.refusal.Refusal.{Refusal}
+use Rattle.kinds.specs.declared.refusal.Refusal.TheVariants as refused
+use Rattle.entries.specs.declared.change.Change.{Change}
+use Rattle.inventory_answers.specs.declared.lines.PoolLine.{PoolLine}
+use Rattle.inventory_answers.specs.Stores.{pool_lines}
+use Rattle.inventory_answers.specs.declared.query.Query.{Query}
+use Rattle.inventory_answers.specs.declared.query.Query.TheVariants as query
+use Rattle.inventory_answers.specs.declared.reply.Answer.{Answer}
+use Rattle.inventory_rows.specs.version_groups.Entries.{is_nil}
+use Rattle.space.specs.declared.aim.Aim.{Aim}
+use Rattle.space.specs.declared.aim.Aim.TheVariants as aim
+use Rattle.steps.proofs.Joining.{GoesOn, call_then}
+use Rattle.steps.specs.Calls.{Call}
+use Rattle.steps.specs.Events.{Event, event}
+use Rattle.steps.specs.Events.Deed.{Ask, OpenCopy}
+use Rattle.steps.specs.Receipts.{made}
+use Rattle.machine.specs.Fits.{Fits, History, Own, Step, inv}
+use Rattle.machine.proofs.Runs.{fits-cut, fits-one, fits-rises}
+use Rattle.copy_attempts.proofs.Facts.{all-append, made-append, met-behind, settled-append}
+use Rattle.copy_attempts.specs.Outcomes.{AreSettled, IsOf, MetBy, may_leave}
+use Rattle.copy_pools.proofs.Missing.{asked-pools}
+use Rattle.copy_runs.specs.declared.wanted.Moved.{Moved}
+use Rattle.copy_runs.specs.declared.wanted.Wanted.{Wanted}
+use Rattle.copy_runs.specs.Ends.{AreAsking, AskedPools, IsAsking, IsStopped, IsUnlisted}
+use Rattle.copy_runs.specs.Parts.{Part, both_moved, none_moved}
+use Rattle.copy_runs.specs.Processes.{AreMoving}
+use Rattle.copy_runs.specs.Runs.{AreOfThese, EntersOnly, HasFailed, IsCausedByOne, IsEntered, IsEntryFor, LeavesNone, Run}
+use Rattle.copy_runs.specs.Wanting.{IsIn}
+use Rattle.copy_runs.proofs.Ending.{stopped-behind}
+use Rattle.copy_runs.proofs.Outcomes.{then-none}
+use Rattle.copy_runs.proofs.Parts.{none-behind, part-as, part-behind-asks, part-join, part-of-asks, part-of-run}
+use Rattle.copy_runs.proofs.Told.{reaches}
+use Rattle.copy_runs.proofs.Whole.{IsBegun, asks-begun, asks-unmade}
+use Rattle.migration.specs.Marks.{Looked, Looks, target}
+use Rattle.migration.specs.Migrating.{AreMigration, Breaks, EntersFrom, Going, GoesSo, HasFailedIn, IsBarred, IsEnteredIn, IsMigrating, IsMigration, Lowers, Migrates, Turning}
+use Rattle.migration.specs.Turns.{AreTried, AsksPool, Filled, FilledFrom, Fills, IsLow, IsOver, IsPicked, Lowered, Picks, Rest, Turned, Turns, unasked}
+
+-- ---- of the pool
+
+abbrev pub AreMigrating : (pool : ℕ) → List Wanted → Type 0
+AreMigrating pool wanted = (x : Wanted) → IsIn x wanted → IsMigrating pool x
+
+picked-migrates : (picks : Picks) (pool to : ℕ) (q s : Rest) (x : Wanted) → IsPicked picks pool to q s x → IsMigrating pool x
+picked-migrates picks pool to q s x h = (h.2, to, ap (λ (y : Wanted). y.aim) h.7)
+
+pub turns-migrate : (picks : Picks) (pool low : ℕ) (r s : Rest) (wanted : List Wanted) (events : List Event) → Turns picks pool low r s wanted events → AreMigrating pool wanted
+turns-migrate picks pool low r s [] events h x i = absurd i
+turns-migrate picks pool low r s (y ∷ wanted) events h x (inl is) = subst (λ (z : Wanted). IsMigrating pool z) is (picked-migrates picks pool h.2.3.0 h.2.3.1 h.0 y h.2.3.2)
+turns-migrate picks pool low r s (y ∷ wanted) events h x (inr i) = turns-migrate picks pool low h.0 s wanted h.2.1 h.2.4 x i
+
+one-migrates : (pool : ℕ) (x : Wanted) → IsMigrating pool x → AreMigrating pool (x ∷ [])
+one-migrates pool x m y (inl is) = subst (λ (z : Wanted). IsMigrating pool z) is m
+one-migrates pool x m y (inr i) = absurd i
+
+pub only-migration : (pool : ℕ) (wanted : List Wanted) (xs : List Event) → AreMigrating pool wanted → AreMoving wanted 0 xs → AreMigration pool xs
+only-migration pool wanted [] all h = tt
+only-migration pool wanted (e ∷ xs) all h = (
+  elim h.0 as (λ _. IsMigration pool e.deed) [
+    | inl ending ↦ inl ending
+    | inr one ↦ (let m = all one.0 one.1 in inr (one.0.object, m.0, m.1, subst (λ (to : Aim). IsOf one.0.object to 0 e.deed) m.2 one.2))
+  ],
+  only-migration pool wanted xs all h.1,
+)
+
+entered-in : (pool : ℕ) (wanted : List Wanted) (w : History) (actor : ℕ) (xs : List Event) → AreMigrating pool wanted → AllByRecursion (IsEntered w actor wanted) xs → AllByRecursion (IsEnteredIn pool w actor) xs
+entered-in pool wanted w actor [] all h = tt
+entered-in pool wanted w actor (e ∷ xs) all h =
+    let m = all h.0.0 h.0.2 in
+    ((h.0.0.object, m.0, m.1, h.0.1, subst (λ (to : Aim). IsEntryFor h.0.0.object to h.0.1) m.2 h.0.3, h.0.4), entered-in pool wanted w actor xs all h.1)
+
+pub enters-from : (pool : ℕ) (wanted : List Wanted) (xs : List Event) → AreMigrating pool wanted → EntersOnly wanted xs → EntersFrom pool xs
+enters-from pool wanted xs all h w actor a b none f = entered-in pool wanted w actor (made xs) all (h w actor a b none f)
+
+pub enters-both : (pool : ℕ) (xs ys : List Event) → EntersFrom pool xs → LeavesNone xs → EntersFrom pool ys → EntersFrom pool (xs ++ ys)
+enters-both pool xs ys h none_left g w actor a b none f =
+    let r = fits-cut w actor a b xs ys f in
+    subst (λ (es : List Event). AllByRecursion (IsEnteredIn pool w actor) es) (sym (made-append xs ys))
+    (all-append (IsEnteredIn pool w actor) (made xs) (made ys) (h w actor a r.0 none r.1) (g w actor r.0 b (none_left w actor a r.0 none r.1) r.2))
+
+failed-in : (pool : ℕ) (wanted : List Wanted) (events : List Event) (object : ℕ) → AreMigrating pool wanted → HasFailed wanted 0 events object → HasFailedIn pool events object
+failed-in pool wanted events object all h = (h.0, all h.0 h.4, (h.0, h.1, h.2, h.3, inl refl, h.5, h.6, h.7))
+
+pub each-failed : (pool : ℕ) (wanted : List Wanted) (events : List Event) (objects : List ℕ) → AreMigrating pool wanted → AllByRecursion (HasFailed wanted 0 events) objects → AllByRecursion (HasFailedIn pool events) objects
+each-failed pool wanted events [] all h = tt
+each-failed pool wanted events (o ∷ objects) all h = (failed-in pool wanted events o all h.0, each-failed pool wanted events objects all h.1)
+
+-- ---- what breaks off
+
+asks-break : (pool low : ℕ) (xs : List Event) (e : Refusal) → AreAsking xs → IsStopped xs e ⊎ IsBarred pool low xs e → Breaks pool low xs e
+asks-break pool low xs e asks cause =
+    let b : IsBegun xs = asks-begun xs asks in
+    let p : Part [] 0 xs none_moved = part-of-asks 0 xs asks in
+    let none : AreMigrating pool [] = λ x i. absurd i in
+    record {
+      cause = cause;
+      only = only-migration pool [] xs none p.only;
+      entries = enters-from pool [] xs none p.entries;
+      settled = λ leave. b.settled;
+      none_left = λ leave. b.none_left;
+    }
+
+pools-ask : (xs : List Event) (lines : List PoolLine) → AskedPools xs lines → AreAsking xs
+pools-ask xs lines h = subst AreAsking (sym h.2) ((query.Pools None, Ok h.1, refl), tt)
+
+pub looked-asks : (pool low : ℕ) (xs : List Event) (is : Result (Option ℕ) Refusal) → Looked pool low xs is → AreAsking xs
+looked-asks pool low xs is h = pools-ask xs h.0 h.1
+
+-- what the pools were by the answer, they are at that number
+pub goes-so : (pool low : ℕ) (xs : List Event) (is : Result (Option ℕ) Refusal) → Looked pool low xs is → GoesSo pool low xs is
+goes-so pool low xs is h w actor a b f =
+    let n : ℕ = h.1.0 in
+    let s : Step w actor a (event n (Ask (query.Pools None) (Ok h.1.1))) b =
+    fits-one w actor a b (event n (Ask (query.Pools None) (Ok h.1.1))) (subst (λ (es : List Event). Fits w actor a es b) h.1.2 f) in
+    let lines : h.0 ≡ pool_lines None (inv w n).stores = asked-pools w actor a b n h.1.1 h.0 s h.1.3 in
+    (n, s.since, reaches w actor a b (event n (Ask (query.Pools None) (Ok h.1.1))) s, ap (target pool low) (sym lines) ∙ h.2)
+
+pub look-breaks : (pool low : ℕ) (xs : List Event) (e : Refusal) → Looks pool low xs (Err e) → Breaks pool low xs e
+look-breaks pool low xs e (inl h) = asks-break pool low xs e h.1 (inl h.0)
+look-breaks pool low xs e (inr h) = asks-break pool low xs e (looked-asks pool low xs (Err e) h) (inr (inl (goes-so pool low xs (Err e) h)))
+
+unlisted-bars : (pool low : ℕ) (xs : List Event) (e : Refusal) → IsUnlisted (query.OnPool pool) xs e → IsStopped xs e ⊎ IsBarred pool low xs e
+unlisted-bars pool low xs e (inl h) = inl h
+unlisted-bars pool low xs e (inr h) = inr (inr (inl h))
+
+one-caused : (pool low : ℕ) (x : Wanted) (xs : List Event) (e : Refusal) → IsMigrating pool x → IsCausedByOne (x ∷ []) 0 xs e → IsStopped xs e ⊎ IsBarred pool low xs e
+one-caused pool low x xs e m h = elim h.2 as (λ _. IsStopped xs e ⊎ IsBarred pool low xs e) [
+  | inl memory ↦ inl (inl memory)
+  | inr more ↦ elim more as (λ _. IsStopped xs e ⊎ IsBarred pool low xs e) [
+    | inl met ↦ inl (inr met)
+    | inr gone ↦ (let k = one-migrates pool x m h.0 h.1 in
+        inr (inr (inr (gone.0, (h.0.object, k.0, k.1, subst (λ (to : Aim). MetBy (λ d. d ≡ OpenCopy h.0.object to 0 (Err e)) xs) k.2 gone.1)))))
+  ]
+]
+
+these-move : (wanted : List Wanted) (xs : List Event) → AreOfThese wanted 0 xs → AreMoving wanted 0 xs
+these-move wanted [] h = tt
+these-move wanted (e ∷ xs) h = (inr h.0, these-move wanted xs h.1)
+
+run-breaks : (pool low : ℕ) (x : Wanted) (xs : List Event) (e : Refusal) → IsMigrating pool x → Run (x ∷ []) 0 xs (Err e) → Breaks pool low xs e
+run-breaks pool low x xs e m r = record {
+  cause = one-caused pool low x xs e m r.outcome.0;
+  only = only-migration pool (x ∷ []) xs (one-migrates pool x m) (these-move (x ∷ []) xs r.only);
+  entries = enters-from pool (x ∷ []) xs (one-migrates pool x m) r.entries;
+  settled = r.outcome.1;
+  none_left = r.outcome.2;
+}
+
+-- ---- behind other steps
+
+so-behind : (pool low : ℕ) (xs ys : List Event) (is : Result (Option ℕ) Refusal) → GoesSo pool low ys is → GoesSo pool low (xs ++ ys) is
+so-behind pool low xs ys is h w actor a b f =
+    let r = fits-cut w actor a b xs ys f in
+    let g = h w actor r.0 b r.2 in
+    let rise : a.reached ≤ r.0.reached = fits-rises w actor a r.0 xs r.1 in
+    let low_then : r.0.reached ≤ g.0 = g.1 in
+    (g.0, omega arith, g.2, g.3)
+
+pub cause-behind : (pool low : ℕ) (xs ys : List Event) (e : Refusal) → IsStopped ys e ⊎ IsBarred pool low ys e → IsStopped (xs ++ ys) e ⊎ IsBarred pool low (xs ++ ys) e
+cause-behind pool low xs ys e (inl h) = inl (stopped-behind xs ys e h)
+cause-behind pool low xs ys e (inr (inl h)) = inr (inl (so-behind pool low xs ys (Err e) h))
+cause-behind pool low xs ys e (inr (inr (inl h))) = inr (inr (inl (h.0, met-behind (λ d. d ≡ Ask (query.OnPool pool) (Err e)) xs ys h.1)))
+cause-behind pool low xs ys e (inr (inr (inr h))) =
+    inr (inr (inr (h.0, (h.1.0, h.1.1, h.1.2, met-behind (λ d. d ≡ OpenCopy h.1.0 (aim.Move pool h.1.1 h.1.2 true) 0 (Err e)) xs ys h.1.3))))
+
+pub breaks-behind : (pool low : ℕ) (wanted : List Wanted) (xs ys : List Event) (m : Moved) (e : Refusal) → AreMigrating pool wanted → Part wanted 0 xs m → Breaks pool low ys e → Breaks pool low (xs ++ ys) e
+breaks-behind pool low wanted xs ys m e all p h = record {
+  cause = cause-behind pool low xs ys e h.cause;
+  only = all-append (λ x. IsMigration pool x.deed) xs ys (only-migration pool wanted xs all p.only) h.only;
+  entries = enters-both pool xs ys (enters-from pool wanted xs all p.entries) p.done.none_left h.entries;
+  settled = λ leave. settled-append xs ys p.done.settled (h.settled leave);
+  none_left = λ leave. then-none xs ys p.done.none_left (h.none_left leave);
+}
+
+asks-behind : (pool low : ℕ) (xs ys : List Event) (e : Refusal) → AreAsking xs → Breaks pool low ys e → Breaks pool low (xs ++ ys) e
+asks-behind pool low xs ys e asks h = breaks-behind pool low [] xs ys none_moved e (λ x i. absurd i) (part-of-asks 0 xs asks) h
+
+-- want of memory behind a part
+pub part-breaks : (pool low : ℕ) (wanted : List Wanted) (xs : List Event) (m : Moved) → AreMigrating pool wanted → Part wanted 0 xs m → Breaks pool low xs refused.Memory
+part-breaks pool low wanted xs m all p = record {
+  cause = inl (inl refl);
+  only = only-migration pool wanted xs all p.only;
+  entries = enters-from pool wanted xs all p.entries;
+  settled = λ leave. p.done.settled;
+  none_left = λ leave. p.done.none_left;
+}
+
+-- ---- one turn
+
+filled-asks : (pool : ℕ) (r q : Rest) (empty : Bool) (xs : List Event) → Filled empty pool r xs q → AreAsking xs
+filled-asks pool r q false xs h = subst AreAsking (sym h.0) tt
+filled-asks pool r q true xs h = subst AreAsking (sym h.2.1) ((query.OnPool pool, Ok h.0, refl), tt)
+
+-- the pool to which copies go, as it was told
+pub to-some : {S : Type 0} (did : S → List Event → S → Type 0) (p q : S) (pool low to : ℕ) (o : Option ℕ) → o ≡ Some to → Call did p q (λ events. Looks pool low events (Ok o))
+    → Call did p q (λ events. Looks pool low events (Ok (Some to)))
+to-some did p q pool low to o is a = subst (λ (k : Option ℕ). Call did p q (λ events. Looks pool low events (Ok k))) is a
+
+pub turning-as : {S : Type 0} (did : S → List Event → S → Type 0) (p q : S) (picks : Picks) (pool low : ℕ) (r s : Rest) (o k : Option Moved) → o ≡ k → Call did p q (λ events. Turning picks pool low r s events (Ok o))
+    → Call did p q (λ events. Turning picks pool low r s events (Ok k))
+turning-as did p q picks pool low r s o k is a = subst (λ (l : Option Moved). Call did p q (λ events. Turning picks pool low r s events (Ok l))) is a
+
+pub turn-low : {S : Type 0} (did : S → List Event → S → Type 0) (p q : S) (picks : Picks) (pool low : ℕ) (r s : Rest) → Call did p q (λ events. Looks pool low events (Ok None))
+    → Call did p q (λ events. Turning picks pool low r s events (Ok None))
+turn-low did p q picks pool low r s a = (a.0, a.1, inl a.2)
+
+pub turn-unlooked : {S : Type 0} (did : S → List Event → S → Type 0) (p q : S) (picks : Picks) (pool low : ℕ) (r s : Rest) (e : Refusal) → Call did p q (λ events. Looks pool low events (Err e))
+    → Call did p q (λ events. Turning picks pool low r s events (Err e))
+turn-unlooked did p q picks pool low r s e a = (a.0, a.1, look-breaks pool low a.0 e a.2)
+
+pub turn-unfilled : {S : Type 0} (did : S → List Event → S → Type 0) → GoesOn did → (p q t : S) (picks : Picks) (pool low to : ℕ) (r k s : Rest) (e : Refusal)
+    → Call did p q (λ events. Looks pool low events (Ok (Some to))) → Call did q t (λ events. Fills (is_nil r.candidates) pool r events k (Err e))
+    → Call did p t (λ events. Turning picks pool low r s events (Err e))
+turn-unfilled did goes p q t picks pool low to r k s e a b =
+    call_then did goes (λ events. Looks pool low events (Ok (Some to))) (λ events. Fills (is_nil r.candidates) pool r events k (Err e)) (λ events. Turning picks pool low r s events (Err e)) p q t a b
+    (λ xs ys f g. asks-behind pool low xs ys e (looked-asks pool low xs (Ok (Some to)) f) (asks-break pool low ys e g.1 (unlisted-bars pool low ys e g.0)))
+
+none-left : (picks : Picks) (pool low to : ℕ) (r k : Rest) (empty : Bool) (xs ys : List Event) → is_nil r.candidates ≡ empty → is_nil k.candidates ≡ true → Looked pool low xs (Ok (Some to)) → Filled empty pool r ys k
+    → IsOver pool low r (xs ++ ys)
+none-left picks pool low to r k true xs ys is none f g = inr (to, k, is, none, (xs, ys, refl, f, g))
+none-left picks pool low to r k false xs ys is none f g = absurd (false≢true (sym is ∙ ap (λ (l : Rest). is_nil l.candidates) (sym g.1) ∙ none))
+
+pub turn-tried : {S : Type 0} (did : S → List Event → S → Type 0) → GoesOn did → (p q t : S) (picks : Picks) (pool low to : ℕ) (r k s : Rest) → is_nil k.candidates ≡ true
+    → Call did p q (λ events. Looks pool low events (Ok (Some to))) → Call did q t (λ events. Fills (is_nil r.candidates) pool r events k (Ok tt))
+    → Call did p t (λ events. Turning picks pool low r s events (Ok None))
+turn-tried did goes p q t picks pool low to r k s none a b =
+    call_then did goes (λ events. Looks pool low events (Ok (Some to))) (λ events. Fills (is_nil r.candidates) pool r events k (Ok tt)) (λ events. Turning picks pool low r s events (Ok None)) p q t a b
+    (λ xs ys f g. none-left picks pool low to r k (is_nil r.candidates) xs ys refl none f g)
+
+abbrev turned_by : Result Moved Refusal → Result (Option Moved) Refusal
+turned_by (Ok m) = Ok (Some m)
+turned_by (Err e) = Err e
+
+turn-of : (picks : Picks) (pool low to : ℕ) (r k s : Rest) (x : Wanted) (result : Result Moved Refusal) (xs us vs : List Event) → IsPicked picks pool to k s x → Looked pool low xs (Ok (Some to))
+    → Filled (is_nil r.candidates) pool r us k → Run (x ∷ []) 0 vs result → Turning picks pool low r s (xs ++ (us ++ vs)) (turned_by result)
+turn-of picks pool low to r k s x (Ok m) xs us vs i f g h = (x, (to, k, i, (xs, us ++ vs, refl, f, (us, vs, refl, g, h))))
+turn-of picks pool low to r k s x (Err e) xs us vs i f g h =
+    asks-behind pool low xs (us ++ vs) e (looked-asks pool low xs (Ok (Some to)) f)
+    (asks-behind pool low us vs e (filled-asks pool r k (is_nil r.candidates) us g) (run-breaks pool low x vs e (picked-migrates picks pool to k s x i) h))
+
+pub turn-made : {S : Type 0} (did : S → List Event → S → Type 0) → GoesOn did → (p q t u : S) (picks : Picks) (pool low to : ℕ) (r k s : Rest) (x : Wanted) (wanted : List Wanted) (result : Result Moved Refusal)
+    → wanted ≡ x ∷ [] → IsPicked picks pool to k s x
+    → Call did p q (λ events. Looks pool low events (Ok (Some to))) → Call did q t (λ events. Fills (is_nil r.candidates) pool r events k (Ok tt)) → Call did t u (λ events. Run wanted 0 events result)
+    → Call did p u (λ events. Turning picks pool low r s events (turned_by result))
+turn-made did goes p q t u picks pool low to r k s x wanted result same i a b c =
+    let d : Call did t u (λ events. Run (x ∷ []) 0 events result) = subst (λ (ws : List Wanted). Call did t u (λ events. Run ws 0 events result)) same c in (
+      a.0 ++ (b.0 ++ d.0),
+      goes p q u a.0 (b.0 ++ d.0) a.1 (goes q t u b.0 d.0 b.1 d.1),
+      turn-of picks pool low to r k s x result a.0 b.0 d.0 i a.2 b.2 d.2,
+    )
+
+-- ---- several
+
+turns-more : (picks : Picks) (pool low : ℕ) (r s t : Rest) (wanted : List Wanted) (x : Wanted) (m : Moved) (xs ys : List Event) → Turns picks pool low r s wanted xs → Turned picks pool low s t x m ys
+    → Turns picks pool low r t (wanted ++ x ∷ []) (xs ++ ys)
+turns-more picks pool low r s t [] x m xs ys h g =
+    subst (λ (k : Rest). Turns picks pool low k t (x ∷ []) (xs ++ ys)) h.1
+    (t, m, (ys, [], ap (λ (es : List Event). es ++ ys) h.0 ∙ sym (append-nil ys), g, (refl, refl)))
+turns-more picks pool low r s t (y ∷ wanted) x m xs ys h g =
+    (h.0, h.1, (h.2.0, h.2.1 ++ ys, ap (λ (es : List Event). es ++ ys) h.2.2 ∙ append_assoc h.2.0 h.2.1 ys, h.2.3, turns-more picks pool low h.0 s t wanted x m h.2.1 ys h.2.4 g))
+
+turned-part : (picks : Picks) (pool low : ℕ) (r s : Rest) (x : Wanted) (m : Moved) (events : List Event) → Turned picks pool low r s x m events → Part (x ∷ []) 0 events m
+turned-part picks pool low r s x m events h =
+    part-as (x ∷ []) 0 (h.3.0 ++ (h.3.4.0 ++ h.3.4.1)) events m m (h.3.2 ∙ ap (λ (es : List Event). h.3.0 ++ es) h.3.4.2) refl
+    (part-behind-asks (x ∷ []) 0 h.3.0 (h.3.4.0 ++ h.3.4.1) m (looked-asks pool low h.3.0 (Ok (Some h.0)) h.3.3)
+    (part-behind-asks (x ∷ []) 0 h.3.4.0 h.3.4.1 m (filled-asks pool r h.1 (is_nil r.candidates) h.3.4.0 h.3.4.3) (part-of-run (x ∷ []) 0 h.3.4.1 m h.3.4.4)))
+
+pub going-start : {S : Type 0} (did : S → List Event → S → Type 0) → ((p : S) → did p [] p) → (p : S) (picks : Picks) (pool low : ℕ) (left : Rest) → left ≡ unasked
+    → Call did p p (λ events. Going picks pool low left events none_moved)
+going-start did stays p picks pool low left is = ([], stays p, record { wanted = []; order = (refl, is); part = part-of-asks 0 [] tt })
+
+going-more : (picks : Picks) (pool low : ℕ) (r s : Rest) (m k : Moved) (xs ys : List Event) → Going picks pool low r xs m → Turning picks pool low r s ys (Ok (Some k)) → Going picks pool low s (xs ++ ys) (both_moved m k)
+going-more picks pool low r s m k xs ys g t = record {
+  wanted = g.wanted ++ t.0 ∷ [];
+  order = turns-more picks pool low unasked r s g.wanted t.0 k xs ys g.order t.1;
+  part = part-join g.wanted (t.0 ∷ []) 0 xs ys m k g.part (turned-part picks pool low r s t.0 k ys t.1);
+}
+
+pub going-on : {S : Type 0} (did : S → List Event → S → Type 0) → GoesOn did → (p q t : S) (picks : Picks) (pool low : ℕ) (r s : Rest) (m k new : Moved) → new ≡ both_moved m k
+    → Call did p q (λ events. Going picks pool low r events m) → Call did q t (λ events. Turning picks pool low r s events (Ok (Some k)))
+    → Call did p t (λ events. Going picks pool low s events new)
+going-on did goes p q t picks pool low r s m k new same a b =
+    call_then did goes (λ events. Going picks pool low r events m) (λ events. Turning picks pool low r s events (Ok (Some k))) (λ events. Going picks pool low s events new) p q t a b
+    (λ xs ys f g. subst (λ (n : Moved). Going picks pool low s (xs ++ ys) n) (sym same) (going-more picks pool low r s m k xs ys f g))
+
+going-all : (picks : Picks) (pool low : ℕ) (r : Rest) (xs : List Event) (m : Moved) → (g : Going picks pool low r xs m) → AreMigrating pool g.wanted
+going-all picks pool low r xs m g = turns-migrate picks pool low unasked r g.wanted xs g.order
+
+pub going-breaks : {S : Type 0} (did : S → List Event → S → Type 0) → GoesOn did → (p q t : S) (picks : Picks) (pool low : ℕ) (r s : Rest) (m : Moved) (e : Refusal)
+    → Call did p q (λ events. Going picks pool low r events m) → Call did q t (λ events. Turning picks pool low r s events (Err e)) → Call did p t (λ events. Lowers picks pool low events (Err e))
+going-breaks did goes p q t picks pool low r s m e a b =
+    call_then did goes (λ events. Going picks pool low r events m) (λ events. Turning picks pool low r s events (Err e)) (λ events. Lowers picks pool low events (Err e)) p q t a b
+    (λ xs ys f g. breaks-behind pool low f.wanted xs ys m e (going-all picks pool low r xs m f) f.part g)
+
+pub going-ends : {S : Type 0} (did : S → List Event → S → Type 0) (p q : S) (picks : Picks) (pool low : ℕ) (r : Rest) (m : Moved) → Call did p q (λ events. Going picks pool low r events m)
+    → Call did p q (λ events. Lowers picks pool low events (Err refused.Memory))
+going-ends did p q picks pool low r m a = (a.0, a.1, part-breaks pool low a.2.wanted a.0 m (going-all picks pool low r a.0 m a.2) a.2.part)
+
+pub going-too-far : {S : Type 0} (did : S → List Event → S → Type 0) → GoesOn did → (p q t : S) (picks : Picks) (pool low : ℕ) (r s : Rest) (m k : Moved)
+    → Call did p q (λ events. Going picks pool low r events m) → Call did q t (λ events. Turning picks pool low r s events (Ok (Some k)))
+    → Call did p t (λ events. Lowers picks pool low events (Err refused.Memory))
+going-too-far did goes p q t picks pool low r s m k a b = going-ends did p t picks pool low s (both_moved m k) (going-on did goes p q t picks pool low r s m k (both_moved m k) refl a b)
+
+pub over-asks : (pool low : ℕ) (r : Rest) (xs : List Event) → IsOver pool low r xs → AreAsking xs
+over-asks pool low r xs (inl h) = looked-asks pool low xs (Ok None) h
+over-asks pool low r xs (inr h) =
+    subst AreAsking (sym h.4.2) (all-append (λ e. IsAsking e.deed) h.4.0 h.4.1 (looked-asks pool low h.4.0 (Ok (Some h.0)) h.4.3) (filled-asks pool r h.1 true h.4.1 h.4.4))
+
+migrates-over : (picks : Picks) (pool low : ℕ) (r : Rest) (m : Moved) (xs ys : List Event) → Going picks pool low r xs m → IsOver pool low r ys → Migrates picks pool low (xs ++ ys) m
+migrates-over picks pool low r m xs ys g o = record {
+  wanted = g.wanted;
+  order = (r, (xs, ys, refl, g.order, o));
+  part = subst (λ (ws : List Wanted). Part ws 0 (xs ++ ys) m) (append-nil g.wanted)
+      (part-as (g.wanted ++ []) 0 (xs ++ ys) (xs ++ ys) (both_moved m none_moved) m refl (sym (none-behind m)) (part-join g.wanted [] 0 xs ys m none_moved g.part (part-of-asks 0 ys (over-asks pool low r ys o))));
+}
+
+pub going-over : {S : Type 0} (did : S → List Event → S → Type 0) → GoesOn did → (p q t : S) (picks : Picks) (pool low : ℕ) (r s : Rest) (m : Moved)
+    → Call did p q (λ events. Going picks pool low r events m) → Call did q t (λ events. Turning picks pool low r s events (Ok None)) → Call did p t (λ events. Lowers picks pool low events (Ok m))
+going-over did goes p q t picks pool low r s m a b =
+    call_then did goes (λ events. Going picks pool low r events m) (λ events. Turning picks pool low r s events (Ok None)) (λ events. Lowers picks pool low events (Ok m)) p q t a b
+    (λ xs ys f g. migrates-over picks pool low r m xs ys f g)

@@ -1,0 +1,4 @@
+pub mod Marks
+pub mod Migrating
+pub mod Sweeping
+pub mod Turns

@@ -1,0 +1,141 @@
+//! Which copies are to be restored.
+ghost use Rattle.std.specs.Prelude.{◌≡◌, [], ◌∷◌};
+ghost use Rattle.std.specs.List.{flat_map};
+ghost use Rattle.kinds.specs.Answers.{AnswersBy};
+ghost use Rattle.steps.specs.Calls.{Call};
+ghost use Rattle.pool_restores.specs.Listing.{Adds, Collects, destroyed_file, destroyed_of, is_destroyed, is_of, is_that, is_there, is_wanted_of, restoring, with_one};
+
+use crate::asking::list;
+use copy_runs::Wanted;
+use inventory_answers::{PoolLine, VolumeLine};
+use inventory_work::{CopyLine, Listed};
+use kinds::{Access, Refusal};
+use space::Aim;
+use std::alloc::Global;
+use steps::Stepper;
+
+fn is_destroyed(access: Access) -> bool
+    ensures { result ≡ is_destroyed access }
+{
+    match access {
+        Access::ReadWrite => false,
+        Access::ReadOnly => false,
+        Access::Unavailable => false,
+        Access::Offsite => false,
+        Access::Destroyed => true,
+    }
+}
+
+/// The files of the volumes on which what they held is lost.
+pub(crate) fn destroyed_of(alloc: Global, lines: &[VolumeLine]) -> Result<Vec<u32>, Refusal>
+    ensures { AnswersBy (λ files. files.items) result (destroyed_of lines.now) }
+{
+    let mut files = Vec::new(alloc);
+    'lines: for line in lines {
+        if is_destroyed(line.access) {
+            files.push(line.file)?;
+        }
+    }
+    Ok(files)
+}
+
+/// Whether the pool is among these.
+pub(crate) fn is_there(lines: &[PoolLine], pool: u32) -> bool
+    ensures { result ≡ is_there pool lines.now }
+{
+    lines.iter().any(|line| line.number == pool)
+}
+
+/// The copy that is wanted in the place of one.
+fn restoring(line: &CopyLine) -> Wanted
+    ensures { result ≡ restoring line.now }
+{
+    Wanted {
+        object: line.object,
+        aim: Aim::Move {
+            from: line.pool,
+            placed: line.placed,
+            to: line.pool,
+            along: true,
+        },
+        size: line.size,
+    }
+}
+
+/// Whether the aim is of the copy in this pool that this transaction placed.
+fn is_that(pool: u32, placed: u64, aim: Aim) -> bool
+    ensures { result ≡ is_that pool placed aim }
+{
+    match aim {
+        Aim::New { .. } => false,
+        Aim::Move {
+            from,
+            placed: by,
+            ..
+        } => from == pool && by == placed,
+        Aim::Copy { .. } => false,
+    }
+}
+
+/// Whether the copy is wanted already.
+fn is_wanted_of(line: &CopyLine, wanted: &[Wanted]) -> bool
+    ensures { result ≡ is_wanted_of line.now wanted.now }
+{
+    wanted.iter().any(|x| x.object == line.object && is_that(line.pool, line.placed, x.aim))
+}
+
+/// Whether the copy lies in the pool that is to be restored, or any pool is.
+fn is_of(pool: Option<u32>, line: &CopyLine) -> bool
+    ensures { result ≡ is_of pool line.now }
+{
+    match pool {
+        Some(pool) => line.pool == pool,
+        None => true,
+    }
+}
+
+/// Adds the copy, where it is of the pool and isn't wanted yet.
+fn add_one(wanted: &mut Vec<Wanted>, pool: Option<u32>, line: &CopyLine) -> Result<(), Refusal>
+    ensures { Adds pool (line.now ∷ []) wanted.old.items wanted.new.items result }
+{
+    if is_of(pool, line) && !is_wanted_of(line, wanted.as_slice()) {
+        wanted.push(restoring(line))?;
+    }
+    Ok(())
+}
+
+/// Adds these copies, those that are of the pool and aren't wanted yet.
+fn add_all(wanted: &mut Vec<Wanted>, pool: Option<u32>, lines: &[CopyLine]) -> Result<(), Refusal>
+    ensures { Adds pool lines.now wanted.old.items wanted.new.items result }
+{
+    'lines: for line in lines {
+        match add_one(wanted, pool, line) {
+            Ok(()) => (),
+            Err(refusal) => return Err(refusal),
+        }
+    }
+    Ok(())
+}
+
+/// Asks for the copies on these volumes, volume after volume, and answers which are wanted with them: those in the pool, where one is named, and each once.
+pub(crate) fn collect<P: Stepper>(
+    alloc: Global,
+    p: &mut P,
+    pool: Option<u32>,
+    files: &[u32],
+) -> Result<Listed<Wanted>, Refusal>
+    ensures { Call P.did p.old p.new (λ events. Collects pool files.now events result) }
+{
+    let mut wanted = Vec::new(alloc);
+    'files: for place in 0..files.len() {
+        let lines = match list(p, files[place]) {
+            Ok(lines) => lines,
+            Err(refusal) => return Err(refusal),
+        };
+        match add_all(&mut wanted, pool, lines.as_slice()) {
+            Ok(()) => (),
+            Err(refusal) => return Err(refusal),
+        }
+    }
+    Ok(Listed::from_vec(wanted))
+}
