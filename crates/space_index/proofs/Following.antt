@@ -28,7 +28,7 @@ use Rattle.pool_rows.specs.PoolRows.{PoolRows, is_sequential, is_sequential_at}
 use Rattle.pool_rows.specs.Segments.{with_volumes, put_segment, take_segment}
 use Rattle.space.specs.declared.places.Placed.{Placed}
 use Rattle.space.specs.declared.claims.Claim.{Claim}
-use Rattle.space.specs.Claims.{Claims, held, released, noted, forced}
+use Rattle.space.specs.Claims.{Claims, held, released, noted, forgotten, forced}
 use Rattle.space.specs.Volumes.{is_writable}
 use Rattle.space_index.specs.declared.standing.Standing.{Standing}
 use Rattle.space_index.specs.declared.random.RandomIndex.{RandomIndex}
@@ -98,6 +98,11 @@ release_index i s c number claim there is =
     counts_same i (shape_at s) (times_at s c) (and_places claim.places (times_at s (released number c))) (λ f k.
     omega (arith, sum_by-removed (λ t. places_reach t.1.places f k) (is_at (nat_cmp number)) number (number_same number) c.tickets claim there)) is
 
+pub forget_index : (i : RandomIndex) (s : PoolRows) (c : Claims) (number : ℕ) (places : List Placed) → row_at number c.freed ≡ Some places → IsRandomIndexOf i s c → IsIndexBy i (shape_at s) (and_places places (times_at s (forgotten number c)))
+forget_index i s c number places there is =
+    counts_same i (shape_at s) (times_at s c) (and_places places (times_at s (forgotten number c))) (λ f k.
+    omega (arith, sum_by-removed (λ t. places_reach t.1 f k) (is_at (nat_cmp number)) number (number_same number) c.freed places there)) is
+
 -- what transactions took away, as far as it is still noted
 abbrev pub and_freed : List (ℕ × List Placed) → (ℕ → ℕ → ℕ) → ℕ → ℕ → ℕ
 and_freed freed times file block = times file block + freed_reach freed file block
@@ -134,6 +139,29 @@ gone_index i s t c file changes gone is =
     index_unless i (shape_at t) (shape_at t) (times_at s c) (times_at t c) (λ f. refl) (λ f. elim (cases_eq f file) [
       | inl same ↦ inl (ap (λ (n : ℕ). shape_at t n) same ∙ ap (shape_of_row t) gone)
       | inr apart ↦ inr (times_else file s t c changes f apart)
+    ]) is
+
+-- the volume isn't one of random access any more
+pub aside_index : (i : RandomIndex) (s t : PoolRows) (c : Claims) (file : ℕ) → ChangesAt file s t → shape_at t file ≡ None → IsIndexBy i (shape_at t) (times_at s c) → IsRandomIndexOf i t c
+aside_index i s t c file changes none is =
+    index_unless i (shape_at t) (shape_at t) (times_at s c) (times_at t c) (λ f. refl) (λ f. elim (cases_eq f file) [
+      | inl same ↦ inl (ap (shape_at t) same ∙ none)
+      | inr apart ↦ inr (times_else file s t c changes f apart)
+    ]) is
+
+-- where a volume isn't there, what is said of it is nothing to the index
+pub missing_index : (i : RandomIndex) (s : PoolRows) (c : Claims) (x : Segment) → row_at x.file s.volumes ≡ None → IsIndexBy i (shape_at s) (and_segment x (times_at s c)) → IsRandomIndexOf i s c
+missing_index i s c x absent is =
+    index_unless i (shape_at s) (shape_at s) (and_segment x (times_at s c)) (times_at s c) (λ f. refl) (λ f. elim (cases_eq f x.file) [
+      | inl same ↦ inl (ap (shape_at s) same ∙ ap (shape_of_row s) absent)
+      | inr apart ↦ inr (λ k. let none : there_reach x f k ≡ 0 = ap (λ (b : Bool). if b then reach x k else 0) (ne_eqb x.file f (λ h. apart (sym h))) in omega (arith, none))
+    ]) is
+
+pub missing_ready : (i : RandomIndex) (s : PoolRows) (c : Claims) (x : Segment) → row_at x.file s.volumes ≡ None → IsRandomIndexOf i s c → IsIndexBy i (shape_at s) (and_segment x (times_at s c))
+missing_ready i s c x absent is =
+    index_unless i (shape_at s) (shape_at s) (times_at s c) (and_segment x (times_at s c)) (λ f. refl) (λ f. elim (cases_eq f x.file) [
+      | inl same ↦ inl (ap (shape_at s) same ∙ ap (shape_of_row s) absent)
+      | inr apart ↦ inr (λ k. let none : there_reach x f k ≡ 0 = ap (λ (b : Bool). if b then reach x k else 0) (ne_eqb x.file f (λ h. apart (sym h))) in omega (arith, none))
     ]) is
 
 shaped : ℕ → Bool → ℕ → Option Shape

@@ -19,7 +19,7 @@ use Rattle.space_index.proofs.Numbers.{Ascends, ascends_sorted, ascends_rest, no
 first_apart : (q k : ℕ) (v : Volume) (rest : Option Volume) → q ≢ k → cond (is_at (nat_cmp q) k) (Some v) rest ≡ rest
 first_apart q k v rest apart = ap (λ (b : Bool). cond b (Some v) rest) (apart_at q k apart)
 
-inserted_other : (k q : ℕ) (v : Volume) (rows : List (ℕ × Volume)) → q ≢ k → row_at q (with_row k v rows) ≡ row_at q rows
+pub inserted_other : (k q : ℕ) (v : Volume) (rows : List (ℕ × Volume)) → q ≢ k → row_at q (with_row k v rows) ≡ row_at q rows
 inserted_other k q v [] apart = first_apart q k v None apart
 inserted_other k q v (e ∷ rows) apart =
     elim (nat_cmp k e.0) as (λ o. nat_cmp k e.0 ≡ o → row_at q (match_ordering o ((k, v) ∷ e ∷ rows) ((e.0, v) ∷ rows) (e ∷ with_row k v rows)) ≡ row_at q (e ∷ rows)) [

@@ -6,7 +6,7 @@ ghost use Rattle.pool_rows.specs.PoolRows.{PoolRows, is_sequential};
 ghost use Rattle.pool_rows.specs.Segments.{put_segment, take_segment};
 ghost use Rattle.volume_rows.specs.declared.volume.Volume.{Volume};
 ghost use Rattle.space.specs.declared.site.Site.{Site};
-ghost use Rattle.space.specs.Claims.{Claims, held, released, noted, forced};
+ghost use Rattle.space.specs.Claims.{Claims, held, released, noted, forgotten, forced};
 ghost use Rattle.space_index.specs.Index.{shape_at, claims_reach};
 ghost use Rattle.space_index.specs.Tails.{AreElse, AreTails, tail_at, IsIndexWith, IsIndexOf};
 ghost use Rattle.space_index.specs.Updates.{ChangesAt, IsAccessOf};
@@ -75,6 +75,14 @@ impl Index {
         Ok(())
     }
 
+    /// A transaction that was to take these segments away wasn't made: what was noted under its number goes.
+    pub fn forget(&mut self, places: &Places) -> Result<(), AllocError>
+        ensures { (s : PoolRows) (c : Claims) (sites : ℕ → Option Site) (number : ℕ) → IsIndexWith self.old s c sites → row_at number c.freed ≡ Some places.now → OnOk result (IsIndexWith self.new s (forgotten number c) sites) }
+    {
+        self.random.forget(places)?;
+        Ok(())
+    }
+
     /// Every transaction is forced: `space` is as it was before. It takes time for the segments that they took away.
     pub fn force(&mut self, space: &Space) -> Result<(), AllocError>
         ensures { (s : PoolRows) (sites : ℕ → Option Site) → IsIndexWith self.old s space.now sites → OnOk result (IsIndexWith self.new s (forced space.now) sites) }
@@ -85,19 +93,31 @@ impl Index {
 
     // ---- rows
 
-    /// A segment of a copy comes. Its volume is to be looked at, once the transaction's other segments came and went.
+    /// A segment of a copy comes. Its volume is to be looked at, once the transaction's other segments came and went. Where the volume isn't
+    /// there, no segment comes.
     pub fn put_copy(&mut self, segment: &Segment) -> Result<(), AllocError>
-        ensures { (s t : PoolRows) (c : Claims) (sites : ℕ → Option Site) (object : ℕ) → IsIndexWith self.old s c sites → put_segment object segment.now s ≡ Ok t → OnOk result (IsIndexWith self.new t c sites) }
+        ensures missing { (s : PoolRows) (c : Claims) (sites : ℕ → Option Site) → IsIndexWith self.old s c sites → row_at segment.now.file s.volumes ≡ None → OnOk result (IsIndexWith self.new s c sites) }
+        ensures comes { (s t : PoolRows) (c : Claims) (sites : ℕ → Option Site) (object : ℕ) → IsIndexWith self.old s c sites → put_segment object segment.now s ≡ Ok t → OnOk result (IsIndexWith self.new t c sites) }
     {
         self.random.put_copy(segment)?;
         Ok(())
     }
 
-    /// A segment of a copy goes. Its volume is to be looked at, once the transaction's other segments came and went.
+    /// A segment of a copy goes. Its volume is to be looked at, once the transaction's other segments came and went. Where the volume isn't
+    /// there, no segment goes.
     pub fn take_copy(&mut self, segment: &Segment) -> Result<(), AllocError>
-        ensures { (s t : PoolRows) (c : Claims) (sites : ℕ → Option Site) (object today : ℕ) → IsIndexWith self.old s c sites → take_segment object segment.now today s ≡ Ok t → OnOk result (IsIndexWith self.new t c sites) }
+        ensures missing { (s : PoolRows) (c : Claims) (sites : ℕ → Option Site) → IsIndexWith self.old s c sites → row_at segment.now.file s.volumes ≡ None → OnOk result (IsIndexWith self.new s c sites) }
+        ensures goes { (s t : PoolRows) (c : Claims) (sites : ℕ → Option Site) (object today : ℕ) → IsIndexWith self.old s c sites → take_segment object segment.now today s ≡ Ok t → OnOk result (IsIndexWith self.new t c sites) }
     {
         self.random.take_copy(segment)?;
+        Ok(())
+    }
+
+    /// A volume is none of random access now: it went, or one that is sequential has its number. It is to be looked at.
+    pub fn set_aside(&mut self, file: u32) -> Result<(), AllocError>
+        ensures { (s t : PoolRows) (c : Claims) (sites : ℕ → Option Site) → IsIndexWith self.old s c sites → ChangesAt file s t → shape_at t file ≡ None → OnOk result (IsIndexWith self.new t c sites) }
+    {
+        self.random.set_aside(file)?;
         Ok(())
     }
 

@@ -4,11 +4,11 @@ ghost use Rattle.std.specs.Prelude.{◌≡◌, ℕ, ◌+◌, ◌*◌, false, Som
 ghost use Rattle.pool_tables.specs.Rows.{row_at};
 ghost use Rattle.pool_rows.specs.PoolRows.{PoolRows, is_sequential};
 ghost use Rattle.pool_rows.specs.Segments.{put_segment, take_segment};
-ghost use Rattle.space.specs.Claims.{Claims, held, released, noted, forced};
+ghost use Rattle.space.specs.Claims.{Claims, held, released, noted, forgotten, forced};
 ghost use Rattle.volume_rows.specs.declared.volume.Volume.{Volume};
 ghost use Rattle.volume_rows.specs.Holdings.{weight_of};
 ghost use Rattle.space_index.specs.Counts.{reach, AreCounted};
-ghost use Rattle.space_index.specs.Index.{Shape, IsIndexBy, IsRandomIndexOf, segment_on, claims_reach, tickets_reach, freed_reach};
+ghost use Rattle.space_index.specs.Index.{Shape, IsIndexBy, IsRandomIndexOf, segment_on, shape_at, claims_reach, tickets_reach, freed_reach};
 ghost use Rattle.space_index.specs.Updates.{and_places, ChangesAt, IsAccessOf, rows_with, nothing};
 
 use crate::blocks::Blocks;
@@ -67,6 +67,14 @@ impl RandomIndex {
         Ok(())
     }
 
+    /// A transaction that was to take these segments away wasn't made: what was noted under its number goes.
+    pub fn forget(&mut self, places: &Places) -> Result<(), AllocError>
+        ensures { (s : PoolRows) (c : Claims) (number : ℕ) → IsRandomIndexOf self.old s c → row_at number c.freed ≡ Some places.now → OnOk result (IsRandomIndexOf self.new s (forgotten number c)) }
+    {
+        self.take_all(places.as_slice())?;
+        Ok(())
+    }
+
     /// Every transaction is forced: `space` is as it was before. It takes time for the segments that they took away.
     pub fn force(&mut self, space: &Space) -> Result<(), AllocError>
         ensures { (s : PoolRows) → IsRandomIndexOf self.old s space.now → OnOk result (IsRandomIndexOf self.new s (forced space.now)) }
@@ -79,17 +87,19 @@ impl RandomIndex {
 
     // ---- rows
 
-    /// A segment of a copy comes.
+    /// A segment of a copy comes. Where its volume isn't there, none does.
     pub fn put_copy(&mut self, segment: &Segment) -> Result<(), AllocError>
-        ensures { (s t : PoolRows) (c : Claims) (object : ℕ) → IsRandomIndexOf self.old s c → put_segment object segment.now s ≡ Ok t → OnOk result (IsRandomIndexOf self.new t c) }
+        ensures missing { (s : PoolRows) (c : Claims) → IsRandomIndexOf self.old s c → row_at segment.now.file s.volumes ≡ None → OnOk result (IsRandomIndexOf self.new s c) }
+        ensures comes { (s t : PoolRows) (c : Claims) (object : ℕ) → IsRandomIndexOf self.old s c → put_segment object segment.now s ≡ Ok t → OnOk result (IsRandomIndexOf self.new t c) }
     {
         self.put(segment)?;
         Ok(())
     }
 
-    /// A segment of a copy goes.
+    /// A segment of a copy goes. Where its volume isn't there, none does.
     pub fn take_copy(&mut self, segment: &Segment) -> Result<(), AllocError>
-        ensures { (s t : PoolRows) (c : Claims) (object today : ℕ) → IsRandomIndexOf self.old s c → take_segment object segment.now today s ≡ Ok t → OnOk result (IsRandomIndexOf self.new t c) }
+        ensures missing { (s : PoolRows) (c : Claims) → IsRandomIndexOf self.old s c → row_at segment.now.file s.volumes ≡ None → OnOk result (IsRandomIndexOf self.new s c) }
+        ensures goes { (s t : PoolRows) (c : Claims) (object today : ℕ) → IsRandomIndexOf self.old s c → take_segment object segment.now today s ≡ Ok t → OnOk result (IsRandomIndexOf self.new t c) }
     {
         self.take(segment)?;
         Ok(())
@@ -98,6 +108,14 @@ impl RandomIndex {
     /// A volume goes.
     pub fn remove_volume(&mut self, file: u32) -> Result<(), AllocError>
         ensures { (s t : PoolRows) (c : Claims) → IsRandomIndexOf self.old s c → ChangesAt file s t → row_at file t.volumes ≡ None → OnOk result (IsRandomIndexOf self.new t c) }
+    {
+        self.remove(file)?;
+        Ok(())
+    }
+
+    /// A volume is none of random access now: it went, or one that is sequential has its number.
+    pub fn set_aside(&mut self, file: u32) -> Result<(), AllocError>
+        ensures { (s t : PoolRows) (c : Claims) → IsRandomIndexOf self.old s c → ChangesAt file s t → shape_at t file ≡ None → OnOk result (IsRandomIndexOf self.new t c) }
     {
         self.remove(file)?;
         Ok(())

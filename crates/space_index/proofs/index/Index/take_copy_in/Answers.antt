@@ -10,5 +10,5 @@ pub returns : goal.returns
 returns c = λ s claims object today is made.
     let t = c.args.pools.now in
     let x = c.args.segment.now in
-    c.in_ok-look_at.ensures t claims (tail_at s) (tail_at t) (c.in_ok-take_copy.ensures s t claims (tail_at s) object today is made)
+    c.in_ok-look_at.ensures t claims (tail_at s) (tail_at t) (c.in_ok-take_copy.ensures.goes s t claims (tail_at s) object today is made)
     (tails_else x.file s t (changed_at s t x.file (take (is_sequential_at x.file s) (held_of object x) today) made)) refl

@@ -1,0 +1,4 @@
+pub mod Effects
+pub mod Going
+pub mod Rows
+pub mod Taken

@@ -1,0 +1,231 @@
+//! How the index follows a transaction.
+ghost use Rattle.std.specs.Prelude.{◌≡◌, ℕ, List, [], ◌∷◌, ◌++◌, map, OnOk};
+ghost use Rattle.std.specs.List.{flat_map};
+ghost use Rattle.kinds.specs.declared.segment.Segment.{Segment};
+ghost use Rattle.entries.specs.change_items.declared.items.ScratchVolume.{ScratchVolume};
+ghost use Rattle.inventory_rows.specs.State.{Inv};
+ghost use Rattle.inventory_rules.specs.Transactions.{effect};
+ghost use Rattle.pool_rows.specs.PoolRows.{PoolRows, is_sequential};
+ghost use Rattle.space.specs.Claims.{Claims};
+ghost use Rattle.space_index.specs.Tails.{IsIndexOf};
+ghost use Rattle.kept_index.specs.Following.{AreLeaving, IsUnderway, Remains};
+ghost use Rattle.kept_index.specs.Steps.{IsLegalOn, gone, is_elsewhere, of_object, only_takes, puts, scratches};
+ghost use Rattle.kept_index.specs.Kept.{IsIndexed};
+
+use entries::Change;
+use entries::change_items::{NewCopy, NewHeldObject, NewVersion, ScratchVolume};
+use kinds::Segment;
+use pool_rows::Pools;
+use space::Placed;
+use space_index::Index;
+use std::alloc::AllocError;
+
+/// Why an index can't follow a transaction.
+#[derive(Clone, Copy, Debug)]
+pub enum Lost {
+    /// There is too little memory.
+    Memory,
+    /// The transaction is of a kind that isn't followed.
+    Kind,
+}
+
+impl From<AllocError> for Lost {
+    fn from(_: AllocError) -> Self {
+        Lost::Memory
+    }
+}
+
+/// An item of a change that brings a copy of an object.
+trait Brings {
+    /// The object, and the copy's segments.
+    ghost brought: { Self → ℕ × List Segment };
+
+    /// The object.
+    fn object(&self) -> u64
+        ensures { result ≡ (brought self.now).0 };
+
+    /// The copy's segments.
+    fn segments(&self) -> &[Segment]
+        ensures { result.now ≡ (brought self.now).1 };
+}
+
+impl Brings for NewVersion {
+    ghost brought = { λ i. (i.object, i.segments) };
+
+    fn object(&self) -> u64 {
+        self.object
+    }
+
+    fn segments(&self) -> &[Segment] {
+        self.segments.as_slice()
+    }
+}
+
+impl Brings for NewHeldObject {
+    ghost brought = { λ i. (i.object, i.segments) };
+
+    fn object(&self) -> u64 {
+        self.object
+    }
+
+    fn segments(&self) -> &[Segment] {
+        self.segments.as_slice()
+    }
+}
+
+impl Brings for NewCopy {
+    ghost brought = { λ i. (i.object, i.segments) };
+
+    fn object(&self) -> u64 {
+        self.object
+    }
+
+    fn segments(&self) -> &[Segment] {
+        self.segments.as_slice()
+    }
+}
+
+/// A scratch volume is made for a sequential pool.
+fn make_scratch(index: &mut Index, pools: &Pools, volume: &ScratchVolume) -> Result<(), Lost>
+    ensures { (c : Claims) (full : PoolRows) (xs : List ScratchVolume) (es : List (ℕ × Segment)) → Remains index.old c (volume.now ∷ xs) es full pools.now → OnOk result (Remains index.new c xs es full pools.now) }
+{
+    if !pools.is_sequential(volume.pool) {
+        return Err(Lost::Kind);
+    }
+    index.set_aside(volume.file)?;
+    index.look_at(pools, volume.file)?;
+    Ok(())
+}
+
+fn make_all(index: &mut Index, pools: &Pools, scratch: &[ScratchVolume]) -> Result<(), Lost>
+    ensures { (c : Claims) (full : PoolRows) (es : List (ℕ × Segment)) → Remains index.old c scratch.now es full pools.now → OnOk result (Remains index.new c [] es full pools.now) }
+{
+    'volumes: for volume in scratch {
+        make_scratch(index, pools, volume)?;
+    }
+    Ok(())
+}
+
+/// A segment of an object comes, where its volume is there.
+fn put_one(index: &mut Index, pools: &Pools, object: u64, segment: &Segment) -> Result<(), Lost>
+    ensures { (c : Claims) (full : PoolRows) (es : List (ℕ × Segment)) → Remains index.old c [] ((object, segment.now) ∷ es) full pools.now → OnOk result (Remains index.new c [] es full pools.now) }
+{
+    index.put_copy(segment)?;
+    index.look_at(pools, segment.file)?;
+    Ok(())
+}
+
+fn put_all(index: &mut Index, pools: &Pools, object: u64, segments: &[Segment]) -> Result<(), Lost>
+    ensures { (c : Claims) (full : PoolRows) (es : List (ℕ × Segment)) → Remains index.old c [] (of_object (object, segments.now) ++ es) full pools.now → OnOk result (Remains index.new c [] es full pools.now) }
+{
+    'segments: for segment in segments {
+        put_one(index, pools, object, segment)?;
+    }
+    Ok(())
+}
+
+fn put_items<I: Brings>(index: &mut Index, pools: &Pools, items: &[I]) -> Result<(), Lost>
+    ensures { (c : Claims) (full : PoolRows) → Remains index.old c [] (flat_map (λ i. of_object (I.brought i)) items.now) full pools.now → OnOk result (Remains index.new c [] [] full pools.now) }
+{
+    'items: for item in items {
+        put_all(index, pools, item.object(), item.segments())?;
+    }
+    Ok(())
+}
+
+/// Scratch volumes are made, and then copies come.
+fn bring<I: Brings>(
+    index: &mut Index,
+    pools: &Pools,
+    scratch: &[ScratchVolume],
+    items: &[I],
+) -> Result<(), Lost>
+    ensures { (s full : PoolRows) (c : Claims) → IsUnderway index.old c s pools.now → puts (flat_map (λ i. of_object (I.brought i)) items.now) (scratches scratch.now s) ≡ full → ((pool : ℕ) → is_sequential pool pools.now ≡ is_sequential pool full)
+        → OnOk result (IsUnderway index.new c full pools.now) }
+{
+    make_all(index, pools, scratch)?;
+    put_items(index, pools, items)?;
+    Ok(())
+}
+
+/// A segment of an object goes, where its volume is there.
+fn take_one(index: &mut Index, pools: &Pools, segment: &Segment) -> Result<(), Lost>
+    ensures { (c : Claims) (today object : ℕ) (es : List (ℕ × Segment)) → AreLeaving index.old c today ((object, segment.now) ∷ es) pools.now → OnOk result (AreLeaving index.new c today es pools.now) }
+{
+    index.take_copy(segment)?;
+    index.look_at(pools, segment.file)?;
+    Ok(())
+}
+
+/// Segments go, each from its volume, whatever their objects are.
+fn take_all(index: &mut Index, pools: &Pools, taken: &[Placed]) -> Result<(), Lost>
+    ensures { (c : Claims) (today : ℕ) (es : List (ℕ × Segment)) → map (λ e. e.1) es ≡ map (λ p. p.segment) taken.now → AreLeaving index.old c today es pools.now → OnOk result (AreLeaving index.new c today [] pools.now) }
+{
+    'taken: for place in taken {
+        take_one(index, pools, &place.segment)?;
+    }
+    Ok(())
+}
+
+/// The change leaves pools and volumes as they are.
+fn is_elsewhere(change: &Change) -> bool
+    ensures { result ≡ is_elsewhere change.now }
+{
+    match change {
+        Change::Day { .. }
+        | Change::Policy(_)
+        | Change::Object(_)
+        | Change::Rebind(_)
+        | Change::Gone(_)
+        | Change::DbBegin { .. }
+        | Change::DbEnd { .. }
+        | Change::DbDelete { .. } => true,
+        _ => false,
+    }
+}
+
+/// The change takes segments from their volumes, and does nothing else to pools and volumes.
+fn only_takes(change: &Change) -> bool
+    ensures { result ≡ only_takes change.now }
+{
+    match change {
+        Change::Expire(_) | Change::Discard(_) => true,
+        _ => false,
+    }
+}
+
+/// The index behind a transaction that brings copies; a change of another kind isn't followed.
+fn follow_brought(index: &mut Index, change: &Change, pools: &Pools) -> Result<(), Lost>
+    ensures { (v : Inv) (c : Claims) → IsIndexOf index.old v.stores c → pools.now ≡ (effect change.now v).stores → OnOk result (IsIndexOf index.new pools.now c) }
+{
+    match change {
+        Change::Backup(it) => bring(index, pools, it.scratch.as_slice(), it.items.as_slice()),
+        Change::Hold(it) => bring(index, pools, it.scratch.as_slice(), it.items.as_slice()),
+        Change::Copy(it) => bring(index, pools, it.scratch.as_slice(), it.items.as_slice()),
+        _ => Err(Lost::Kind),
+    }
+}
+
+/// The index behind a transaction with this change, which took these segments away.
+fn follow(index: &mut Index, change: &Change, taken: &[Placed], pools: &Pools) -> Result<(), Lost>
+    ensures { (v : Inv) (c : Claims) → IsIndexOf index.old v.stores c → IsLegalOn change.now v → map (λ p. p.segment) taken.now ≡ gone change.now v → pools.now ≡ (effect change.now v).stores → OnOk result (IsIndexOf index.new pools.now c) }
+{
+    if is_elsewhere(change) {
+        return Ok(());
+    }
+    if only_takes(change) {
+        return take_all(index, pools, taken);
+    }
+    follow_brought(index, change, pools)
+}
+
+/// The index of the rows behind a transaction with this change, which took these segments away; or none.
+pub fn followed(index: Index, change: &Change, taken: &[Placed], pools: &Pools) -> Option<Index>
+    ensures { (v : Inv) (c : Claims) → IsIndexOf index v.stores c → IsLegalOn change.now v → map (λ p. p.segment) taken.now ≡ gone change.now v → pools.now ≡ (effect change.now v).stores → IsIndexed result pools.now c }
+{
+    let mut index = index;
+    match follow(&mut index, change, taken, pools) {
+        Ok(()) => Some(index),
+        Err(_) => None,
+    }
+}
