@@ -9,8 +9,9 @@ use Rattle.steps.specs.Events.{Event}
 use Rattle.steps.specs.Receipts.{is_forced, made, receipts}
 use Rattle.machine.specs.Fits.{Fits, History, Own}
 use Rattle.machine.proofs.Runs.{fits-cut, fits-rises}
-use Rattle.copy_attempts.proofs.Facts.{all-append, made-append, settled-append}
-use Rattle.copy_attempts.specs.Outcomes.{AreSettled}
+use Rattle.copy_attempts.proofs.Facts.{all-append, made-append}
+use Rattle.steps.proofs.Spending.{settled-append}
+use Rattle.steps.specs.Spent.{AreSettled}
 use Rattle.copy_runs.specs.declared.wanted.Moved.{Moved}
 use Rattle.copy_runs.specs.declared.wanted.Wanted.{Wanted}
 use Rattle.copy_runs.specs.Ends.{AreAsking, AreEnding}

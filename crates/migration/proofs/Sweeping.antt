@@ -15,7 +15,8 @@ use Rattle.steps.specs.Events.Deed.{Force}
 use Rattle.steps.specs.Receipts.{is_forced, made, receipts}
 use Rattle.machine.specs.Fits.{Fits, History, Own}
 use Rattle.machine.proofs.Runs.{fits-cut}
-use Rattle.copy_attempts.proofs.Facts.{all-append, made-append, settled-append}
+use Rattle.copy_attempts.proofs.Facts.{all-append, made-append}
+use Rattle.steps.proofs.Spending.{settled-append}
 use Rattle.copy_attempts.specs.Attempts.{stopping}
 use Rattle.copy_attempts.specs.Outcomes.{IsOf, may_leave}
 use Rattle.copy_runs.specs.declared.wanted.Moved.{Moved}

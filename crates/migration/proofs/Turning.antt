@@ -22,8 +22,10 @@ use Rattle.steps.specs.Events.Deed.{Ask, OpenCopy}
 use Rattle.steps.specs.Receipts.{made}
 use Rattle.machine.specs.Fits.{Fits, History, Own, Step, inv}
 use Rattle.machine.proofs.Runs.{fits-cut, fits-one, fits-rises}
-use Rattle.copy_attempts.proofs.Facts.{all-append, made-append, met-behind, settled-append}
-use Rattle.copy_attempts.specs.Outcomes.{AreSettled, IsOf, MetBy, may_leave}
+use Rattle.copy_attempts.proofs.Facts.{all-append, made-append, met-behind}
+use Rattle.steps.proofs.Spending.{settled-append}
+use Rattle.copy_attempts.specs.Outcomes.{IsOf, MetBy, may_leave}
+use Rattle.steps.specs.Spent.{AreSettled}
 use Rattle.copy_pools.proofs.Missing.{asked-pools}
 use Rattle.copy_runs.specs.declared.wanted.Moved.{Moved}
 use Rattle.copy_runs.specs.declared.wanted.Wanted.{Wanted}

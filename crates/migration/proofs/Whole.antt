@@ -8,7 +8,8 @@ use Rattle.steps.specs.Calls.{Call, Does, risen}
 use Rattle.steps.specs.Events.{Event, event}
 use Rattle.steps.specs.Events.Deed.{Force}
 use Rattle.steps.specs.Receipts.{is_forced, receipts}
-use Rattle.copy_attempts.proofs.Facts.{all-append, settled-append, some-memory}
+use Rattle.copy_attempts.proofs.Facts.{all-append, some-memory}
+use Rattle.steps.proofs.Spending.{settled-append}
 use Rattle.copy_attempts.specs.Attempts.{stopping}
 use Rattle.copy_runs.specs.declared.wanted.Moved.{Moved}
 use Rattle.copy_runs.specs.declared.wanted.Wanted.{Wanted}

@@ -14,7 +14,8 @@ use Rattle.steps.specs.Events.{Deed, Event, event}
 use Rattle.steps.specs.Events.Deed.{Ask, Force, OpenCopy}
 use Rattle.steps.specs.Receipts.{made, receipts}
 use Rattle.machine.specs.Fits.{Fits, History, Own, inv}
-use Rattle.copy_attempts.specs.Outcomes.{AreSettled, IsOf, MetBy, may_leave}
+use Rattle.copy_attempts.specs.Outcomes.{IsOf, MetBy, may_leave}
+use Rattle.steps.specs.Spent.{AreSettled}
 use Rattle.copy_runs.specs.declared.wanted.Moved.{Moved}
 use Rattle.copy_runs.specs.declared.wanted.Wanted.{Wanted}
 use Rattle.copy_runs.specs.Ends.{IsEnding, IsStopped, IsUnlisted, first_of, last_of}

@@ -11,7 +11,8 @@ use Rattle.steps.specs.Calls.{Then}
 use Rattle.steps.specs.Events.{Deed, Event}
 use Rattle.steps.specs.Receipts.{made, receipts}
 use Rattle.machine.specs.Fits.{Fits, History, Own}
-use Rattle.copy_attempts.specs.Outcomes.{AreSettled, IsOf, may_leave}
+use Rattle.copy_attempts.specs.Outcomes.{IsOf, may_leave}
+use Rattle.steps.specs.Spent.{AreSettled}
 use Rattle.copy_runs.specs.declared.wanted.Moved.{Moved}
 use Rattle.copy_runs.specs.declared.wanted.Wanted.{Wanted}
 use Rattle.copy_runs.specs.Ends.{AskedPools, IsEnding, IsStopped, Unanswered}

@@ -16,8 +16,10 @@ use Rattle.steps.specs.Receipts.{is_made, made}
 use Rattle.machine.specs.Fits.{Fits, History, Own, Step}
 use Rattle.machine.specs.State.{without}
 use Rattle.machine.proofs.Runs.{fits-cut, fits-first}
-use Rattle.copy_attempts.proofs.Facts.{all-append, made-append, met-before, met-behind, settled-append}
-use Rattle.copy_attempts.specs.Outcomes.{AreSettled, IsSettled, Met, MetBy, may_leave}
+use Rattle.copy_attempts.proofs.Facts.{all-append, made-append, met-before, met-behind}
+use Rattle.steps.proofs.Spending.{settled-append}
+use Rattle.copy_attempts.specs.Outcomes.{Met, MetBy, may_leave}
+use Rattle.steps.specs.Spent.{AreSettled, IsSettled}
 use Rattle.copy_runs.specs.declared.wanted.Moved.{Moved}
 use Rattle.copy_runs.specs.declared.wanted.Wanted.{Wanted}
 use Rattle.copy_runs.specs.Ends.{AreAsking, IsAsking, IsStopped, IsUnlisted}

@@ -18,7 +18,8 @@ use Rattle.steps.specs.Events.{Deed, Event, has_number}
 use Rattle.steps.specs.Events.Deed.{Ask, Commit}
 use Rattle.steps.specs.Receipts.{made}
 use Rattle.machine.specs.Fits.{Fits, History, Own, inv}
-use Rattle.copy_attempts.specs.Outcomes.{AreSettled, Met, MetBy, may_leave}
+use Rattle.copy_attempts.specs.Outcomes.{Met, MetBy, may_leave}
+use Rattle.steps.specs.Spent.{AreSettled}
 use Rattle.copy_runs.specs.declared.wanted.Moved.{Moved}
 use Rattle.copy_runs.specs.declared.wanted.Wanted.{Wanted}
 use Rattle.copy_runs.specs.Ends.{IsStopped, first_of, last_of}

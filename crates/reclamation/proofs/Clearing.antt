@@ -13,8 +13,9 @@ use Rattle.steps.specs.Events.{Event}
 use Rattle.steps.specs.Events.Deed.{OpenCopy}
 use Rattle.steps.specs.Receipts.{made}
 use Rattle.machine.proofs.Runs.{fits-cut}
-use Rattle.copy_attempts.proofs.Facts.{all-append, made-append, met-behind, settled-append}
-use Rattle.copy_attempts.specs.Outcomes.{AreSettled}
+use Rattle.copy_attempts.proofs.Facts.{all-append, made-append, met-behind}
+use Rattle.steps.proofs.Spending.{settled-append}
+use Rattle.steps.specs.Spent.{AreSettled}
 use Rattle.copy_runs.specs.declared.wanted.Moved.{Moved}
 use Rattle.copy_runs.specs.declared.wanted.Wanted.{Wanted}
 use Rattle.copy_runs.specs.Ends.{AreAsking, AreEnding, Finished, Finishes, IsStopped, Unanswered}

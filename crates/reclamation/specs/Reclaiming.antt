@@ -22,7 +22,8 @@ use Rattle.steps.specs.Events.Deed.{Ask, OpenCopy}
 use Rattle.steps.specs.Receipts.{receipts}
 use Rattle.machine.specs.Fits.{Fits, History, Own, inv}
 use Rattle.copy_attempts.specs.Attempts.{stopping}
-use Rattle.copy_attempts.specs.Outcomes.{AreSettled, MetBy, may_leave}
+use Rattle.copy_attempts.specs.Outcomes.{MetBy, may_leave}
+use Rattle.steps.specs.Spent.{AreSettled}
 use Rattle.copy_runs.specs.declared.wanted.Moved.{Moved}
 use Rattle.copy_runs.specs.Ends.{AreAsking, AskedPools, Finished, IsEnding, IsStopped, IsUnlisted, Unanswered, first_of, last_of}
 use Rattle.copy_runs.specs.Returning.{AreValid, Holds, is_kept}
