@@ -72,6 +72,8 @@ done text = counting text 0
 -- how many failed
 abbrev pub failed_in : Outcome → ℕ
 failed_in (Said (shown.Copied copied failed)) = failed
+failed_in (Said (shown.Moved moved failed reused)) = failed
+failed_in (Said (shown.RestoredCopies restored failed reused)) = failed
 failed_in it = 0
 
 -- the answer of a command in line n that came to this

@@ -7,11 +7,11 @@ use Rattle.admin_words.specs.declared.command.DatabaseCommand.TheVariants.{Day, 
 use Rattle.admin_words.specs.declared.command.NodeCommand.{NodeCommand}
 use Rattle.admin_words.specs.declared.command.NodeCommand.TheVariants.{DeleteFilespace}
 use Rattle.admin_words.specs.declared.command.PoolCommand.{PoolCommand}
-use Rattle.admin_words.specs.declared.command.PoolCommand.TheVariants.{BackupPool}
+use Rattle.admin_words.specs.declared.command.PoolCommand.TheVariants.{BackupPool, ReclaimPool, RestorePool}
 use Rattle.admin_words.specs.declared.command.VolumeCommand.{VolumeCommand}
-use Rattle.admin_words.specs.declared.command.VolumeCommand.TheVariants.{DeleteVolume, ReuseVolumes}
+use Rattle.admin_words.specs.declared.command.VolumeCommand.TheVariants.{DeleteVolume, MoveData, RestoreVolume, ReuseVolumes}
 use Rattle.reports.specs.declared.shown.Shown.{Shown}
-use Rattle.reports.specs.declared.shown.Shown.TheVariants.{DiscardedFilespace, Expired, Reused}
+use Rattle.reports.specs.declared.shown.Shown.TheVariants.{DiscardedFilespace, Expired, Moved, RestoredCopies, Reused}
 use Rattle.command_steps.specs.declared.outcome.Outcome.{Outcome}
 use Rattle.command_steps.specs.declared.outcome.Outcome.TheVariants.{Said}
 
@@ -27,10 +27,14 @@ node_behind _ = no_more
 
 abbrev pub pool_behind : PoolCommand → Behind
 pool_behind (BackupPool b) = forces
+pool_behind (ReclaimPool r) = reuses
+pool_behind (RestorePool p) = reuses
 pool_behind _ = no_more
 
 abbrev pub volume_behind : VolumeCommand → Behind
 volume_behind (DeleteVolume d) = if d.discard_data then forces else no_more
+volume_behind (MoveData m) = reuses
+volume_behind (RestoreVolume v) = reuses
 volume_behind ReuseVolumes = reuses
 volume_behind _ = no_more
 
@@ -54,6 +58,8 @@ abbrev pub line_reused : ℕ → Shown → Shown
 line_reused number (Reused before) = Reused number
 line_reused number (Expired expired before) = Expired expired number
 line_reused number (DiscardedFilespace discarded before) = DiscardedFilespace discarded number
+line_reused number (Moved moved failed before) = Moved moved failed number
+line_reused number (RestoredCopies restored failed before) = RestoredCopies restored failed number
 line_reused number it = it
 
 abbrev pub with_reused : ℕ → Outcome → Outcome

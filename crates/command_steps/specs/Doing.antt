@@ -1,5 +1,5 @@
 -- What a command does, step by step, whoever makes the steps.
-use Rattle.std.specs.Prelude.{◌≡◌, ◌⊎◌, ℕ, true, List, [], ◌∷◌, ◌++◌, None, Some, Result, Ok, Err}
+use Rattle.std.specs.Prelude.{◌≡◌, ◌⊎◌, ℕ, min, true, List, [], ◌∷◌, ◌++◌, None, Some, Result, Ok, Err}
 use Rattle.kinds.specs.declared.refusal.Refusal.{Refusal}
 use Rattle.kinds.specs.declared.refusal.Refusal.TheVariants.{LogFault, Memory, RunFull, TreeFault, UnknownWord}
 use Rattle.choosers.specs.declared.rule.Rule.{Rule}
@@ -15,13 +15,19 @@ use Rattle.admin_words.specs.declared.policy.NamedSet.{NamedSet}
 use Rattle.admin_commands.specs.Orders.{needs, work_of}
 use Rattle.admin_commands.specs.declared.work.Work.{Work}
 use Rattle.admin_commands.specs.declared.work.Work.TheVariants.{Commit, Show, Run}
-use Rattle.reports.specs.declared.shown.Shown.TheVariants.{Copied, DeletedVolume, DiscardedFilespace, Done, Expired, Reused, Stored}
+use Rattle.reports.specs.declared.shown.Shown.{Shown}
+use Rattle.reports.specs.declared.shown.Shown.TheVariants.{Copied, DeletedVolume, DiscardedFilespace, Done, Expired, RestoredCopies, Reused, Stored}
+use Rattle.reports.specs.declared.shown.Shown.TheVariants as shown
 use Rattle.copy_pools.specs.Backups.{Backup}
 use Rattle.copy_runs.specs.declared.wanted.Moved.{Moved}
 use Rattle.deletions.specs.Filespaces.{FilespaceDeletion}
 use Rattle.deletions.specs.Volumes.{VolumeDeletion}
 use Rattle.deletions.specs.declared.copies.Removed.{Removed}
 use Rattle.expiration.specs.Expiring.{Expiration}
+use Rattle.pool_restores.specs.Restoring.{PoolRestore}
+use Rattle.pool_restores.specs.Volumes.{VolumeRestore}
+use Rattle.reclamation.specs.Moving.{DataMove}
+use Rattle.reclamation.specs.Reclaiming.{Reclamation}
 use Rattle.reuse_delay.specs.Reusing.{VolumeReuse}
 use Rattle.sessions.specs.Changing.{Changing}
 use Rattle.sessions.specs.Checkpoints.{Checkpointing}
@@ -33,7 +39,7 @@ use Rattle.steps.specs.Calls.{IsStep, Made, Then}
 use Rattle.steps.specs.Events.{Event}
 use Rattle.steps.specs.Events.Deed.{Ask, Force}
 use Rattle.command_steps.specs.Behind.{Behind, behind, forces, no_more, reuses, with_reused}
-use Rattle.command_steps.specs.Owns.{Own, back_up_pool, checkpoint, empty_filespace, empty_volume, expire, file_put, get, last_of, none_but_reuse, none_yet, own_of, put, row_put, validate}
+use Rattle.command_steps.specs.Owns.{Mover, Own, back_up_pool, checkpoint, data_mover, empty_filespace, empty_volume, expire, file_put, get, last_of, moves, none_but_reuse, none_yet, own_of, pool_restorer, put, reclaimer, row_put, validate, volume_restorer}
 use Rattle.command_steps.specs.declared.outcome.Outcome.{Outcome}
 use Rattle.command_steps.specs.declared.outcome.Outcome.TheVariants.{Read, Rows, Said}
 
@@ -99,6 +105,20 @@ abbrev pub the_second : List ℕ → ℕ
 the_second [] = 0
 the_second (number ∷ others) = the_number others
 
+-- copies are moved, over these two numbers; a percentage is 100 at most
+abbrev pub MovesSo : Mover → (first second : ℕ) → List Event → Result Moved Refusal → Type 0
+MovesSo data_mover first second events result = DataMove first second events result
+MovesSo reclaimer first second events result = Reclamation first (min second 100) events result
+MovesSo pool_restorer first second events result = PoolRestore first events result
+MovesSo volume_restorer first second events result = VolumeRestore first events result
+
+-- the last line of a command that moved so many, before any volume is used again
+abbrev pub moved_line : Mover → Moved → Shown
+moved_line data_mover m = shown.Moved m.moved m.failed 0
+moved_line reclaimer m = shown.Moved m.moved m.failed 0
+moved_line pool_restorer m = RestoredCopies m.moved m.failed 0
+moved_line volume_restorer m = RestoredCopies m.moved m.failed 0
+
 -- work of a command's own, over the numbers of the things that it names; what isn't done so far is refused like an unknown word
 abbrev pub DoesOwn : List Rule → Own → List ℕ → List Event → Result Outcome Refusal → Type 0
 DoesOwn choice (validate set) numbers events result = Validates set events result
@@ -109,6 +129,7 @@ DoesOwn choice expire numbers events result = Gives Expiration (λ expired. Said
 DoesOwn choice empty_filespace numbers events result = Gives (FilespaceDeletion (the_number numbers)) (λ discarded. Said (DiscardedFilespace discarded 0)) events result
 DoesOwn choice empty_volume numbers events result = Gives (VolumeDeletion true (the_number numbers)) (λ (went : Removed). Said (DeletedVolume went.discarded went.dropped)) events result
 DoesOwn choice back_up_pool numbers events result = Gives (Backup (the_number numbers) (the_second numbers)) (λ (copies : Moved). Said (Copied copies.moved copies.failed)) events result
+DoesOwn choice (moves mover) numbers events result = Gives (MovesSo mover (the_number numbers) (the_second numbers)) (λ (m : Moved). Said (moved_line mover m)) events result
 DoesOwn choice none_but_reuse numbers events result = (events ≡ []) × (result ≡ Ok (Said (Reused 0)))
 DoesOwn choice none_yet numbers events result = (events ≡ []) × (result ≡ Err (UnknownWord 1))
 

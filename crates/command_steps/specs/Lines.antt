@@ -7,9 +7,9 @@ use Rattle.admin_words.specs.Line.{command}
 use Rattle.admin_words.specs.declared.command.Command.{Command}
 use Rattle.admin_words.specs.declared.command.Command.TheVariants as commands
 use Rattle.admin_words.specs.declared.command.PoolCommand.{PoolCommand}
-use Rattle.admin_words.specs.declared.command.PoolCommand.TheVariants.{MigrateAll, MigratePool, ReclaimPool, RestorePool}
+use Rattle.admin_words.specs.declared.command.PoolCommand.TheVariants.{MigrateAll, MigratePool}
 use Rattle.admin_words.specs.declared.command.VolumeCommand.{VolumeCommand}
-use Rattle.admin_words.specs.declared.command.VolumeCommand.TheVariants.{AuditVolume, MoveData, RestoreVolume}
+use Rattle.admin_words.specs.declared.command.VolumeCommand.TheVariants.{AuditVolume}
 use Rattle.admin_words.specs.declared.command.FileCommand.{FileCommand}
 use Rattle.admin_words.specs.declared.command.FileCommand.TheVariants.{Get, Put}
 use Rattle.admin_words.specs.declared.command.DatabaseCommand.{DatabaseCommand}
@@ -19,14 +19,10 @@ use Rattle.admin_words.specs.declared.command.DatabaseCommand.TheVariants.{Backu
 abbrev pub does_pool : PoolCommand → Bool
 does_pool MigrateAll = false
 does_pool (MigratePool m) = false
-does_pool (ReclaimPool r) = false
-does_pool (RestorePool p) = false
 does_pool _ = true
 
 abbrev pub does_volume : VolumeCommand → Bool
 does_volume (AuditVolume a) = false
-does_volume (MoveData m) = false
-does_volume (RestoreVolume v) = false
 does_volume _ = true
 
 abbrev pub does_file : FileCommand → Bool

@@ -17,17 +17,25 @@ use Rattle.admin_words.specs.declared.command.NodeCommand.TheVariants.{DeleteFil
 use Rattle.admin_words.specs.declared.command.PolicyCommand.{PolicyCommand}
 use Rattle.admin_words.specs.declared.command.PolicyCommand.TheVariants.{ValidateSet}
 use Rattle.admin_words.specs.declared.command.PoolCommand.{PoolCommand}
-use Rattle.admin_words.specs.declared.command.PoolCommand.TheVariants.{BackupPool}
+use Rattle.admin_words.specs.declared.command.PoolCommand.TheVariants.{BackupPool, ReclaimPool, RestorePool}
 use Rattle.admin_words.specs.declared.command.VolumeCommand.{VolumeCommand}
-use Rattle.admin_words.specs.declared.command.VolumeCommand.TheVariants.{DeleteVolume, ReuseVolumes}
+use Rattle.admin_words.specs.declared.command.VolumeCommand.TheVariants.{DeleteVolume, MoveData, RestoreVolume, ReuseVolumes}
 use Rattle.admin_words.specs.declared.files.FileGet.{FileGet}
 use Rattle.admin_words.specs.declared.files.FilePut.{FilePut}
 use Rattle.admin_words.specs.declared.policy.NamedSet.{NamedSet}
 use Rattle.reports.specs.declared.shown.Shown.{Shown}
 use Rattle.reports.specs.declared.shown.Shown.TheVariants.{DeletedVolume, Done, Reused}
 
+-- What moves copies: MOVE DATA, over the numbers of a volume's file and of a pool or 0; RECLAIM STGPOOL, over a pool's number and a percentage; RESTORE STGPOOL, over a pool's number; RESTORE VOLUME, over that
+-- of a volume's file
+pub data Mover : Type 0 where
+  data_mover : Mover
+  reclaimer : Mover
+  pool_restorer : Mover
+  volume_restorer : Mover
+
 -- VALIDATE of a policy set, PUT, GET, CHECKPOINT, EXPIRE INVENTORY; DELETE FILESPACE, and DELETE VOLUME with its data, over the number of what they name; REUSE VOLUMES, which does nothing but what
--- comes behind it; BACKUP STGPOOL, over the numbers of a primary pool and of a copy pool; and what isn't done so far
+-- comes behind it; BACKUP STGPOOL, over the numbers of a primary pool and of a copy pool; what moves copies; and what isn't done so far
 pub data Own : Type 0 where
   validate : (set : NamedSet) → Own
   put : (file : FilePut) → Own
@@ -38,6 +46,7 @@ pub data Own : Type 0 where
   empty_volume : Own
   none_but_reuse : Own
   back_up_pool : Own
+  moves : (mover : Mover) → Own
   none_yet : Own
 
 abbrev pub policy_own : PolicyCommand → Own
@@ -60,10 +69,14 @@ node_own _ = none_yet
 
 abbrev pub pool_own : PoolCommand → Own
 pool_own (BackupPool b) = back_up_pool
+pool_own (ReclaimPool r) = moves reclaimer
+pool_own (RestorePool p) = moves pool_restorer
 pool_own _ = none_yet
 
 abbrev pub volume_own : VolumeCommand → Own
 volume_own (DeleteVolume d) = if d.discard_data then empty_volume else none_yet
+volume_own (MoveData m) = moves data_mover
+volume_own (RestoreVolume v) = moves volume_restorer
 volume_own ReuseVolumes = none_but_reuse
 volume_own _ = none_yet
 

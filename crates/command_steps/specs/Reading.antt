@@ -7,13 +7,21 @@ use Rattle.command_steps.specs.declared.behind.Behind.TheVariants.{Forces, NoMor
 use Rattle.command_steps.specs.declared.lines.Line as code
 use Rattle.command_steps.specs.declared.lines.Line.TheVariants.{Asks, Comment, Refused}
 use Rattle.command_steps.specs.declared.own.Own.{Own}
-use Rattle.command_steps.specs.declared.own.Own.TheVariants.{BackUpPool, Checkpoint, EmptyFilespace, EmptyVolume, Expire, Get, NoneButReuse, NoneYet, Put, Validate}
+use Rattle.command_steps.specs.declared.own.Own.TheVariants.{BackUpPool, Checkpoint, EmptyFilespace, EmptyVolume, Expire, Get, Moves, NoneButReuse, NoneYet, Put, Validate}
+use Rattle.command_steps.specs.declared.own.Mover.{Mover}
+use Rattle.command_steps.specs.declared.own.Mover.TheVariants.{MoveData, Reclaim, RestorePool, RestoreVolume}
 
 -- what the code's value stands for
 abbrev pub line_view : code.Line → Line
 line_view Comment = comment
 line_view (Refused why) = refused why
 line_view (Asks command) = asks command
+
+abbrev pub mover_view : Mover → owns.Mover
+mover_view MoveData = owns.data_mover
+mover_view Reclaim = owns.reclaimer
+mover_view RestorePool = owns.pool_restorer
+mover_view RestoreVolume = owns.volume_restorer
 
 abbrev pub own_view : Own → owns.Own
 own_view (Validate set) = owns.validate set.now
@@ -25,6 +33,7 @@ own_view EmptyFilespace = owns.empty_filespace
 own_view EmptyVolume = owns.empty_volume
 own_view NoneButReuse = owns.none_but_reuse
 own_view BackUpPool = owns.back_up_pool
+own_view (Moves mover) = owns.moves (mover_view mover)
 own_view NoneYet = owns.none_yet
 
 abbrev pub behind_view : Behind → comes.Behind

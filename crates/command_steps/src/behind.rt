@@ -38,6 +38,7 @@ fn pool_behind(command: &PoolCommand) -> Behind
 {
     match command {
         PoolCommand::BackupPool(_) => Behind::Forces,
+        PoolCommand::ReclaimPool(_) | PoolCommand::RestorePool(_) => Behind::Reuses,
         _ => Behind::NoMore,
     }
 }
@@ -53,7 +54,9 @@ fn volume_behind(command: &VolumeCommand) -> Behind
                 Behind::NoMore
             }
         }
-        VolumeCommand::ReuseVolumes => Behind::Reuses,
+        VolumeCommand::MoveData(_)
+        | VolumeCommand::RestoreVolume(_)
+        | VolumeCommand::ReuseVolumes => Behind::Reuses,
         _ => Behind::NoMore,
     }
 }
@@ -95,6 +98,24 @@ fn line_reused(number: u64, line: Shown) -> Shown
             reused: _,
         } => Shown::DiscardedFilespace {
             discarded,
+            reused: number,
+        },
+        Shown::Moved {
+            moved,
+            failed,
+            reused: _,
+        } => Shown::Moved {
+            moved,
+            failed,
+            reused: number,
+        },
+        Shown::RestoredCopies {
+            restored,
+            failed,
+            reused: _,
+        } => Shown::RestoredCopies {
+            restored,
+            failed,
             reused: number,
         },
         other => other,

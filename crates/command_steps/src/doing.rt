@@ -1,5 +1,5 @@
 // What a command does.
-ghost use Rattle.std.specs.Prelude.{◌≡◌, ◌≤◌, ◌^◌, true, Ok, Some, length, IfErr, IfOk};
+ghost use Rattle.std.specs.Prelude.{◌≡◌, ◌≤◌, ◌^◌, min, true, Ok, Some, length, IfErr, IfOk};
 ghost use Rattle.kinds.specs.declared.refusal.Refusal.TheVariants.{Memory};
 ghost use Rattle.entries.specs.declared.change.Change.TheVariants.{Pool};
 ghost use Rattle.client_trees.specs.Files.{file_at};
@@ -15,14 +15,15 @@ ghost use Rattle.copy_pools.specs.Backups.{Backup};
 ghost use Rattle.deletions.specs.Filespaces.{FilespaceDeletion};
 ghost use Rattle.deletions.specs.Volumes.{VolumeDeletion};
 ghost use Rattle.expiration.specs.Expiring.{Expiration};
-ghost use Rattle.command_steps.specs.Doing.{Does, DoesOwn, DoesWork, Doing, Gives, PutsText, Told, Validates, the_number, the_second, validated_by, validity, within_memory};
+ghost use Rattle.command_steps.specs.Doing.{Does, DoesOwn, DoesWork, Doing, Gives, MovesSo, PutsText, Told, Validates, moved_line, the_number, the_second, validated_by, validity, within_memory};
+ghost use Rattle.command_steps.specs.Reading.{mover_view};
 ghost use Rattle.command_steps.specs.Owns.{file_put, last_of, own_of, row_put};
 ghost use Rattle.command_steps.specs.declared.outcome.Outcome.TheVariants as outcome;
 
 use crate::behind::{behind_of, end_work};
 use crate::looking::look_up;
 use crate::outcome::Outcome;
-use crate::own::{Own, own_of};
+use crate::own::{Mover, Own, own_of};
 use admin_commands::{Work, work_of};
 use admin_words::Command;
 use admin_words::files::{FileGet, FilePut};
@@ -36,6 +37,8 @@ use entries::Change;
 use expiration::expire;
 use inventory_answers::{Answer, Query, Rows};
 use kinds::{FilespaceName, Name, NodeName, Path, PoolChange, Refusal, Verb};
+use pool_restores::{restore_pool, restore_volume};
+use reclamation::{move_data, reclaim};
 use reports::Shown;
 use sessions::{checkpoint, commit_change, put_file, read_file, show};
 use std::alloc::Global;
@@ -378,6 +381,65 @@ fn back_up_pool<P: Stepper>(
     }
 }
 
+/// A number as a percentage.
+fn percentage(number: u32) -> u8
+    ensures { result ≡ min number 100 }
+{
+    if number < 100 { number as u8 } else { 100 }
+}
+
+/// Moves copies, over these two numbers.
+fn move_so<P: Stepper>(
+    alloc: Global,
+    p: &mut P,
+    mover: Mover,
+    first: u32,
+    second: u32,
+) -> Result<Moved, Refusal>
+    ensures { Call P.did p.old p.new (λ events. MovesSo (mover_view mover) first second events result) }
+{
+    match mover {
+        Mover::MoveData => move_data(alloc, p, first, second),
+        Mover::Reclaim => reclaim(alloc, p, first, percentage(second)),
+        Mover::RestorePool => restore_pool(alloc, p, first),
+        Mover::RestoreVolume => restore_volume(alloc, p, first),
+    }
+}
+
+/// The last line of a command that moved so many copies.
+fn moved_line(mover: Mover, moved: Moved) -> Shown
+    ensures { result ≡ moved_line (mover_view mover) moved }
+{
+    match mover {
+        Mover::MoveData | Mover::Reclaim => Shown::Moved {
+            moved: moved.moved,
+            failed: moved.failed,
+            reused: 0,
+        },
+        Mover::RestorePool | Mover::RestoreVolume => Shown::RestoredCopies {
+            restored: moved.moved,
+            failed: moved.failed,
+            reused: 0,
+        },
+    }
+}
+
+/// Moves copies, and says how many.
+fn move_all<P: Stepper>(
+    alloc: Global,
+    p: &mut P,
+    mover: Mover,
+    first: u32,
+    second: u32,
+) -> Result<Outcome, Refusal>
+    ensures { Call P.did p.old p.new (λ events. Gives (MovesSo (mover_view mover) first second) (λ m. outcome.Said (moved_line (mover_view mover) m)) events result) }
+{
+    match move_so(alloc, p, mover, first, second) {
+        Ok(moved) => Ok(Outcome::Said(moved_line(mover, moved))),
+        Err(refusal) => Err(refusal),
+    }
+}
+
 /// Deletes a filespace with what is kept in it.
 fn empty_filespace<P: Stepper>(alloc: Global, p: &mut P, filespace: u32) -> Result<Outcome, Refusal>
     ensures { Call P.did p.old p.new (λ events. Gives (FilespaceDeletion filespace) (λ discarded. outcome.Said (shown.DiscardedFilespace discarded 0)) events result) }
@@ -427,6 +489,9 @@ fn run_own<P: Stepper>(
         Own::EmptyFilespace => empty_filespace(alloc, p, the_number(numbers)),
         Own::EmptyVolume => empty_volume(alloc, p, the_number(numbers)),
         Own::BackUpPool => { back_up_pool(alloc, p, the_number(numbers), the_second(numbers)) }
+        Own::Moves(mover) => {
+            move_all(alloc, p, mover, the_number(numbers), the_second(numbers))
+        }
         Own::NoneButReuse => Ok(Outcome::Said(Shown::Reused { reused: 0 })),
         Own::NoneYet => Err(Refusal::UnknownWord(1)),
     }

@@ -25,10 +25,7 @@ fn does_pool(command: &PoolCommand) -> bool
     ensures { result ≡ does_pool command.now }
 {
     match command {
-        PoolCommand::MigrateAll
-        | PoolCommand::MigratePool(_)
-        | PoolCommand::ReclaimPool(_)
-        | PoolCommand::RestorePool(_) => false,
+        PoolCommand::MigrateAll | PoolCommand::MigratePool(_) => false,
         _ => true,
     }
 }
@@ -37,9 +34,7 @@ fn does_volume(command: &VolumeCommand) -> bool
     ensures { result ≡ does_volume command.now }
 {
     match command {
-        VolumeCommand::AuditVolume(_)
-        | VolumeCommand::MoveData(_)
-        | VolumeCommand::RestoreVolume(_) => false,
+        VolumeCommand::AuditVolume(_) => false,
         _ => true,
     }
 }

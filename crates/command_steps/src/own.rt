@@ -10,6 +10,19 @@ use admin_words::command::{
 use admin_words::files::{FileGet, FilePut};
 use admin_words::policy::NamedSet;
 
+/// What moves copies.
+#[derive(Clone, Copy)]
+pub(crate) enum Mover {
+    /// MOVE DATA, over the numbers of the volume's file and of a pool, or 0 for the volume's own.
+    MoveData,
+    /// RECLAIM STGPOOL, over the pool's number and the hundredths from which a volume is emptied.
+    Reclaim,
+    /// RESTORE STGPOOL, over the pool's number.
+    RestorePool,
+    /// RESTORE VOLUME, over the number of the volume's file.
+    RestoreVolume,
+}
+
 /// Work of a command's own.
 #[derive(Clone, Copy)]
 pub(crate) enum Own<'a> {
@@ -31,6 +44,8 @@ pub(crate) enum Own<'a> {
     NoneButReuse,
     /// BACKUP STGPOOL, over the numbers of a primary pool and of a copy pool.
     BackUpPool,
+    /// What moves copies.
+    Moves(Mover),
     /// What isn't done so far.
     NoneYet,
 }
@@ -78,6 +93,8 @@ fn pool_own(command: &PoolCommand) -> Own<'_>
 {
     match command {
         PoolCommand::BackupPool(_) => Own::BackUpPool,
+        PoolCommand::ReclaimPool(_) => Own::Moves(Mover::Reclaim),
+        PoolCommand::RestorePool(_) => Own::Moves(Mover::RestorePool),
         _ => Own::NoneYet,
     }
 }
@@ -93,6 +110,8 @@ fn volume_own(command: &VolumeCommand) -> Own<'_>
                 Own::NoneYet
             }
         }
+        VolumeCommand::MoveData(_) => Own::Moves(Mover::MoveData),
+        VolumeCommand::RestoreVolume(_) => Own::Moves(Mover::RestoreVolume),
         VolumeCommand::ReuseVolumes => Own::NoneButReuse,
         _ => Own::NoneYet,
     }

@@ -50,7 +50,17 @@ fn failed_in(outcome: &Outcome) -> u64
     ensures { result ≡ failed_in outcome.now }
 {
     match outcome {
-        Outcome::Said(Shown::Copied { copied: _, failed }) => *failed,
+        Outcome::Said(Shown::Copied { copied: _, failed })
+        | Outcome::Said(Shown::Moved {
+            moved: _,
+            failed,
+            reused: _,
+        })
+        | Outcome::Said(Shown::RestoredCopies {
+            restored: _,
+            failed,
+            reused: _,
+        }) => *failed,
         _ => 0,
     }
 }

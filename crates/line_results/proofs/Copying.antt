@@ -37,24 +37,29 @@ use Rattle.line_results.proofs.Walking.{Grew, Under, are-more, force-free, force
 
 -- ---- steps
 
--- It asks, forces, opens a ticket for a copy that moves, or for a further one, fills, seals or drops one, or commits one.
-abbrev pub Copies : (moves : Bool) → Deed → Type 0
-Copies moves (Ask query answer) = Unit {0}
-Copies moves (Force answer) = Unit {0}
-Copies moves (OpenCopy object a avoid answer) = is_moving a ≡ moves
-Copies moves (CopyPiece number answer) = Unit {0}
-Copies moves (Seal number answer) = Unit {0}
-Copies moves (DropTicket number answer) = Unit {0}
-Copies moves (Commit asked tickets answer) = (number : ℕ) × (asked ≡ Placed) × (tickets ≡ number ∷ [])
-Copies moves _ = ⊥
+-- It asks, forces, opens a ticket for a copy that moves, or for a further one, fills, seals or drops one, or commits one; or it commits a change without tickets, and of what joins by that P holds.
+abbrev pub Copies : (moves : Bool) → (P : Change → Type 0) → Deed → Type 0
+Copies moves P (Ask query answer) = Unit {0}
+Copies moves P (Force answer) = Unit {0}
+Copies moves P (OpenCopy object a avoid answer) = is_moving a ≡ moves
+Copies moves P (CopyPiece number answer) = Unit {0}
+Copies moves P (Seal number answer) = Unit {0}
+Copies moves P (DropTicket number answer) = Unit {0}
+Copies moves P (Commit asked tickets answer) =
+    ((number : ℕ) × (asked ≡ Placed) × (tickets ≡ number ∷ [])) ⊎ ((tickets ≡ []) × ((c : Change) (core : Core) → asked_change 0 asked [] core ≡ Some c → P c))
+Copies moves P _ = ⊥
 
-abbrev pub AllCopy : (moves : Bool) → List Event → Type 0
-AllCopy moves events = AllByRecursion (λ e. Copies moves e.deed) events
+abbrev pub AllCopy : (moves : Bool) → (P : Change → Type 0) → List Event → Type 0
+AllCopy moves P events = AllByRecursion (λ e. Copies moves P e.deed) events
 
 -- the transaction moves copies, or adds some
 abbrev pub IsCopy : (moves : Bool) → Change → Type 0
 IsCopy true c = (scratch : List ScratchVolume) × (items : List MovedCopy) × (c ≡ change.Move (record { scratch = scratch; items = items }))
 IsCopy false c = (scratch : List ScratchVolume) × (items : List NewCopy) × (c ≡ change.Copy (record { scratch = scratch; items = items }))
+
+-- it does, or P holds of it
+abbrev pub MayJoin : (moves : Bool) → (P : Change → Type 0) → Change → Type 0
+MayJoin moves P c = IsCopy moves c ⊎ P c
 
 -- ---- tickets
 
@@ -146,59 +151,59 @@ found-contents moves (Some t) contents so =
 
 -- ---- what they leave
 
-pub record Copied (moves : Bool) (first later : List Entry) (old m : Machine) : Type 0 where
-  pub grew : Grew (IsCopy moves) first later old m
+pub record Copied (moves : Bool) (P : Change → Type 0) (first later : List Entry) (old m : Machine) : Type 0 where
+  pub grew : Grew (MayJoin moves P) first later old m
   pub tickets : AreFor moves m.core.tickets
 
-abbrev Went : (moves : Bool) → (first : List Entry) → (old next : Machine) → Type 0
-Went moves first old next = (more : List Entry) × Copied moves first more old next
+abbrev Went : (moves : Bool) → (P : Change → Type 0) → (first : List Entry) → (old next : Machine) → Type 0
+Went moves P first old next = (more : List Entry) × Copied moves P first more old next
 
 opened-under : (added : List Entry) (actor size : ℕ) (p : Purpose) (place : Place) (old c : Core) → Under added old c → Under added old (opened actor size p place c)
 opened-under added actor size p place old c u = record { base = u.base; journal = u.journal; generation = u.generation; log_length = u.log_length; image = u.image; fresh = u.fresh; stamps = u.stamps; few = u.few }
 
-module _ (moves : Bool) (first later : List Entry) (old m next : Machine) (w : Copied moves first later old m) (since : Onward m next) where
-  stays-copied : Stays m next → Copied moves first later old next
-  stays-copied h = record { grew = grew-stays (IsCopy moves) first later old m next w.grew since h; tickets = subst (λ (c : Core). AreFor moves c.tickets) (sym h.core) w.tickets }
+module _ (moves : Bool) (P : Change → Type 0) (first later : List Entry) (old m next : Machine) (w : Copied moves P first later old m) (since : Onward m next) where
+  stays-copied : Stays m next → Copied moves P first later old next
+  stays-copied h = record { grew = grew-stays (MayJoin moves P) first later old m next w.grew since h; tickets = subst (λ (c : Core). AreFor moves c.tickets) (sym h.core) w.tickets }
 
-  tickets-copied : (tickets : List Ticket) → AreFor moves tickets → Becomes (with_tickets tickets m.core) m next → Copied moves first later old next
+  tickets-copied : (tickets : List Ticket) → AreFor moves tickets → Becomes (with_tickets tickets m.core) m next → Copied moves P first later old next
   tickets-copied tickets are h = record {
-    grew = grew-tickets (IsCopy moves) first later tickets old m next w.grew since h.core h.contents;
+    grew = grew-tickets (MayJoin moves P) first later tickets old m next w.grew since h.core h.contents;
     tickets = subst (λ (c : Core). AreFor moves c.tickets) (sym h.core) are;
   }
 
-  dropped-copied : (number : ℕ) → Becomes (dropping 0 number m.core) m next → Copied moves first later old next
+  dropped-copied : (number : ℕ) → Becomes (dropping 0 number m.core) m next → Copied moves P first later old next
   dropped-copied number h = tickets-copied (without 0 (number ∷ []) m.core.tickets) (all-without (IsFor moves) (IsFor moves) (number ∷ []) (λ t so among. so) m.core.tickets w.tickets) h
 
-  ask-copied : (query : Query) (answer : Result Answer Refusal) → Asks 0 query m next answer → Copied moves first later old next
+  ask-copied : (query : Query) (answer : Result Answer Refusal) → Asks 0 query m next answer → Copied moves P first later old next
   ask-copied query (Ok told) h = stays-copied h.1.1
   ask-copied query (Err e) (inl h) = stays-copied h.1
   ask-copied query (Err e) (inr h) = absurd h.1
 
-  force-copied : (answer : Result ℕ Refusal) → Forces 0 m next answer → Copied moves first later old next
-  force-copied answer h = record { grew = force-grew (IsCopy moves) first later old m next answer w.grew since h; tickets = subst (λ (ts : List Ticket). AreFor moves ts) (sym (force-free m next answer h)) w.tickets }
+  force-copied : (answer : Result ℕ Refusal) → Forces 0 m next answer → Copied moves P first later old next
+  force-copied answer h = record { grew = force-grew (MayJoin moves P) first later old m next answer w.grew since h; tickets = subst (λ (ts : List Ticket). AreFor moves ts) (sym (force-free m next answer h)) w.tickets }
 
-  open-copied : (places : Places) (object : ℕ) (a : Aim) (avoid : ℕ) (answer : Result ℕ Refusal) → is_moving a ≡ moves → OpensCopy places 0 object a avoid m next answer → Copied moves first later old next
+  open-copied : (places : Places) (object : ℕ) (a : Aim) (avoid : ℕ) (answer : Result ℕ Refusal) → is_moving a ≡ moves → OpensCopy places 0 object a avoid m next answer → Copied moves P first later old next
   open-copied places object a avoid (Ok number) so (placed, at, (none, (place, is, numbered, becomes))) =
       let t : Ticket = record { number = m.core.next_ticket; actor = 0; purpose = copying object a; size = _; place = place; bytes = []; is_sealed = false } in
       record {
-        grew = grew-as (IsCopy moves) first later later _ old m next w.grew (opened-under (first ++ later) 0 _ (copying object a) place old.core m.core w.grew.core) w.grew.are refl since becomes.core becomes.contents;
+        grew = grew-as (MayJoin moves P) first later later _ old m next w.grew (opened-under (first ++ later) 0 _ (copying object a) place old.core m.core w.grew.core) w.grew.are refl since becomes.core becomes.contents;
         tickets = subst (λ (c : Core). AreFor moves c.tickets) (sym becomes.core) (all-push (IsFor moves) m.core.tickets t w.tickets (refl, object, a, so, refl));
       }
   open-copied places object a avoid (Err e) so (placed, at, inl h) = stays-copied h.1
   open-copied places object a avoid (Err e) so (placed, at, inr h) = absurd h.1
 
-  piece-copied : (number : ℕ) (answer : Result ℕ Refusal) → CopiesPiece 0 number m next answer → Copied moves first later old next
+  piece-copied : (number : ℕ) (answer : Result ℕ Refusal) → CopiesPiece 0 number m next answer → Copied moves P first later old next
   piece-copied number (Ok count) (none, (t, is, counted, takes)) = tickets-copied (taking 0 number _ m.core.tickets) (all-map (IsFor moves) (IsFor moves) _ (for-took moves number _) m.core.tickets w.tickets) takes.1
   piece-copied number (Err e) (inl h) = stays-copied h.1
   piece-copied number (Err e) (inr (none, inl (t, is, why, cant, stays))) = stays-copied stays
   piece-copied number (Err e) (inr (none, inr (t, file, is, has, why, rose, becomes))) = dropped-copied number becomes
 
-  seal-copied : (number : ℕ) (answer : Result (Unit {0}) Refusal) → Seals 0 number m next answer → Copied moves first later old next
+  seal-copied : (number : ℕ) (answer : Result (Unit {0}) Refusal) → Seals 0 number m next answer → Copied moves P first later old next
   seal-copied number (Ok done) h = tickets-copied (sealing 0 number m.core.tickets) (all-map (IsFor moves) (IsFor moves) _ (for-sealed moves number) m.core.tickets w.tickets) h.1
   seal-copied number (Err e) (inl h) = stays-copied h.1
   seal-copied number (Err e) (inr (none, (t, file, is, has, why, rose, becomes))) = dropped-copied number becomes
 
-  drop-copied : (number : ℕ) (answer : Result (Unit {0}) Refusal) → Drops 0 number m next answer → Copied moves first later old next
+  drop-copied : (number : ℕ) (answer : Result (Unit {0}) Refusal) → Drops 0 number m next answer → Copied moves P first later old next
   drop-copied number (Ok done) h = dropped-copied number h.1
   drop-copied number (Err e) (inl h) = stays-copied h.1
   drop-copied number (Err e) (inr h) = absurd h.1
@@ -210,13 +215,13 @@ module _ (moves : Bool) (first later : List Entry) (old m next : Machine) (w : C
   joined-copied : (number : ℕ) (c : Change) → asked_change 0 Placed (number ∷ []) m.core ≡ Some c → IsCopy moves c
   joined-copied number c is = found-copy moves (inventory m.core) (ticket number (own_tickets 0 m.core.tickets)) c (found-for number) is
 
-  commit-copied : (number : ℕ) (answer : Result ℕ Refusal) → Commits 0 Placed (number ∷ []) m next answer → Went moves first old next
+  commit-copied : (number : ℕ) (answer : Result ℕ Refusal) → Commits 0 Placed (number ∷ []) m next answer → Went moves P first old next
   commit-copied number (Ok n) (none, (c, is, numbered, joins)) = (
     later ++ entry c ∷ [],
     record {
-      grew = grew-as (IsCopy moves) first later (later ++ entry c ∷ []) (committed 0 c (number ∷ []) m.core) old m next w.grew
+      grew = grew-as (MayJoin moves P) first later (later ++ entry c ∷ []) (committed 0 c (number ∷ []) m.core) old m next w.grew
           (joined-under first later c old.core (with_tickets (without 0 (number ∷ []) m.core.tickets) m.core) (under-tickets (first ++ later) (without 0 (number ∷ []) m.core.tickets) old.core m.core w.grew.core))
-          (are-more (IsCopy moves) later c w.grew.are (joined-copied number c is)) refl since joins.0
+          (are-more (MayJoin moves P) later c w.grew.are (inl (joined-copied number c is))) refl since joins.0
           (joins.1 ∙ found-contents moves (ticket number (own_tickets 0 m.core.tickets)) m.contents (found-for number));
       tickets = subst (λ (k : Core). AreFor moves k.tickets) (sym joins.0) (all-without (IsFor moves) (IsFor moves) (number ∷ []) (λ t so among. so) m.core.tickets w.tickets);
     },
@@ -225,23 +230,46 @@ module _ (moves : Bool) (first later : List Entry) (old m next : Machine) (w : C
   commit-copied number (Err e) (inr (none, (c, file, count, is, why, fault, joins))) = (
     later ++ entry c ∷ [],
     record {
-      grew = grew-halts (IsCopy moves) first later (later ++ entry c ∷ []) (committed 0 c (number ∷ []) m.core) file count old m next w.grew
+      grew = grew-halts (MayJoin moves P) first later (later ++ entry c ∷ []) (committed 0 c (number ∷ []) m.core) file count old m next w.grew
           (joined-under first later c old.core (with_tickets (without 0 (number ∷ []) m.core.tickets) m.core) (under-tickets (first ++ later) (without 0 (number ∷ []) m.core.tickets) old.core m.core w.grew.core))
-          (are-more (IsCopy moves) later c w.grew.are (joined-copied number c is)) fault since joins.0
+          (are-more (MayJoin moves P) later c w.grew.are (inl (joined-copied number c is))) fault since joins.0
           (joins.1 ∙ found-contents moves (ticket number (own_tickets 0 m.core.tickets)) m.contents (found-for number));
       tickets = subst (λ (k : Core). AreFor moves k.tickets) (sym joins.0) (all-without (IsFor moves) (IsFor moves) (number ∷ []) (λ t so among. so) m.core.tickets w.tickets);
     },
   )
 
-  deed-copied : (places : Places) (d : Deed) → Copies moves d → Case places 0 d m next → Went moves first old next
+  -- a change without tickets
+  plain-copied : (asked : Asked) (answer : Result ℕ Refusal) → ((c : Change) (core : Core) → asked_change 0 asked [] core ≡ Some c → P c) → Commits 0 asked [] m next answer → Went moves P first old next
+  plain-copied asked (Ok n) p (none, (c, is, numbered, joins)) = (
+    later ++ entry c ∷ [],
+    record {
+      grew = grew-as (MayJoin moves P) first later (later ++ entry c ∷ []) (committed 0 c [] m.core) old m next w.grew
+          (joined-under first later c old.core (with_tickets (without 0 [] m.core.tickets) m.core) (under-tickets (first ++ later) (without 0 [] m.core.tickets) old.core m.core w.grew.core))
+          (are-more (MayJoin moves P) later c w.grew.are (inr (p c m.core is))) refl since joins.0 joins.1;
+      tickets = subst (λ (k : Core). AreFor moves k.tickets) (sym joins.0) (all-without (IsFor moves) (IsFor moves) [] (λ t so among. so) m.core.tickets w.tickets);
+    },
+  )
+  plain-copied asked (Err e) p (inl h) = (later, stays-copied h.1)
+  plain-copied asked (Err e) p (inr (none, (c, file, count, is, why, fault, joins))) = (
+    later ++ entry c ∷ [],
+    record {
+      grew = grew-halts (MayJoin moves P) first later (later ++ entry c ∷ []) (committed 0 c [] m.core) file count old m next w.grew
+          (joined-under first later c old.core (with_tickets (without 0 [] m.core.tickets) m.core) (under-tickets (first ++ later) (without 0 [] m.core.tickets) old.core m.core w.grew.core))
+          (are-more (MayJoin moves P) later c w.grew.are (inr (p c m.core is))) fault since joins.0 joins.1;
+      tickets = subst (λ (k : Core). AreFor moves k.tickets) (sym joins.0) (all-without (IsFor moves) (IsFor moves) [] (λ t so among. so) m.core.tickets w.tickets);
+    },
+  )
+
+  deed-copied : (places : Places) (d : Deed) → Copies moves P d → Case places 0 d m next → Went moves P first old next
   deed-copied places (Ask query answer) so h = (later, ask-copied query answer h)
   deed-copied places (Force answer) so h = (later, force-copied answer h)
   deed-copied places (OpenCopy object a avoid answer) so h = (later, open-copied places object a avoid answer so h)
   deed-copied places (CopyPiece number answer) so h = (later, piece-copied number answer h)
   deed-copied places (Seal number answer) so h = (later, seal-copied number answer h)
   deed-copied places (DropTicket number answer) so h = (later, drop-copied number answer h)
-  deed-copied places (Commit asked tickets answer) (number, is, one) h =
+  deed-copied places (Commit asked tickets answer) (inl (number, is, one)) h =
       commit-copied number answer (subst (λ (ts : List ℕ). Commits 0 Placed ts m next answer) one (subst (λ (a : Asked). Commits 0 a tickets m next answer) is h))
+  deed-copied places (Commit asked tickets answer) (inr (none, p)) h = plain-copied asked answer p (subst (λ (ts : List ℕ). Commits 0 asked ts m next answer) none h)
   deed-copied places d so h = absurd so
 
 -- ---- no ticket is left
@@ -404,66 +432,79 @@ module _ (places : Places) (n : ℕ) (events : List Event) (m next : Machine) wh
   force-due : (answer : Result ℕ Refusal) → AreDue (by (Force answer) ∷ events) m.core.tickets → Forces 0 m next answer → AreDue events next.core.tickets
   force-due answer due h = same-due (by (Force answer)) events m next due (force-free m next answer h) (λ t. refl)
 
-  deed-due : (moves : Bool) (d : Deed) → Copies moves d → AreDue (by d ∷ events) m.core.tickets → IsSettled d events → Case places 0 d m next → AreDue events next.core.tickets
-  deed-due moves (Ask query answer) so due settled h = ask-due query answer due h
-  deed-due moves (Force answer) so due settled h = force-due answer due h
-  deed-due moves (OpenCopy object a avoid answer) so due settled h = open-due object a avoid answer due settled h
-  deed-due moves (CopyPiece number answer) so due settled h = piece-due number answer due h
-  deed-due moves (Seal number answer) so due settled h = seal-due number answer due h
-  deed-due moves (DropTicket number answer) so due settled h = drop-due number answer due h
-  deed-due moves (Commit asked tickets answer) (number, is, one) due settled h = commit-so number asked tickets answer is one due h where
+  plain-due : (asked : Asked) (answer : Result ℕ Refusal) → AreDue (by (Commit asked [] answer) ∷ events) m.core.tickets → Commits 0 asked [] m next answer → AreDue events next.core.tickets
+  plain-due asked (Ok last) due (none, (c, is, numbered, joins)) =
+      subst (λ (k : Core). AreDue events k.tickets) (sym joins.0)
+      (all-without (IsDue (by (Commit asked [] (Ok last)) ∷ events)) (IsDue events) [] (λ t it among. still-due (by (Commit asked [] (Ok last))) events t refl it) m.core.tickets due)
+  plain-due asked (Err e) due (inl h) = stays-due (by (Commit asked [] (Err e))) events m next due h.1 (λ t. refl)
+  plain-due asked (Err e) due (inr (none, (c, file, count, is, why, fault, joins))) =
+      subst (λ (k : Core). AreDue events k.tickets) (sym joins.0)
+      (all-without (IsDue (by (Commit asked [] (Err e)) ∷ events)) (IsDue events) [] (λ t it among. still-due (by (Commit asked [] (Err e))) events t refl it) m.core.tickets due)
+
+  deed-due : (moves : Bool) (P : Change → Type 0) (d : Deed) → Copies moves P d → AreDue (by d ∷ events) m.core.tickets → IsSettled d events → Case places 0 d m next → AreDue events next.core.tickets
+  deed-due moves P (Ask query answer) so due settled h = ask-due query answer due h
+  deed-due moves P (Force answer) so due settled h = force-due answer due h
+  deed-due moves P (OpenCopy object a avoid answer) so due settled h = open-due object a avoid answer due settled h
+  deed-due moves P (CopyPiece number answer) so due settled h = piece-due number answer due h
+  deed-due moves P (Seal number answer) so due settled h = seal-due number answer due h
+  deed-due moves P (DropTicket number answer) so due settled h = drop-due number answer due h
+  deed-due moves P (Commit asked tickets answer) (inr (none, p)) due settled h = plain-so tickets none due h where
+    plain-so : (tickets : List ℕ) → tickets ≡ [] → AreDue (by (Commit asked tickets answer) ∷ events) m.core.tickets → Commits 0 asked tickets m next answer → AreDue events next.core.tickets
+    plain-so tickets none due h =
+        plain-due asked answer (subst (λ (ts : List ℕ). AreDue (by (Commit asked ts answer) ∷ events) m.core.tickets) none due) (subst (λ (ts : List ℕ). Commits 0 asked ts m next answer) none h)
+  deed-due moves P (Commit asked tickets answer) (inl (number, is, one)) due settled h = commit-so number asked tickets answer is one due h where
     commit-so : (number : ℕ) (asked : Asked) (tickets : List ℕ) (answer : Result ℕ Refusal) → asked ≡ Placed → tickets ≡ number ∷ [] → AreDue (by (Commit asked tickets answer) ∷ events) m.core.tickets
         → Commits 0 asked tickets m next answer → AreDue events next.core.tickets
     commit-so number asked tickets answer is one due h =
         commit-due number answer
         (subst (λ (ts : List ℕ). AreDue (by (Commit Placed ts answer) ∷ events) m.core.tickets) one (subst (λ (a : Asked). AreDue (by (Commit a tickets answer) ∷ events) m.core.tickets) is due))
         (subst (λ (ts : List ℕ). Commits 0 Placed ts m next answer) one (subst (λ (a : Asked). Commits 0 a tickets m next answer) is h))
-  deed-due moves d so due settled h = absurd so
+  deed-due moves P d so due settled h = absurd so
 
 -- ---- all steps
 
-seen-same : (moves : Bool) (trusted : Type 0) (d : Deed) → Copies moves d → (contents seen : ℕ → List ℕ) → AreBytes trusted d contents seen → seen ≡ contents
-seen-same moves trusted (Ask query answer) so contents seen h = h
-seen-same moves trusted (Force answer) so contents seen h = h
-seen-same moves trusted (OpenCopy object a avoid answer) so contents seen h = h
-seen-same moves trusted (CopyPiece number answer) so contents seen h = h
-seen-same moves trusted (Seal number answer) so contents seen h = h
-seen-same moves trusted (DropTicket number answer) so contents seen h = h
-seen-same moves trusted (Commit asked tickets answer) so contents seen h = h
-seen-same moves trusted d so contents seen h = absurd so
+seen-same : (moves : Bool) (P : Change → Type 0) (trusted : Type 0) (d : Deed) → Copies moves P d → (contents seen : ℕ → List ℕ) → AreBytes trusted d contents seen → seen ≡ contents
+seen-same moves P trusted (Ask query answer) so contents seen h = h
+seen-same moves P trusted (Force answer) so contents seen h = h
+seen-same moves P trusted (OpenCopy object a avoid answer) so contents seen h = h
+seen-same moves P trusted (CopyPiece number answer) so contents seen h = h
+seen-same moves P trusted (Seal number answer) so contents seen h = h
+seen-same moves P trusted (DropTicket number answer) so contents seen h = h
+seen-same moves P trusted (Commit asked tickets answer) so contents seen h = h
+seen-same moves P trusted d so contents seen h = absurd so
 
-left-same : (moves : Bool) (d : Deed) → Copies moves d → (contents : ℕ → List ℕ) (m : Machine) → behind d contents m ≡ m
-left-same moves (Ask query answer) so contents m = refl
-left-same moves (Force answer) so contents m = refl
-left-same moves (OpenCopy object a avoid answer) so contents m = refl
-left-same moves (CopyPiece number answer) so contents m = refl
-left-same moves (Seal number answer) so contents m = refl
-left-same moves (DropTicket number answer) so contents m = refl
-left-same moves (Commit asked tickets answer) so contents m = refl
-left-same moves d so contents m = absurd so
+left-same : (moves : Bool) (P : Change → Type 0) (d : Deed) → Copies moves P d → (contents : ℕ → List ℕ) (m : Machine) → behind d contents m ≡ m
+left-same moves P (Ask query answer) so contents m = refl
+left-same moves P (Force answer) so contents m = refl
+left-same moves P (OpenCopy object a avoid answer) so contents m = refl
+left-same moves P (CopyPiece number answer) so contents m = refl
+left-same moves P (Seal number answer) so contents m = refl
+left-same moves P (DropTicket number answer) so contents m = refl
+left-same moves P (Commit asked tickets answer) so contents m = refl
+left-same moves P d so contents m = absurd so
 
 no-tickets : (tickets : List Ticket) → AreDue [] tickets → tickets ≡ []
 no-tickets [] h = refl
 no-tickets (t ∷ tickets) h = absurd (false≢true h.0.1)
 
-pub copied-none : (moves : Bool) (m : Machine) → IsAtRest m.core → Copied moves [] [] m m
-copied-none moves m rest = record { grew = grew-none (IsCopy moves) m rest; tickets = subst (λ (ts : List Ticket). AreFor moves ts) (sym rest.tickets) tt }
+pub copied-none : (moves : Bool) (P : Change → Type 0) (m : Machine) → IsAtRest m.core → Copied moves P [] [] m m
+copied-none moves P m rest = record { grew = grew-none (MayJoin moves P) m rest; tickets = subst (λ (ts : List Ticket). AreFor moves ts) (sym rest.tickets) tt }
 
-module _ (moves : Bool) (trusted : Type 0) (places : Places) where
-  pub copies-walk : (first : List Entry) (events : List Event) (later : List Entry) (old m new : Machine) → AllCopy moves events → Copied moves first later old m → Alone trusted places 0 events m new
-      → (more : List Entry) × Copied moves first more old new
-  copies-walk first [] later old m new all w same = (later, subst (λ (x : Machine). Copied moves first later old x) (sym same) w)
+module _ (moves : Bool) (P : Change → Type 0) (trusted : Type 0) (places : Places) where
+  pub copies-walk : (first : List Entry) (events : List Event) (later : List Entry) (old m new : Machine) → AllCopy moves P events → Copied moves P first later old m → Alone trusted places 0 events m new
+      → (more : List Entry) × Copied moves P first more old new
+  copies-walk first [] later old m new all w same = (later, subst (λ (x : Machine). Copied moves P first later old x) (sym same) w)
   copies-walk first (e ∷ events) later old m new all w (next, moved, rest) =
-      let s = stepped trusted places e.n e.deed (e ∷ []) m next (seen-same moves trusted e.deed all.0) (left-same moves e.deed all.0) refl (next, moved, refl) in
-      let r = deed-copied moves first later old m next w (onward-later m next s.0) places e.deed all.0 s.1 in
+      let s = stepped trusted places e.n e.deed (e ∷ []) m next (seen-same moves P trusted e.deed all.0) (left-same moves P e.deed all.0) refl (next, moved, refl) in
+      let r = deed-copied moves P first later old m next w (onward-later m next s.0) places e.deed all.0 s.1 in
       copies-walk first events r.0 old next new all.1 r.1 rest
 
-  due-walk : (events : List Event) (m new : Machine) → AllCopy moves events → AreSettled events → AreDue events m.core.tickets → Alone trusted places 0 events m new → new.core.tickets ≡ []
+  due-walk : (events : List Event) (m new : Machine) → AllCopy moves P events → AreSettled events → AreDue events m.core.tickets → Alone trusted places 0 events m new → new.core.tickets ≡ []
   due-walk [] m new all settled due same = no-tickets new.core.tickets (subst (λ (x : Machine). AreDue [] x.core.tickets) (sym same) due)
   due-walk (e ∷ events) m new all settled due (next, moved, rest) =
-      let s = stepped trusted places e.n e.deed (e ∷ []) m next (seen-same moves trusted e.deed all.0) (left-same moves e.deed all.0) refl (next, moved, refl) in
-      due-walk events next new all.1 settled.1 (deed-due places e.n events m next moves e.deed all.0 due settled.0 s.1) rest
+      let s = stepped trusted places e.n e.deed (e ∷ []) m next (seen-same moves P trusted e.deed all.0) (left-same moves P e.deed all.0) refl (next, moved, refl) in
+      due-walk events next new all.1 settled.1 (deed-due places e.n events m next moves P e.deed all.0 due settled.0 s.1) rest
 
   -- where each was spent none is left
-  pub settled-free : (events : List Event) (m new : Machine) → m.core.tickets ≡ [] → AllCopy moves events → AreSettled events → Alone trusted places 0 events m new → new.core.tickets ≡ []
+  pub settled-free : (events : List Event) (m new : Machine) → m.core.tickets ≡ [] → AllCopy moves P events → AreSettled events → Alone trusted places 0 events m new → new.core.tickets ≡ []
   settled-free events m new none all settled f = due-walk events m new all settled (subst (λ (ts : List Ticket). AreDue events ts) (sym none) tt) f

@@ -24,7 +24,7 @@ use Rattle.sessions.specs.Homes.{home_of}
 use Rattle.sessions.specs.declared.getting.FileRead.{FileRead}
 use Rattle.sessions.specs.declared.homes.Home.{Home}
 use Rattle.command_steps.specs.Behind.{Behind, forces, no_more, reuses}
-use Rattle.command_steps.specs.Owns.{Own, back_up_pool, checkpoint, empty_filespace, empty_volume, expire, get, none_but_reuse, none_yet, own_of, put, validate}
+use Rattle.command_steps.specs.Owns.{Own, back_up_pool, checkpoint, empty_filespace, empty_volume, expire, get, moves, none_but_reuse, none_yet, own_of, put, validate}
 use Rattle.command_steps.specs.declared.outcome.Outcome.{Outcome}
 use Rattle.line_results.specs.Commands.{Does, DoesOwn, Processes, Tells, Works, WorksWith, drawn}
 use Rattle.line_results.specs.Files.{Gets, GetsNot, GetsOf, GetsUnder, Puts, PutsBy, PutsHome, PutsOf, PutsUnder, Shows, ShowsFound, Stores, StoresAt, StoresBy, active_at, why_no_place}
@@ -147,6 +147,7 @@ module _ (trusted : Type 0) (places : Places) (choice : List Rule) (result : Res
   own-as numbers empty_filespace h = processes-as numbers empty_filespace h
   own-as numbers empty_volume h = processes-as numbers empty_volume h
   own-as numbers back_up_pool h = processes-as numbers back_up_pool h
+  own-as numbers (moves mover) h = processes-as numbers (moves mover) h
   own-as numbers none_but_reuse h = tells-as _ result added old mid new b h
   own-as numbers none_yet h = tells-as _ result added old mid new b h
 

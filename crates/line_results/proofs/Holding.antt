@@ -44,7 +44,7 @@ use Rattle.command_steps.specs.Answers.{Ends, answer_of, counting, done, failed_
 use Rattle.command_steps.specs.Lines.{Line, asks, comment, refused as refused_line}
 use Rattle.command_steps.specs.Behind.{Behind, behind, forces, no_more, reuses}
 use Rattle.command_steps.specs.Doing.{Forcing, Reusing, within_run}
-use Rattle.command_steps.specs.Owns.{Own, back_up_pool, checkpoint, empty_filespace, empty_volume, expire, get, last_of, none_but_reuse, none_yet, own_of, put, validate}
+use Rattle.command_steps.specs.Owns.{Own, back_up_pool, checkpoint, empty_filespace, empty_volume, expire, get, last_of, moves, none_but_reuse, none_yet, own_of, put, validate}
 use Rattle.command_steps.specs.declared.outcome.Outcome.{Outcome}
 use Rattle.command_steps.specs.declared.outcome.Outcome.TheVariants.{Read, Rows, Said}
 use Rattle.line_results.specs.Clauses.{BytesBy, BytesOwn, CauseBy, CauseOwn, CauseWith, DidBy, DidWith, Holds, IsRefusedBehind, IsRows, ItemsBy, ItemsOf, ItemsOwn, MayBy, MayGet, MayOwn, OrderedBy, OrderedWith, RowsBy, orders}
@@ -381,6 +381,7 @@ process-ordered trusted places choice numbers expire old mid said added so h = h
 process-ordered trusted places choice numbers empty_filespace old mid said added so h = h.1
 process-ordered trusted places choice numbers empty_volume old mid said added so h = h.1
 process-ordered trusted places choice numbers back_up_pool old mid said added so h = h.1
+process-ordered trusted places choice numbers (moves mover) old mid said added so h = h.1
 process-ordered trusted places choice numbers none_but_reuse old mid said added so h = no-entries (λ x. (x.actor ≡ 0) × OrderedBy none_but_reuse (Ok (Run numbers)) old x.change) added h.1
 process-ordered trusted places choice numbers none_yet old mid said added so h = no-entries (λ x. (x.actor ≡ 0) × OrderedBy none_yet (Ok (Run numbers)) old x.change) added h.1
 process-ordered trusted places choice numbers own old mid said added so h = absurd so

@@ -1,6 +1,8 @@
 -- Which commands are processes, behind whose work something comes.
 use Rattle.std.proofs.Common.{◌≡◌, ◌⊎◌, inl, inr, ℕ, Bool, true, false, if◌then◌else◌, List, [], ◌∷◌, Option, None, Some, Result, Ok, Err, refl}
+use Rattle.std.specs.Option.{unwrap_or}
 use Rattle.kinds.specs.declared.refusal.Refusal.{Refusal}
+use Rattle.kinds.specs.declared.refusal.Refusal.TheVariants.{BadHierarchy}
 use Rattle.inventory_rows.specs.version_groups.Entries.{if_found}
 use Rattle.inventory_rows.specs.State.{Inv}
 use Rattle.inventory_answers.specs.declared.reply.Answer.{Answer}
@@ -16,17 +18,17 @@ use Rattle.admin_words.specs.declared.command.NodeCommand.TheVariants.{DeleteFil
 use Rattle.admin_words.specs.declared.command.PolicyCommand.{PolicyCommand}
 use Rattle.admin_words.specs.declared.command.PolicyCommand.TheVariants.{ValidateSet}
 use Rattle.admin_words.specs.declared.command.VolumeCommand.{VolumeCommand}
-use Rattle.admin_words.specs.declared.command.VolumeCommand.TheVariants.{DeleteVolume, ReuseVolumes}
+use Rattle.admin_words.specs.declared.command.VolumeCommand.TheVariants.{DeleteVolume, MoveData, RestoreVolume, ReuseVolumes}
 use Rattle.admin_words.specs.declared.command.PoolCommand.{PoolCommand}
-use Rattle.admin_words.specs.declared.command.PoolCommand.TheVariants.{BackupPool}
-use Rattle.admin_commands.specs.Found.{behind as others, filespace_named, number_found}
+use Rattle.admin_words.specs.declared.command.PoolCommand.TheVariants.{BackupPool, ReclaimPool, RestorePool}
+use Rattle.admin_commands.specs.Found.{behind as others, filespace_named, number_found, pool_called, pool_named, the_pool, the_volume}
 use Rattle.admin_commands.specs.Orders.{needs, run, work_of}
-use Rattle.admin_commands.specs.Stores.{delete_volume}
+use Rattle.admin_commands.specs.Stores.{delete_volume, may_move, move_data, moved, moved_from}
 use Rattle.admin_commands.specs.Orders.{run_found}
 use Rattle.admin_commands.specs.declared.work.Work.{Work}
 use Rattle.admin_commands.specs.declared.work.Work.TheVariants as work
 use Rattle.command_steps.specs.Behind.{Behind, behind, database_behind, forces, node_behind, no_more, pool_behind, reuses, volume_behind}
-use Rattle.command_steps.specs.Owns.{Own, back_up_pool, checkpoint, database_own, empty_filespace, empty_volume, expire, file_own, get, node_own, none_but_reuse, none_yet, own_of, policy_own, pool_own, put, validate, volume_own}
+use Rattle.command_steps.specs.Owns.{Own, back_up_pool, checkpoint, database_own, empty_filespace, empty_volume, expire, file_own, get, moves, node_own, none_but_reuse, none_yet, own_of, policy_own, pool_own, put, validate, volume_own}
 use Rattle.line_results.specs.Commands.{answers_to, work_over}
 
 -- work of a command's own that is done by the steps of a process, or isn't done so far
@@ -43,6 +45,7 @@ IsPlainOwn expire = ⊥
 IsPlainOwn empty_filespace = ⊥
 IsPlainOwn empty_volume = ⊥
 IsPlainOwn back_up_pool = ⊥
+IsPlainOwn (moves mover) = ⊥
 IsPlainOwn none_but_reuse = ⊥
 IsPlainOwn own = Unit {0}
 
@@ -79,6 +82,12 @@ pool-kind (BackupPool b) = inr (record {
   rowless = λ answers. found-rowless (number_found answers) (λ primary. if_found (number_found (others answers)) (λ copy. run (primary ∷ copy ∷ [])))
       (λ primary. found-rowless (number_found (others answers)) (λ copy. run (primary ∷ copy ∷ [])) (λ copy. tt));
 })
+pool-kind (ReclaimPool r) = inr (record {
+  some = λ is. cc;
+  own = tt;
+  rowless = λ answers. found-rowless (the_pool answers) (λ p. run (p.number ∷ unwrap_or r.threshold p.settings.reclaim ∷ [])) (λ p. tt);
+})
+pool-kind (RestorePool p) = inr (record { some = λ is. cc; own = tt; rowless = λ answers. found-rowless (number_found answers) (λ number. run (number ∷ [])) (λ number. tt) })
 pool-kind c = inl (refl, tt)
 
 -- DELETE VOLUME is one where its data goes
@@ -97,11 +106,24 @@ deleted-kind : (discard : Bool) (volume : List ℕ) → DeletedKind discard (λ 
 deleted-kind true volume = inr (λ is. cc, tt, λ answers. found-rowless (number_found answers) (λ number. run (number ∷ [])) (λ number. tt))
 deleted-kind false volume = inl (refl, tt)
 
+moved-rowless : (b : Bool) (w : Work) → IsRowless (Ok w) → IsRowless (if b then Ok w else Err BadHierarchy)
+moved-rowless true w h = h
+moved-rowless false w h = tt
+
+data-rowless : (pool : Option (List ℕ)) (answers : List Answer) → IsRowless (move_data pool answers)
+data-rowless None answers = found-rowless (number_found answers) (λ file. run (file ∷ 0 ∷ [])) (λ file. tt)
+data-rowless (Some name) answers =
+    found-rowless (the_volume answers) (λ v. moved_from v name (others answers))
+    (λ v. found-rowless (pool_called v.pool (others answers)) (λ own. if_found (pool_named name (others answers)) (λ to. moved v.file own to))
+    (λ own. found-rowless (pool_named name (others answers)) (λ to. moved v.file own to) (λ to. moved-rowless (may_move own to) (work.Run (v.file ∷ to.number ∷ [])) tt)))
+
 volume-kind : (c : VolumeCommand) → Kind (commands.Volume c)
 volume-kind (DeleteVolume d) = elim (deleted-kind d.discard_data d.volume) as (λ _. Kind (commands.Volume (DeleteVolume d))) [
   | inl plain ↦ inl plain
   | inr process ↦ inr (record { some = process.0; own = process.1; rowless = process.2 })
 ]
+volume-kind (MoveData m) = inr (record { some = λ is. cc; own = tt; rowless = λ answers. data-rowless m.pool answers })
+volume-kind (RestoreVolume v) = inr (record { some = λ is. cc; own = tt; rowless = λ answers. found-rowless (number_found answers) (λ number. run (number ∷ [])) (λ number. tt) })
 volume-kind ReuseVolumes = inr (record { some = λ is. cc; own = tt; rowless = λ answers. tt })
 volume-kind c = inl (refl, tt)
 

@@ -1,6 +1,6 @@
 -- What comes of a process, and of what comes behind it.
-use Rattle.std.proofs.Common.{◌≡◌, ◌⊎◌, inl, inr, ℕ, ◌≤◌, ◌+◌, Bool, true, false, List, [], ◌∷◌, ◌++◌, length, map, Some, Result, Ok, Err, refl, sym, ap, subst, ◌∙◌}
-use Rattle.std.proofs.lemmas.Bool.{and_parts}
+use Rattle.std.proofs.Common.{◌≡◌, ◌⊎◌, inl, inr, ℕ, ◌≤◌, ◌+◌, ◌==◌, Bool, true, false, if◌then◌else◌, Option, None, List, [], ◌∷◌, ◌++◌, length, map, Some, Result, Ok, Err, refl, sym, ap, subst, ◌∙◌}
+use Rattle.std.proofs.lemmas.Bool.{and_parts, eqb-true}
 use Rattle.std.proofs.lemmas.List.{append-nil, append_cancel_left}
 use Rattle.std.proofs.lemmas.Option.{same_Some}
 use Rattle.std.specs.List.{AllByRecursion}
@@ -31,7 +31,17 @@ use Rattle.deletions.specs.Dropping.{IsTaking, dropped}
 use Rattle.deletions.specs.Filespaces as filespaces
 use Rattle.deletions.specs.Volumes as volumes
 use Rattle.expiration.specs.Expiring.{IsExpiring, named}
+use Rattle.copy_attempts.specs.Outcomes.{IsOf as IsOfAttempt}
+use Rattle.inventory_answers.specs.declared.lines.VolumeLine.{VolumeLine}
+use Rattle.kinds.specs.declared.pool.Access.TheVariants.{Destroyed}
+use Rattle.pool_restores.specs.Listing.{aim_of, destroying, destroying_found, volume_with}
+use Rattle.pool_restores.specs.Restoring.{IsRestore}
+use Rattle.pool_restores.specs.Volumes.{IsVolumeRestore}
+use Rattle.reclamation.specs.Moving.{IsMoving, into}
+use Rattle.reclamation.specs.Reclaiming.{IsReclaiming}
 use Rattle.reuse_delay.specs.Reusing.{IsReusing, VolumeReuse}
+use Rattle.space.specs.declared.aim.Aim.{Aim}
+use Rattle.space.specs.declared.aim.Aim.TheVariants as aim
 use Rattle.script_loop.specs.declared.ends.Halt.{Halt}
 use Rattle.sessions.specs.Changing.{Changing, IsOf}
 use Rattle.steps.specs.declared.asked.Asked.{Asked}
@@ -45,15 +55,15 @@ use Rattle.machine.specs.Machine.{Places, asked_change}
 use Rattle.machine.specs.State.{Core, Machine, inventory}
 use Rattle.command_steps.specs.Answers.{halt_by}
 use Rattle.command_steps.specs.Behind.{Behind, behind, forces, no_more, reuses, with_reused}
-use Rattle.command_steps.specs.Doing.{Does as DoesBy, DoesOwn as DoesOwnBy, DoesWork, EndsWork, Forcing, Reusing, the_number, the_second}
-use Rattle.command_steps.specs.Owns.{Own, back_up_pool, checkpoint, empty_filespace, empty_volume, expire, get, last_of, none_but_reuse, none_yet, own_of, put, validate}
+use Rattle.command_steps.specs.Doing.{Does as DoesBy, DoesOwn as DoesOwnBy, DoesWork, EndsWork, Forcing, MovesSo, Reusing, moved_line, the_number, the_second}
+use Rattle.command_steps.specs.Owns.{Mover, Own, back_up_pool, checkpoint, data_mover, empty_filespace, empty_volume, expire, get, last_of, moves, none_but_reuse, none_yet, own_of, pool_restorer, put, reclaimer, validate, volume_restorer}
 use Rattle.command_steps.specs.declared.outcome.Outcome.{Outcome}
 use Rattle.command_steps.specs.declared.outcome.Outcome.TheVariants.{Said}
-use Rattle.line_results.specs.Commands.{Does, DoesOwn, EndsWith, IsReuse, IsStill, IsStopped, MayMake, Processes, Ran, Tells, Works, WorksWith}
+use Rattle.line_results.specs.Commands.{Does, DoesOwn, EndsWith, IsLoss, IsReuse, IsStill, IsStopped, MayMake, Processes, Ran, Tells, Works, WorksWith}
 use Rattle.line_results.specs.Resting.{Adds, EndsRun, IsAtRest, IsLate, SameBytes, SameImage}
 use Rattle.reports.specs.declared.shown.Shown.TheVariants.{Copied, Reused}
 use Rattle.line_results.proofs.Changed.{changes}
-use Rattle.line_results.proofs.Copying.{AllCopy, Copies, IsCopy, copied-none, copies-walk, settled-free}
+use Rattle.line_results.proofs.Copying.{AllCopy, Copies, IsCopy, MayJoin, copied-none, copies-walk, settled-free}
 use Rattle.line_results.proofs.Kinds.{IsProcess, IsProcessOwn, IsRowless}
 use Rattle.line_results.proofs.Leaving.{Left}
 use Rattle.line_results.proofs.Mild.{is_common}
@@ -111,18 +121,84 @@ reusing-walks : (files : List ℕ) (d : Deed) → IsReusing files d → Walks (I
 reusing-walks files d (inl h) = ending-walks (IsReuse reuses) d h
 reusing-walks files d (inr (file, answer, among, is)) = subst (λ (x : Deed). Walks (IsReuse reuses) x) (sym is) (file, refl)
 
-backup-copies-one : (copy : ℕ) (d : Deed) → IsBackup copy d → Copies false d
-backup-copies-one copy d (inl (inl (q, answer, is))) = subst (λ (x : Deed). Copies false x) (sym is) tt
-backup-copies-one copy d (inl (inr (answer, is))) = subst (λ (x : Deed). Copies false x) (sym is) tt
+-- P holds of nothing
+abbrev NoOther : Change → Type 0
+NoOther c = ⊥
+
+ending-copies : (moving : Bool) (P : Change → Type 0) (d : Deed) → IsEnding d → Copies moving P d
+ending-copies moving P d (inl (q, answer, is)) = subst (λ (x : Deed). Copies moving P x) (sym is) tt
+ending-copies moving P d (inr (answer, is)) = subst (λ (x : Deed). Copies moving P x) (sym is) tt
+
+-- an attempt for a copy that moves
+attempt-moves : (P : Change → Type 0) (object : ℕ) (a : Aim) (avoid : ℕ) (d : Deed) → is_moving a ≡ true → IsOfAttempt object a avoid d → Copies true P d
+attempt-moves P object a avoid (OpenCopy number to other answer) so (one, is, none) = ap is_moving is ∙ so
+attempt-moves P object a avoid (CopyPiece number answer) so h = tt
+attempt-moves P object a avoid (Seal number answer) so h = tt
+attempt-moves P object a avoid (DropTicket number answer) so h = tt
+attempt-moves P object a avoid (Force answer) so h = tt
+attempt-moves P object a avoid (Commit asked tickets answer) so (number, is, one) = inl (number, is, one)
+attempt-moves P object a avoid d so h = absurd h
+
+data-moves : (file to : ℕ) (d : Deed) → IsMoving file to d → Copies true NoOther d
+data-moves file to d (inl h) = ending-copies true NoOther d h
+data-moves file to d (inr (object, from, placed, is)) = attempt-moves NoOther object (aim.Move from placed (into to from) false) file d refl is
+
+reclaim-moves : (files : List ℕ) (pool : ℕ) (d : Deed) → IsReclaiming files pool d → Copies true NoOther d
+reclaim-moves files pool d (inl h) = ending-copies true NoOther d h
+reclaim-moves files pool d (inr (file, among, is)) = data-moves file pool d is
+
+restore-moves : (P : Change → Type 0) (d : Deed) → IsRestore d → Copies true P d
+restore-moves P d (inl h) = ending-copies true P d h
+restore-moves P d (inr (object, pool, placed, is)) = attempt-moves P object (aim_of pool placed) 0 d refl is
+
+-- the volume that is found has this file
+has-file : (file : ℕ) (lines : List VolumeLine) (l : VolumeLine) → volume_with file lines ≡ Some l → l.file ≡ file
+has-file file [] l is = absurd cc
+has-file file (x ∷ lines) l is =
+    elim (x.file == file) as (λ b. (x.file == file) ≡ b → (if b then Some x else volume_with file lines) ≡ Some l → l.file ≡ file) [
+      | true ↦ λ same one. subst (λ (y : VolumeLine). y.file ≡ file) (same_Some x l one) (eqb-true x.file file same)
+      | false ↦ λ other later. has-file file lines l later
+    ] refl is
+
+loss-found : (file : ℕ) (found : Option VolumeLine) (c : Change) → ((l : VolumeLine) → found ≡ Some l → l.file ≡ file) → destroying_found found ≡ Ok c → (next_file : ℕ) (v : Inv) → IsLoss file (filled next_file v c)
+loss-found file None c so is next_file v = absurd cc
+loss-found file (Some l) c so is next_file v =
+    let same : destroying l ≡ c = cc in
+    subst (λ (x : Change). IsLoss file (filled next_file v x)) same (l.name, l.capacity, ap (λ (k : ℕ). change.Pool (store.Volume verb.Update l.name 0 k l.capacity Destroyed)) (so l refl))
+
+volume-moves : (file : ℕ) (d : Deed) → IsVolumeRestore file d → Copies true (IsLoss file) d
+volume-moves file d (inl h) = restore-moves (IsLoss file) d h
+volume-moves file d (inr (lines, c, answer, of, is)) =
+    subst (λ (x : Deed). Copies true (IsLoss file) x) (sym is)
+    (inr (refl, λ w core joins. joined-plain (IsLoss file) c w core (loss-found file (volume_with file lines) c (λ l found. has-file file lines l found) of core.next_file (inventory core)) joins))
+
+all-copies : (moving : Bool) (P : Change → Type 0) (Is : Deed → Type 0) → ((d : Deed) → Is d → Copies moving P d) → (events : List Event) → AllByRecursion (λ e. Is e.deed) events → AllCopy moving P events
+all-copies moving P Is so [] h = tt
+all-copies moving P Is so (e ∷ events) h = (so e.deed h.0, all-copies moving P Is so events h.1)
+
+-- no ticket is left, unless one may be
+module _ (events : List Event) (said : Result Outcome Refusal) (leave : may_stay said ≡ false) where
+  moves-settled : (mover : Mover) (first second : ℕ) (answer : Result Moved Refusal) → MovesSo mover first second events answer → said ≡ on_ok (λ (m : Moved). Said (moved_line mover m)) answer → AreSettled events
+  moves-settled data_mover first second (Ok m) h is = h.came.settled
+  moves-settled data_mover first second (Err e) h is = h.came.settled (ap may_stay (sym is) ∙ leave)
+  moves-settled reclaimer first second (Ok m) h is = h.came.settled
+  moves-settled reclaimer first second (Err e) h is = h.came.settled (ap may_stay (sym is) ∙ leave)
+  moves-settled pool_restorer first second (Ok m) h is = h.came.counts.settled
+  moves-settled pool_restorer first second (Err e) h is = h.came.settled (ap may_stay (sym is) ∙ leave)
+  moves-settled volume_restorer first second (Ok m) h is = h.came.counts.settled
+  moves-settled volume_restorer first second (Err e) h is = h.came.settled (ap may_stay (sym is) ∙ leave)
+
+backup-copies-one : (copy : ℕ) (d : Deed) → IsBackup copy d → Copies false NoOther d
+backup-copies-one copy d (inl h) = ending-copies false NoOther d h
 backup-copies-one copy (OpenCopy number to other answer) (inr (object, (one, is, none))) = ap is_moving is
 backup-copies-one copy (CopyPiece number answer) (inr h) = tt
 backup-copies-one copy (Seal number answer) (inr h) = tt
 backup-copies-one copy (DropTicket number answer) (inr h) = tt
 backup-copies-one copy (Force answer) (inr h) = tt
-backup-copies-one copy (Commit asked tickets answer) (inr (object, (number, is, one))) = (number, is, one)
+backup-copies-one copy (Commit asked tickets answer) (inr (object, (number, is, one))) = inl (number, is, one)
 backup-copies-one copy d (inr (object, h)) = absurd h
 
-backup-copies : (copy : ℕ) (events : List Event) → AllByRecursion (λ e. IsBackup copy e.deed) events → AllCopy false events
+backup-copies : (copy : ℕ) (events : List Event) → AllByRecursion (λ e. IsBackup copy e.deed) events → AllCopy false NoOther events
 backup-copies copy [] h = tt
 backup-copies copy (e ∷ events) h = (backup-copies-one copy e.deed h.0, backup-copies copy events h.1)
 
@@ -172,16 +248,16 @@ module _ (trusted : Type 0) (places : Places) (choice : List Rule) (b : Behind) 
       }
 
   -- steps that make further copies, or move some
-  copies-began : (moves : Bool) (numbers : List ℕ) (own : Own) (said : Result Outcome Refusal) (events : List Event) (old mid : Machine) → ((c : Change) → IsCopy moves c → MayMake numbers own c) → IsAtRest old.core
-      → DoesOwnBy choice own numbers events said → AllCopy moves events → (may_stay said ≡ false → AreSettled events) → Alone trusted places 0 events old mid
+  copies-began : (moving : Bool) (P : Change → Type 0) (numbers : List ℕ) (own : Own) (said : Result Outcome Refusal) (events : List Event) (old mid : Machine) → ((c : Change) → MayJoin moving P c → MayMake numbers own c) → IsAtRest old.core
+      → DoesOwnBy choice own numbers events said → AllCopy moving P events → (may_stay said ≡ false → AreSettled events) → Alone trusted places 0 events old mid
       → OwnBegan trusted places (λ added. Processes trusted places choice numbers own old mid said added) b old mid said
-  copies-began moves numbers own said events old mid may rest did all settled f =
-      let r = copies-walk moves trusted places [] events [] old old mid all (copied-none moves old rest) f in
+  copies-began moving P numbers own said events old mid may rest did all settled f =
+      let r = copies-walk moving P trusted places [] events [] old old mid all (copied-none moving P old rest) f in
       record {
         first = r.0;
-        does = ((old, events, still-none old, f, did), are-as (IsCopy moves) (MayMake numbers own) may r.0 r.1.grew.are, r.1.grew.core.generation, r.1.grew.contents);
-        grew = grew-on (IsCopy moves) (IsReuse b) r.0 old mid r.1.grew;
-        free = λ h. settled-free moves trusted places events old mid rest.tickets all (settled h) f;
+        does = ((old, events, still-none old, f, did), are-as (MayJoin moving P) (MayMake numbers own) may r.0 r.1.grew.are, r.1.grew.core.generation, r.1.grew.contents);
+        grew = grew-on (MayJoin moving P) (IsReuse b) r.0 old mid r.1.grew;
+        free = λ h. settled-free moving P trusted places events old mid rest.tickets all (settled h) f;
       }
 
   -- what made no step
@@ -196,6 +272,28 @@ module _ (trusted : Type 0) (places : Places) (choice : List Rule) (b : Behind) 
         free = λ h. subst (λ (m : Machine). m.core.tickets ≡ []) (sym same) rest.tickets;
       }
 
+  no-other : (c : Change) (moving : Bool) → MayJoin moving NoOther c → IsCopy moving c
+  no-other c moving (inl h) = h
+  no-other c moving (inr h) = absurd h
+
+  moves-began : (mover : Mover) (numbers : List ℕ) (said : Result Outcome Refusal) (events : List Event) (old mid : Machine) → IsAtRest old.core → DoesOwnBy choice (moves mover) numbers events said
+      → Alone trusted places 0 events old mid → OwnBegan trusted places (λ added. DoesOwn trusted places choice numbers (moves mover) old mid said added) b old mid said
+  moves-began data_mover numbers said events old mid rest h f =
+      copies-began true NoOther numbers (moves data_mover) said events old mid (λ c is. no-other c true is) rest h
+      (all-copies true NoOther (IsMoving (the_number numbers) (the_second numbers)) (data-moves (the_number numbers) (the_second numbers)) events h.1.only)
+      (λ leave. moves-settled events said leave data_mover (the_number numbers) (the_second numbers) h.0 h.1 h.2) f
+  moves-began reclaimer numbers said events old mid rest h f =
+      copies-began true NoOther numbers (moves reclaimer) said events old mid (λ c is. no-other c true is) rest h
+      (all-copies true NoOther (IsReclaiming h.1.files (the_number numbers)) (reclaim-moves h.1.files (the_number numbers)) events h.1.only)
+      (λ leave. moves-settled events said leave reclaimer (the_number numbers) (the_second numbers) h.0 h.1 h.2) f
+  moves-began pool_restorer numbers said events old mid rest h f =
+      copies-began true NoOther numbers (moves pool_restorer) said events old mid (λ c is. no-other c true is) rest h (all-copies true NoOther IsRestore (restore-moves NoOther) events h.1.only)
+      (λ leave. moves-settled events said leave pool_restorer (the_number numbers) (the_second numbers) h.0 h.1 h.2) f
+  moves-began volume_restorer numbers said events old mid rest h f =
+      copies-began true (IsLoss (the_number numbers)) numbers (moves volume_restorer) said events old mid (λ c is. is) rest h
+      (all-copies true (IsLoss (the_number numbers)) (IsVolumeRestore (the_number numbers)) (volume-moves (the_number numbers)) events h.1.only)
+      (λ leave. moves-settled events said leave volume_restorer (the_number numbers) (the_second numbers) h.0 h.1 h.2) f
+
   own-began : (own : Own) (numbers : List ℕ) (said : Result Outcome Refusal) (events : List Event) (old mid : Machine) → IsProcessOwn own → IsAtRest old.core → DoesOwnBy choice own numbers events said
       → Alone trusted places 0 events old mid → OwnBegan trusted places (λ added. DoesOwn trusted places choice numbers own old mid said added) b old mid said
   own-began expire numbers said events old mid so rest h f = process-began numbers expire said events old mid rest h (all-walk IsExpiring (MayMake numbers expire) (expiring-walks numbers) events h.1.only) f
@@ -204,7 +302,8 @@ module _ (trusted : Type 0) (places : Places) (choice : List Rule) (b : Behind) 
   own-began empty_volume numbers said events old mid so rest h f =
       process-began numbers empty_volume said events old mid rest h (all-walk (volumes.IsDeleting true (the_number numbers)) (MayMake numbers empty_volume) (volume-walks numbers) events h.1.only) f
   own-began back_up_pool numbers said events old mid so rest h f =
-      copies-began false numbers back_up_pool said events old mid (λ c is. is) rest h (backup-copies (the_second numbers) events h.1.only) (backup-settled (the_number numbers) (the_second numbers) events h.0 said h.1.came h.2) f
+      copies-began false NoOther numbers back_up_pool said events old mid (λ c is. no-other c false is) rest h (backup-copies (the_second numbers) events h.1.only) (backup-settled (the_number numbers) (the_second numbers) events h.0 said h.1.came h.2) f
+  own-began (moves mover) numbers said events old mid so rest h f = moves-began mover numbers said events old mid rest h f
   own-began none_but_reuse numbers said events old mid so rest h f = none-began (Ok (Said (Reused 0))) said events old mid rest h.0 h.1 f
   own-began none_yet numbers said events old mid so rest h f = none-began (Err (refused.UnknownWord 1)) said events old mid rest h.0 h.1 f
   own-began own numbers said events old mid so rest h f = absurd so

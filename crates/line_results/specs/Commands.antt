@@ -7,12 +7,14 @@ use Rattle.kinds.specs.declared.change.PolicyChange.TheVariants as policy
 use Rattle.kinds.specs.declared.change.PoolChange.TheVariants as store
 use Rattle.kinds.specs.declared.change.Verb.TheVariants as verb
 use Rattle.kinds.specs.declared.pool.Access.{Access}
+use Rattle.kinds.specs.declared.pool.Access.TheVariants.{Destroyed}
 use Rattle.kinds.specs.declared.refusal.Refusal.{Refusal}
 use Rattle.kinds.specs.declared.refusal.Refusal.TheVariants.{Memory, RunFull, UnknownWord}
 use Rattle.choosers.specs.declared.rule.Rule.{Rule}
 use Rattle.entries.specs.change_items.declared.items.DiscardedVersion.{DiscardedVersion}
 use Rattle.entries.specs.change_items.declared.items.DroppedCopy.{DroppedCopy}
 use Rattle.entries.specs.change_items.declared.items.NamedVersion.{NamedVersion}
+use Rattle.entries.specs.change_items.declared.items.MovedCopy.{MovedCopy}
 use Rattle.entries.specs.change_items.declared.items.NewCopy.{NewCopy}
 use Rattle.entries.specs.change_items.declared.items.ScratchVolume.{ScratchVolume}
 use Rattle.entries.specs.change_items.declared.reasons.DiscardReason.{DiscardReason}
@@ -45,7 +47,7 @@ use Rattle.command_steps.specs.Answers.{halt_by}
 use Rattle.command_steps.specs.Behind.{Behind, behind, no_more, reuses}
 use Rattle.command_steps.specs.Doing as steps
 use Rattle.command_steps.specs.Doing.{EndsWork, the_number}
-use Rattle.command_steps.specs.Owns.{Own, back_up_pool, checkpoint, empty_filespace, empty_volume, expire, get, last_of, none_but_reuse, none_yet, own_of, put, validate}
+use Rattle.command_steps.specs.Owns.{Mover, Own, back_up_pool, checkpoint, empty_filespace, empty_volume, expire, get, last_of, moves, none_but_reuse, none_yet, own_of, put, validate, volume_restorer}
 use Rattle.command_steps.specs.declared.outcome.Outcome.{Outcome}
 use Rattle.command_steps.specs.declared.outcome.Outcome.TheVariants.{Read, Rows, Said}
 use Rattle.line_results.specs.Files.{Checkpoints, Gets, Puts}
@@ -94,8 +96,21 @@ Ran trusted places Did old new = (mid : Machine) × (events : List Event) × IsS
 abbrev pub IsDiscard : DiscardReason → Change → Type 0
 IsDiscard reason c = (items : List DiscardedVersion) × (c ≡ change.Discard (record { reason = reason; items = items }))
 
+-- copies are moved
+abbrev pub IsMove : Change → Type 0
+IsMove c = (scratch : List ScratchVolume) × (items : List MovedCopy) × (c ≡ change.Move (record { scratch = scratch; items = items }))
+
+-- what the volume with this file number held is made known as lost
+abbrev pub IsLoss : (file : ℕ) → Change → Type 0
+IsLoss file c = (name : List ℕ) × (capacity : ℕ) × (c ≡ change.Pool (store.Volume verb.Update name 0 file capacity Destroyed))
+
+-- by what moves copies; RESTORE VOLUME makes the loss known too
+abbrev pub MayMove : Mover → (file : ℕ) → Change → Type 0
+MayMove volume_restorer file c = IsMove c ⊎ IsLoss file c
+MayMove mover file c = IsMove c
+
 -- the transactions that a process may make over the numbers of the things that it names: objects that aren't retained go; objects of the filespace are discarded, or its row goes; copies on the
--- volume are dropped, objects are discarded for it, or its row goes; copies are added
+-- volume are dropped, objects are discarded for it, or its row goes; copies are added, or moved
 abbrev pub MayMake : (numbers : List ℕ) → Own → Change → Type 0
 MayMake numbers expire c = (filespace : ℕ) × (items : List NamedVersion) × (c ≡ change.Expire (record { filespace = filespace; items = items }))
 MayMake numbers empty_filespace c =
@@ -105,6 +120,7 @@ MayMake numbers empty_volume c =
     ⊎ IsDiscard (because.Volume (the_number numbers)) c
     ⊎ ((name : List ℕ) × (capacity : ℕ) × (access : Access) × (c ≡ change.Pool (store.Volume verb.Delete name 0 (the_number numbers) capacity access)))
 MayMake numbers back_up_pool c = (scratch : List ScratchVolume) × (items : List NewCopy) × (c ≡ change.Copy (record { scratch = scratch; items = items }))
+MayMake numbers (moves mover) c = MayMove mover (the_number numbers) c
 MayMake numbers _ c = ⊥
 
 -- A process ran: its own contract says what its steps did; and each transaction that it made is one of these.
@@ -127,6 +143,7 @@ DoesOwn trusted places choice numbers expire old new result added = Processes tr
 DoesOwn trusted places choice numbers empty_filespace old new result added = Processes trusted places choice numbers empty_filespace old new result added
 DoesOwn trusted places choice numbers empty_volume old new result added = Processes trusted places choice numbers empty_volume old new result added
 DoesOwn trusted places choice numbers back_up_pool old new result added = Processes trusted places choice numbers back_up_pool old new result added
+DoesOwn trusted places choice numbers (moves mover) old new result added = Processes trusted places choice numbers (moves mover) old new result added
 DoesOwn trusted places choice numbers none_but_reuse old new result added = Tells (Ok (Said (Reused 0))) old new result added
 DoesOwn trusted places choice numbers none_yet old new result added = Tells (Err (UnknownWord 1)) old new result added
 

@@ -1,6 +1,8 @@
 use Rattle.command_steps.proofs.Worked.{owned}
-use Rattle.command_steps.specs.Doing.{DoesOwn, Gives, the_second}
+use Rattle.command_steps.specs.Doing.{DoesOwn, Gives, MovesSo, moved_line, the_second}
+use Rattle.command_steps.specs.Reading.{mover_view}
 use Rattle.command_steps.specs.Owns.{back_up_pool, checkpoint, empty_filespace, empty_volume, expire, get, none_but_reuse, none_yet, own_of, put, validate}
+use Rattle.command_steps.specs.Owns as owns
 use Rattle.kinds.specs.declared.refusal.Refusal.TheVariants.{UnknownWord}
 use Rattle.std.proofs.Common.{ℕ, true, Err, Ok, refl, subst}
 use Rattle.copy_pools.specs.Backups.{Backup}
@@ -49,3 +51,8 @@ pub returns-in-BackUpPool-clause-does : goal.returns-in-BackUpPool-clause-does
 returns-in-BackUpPool-clause-does g c = owned g.P.Stepper.did c.args.p.now c.back_up_pool.new.p c.args.binder.now back_up_pool (own_of c.args.command.now) c.args.numbers.now c.back_up_pool.result c.in-BackUpPool.ensures
     (subst (λ (k : ℕ). Call g.P.Stepper.did c.args.p.now c.back_up_pool.new.p (λ events. Gives (Backup k (the_second c.args.numbers.now)) (λ (copies : Moved). Said (Copied copies.moved copies.failed)) events c.back_up_pool.result)) c.the_number-in-BackUpPool.ensures
     (subst (λ (k : ℕ). Call g.P.Stepper.did c.args.p.now c.back_up_pool.new.p (λ events. Gives (Backup c.the_number-in-BackUpPool.result k) (λ (copies : Moved). Said (Copied copies.moved copies.failed)) events c.back_up_pool.result)) c.the_second.ensures c.back_up_pool.ensures))
+
+pub returns-in-Moves-clause-does : goal.returns-in-Moves-clause-does
+returns-in-Moves-clause-does g c = owned g.P.Stepper.did c.args.p.now c.move_all.new.p c.args.binder.now (owns.moves (mover_view c.in-Moves.mover)) (own_of c.args.command.now) c.args.numbers.now c.move_all.result c.in-Moves.ensures
+    (subst (λ (k : ℕ). Call g.P.Stepper.did c.args.p.now c.move_all.new.p (λ events. Gives (MovesSo (mover_view c.in-Moves.mover) k (the_second c.args.numbers.now)) (λ (m : Moved). Said (moved_line (mover_view c.in-Moves.mover) m)) events c.move_all.result)) c.the_number-in-Moves.ensures
+    (subst (λ (k : ℕ). Call g.P.Stepper.did c.args.p.now c.move_all.new.p (λ events. Gives (MovesSo (mover_view c.in-Moves.mover) c.the_number-in-Moves.result k) (λ (m : Moved). Said (moved_line (mover_view c.in-Moves.mover) m)) events c.move_all.result)) c.the_second-in-Moves.ensures c.move_all.ensures))
