@@ -1,4 +1,6 @@
 pub mod Answered
 pub mod Looked
 pub mod Pieces
+pub mod Treed
 pub mod Worked
+pub mod Written

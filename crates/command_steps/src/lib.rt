@@ -10,6 +10,8 @@ mod outcome;
 mod own;
 mod reply;
 mod text;
+mod trees;
+mod writing;
 
 pub use answering::answer_line;
 pub use outcome::Outcome;
