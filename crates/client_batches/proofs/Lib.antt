@@ -5,6 +5,8 @@ pub mod Exact
 pub mod Exactly
 pub mod Filled
 pub mod Handled
+pub mod Leaving
+pub mod Left
 pub mod Lengths
 pub mod Quiet
 pub mod Rounding

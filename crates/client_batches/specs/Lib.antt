@@ -2,6 +2,7 @@ pub mod Batches
 pub mod Commits
 pub mod Handling
 pub mod Items
+pub mod Leaving
 pub mod Listings
 pub mod Rounds
 pub mod Sends

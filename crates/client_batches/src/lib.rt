@@ -4,6 +4,7 @@
 
 mod batch;
 mod committing;
+pub mod laws;
 mod listing;
 mod lists;
 mod rounds;

@@ -1,4 +1,5 @@
 pub mod Beginning
 pub mod Exactly
+pub mod Left
 pub mod Questions
 pub mod Working
