@@ -1,5 +1,5 @@
 -- A file that is written into a tree, part by part.
-use Rattle.std.proofs.Common.{◌≡◌, ◌⊎◌, inl, inr, ℕ, zero, suc, ◌+◌, ◌≤◌, ◌%◌, List, [], ◌∷◌, ◌++◌, length, map, take, Option, None, Some, IfSome, Result, Ok, Err, OnOk, OnErr, refl, sym, ap, subst, ◌∙◌, arith}
+use Rattle.std.proofs.Common.{◌≡◌, ◌⊎◌, ℕ, zero, suc, ◌+◌, ◌≤◌, List, [], ◌∷◌, ◌++◌, length, map, take, Option, None, Some, IfSome, Result, Ok, Err, OnOk, OnErr, refl, sym, ap, subst, ◌∙◌, arith}
 use Rattle.std.proofs.lemmas.List.{map-append}
 use Rattle.std.specs.List.{range_with_len}
 use Rattle.std.specs.Option.{option_map}
@@ -7,11 +7,11 @@ use Rattle.kinds.specs.declared.refusal.Refusal.{Refusal}
 use Rattle.kinds.specs.declared.refusal.Refusal.TheVariants.{TreeFault}
 use Rattle.tree_api.specs.Cause.{Rose}
 use Rattle.client_trees.proofs.Calls.{others-created, others-finished, others-removed}
-use Rattle.client_trees.specs.Files.{Files, IsGone, Leaves, LeavesFront, appended, created, file_at, finished, removed}
+use Rattle.client_trees.specs.Files.{Files, IsGone, Leaves, appended, created, file_at, finished, removed}
 use Rattle.client_files.proofs.Giving.{cleared, file_begun, file_finished, file_more, file_others, file_over, leads_by, leads_either, leads_front, leads_then}
-use Rattle.client_files.specs.Restoring.{HasFile, HasNone, HasOthers, Leads}
+use Rattle.client_files.specs.Restoring.{HasFile, HasOthers, Leads}
 use Rattle.command_steps.specs.Clients.{Known}
-use Rattle.command_steps.specs.Writing.{Erases, Fails, IsWithout, PutsFile, PutsMore, Writes, byte_at, counted}
+use Rattle.command_steps.specs.Writing.{Fails, IsWithout, PutsFile, PutsMore, Writes, byte_at, counted}
 
 -- ---- counted bytes
 

@@ -1,4 +1,4 @@
-use Rattle.std.proofs.Common.{refl, sym, ap}
+use Rattle.std.proofs.Common.{refl, ap}
 use Rattle.command_steps.proofs.Treed.{does-on, done-on}
 use Rattle.command_steps.specs.Clients.{seen}
 use Rattle.command_steps.specs.Owns.{back_up, erase, restore, write}
