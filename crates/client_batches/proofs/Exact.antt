@@ -13,7 +13,8 @@ use Rattle.steps.specs.Events.Deed.{OpenNew, OpenCopy, WritePiece, CopyPiece, Se
 use Rattle.client_batches.specs.Commits.{Alone, Commits, Singles, Tries, is_in_the_way, outcome, taken_out}
 use Rattle.client_batches.specs.Items.{items_in, kept, made_by}
 use Rattle.client_batches.specs.Tickets.{is_lasting}
-use Rattle.client_batches.proofs.Quiet.{AreQuiet, IsQuiet, gives_quiet}
+use Rattle.client_batches.proofs.Quiet.{gives_quiet}
+use Rattle.client_batches.specs.Quiet.{AreQuiet, IsQuiet}
 
 -- ---- items
 

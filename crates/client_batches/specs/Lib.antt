@@ -4,6 +4,7 @@ pub mod Handling
 pub mod Items
 pub mod Leaving
 pub mod Listings
+pub mod Quiet
 pub mod Rounds
 pub mod Sends
 pub mod Tickets

@@ -2,5 +2,6 @@ pub mod Answering
 pub mod Asking
 pub mod Filespaces
 pub mod Items
+pub mod Orders
 pub mod Planning
 pub mod Process
