@@ -1,4 +1,5 @@
 pub mod Answered
+pub mod Changed
 pub mod Looked
 pub mod Pieces
 pub mod Treed

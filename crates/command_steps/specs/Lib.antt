@@ -3,6 +3,7 @@ pub mod Answers
 pub mod Behind
 pub mod Clients
 pub mod Doing
+pub mod Leaving
 pub mod Lines
 pub mod Owns
 pub mod Reading

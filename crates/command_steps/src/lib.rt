@@ -4,6 +4,7 @@
 mod answering;
 mod behind;
 mod doing;
+pub mod laws;
 mod lines;
 mod looking;
 mod outcome;
