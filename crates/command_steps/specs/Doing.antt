@@ -28,7 +28,6 @@ use Rattle.sessions.specs.Checkpoints.{Checkpointing}
 use Rattle.sessions.specs.Getting.{Gets}
 use Rattle.sessions.specs.InTurn.{OrMemory}
 use Rattle.sessions.specs.Putting.{Puts}
-use Rattle.sessions.specs.declared.getting.FileRead.{FileRead}
 use Rattle.steps.specs.Calls.{IsStep, Made, Then}
 use Rattle.steps.specs.Events.{Event}
 use Rattle.steps.specs.Events.Deed.{Ask, Force}

@@ -1,5 +1,5 @@
 -- Work of a command that is no one change and no one query.
-use Rattle.std.specs.Prelude.{if◌then◌else◌, List, length, ℕ}
+use Rattle.std.specs.Prelude.{if◌then◌else◌, length, ℕ}
 use Rattle.kinds.specs.declared.change.PoolChange.TheVariants as store
 use Rattle.kinds.specs.declared.change.Verb.TheVariants as verb
 use Rattle.client_trees.specs.Files.{ClientFile}
