@@ -1,5 +1,5 @@
 -- The transactions have exactly the lines that are committed.
-use Rattle.std.proofs.Common.{◌≡◌, inl, inr, ℕ, suc, ◌+◌, Bool, true, false, true≢false, List, [], ◌∷◌, ◌++◌, length, map, take, drop, if◌then◌else◌, Option, None, Some, is_some, Result, Ok, Err, refl, sym, ap, ◌∙◌, append-nil, append_assoc, arith}
+use Rattle.std.proofs.Common.{◌≡◌, inl, inr, ℕ, suc, Bool, true, false, true≢false, List, [], ◌∷◌, ◌++◌, length, map, take, drop, if◌then◌else◌, Option, None, Some, is_some, Result, Ok, Err, refl, sym, ap, ◌∙◌, append-nil, append_assoc, arith}
 use Rattle.std.proofs.lemmas.Grind.{flat_map-append}
 use Rattle.std.proofs.lemmas.List.{length-map}
 use Rattle.std.specs.List.{flat_map}
@@ -13,7 +13,8 @@ use Rattle.steps.specs.Events.Deed.{OpenNew, OpenCopy, WritePiece, CopyPiece, Se
 use Rattle.client_batches.specs.Commits.{Alone, Commits, Singles, Tries, is_in_the_way, outcome, taken_out}
 use Rattle.client_batches.specs.Items.{items_in, kept, made_by}
 use Rattle.client_batches.specs.Tickets.{is_lasting}
-use Rattle.client_batches.proofs.Quiet.{AreQuiet, IsQuiet, gives_quiet}
+use Rattle.client_batches.proofs.Quiet.{gives_quiet}
+use Rattle.client_batches.specs.Quiet.{AreQuiet, IsQuiet}
 
 -- ---- items
 

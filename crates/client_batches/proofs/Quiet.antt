@@ -13,22 +13,10 @@ use Rattle.inventory_work.specs.declared.lines.Rules.{Rules}
 use Rattle.steps.specs.Calls.{IsStep, Made, Then}
 use Rattle.steps.specs.Events.{Deed, Event}
 use Rattle.steps.specs.Events.Deed.{OpenNew, OpenCopy, WritePiece, CopyPiece, Seal, Commit, DropTicket, ReadPiece, Ask, Image, Reuse, Force}
+use Rattle.client_batches.specs.Quiet.{AreQuiet, IsQuiet}
 use Rattle.client_batches.specs.Rounds.{Awaits, AwaitsOne}
 use Rattle.client_batches.specs.Sends.{SendsEach, SendsOne}
 use Rattle.client_batches.specs.Tickets.{DropsAll, DropsEach, GivesBack}
-
--- it fills its own tickets, gives them back, asks or forces
-abbrev pub IsQuiet : Deed → Type 0
-IsQuiet (OpenNew pool size prefer answer) = Unit {0}
-IsQuiet (WritePiece ticket bytes answer) = Unit {0}
-IsQuiet (Seal ticket answer) = Unit {0}
-IsQuiet (DropTicket ticket answer) = Unit {0}
-IsQuiet (Ask query answer) = Unit {0}
-IsQuiet (Force answer) = Unit {0}
-IsQuiet _ = ⊥
-
-abbrev pub AreQuiet : List Event → Type 0
-AreQuiet events = AllByRecursion (λ e. IsQuiet e.deed) events
 
 pub all_append : (P : Event → Type 0) (xs ys : List Event) → AllByRecursion P xs → AllByRecursion P ys → AllByRecursion P (xs ++ ys)
 all_append P [] ys all rest = rest

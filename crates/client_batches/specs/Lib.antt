@@ -3,6 +3,7 @@ pub mod Commits
 pub mod Handling
 pub mod Items
 pub mod Listings
+pub mod Quiet
 pub mod Rounds
 pub mod Sends
 pub mod Tickets

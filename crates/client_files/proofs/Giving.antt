@@ -29,13 +29,13 @@ leads_same : (path : List ℕ) (told : Option Files) → Leads (HasOthers path) 
 leads_same path None = tt
 leads_same path (Some files) = refl
 
-leads_then : (path : List ℕ) (old mid new : Option Files) → Leads (HasOthers path) old mid → Leads (HasOthers path) mid new → Leads (HasOthers path) old new
+pub leads_then : (path : List ℕ) (old mid new : Option Files) → Leads (HasOthers path) old mid → Leads (HasOthers path) mid new → Leads (HasOthers path) old new
 leads_then path None mid new a b = tt
 leads_then path (Some old) None new a b = elim a [ ]
 leads_then path (Some old) (Some mid) None a b = elim b [ ]
 leads_then path (Some old) (Some mid) (Some new) a b = b ∙ a
 
-leads_by : (path : List ℕ) (change : Files → Files) → ((files : Files) → others path (change files) ≡ others path files) → (old new : Option Files) → new ≡ option_map change old → Leads (HasOthers path) old new
+pub leads_by : (path : List ℕ) (change : Files → Files) → ((files : Files) → others path (change files) ≡ others path files) → (old new : Option Files) → new ≡ option_map change old → Leads (HasOthers path) old new
 leads_by path change stays None new h = tt
 leads_by path change stays (Some old) new h = subst (λ (o : Option Files). Leads (HasOthers path) (Some old) o) (sym h) (stays old)
 
@@ -43,39 +43,39 @@ leads_as : (path : List ℕ) (old new : Option Files) → new ≡ old → Leads 
 leads_as path old new h = subst (λ (o : Option Files). Leads (HasOthers path) old o) (sym h) (leads_same path old)
 
 -- a call that failed did what it is for, or nothing
-leads_either : (path : List ℕ) (change : Files → Files) → ((files : Files) → others path (change files) ≡ others path files) → (old new : Option Files) → (new ≡ old) ⊎ (new ≡ option_map change old)
+pub leads_either : (path : List ℕ) (change : Files → Files) → ((files : Files) → others path (change files) ≡ others path files) → (old new : Option Files) → (new ≡ old) ⊎ (new ≡ option_map change old)
     → Leads (HasOthers path) old new
 leads_either path change stays old new (inl h) = leads_as path old new h
 leads_either path change stays old new (inr h) = leads_by path change stays old new h
 
-leads_front : (path bytes : List ℕ) (old new : Option Files) → (new ≡ old) ⊎ ((count : ℕ) × (count ≤ length bytes) × (new ≡ option_map (appended path (take count bytes)) old)) → Leads (HasOthers path) old new
+pub leads_front : (path bytes : List ℕ) (old new : Option Files) → (new ≡ old) ⊎ ((count : ℕ) × (count ≤ length bytes) × (new ≡ option_map (appended path (take count bytes)) old)) → Leads (HasOthers path) old new
 leads_front path bytes old new (inl h) = leads_as path old new h
 leads_front path bytes old new (inr h) = leads_by path (appended path (take h.0 bytes)) (others-appended path (take h.0 bytes)) old new h.2
 
-file_others : (path bytes : List ℕ) (mtime : ℕ) (old new : Option Files) → Leads (HasFile path bytes mtime) old new → Leads (HasOthers path) old new
+pub file_others : (path bytes : List ℕ) (mtime : ℕ) (old new : Option Files) → Leads (HasFile path bytes mtime) old new → Leads (HasOthers path) old new
 file_others path bytes mtime None new h = tt
 file_others path bytes mtime (Some old) None h = elim h [ ]
 file_others path bytes mtime (Some old) (Some new) h = h.0
 
-file_begun : (path : List ℕ) (old : Option Files) → IfSome old (λ files. file_at path files ≡ Some (record { bytes = []; mtime = 0 })) → Leads (HasFile path [] 0) old old
+pub file_begun : (path : List ℕ) (old : Option Files) → IfSome old (λ files. file_at path files ≡ Some (record { bytes = []; mtime = 0 })) → Leads (HasFile path [] 0) old old
 file_begun path None h = tt
 file_begun path (Some files) h = (refl, h)
 
-file_more : (path bytes more : List ℕ) (mtime : ℕ) (old mid new : Option Files) → Leads (HasFile path bytes mtime) old mid → new ≡ option_map (appended path more) mid → Leads (HasFile path (bytes ++ more) mtime) old new
+pub file_more : (path bytes more : List ℕ) (mtime : ℕ) (old mid new : Option Files) → Leads (HasFile path bytes mtime) old mid → new ≡ option_map (appended path more) mid → Leads (HasFile path (bytes ++ more) mtime) old new
 file_more path bytes more mtime None mid new h e = tt
 file_more path bytes more mtime (Some old) None new h e = elim h [ ]
 file_more path bytes more mtime (Some old) (Some mid) new h e =
     subst (λ (o : Option Files). Leads (HasFile path (bytes ++ more) mtime) (Some old) o) (sym e)
     (others-appended path more mid ∙ h.0, at-appended path more mid (record { bytes = bytes; mtime = mtime }) h.1)
 
-file_finished : (path bytes : List ℕ) (before mtime : ℕ) (old mid new : Option Files) → Leads (HasFile path bytes before) old mid → new ≡ option_map (finished path mtime) mid → Leads (HasFile path bytes mtime) old new
+pub file_finished : (path bytes : List ℕ) (before mtime : ℕ) (old mid new : Option Files) → Leads (HasFile path bytes before) old mid → new ≡ option_map (finished path mtime) mid → Leads (HasFile path bytes mtime) old new
 file_finished path bytes before mtime None mid new h e = tt
 file_finished path bytes before mtime (Some old) None new h e = elim h [ ]
 file_finished path bytes before mtime (Some old) (Some mid) new h e =
     subst (λ (o : Option Files). Leads (HasFile path bytes mtime) (Some old) o) (sym e)
     (others-finished path mtime mid ∙ h.0, at-finished path mtime mid (record { bytes = bytes; mtime = before }) h.1)
 
-file_over : (path bytes : List ℕ) (mtime : ℕ) (old mid new : Option Files) → Leads (HasOthers path) old mid → Leads (HasFile path bytes mtime) mid new → Leads (HasFile path bytes mtime) old new
+pub file_over : (path bytes : List ℕ) (mtime : ℕ) (old mid new : Option Files) → Leads (HasOthers path) old mid → Leads (HasFile path bytes mtime) mid new → Leads (HasFile path bytes mtime) old new
 file_over path bytes mtime None mid new a b = tt
 file_over path bytes mtime (Some old) None new a b = elim a [ ]
 file_over path bytes mtime (Some old) (Some mid) None a b = elim b [ ]

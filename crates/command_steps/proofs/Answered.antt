@@ -1,7 +1,6 @@
 -- A line that is answered, part by part.
 use Rattle.std.proofs.Common.{◌≡◌, inl, inr, ℕ, true, false, nat_lt, List, [], Option, None, Some, Result, Ok, Err, refl, sym, ap, subst}
 use Rattle.kinds.specs.declared.refusal.Refusal.{Refusal}
-use Rattle.choosers.specs.declared.rule.Rule.{Rule}
 use Rattle.inventory_answers.specs.declared.query.Query.TheVariants as query
 use Rattle.inventory_rows.specs.version_groups.Entries.{on_ok}
 use Rattle.admin_words.specs.declared.command.Command.{Command}
@@ -16,30 +15,31 @@ use Rattle.steps.specs.Events.{Event}
 use Rattle.steps.specs.Events.Deed.{Ask}
 use Rattle.command_steps.specs.Answering.{AnswersLine, AsksLog, DoesLine, DoesOrWants, Follows, IfLong, halted_behind, long_log, unless_full}
 use Rattle.command_steps.specs.Answers.{Ends, IsRefused, halt_by, nothing}
+use Rattle.command_steps.specs.Clients.{Client, IsKept}
 use Rattle.command_steps.specs.Doing.{Doing}
 use Rattle.command_steps.specs.Lines.{Line, asks, comment, refused}
 use Rattle.command_steps.specs.declared.outcome.Outcome.{Outcome}
 
 -- ---- the line itself
 
-pub wants : {S : Type 0} (did : S → List Event → S → Type 0) (p : S) (choice : List Rule) (n : ℕ) (line : Line) → did p [] p → Call did p p (λ events. DoesOrWants choice n line events (Err halt.Memory))
-wants did p choice n line stays = call_of_none did (λ events. DoesOrWants choice n line events (Err halt.Memory)) p p stays (inr (refl, refl))
+pub wants : {S : Type 0} (did : S → List Event → S → Type 0) (p : S) (k : Client) (n : ℕ) (line : Line) → did p [] p → IsKept k → Call did p p (λ events. DoesOrWants k n line events (Err halt.Memory))
+wants did p k n line stays kept = call_of_none did (λ events. DoesOrWants k n line events (Err halt.Memory)) p p stays (inr (kept, refl, refl))
 
-pub comments : {S : Type 0} (did : S → List Event → S → Type 0) (p : S) (choice : List Rule) (n : ℕ) (line : Line) (result : Result (Answer × Option Refusal) Halt) → did p [] p → comment ≡ line → result ≡ Ok (nothing, None)
-    → Call did p p (λ events. DoesOrWants choice n line events result)
-comments did p choice n line result stays is said =
-    subst (λ (it : Line). Call did p p (λ events. DoesOrWants choice n it events result)) is (call_of_none did (λ events. DoesOrWants choice n comment events result) p p stays (inl (refl, said)))
+pub comments : {S : Type 0} (did : S → List Event → S → Type 0) (p : S) (k : Client) (n : ℕ) (line : Line) (result : Result (Answer × Option Refusal) Halt) → did p [] p → IsKept k → comment ≡ line → result ≡ Ok (nothing, None)
+    → Call did p p (λ events. DoesOrWants k n line events result)
+comments did p k n line result stays kept is said =
+    subst (λ (it : Line). Call did p p (λ events. DoesOrWants k n it events result)) is (call_of_none did (λ events. DoesOrWants k n comment events result) p p stays (inl (kept, refl, said)))
 
-pub refuses : {S : Type 0} (did : S → List Event → S → Type 0) (p : S) (choice : List Rule) (n : ℕ) (line : Line) (why : Refusal) (result : Result (Answer × Option Refusal) Halt) → did p [] p → refused why ≡ line
-    → IsRefused n why result → Call did p p (λ events. DoesOrWants choice n line events result)
-refuses did p choice n line why result stays is said =
-    subst (λ (it : Line). Call did p p (λ events. DoesOrWants choice n it events result)) is (call_of_none did (λ events. DoesOrWants choice n (refused why) events result) p p stays (inl (refl, said)))
+pub refuses : {S : Type 0} (did : S → List Event → S → Type 0) (p : S) (k : Client) (n : ℕ) (line : Line) (why : Refusal) (result : Result (Answer × Option Refusal) Halt) → did p [] p → IsKept k → refused why ≡ line
+    → IsRefused n why result → Call did p p (λ events. DoesOrWants k n line events result)
+refuses did p k n line why result stays kept is said =
+    subst (λ (it : Line). Call did p p (λ events. DoesOrWants k n it events result)) is (call_of_none did (λ events. DoesOrWants k n (refused why) events result) p p stays (inl (kept, refl, said)))
 
-pub does-asked : {S : Type 0} (did : S → List Event → S → Type 0) (p q : S) (choice : List Rule) (n : ℕ) (line : Line) (c : Command) (said : Result Outcome Refusal) (result : Result (Answer × Option Refusal) Halt)
-    → asks c ≡ line → Call did p q (λ events. Doing choice c events said) → Ends n said result → Call did p q (λ events. DoesOrWants choice n line events result)
-does-asked did p q choice n line c said result is a ends =
-    subst (λ (it : Line). Call did p q (λ events. DoesOrWants choice n it events result)) is
-    (so_call did (λ events. Doing choice c events said) (λ events. DoesOrWants choice n (asks c) events result) p q a (λ xs f. inl (said, f, ends)))
+pub does-asked : {S : Type 0} (did : S → List Event → S → Type 0) (p q : S) (k : Client) (n : ℕ) (line : Line) (c : Command) (said : Result Outcome Refusal) (result : Result (Answer × Option Refusal) Halt)
+    → asks c ≡ line → Call did p q (λ events. Doing k c events said) → Ends n said result → Call did p q (λ events. DoesOrWants k n line events result)
+does-asked did p q k n line c said result is a ends =
+    subst (λ (it : Line). Call did p q (λ events. DoesOrWants k n it events result)) is
+    (so_call did (λ events. Doing k c events said) (λ events. DoesOrWants k n (asks c) events result) p q a (λ xs f. inl (said, f, ends)))
 
 -- what doesn't end the run is answered by its refusal
 pub answers-refused : (n : ℕ) (why : Refusal) (result : Result (Answer × Option Refusal) Halt) → halt_by why ≡ None → IsRefused n why result → Ends n (Err why) result
@@ -72,26 +72,26 @@ follows-asked did goes p q r count result a b =
 
 -- ---- both
 
-behind : {S : Type 0} (did : S → List Event → S → Type 0) → GoesOn did → (p q r : S) (choice : List Rule) (n : ℕ) (line : Line) (reply : Answer × Option Refusal) (made : Result (Unit {0}) Refusal) (how : Option Halt)
-    → Call did p q (λ events. DoesOrWants choice n line events (Ok reply)) → Call did q r (λ events. Follows events made) → halted_behind made ≡ how
-    → Call did p r (λ events. Then (λ xs. DoesOrWants choice n line xs (Ok reply)) (λ ys. (made : Result (Unit {0}) Refusal) × Follows ys made × (halted_behind made ≡ how)) events)
-behind did goes p q r choice n line reply made how a b is =
-    then_call did goes (λ events. DoesOrWants choice n line events (Ok reply)) (λ events. (made : Result (Unit {0}) Refusal) × Follows events made × (halted_behind made ≡ how)) p q r a
+behind : {S : Type 0} (did : S → List Event → S → Type 0) → GoesOn did → (p q r : S) (k : Client) (n : ℕ) (line : Line) (reply : Answer × Option Refusal) (made : Result (Unit {0}) Refusal) (how : Option Halt)
+    → Call did p q (λ events. DoesOrWants k n line events (Ok reply)) → Call did q r (λ events. Follows events made) → halted_behind made ≡ how
+    → Call did p r (λ events. Then (λ xs. DoesOrWants k n line xs (Ok reply)) (λ ys. (made : Result (Unit {0}) Refusal) × Follows ys made × (halted_behind made ≡ how)) events)
+behind did goes p q r k n line reply made how a b is =
+    then_call did goes (λ events. DoesOrWants k n line events (Ok reply)) (λ events. (made : Result (Unit {0}) Refusal) × Follows events made × (halted_behind made ≡ how)) p q r a
     (so_call did (λ events. Follows events made) (λ events. (made : Result (Unit {0}) Refusal) × Follows events made × (halted_behind made ≡ how)) q r b (λ xs f. (made, f, is)))
 
-pub answered : {S : Type 0} (did : S → List Event → S → Type 0) → GoesOn did → (p q r : S) (choice : List Rule) (n : ℕ) (line : Line) (reply : Answer × Option Refusal) (made : Result (Unit {0}) Refusal)
-    → Call did p q (λ events. DoesOrWants choice n line events (Ok reply)) → Call did q r (λ events. Follows events made) → halted_behind made ≡ None
-    → Call did p r (λ events. AnswersLine choice n line events (Ok reply))
-answered did goes p q r choice n line reply made a b is = behind did goes p q r choice n line reply made None a b is
+pub answered : {S : Type 0} (did : S → List Event → S → Type 0) → GoesOn did → (p q r : S) (k : Client) (n : ℕ) (line : Line) (reply : Answer × Option Refusal) (made : Result (Unit {0}) Refusal)
+    → Call did p q (λ events. DoesOrWants k n line events (Ok reply)) → Call did q r (λ events. Follows events made) → halted_behind made ≡ None
+    → Call did p r (λ events. AnswersLine k n line events (Ok reply))
+answered did goes p q r k n line reply made a b is = behind did goes p q r k n line reply made None a b is
 
-pub halted : {S : Type 0} (did : S → List Event → S → Type 0) → GoesOn did → (p q r : S) (choice : List Rule) (n : ℕ) (line : Line) (reply : Answer × Option Refusal) (made : Result (Unit {0}) Refusal) (how : Halt)
-    → Call did p q (λ events. DoesOrWants choice n line events (Ok reply)) → Call did q r (λ events. Follows events made) → halted_behind made ≡ Some how
-    → Call did p r (λ events. AnswersLine choice n line events (Err how))
-halted did goes p q r choice n line reply made how a b is =
-    so_call did (λ events. Then (λ xs. DoesOrWants choice n line xs (Ok reply)) (λ ys. (made : Result (Unit {0}) Refusal) × Follows ys made × (halted_behind made ≡ Some how)) events)
-    (λ events. AnswersLine choice n line events (Err how)) p r (behind did goes p q r choice n line reply made (Some how) a b is) (λ xs f. inr (reply, f))
+pub halted : {S : Type 0} (did : S → List Event → S → Type 0) → GoesOn did → (p q r : S) (k : Client) (n : ℕ) (line : Line) (reply : Answer × Option Refusal) (made : Result (Unit {0}) Refusal) (how : Halt)
+    → Call did p q (λ events. DoesOrWants k n line events (Ok reply)) → Call did q r (λ events. Follows events made) → halted_behind made ≡ Some how
+    → Call did p r (λ events. AnswersLine k n line events (Err how))
+halted did goes p q r k n line reply made how a b is =
+    so_call did (λ events. Then (λ xs. DoesOrWants k n line xs (Ok reply)) (λ ys. (made : Result (Unit {0}) Refusal) × Follows ys made × (halted_behind made ≡ Some how)) events)
+    (λ events. AnswersLine k n line events (Err how)) p r (behind did goes p q r k n line reply made (Some how) a b is) (λ xs f. inr (reply, f))
 
-pub ended : {S : Type 0} (did : S → List Event → S → Type 0) (p q : S) (choice : List Rule) (n : ℕ) (line : Line) (how : Halt)
-    → Call did p q (λ events. DoesOrWants choice n line events (Err how)) → Call did p q (λ events. AnswersLine choice n line events (Err how))
-ended did p q choice n line how a =
-    so_call did (λ events. DoesOrWants choice n line events (Err how)) (λ events. AnswersLine choice n line events (Err how)) p q a (λ xs f. inl f)
+pub ended : {S : Type 0} (did : S → List Event → S → Type 0) (p q : S) (k : Client) (n : ℕ) (line : Line) (how : Halt)
+    → Call did p q (λ events. DoesOrWants k n line events (Err how)) → Call did p q (λ events. AnswersLine k n line events (Err how))
+ended did p q k n line how a =
+    so_call did (λ events. DoesOrWants k n line events (Err how)) (λ events. AnswersLine k n line events (Err how)) p q a (λ xs f. inl f)

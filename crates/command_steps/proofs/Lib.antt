@@ -1,4 +1,7 @@
 pub mod Answered
+pub mod Changed
 pub mod Looked
 pub mod Pieces
+pub mod Treed
 pub mod Worked
+pub mod Written

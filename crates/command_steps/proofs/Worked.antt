@@ -14,6 +14,7 @@ use Rattle.inventory_rows.specs.version_groups.Entries.{on_ok}
 use Rattle.admin_words.specs.declared.command.Command.{Command}
 use Rattle.admin_words.specs.declared.files.FilePut.{FilePut}
 use Rattle.admin_words.specs.declared.policy.NamedSet.{NamedSet}
+use Rattle.admin_commands.specs.Orders.{needs, work_of}
 use Rattle.admin_commands.specs.declared.work.Work.{Work}
 use Rattle.entries.specs.declared.change.Change.{Change}
 use Rattle.reports.specs.declared.shown.Shown.{Shown}
@@ -26,8 +27,9 @@ use Rattle.steps.specs.Calls.{Call, Does as DoesStep, Made, Then}
 use Rattle.steps.specs.Events.{Event}
 use Rattle.steps.specs.Events.Deed.{Ask, Force}
 use Rattle.command_steps.specs.Behind.{Behind, behind, forces, no_more, reuses, with_reused}
-use Rattle.command_steps.specs.Doing.{Does, DoesOwn, DoesWork, EndsWork, Forcing, Gives, PutsText, Reusing, Told, Validates, behind_force, validated_by, within_memory}
-use Rattle.command_steps.specs.Owns.{Own, file_put, last_of, row_put}
+use Rattle.command_steps.specs.Clients.{Client, IsKept}
+use Rattle.command_steps.specs.Doing.{AsksAll, Does, DoesAlone, DoesOwn, DoesWork, Doing, EndsWork, Forcing, Gives, PutsText, Reusing, Told, Validates, WorksOrWants, behind_force, validated_by, within_memory}
+use Rattle.command_steps.specs.Owns.{Own, file_put, last_of, on_tree, row_put}
 use Rattle.command_steps.specs.declared.outcome.Outcome.{Outcome}
 use Rattle.command_steps.specs.declared.outcome.Outcome.TheVariants.{Said}
 
@@ -122,26 +124,54 @@ ends-reused did goes p q r said came result a b =
 
 -- ---- work that is done, or refused before it begins
 
-pub done-with : {S : Type 0} (did : S → List Event → S → Type 0) → GoesOn did → (p q r : S) (choice : List Rule) (c : Command) (work : Work) (kind : Behind) (said result : Result Outcome Refusal) → kind ≡ behind c
-    → Call did p q (λ events. Does choice c work events said) → Call did q r (λ events. EndsWork kind said events result) → Call did p r (λ events. DoesWork choice c (Ok work) events result)
-done-with did goes p q r choice c work kind said result is a b =
-    so_call did (λ events. Then (λ xs. Does choice c work xs said) (λ ys. EndsWork (behind c) said ys result) events) (λ events. DoesWork choice c (Ok work) events result) p r
-    (then_call did goes (λ events. Does choice c work events said) (λ events. EndsWork (behind c) said events result) p q r a
-    (subst (λ (k : Behind). Call did q r (λ events. EndsWork k said events result)) is b)) (λ xs f. (said, f))
+-- what holds of any steps holds of these too
+pub also : {S : Type 0} (did : S → List Event → S → Type 0) (p q : S) (K : Type 0) (Q : List Event → Type 0) → K → Call did p q Q → Call did p q (λ events. K × Q events)
+also did p q K Q k a = so_call did Q (λ events. K × Q events) p q a (λ xs f. (k, f))
 
-pub owned : {S : Type 0} (did : S → List Event → S → Type 0) (p q : S) (choice : List Rule) (own said : Own) (numbers : List ℕ) (result : Result Outcome Refusal) → own ≡ said
-    → Call did p q (λ events. DoesOwn choice own numbers events result) → Call did p q (λ events. DoesOwn choice said numbers events result)
-owned did p q choice own said numbers result is a = subst (λ (it : Own). Call did p q (λ events. DoesOwn choice it numbers events result)) is a
+pub done-with : {S : Type 0} (did : S → List Event → S → Type 0) → GoesOn did → (p q r : S) (k : Client) (c : Command) (work : Work) (kind : Behind) (said result : Result Outcome Refusal) → kind ≡ behind c
+    → Call did p q (λ events. Does k c work events said) → Call did q r (λ events. EndsWork kind said events result) → Call did p r (λ events. DoesWork k c (Ok work) events result)
+done-with did goes p q r k c work kind said result is a b =
+    so_call did (λ events. Then (λ xs. Does k c work xs said) (λ ys. EndsWork (behind c) said ys result) events) (λ events. DoesWork k c (Ok work) events result) p r
+    (then_call did goes (λ events. Does k c work events said) (λ events. EndsWork (behind c) said events result) p q r a
+    (subst (λ (it : Behind). Call did q r (λ events. EndsWork it said events result)) is b)) (λ xs f. (said, f))
 
-pub worked : {S : Type 0} (did : S → List Event → S → Type 0) (p q : S) (choice : List Rule) (c : Command) (work : Work) (said : Result Work Refusal) (result : Result Outcome Refusal) → said ≡ Ok work
-    → Call did p q (λ events. DoesWork choice c (Ok work) events result) → Call did p q (λ events. OrMemory (DoesWork choice c said) events result)
-worked did p q choice c work said result is a =
-    subst (λ (it : Result Work Refusal). Call did p q (λ events. OrMemory (DoesWork choice c it) events result)) (sym is)
-    (so_call did (λ events. DoesWork choice c (Ok work) events result) (λ events. OrMemory (DoesWork choice c (Ok work)) events result) p q a (λ xs f. inl f))
+pub owned : {S : Type 0} (did : S → List Event → S → Type 0) (p q : S) (k : Client) (own said : Own) (numbers : List ℕ) (result : Result Outcome Refusal) → own ≡ said
+    → Call did p q (λ events. DoesOwn k own numbers events result) → Call did p q (λ events. DoesOwn k said numbers events result)
+owned did p q k own said numbers result is a = subst (λ (it : Own). Call did p q (λ events. DoesOwn k it numbers events result)) is a
 
-pub declined : {S : Type 0} (did : S → List Event → S → Type 0) (p : S) (choice : List Rule) (c : Command) (said : Result Work Refusal) (e : Refusal) → did p [] p → (e ≡ Memory) ⊎ (said ≡ Err e)
-    → Call did p p (λ events. OrMemory (DoesWork choice c said) events (Err e))
-declined did p choice c said e stays (inl memory) = call_of_none did (λ events. OrMemory (DoesWork choice c said) events (Err e)) p p stays (inr (refl, ap Err memory))
-declined did p choice c said e stays (inr is) =
-    subst (λ (it : Result Work Refusal). Call did p p (λ events. OrMemory (DoesWork choice c it) events (Err e))) (sym is)
-    (call_of_none did (λ events. OrMemory (DoesWork choice c (Err e)) events (Err e)) p p stays (inl (refl, refl)))
+-- work that has nothing to do with trees
+alone : (k : Client) (own : Own) (numbers : List ℕ) (result : Result Outcome Refusal) (events : List Event) → IsKept k → DoesAlone k.choice own numbers events result → DoesOwn k own numbers events result
+alone k (on_tree work) numbers result events kept h = absurd h
+alone k own numbers result events kept h = (kept, h)
+
+pub owned-alone : {S : Type 0} (did : S → List Event → S → Type 0) (p q : S) (k : Client) (own said : Own) (numbers : List ℕ) (result : Result Outcome Refusal) → own ≡ said → IsKept k
+    → Call did p q (λ events. DoesAlone k.choice own numbers events result) → Call did p q (λ events. DoesOwn k said numbers events result)
+owned-alone did p q k own said numbers result is kept a =
+    owned did p q k own said numbers result is
+    (so_call did (λ events. DoesAlone k.choice own numbers events result) (λ events. DoesOwn k own numbers events result) p q a (λ xs f. alone k own numbers result xs kept f))
+
+pub worked : {S : Type 0} (did : S → List Event → S → Type 0) (p q : S) (k : Client) (c : Command) (work : Work) (said : Result Work Refusal) (result : Result Outcome Refusal) → said ≡ Ok work
+    → Call did p q (λ events. DoesWork k c (Ok work) events result) → Call did p q (λ events. WorksOrWants k c said events result)
+worked did p q k c work said result is a =
+    subst (λ (it : Result Work Refusal). Call did p q (λ events. WorksOrWants k c it events result)) (sym is)
+    (so_call did (λ events. DoesWork k c (Ok work) events result) (λ events. WorksOrWants k c (Ok work) events result) p q a (λ xs f. inl f))
+
+pub declined : {S : Type 0} (did : S → List Event → S → Type 0) (p : S) (k : Client) (c : Command) (said : Result Work Refusal) (e : Refusal) → did p [] p → IsKept k → (e ≡ Memory) ⊎ (said ≡ Err e)
+    → Call did p p (λ events. WorksOrWants k c said events (Err e))
+declined did p k c said e stays kept (inl memory) = call_of_none did (λ events. WorksOrWants k c said events (Err e)) p p stays (inr (kept, refl, ap Err memory))
+declined did p k c said e stays kept (inr is) =
+    subst (λ (it : Result Work Refusal). Call did p p (λ events. WorksOrWants k c it events (Err e))) (sym is)
+    (call_of_none did (λ events. WorksOrWants k c (Err e) events (Err e)) p p stays (inl (kept, refl, refl)))
+
+-- ---- a command
+
+pub doing-refused : {S : Type 0} (did : S → List Event → S → Type 0) (p q : S) (k : Client) (c : Command) (e : Refusal) → IsKept k → Call did p q (λ events. OrMemory (AsksAll (needs c)) events (Err e))
+    → Call did p q (λ events. Doing k c events (Err e))
+doing-refused did p q k c e kept a =
+    so_call did (λ events. OrMemory (AsksAll (needs c)) events (Err e)) (λ events. Doing k c events (Err e)) p q a (λ xs f. inl (e, kept, f, refl))
+
+pub doing-asked : {S : Type 0} (did : S → List Event → S → Type 0) → GoesOn did → (p q r : S) (k : Client) (c : Command) (answers : List Answer) (result : Result Outcome Refusal)
+    → Call did p q (λ events. OrMemory (AsksAll (needs c)) events (Ok answers)) → Call did q r (λ events. WorksOrWants k c (work_of c answers) events result) → Call did p r (λ events. Doing k c events result)
+doing-asked did goes p q r k c answers result a b =
+    so_call did (λ events. Then (λ xs. OrMemory (AsksAll (needs c)) xs (Ok answers)) (λ ys. WorksOrWants k c (work_of c answers) ys result) events) (λ events. Doing k c events result) p r
+    (then_call did goes (λ events. OrMemory (AsksAll (needs c)) events (Ok answers)) (λ events. WorksOrWants k c (work_of c answers) events result) p q r a b) (λ xs f. inr (answers, f))

@@ -2,7 +2,6 @@
 use Rattle.std.specs.Prelude.{◌≡◌, ◌⊎◌, ℕ, ◌^◌, nat_lt, true, false, List, [], Option, Some, None, Result, Ok, Err}
 use Rattle.kinds.specs.declared.refusal.Refusal.{Refusal}
 use Rattle.kinds.specs.declared.refusal.Refusal.TheVariants as refused
-use Rattle.choosers.specs.declared.rule.Rule.{Rule}
 use Rattle.inventory_rows.specs.version_groups.Entries.{on_ok}
 use Rattle.inventory_answers.specs.declared.query.Query.TheVariants as query
 use Rattle.inventory_answers.specs.declared.reply.Rows.TheVariants as rows
@@ -14,6 +13,7 @@ use Rattle.sessions.specs.Checkpoints.{Checkpointing}
 use Rattle.steps.specs.Calls.{Then}
 use Rattle.steps.specs.Events.{Event}
 use Rattle.command_steps.specs.Answers.{Ends, IsRefused, nothing}
+use Rattle.command_steps.specs.Clients.{Client, IsKept}
 use Rattle.command_steps.specs.Doing.{Doing}
 use Rattle.command_steps.specs.Lines.{Line, asks, comment, refused as refused_line}
 use Rattle.command_steps.specs.declared.outcome.Outcome.{Outcome}
@@ -21,14 +21,14 @@ use Rattle.command_steps.specs.declared.outcome.Outcome.{Outcome}
 -- ---- the line itself
 
 -- What a line is is done and answered, or ends the run.
-abbrev pub DoesLine : List Rule → (n : ℕ) → Line → List Event → Result (Answer × Option Refusal) Halt → Type 0
-DoesLine choice n comment events result = (events ≡ []) × (result ≡ Ok (nothing, None))
-DoesLine choice n (refused_line why) events result = (events ≡ []) × IsRefused n why result
-DoesLine choice n (asks c) events result = (said : Result Outcome Refusal) × Doing choice c events said × Ends n said result
+abbrev pub DoesLine : Client → (n : ℕ) → Line → List Event → Result (Answer × Option Refusal) Halt → Type 0
+DoesLine k n comment events result = IsKept k × (events ≡ []) × (result ≡ Ok (nothing, None))
+DoesLine k n (refused_line why) events result = IsKept k × (events ≡ []) × IsRefused n why result
+DoesLine k n (asks c) events result = (said : Result Outcome Refusal) × Doing k c events said × Ends n said result
 
 -- the same, or memory was wanted before it was known what the line is
-abbrev pub DoesOrWants : List Rule → (n : ℕ) → Line → List Event → Result (Answer × Option Refusal) Halt → Type 0
-DoesOrWants choice n line events result = DoesLine choice n line events result ⊎ ((events ≡ []) × (result ≡ Err halt.Memory))
+abbrev pub DoesOrWants : Client → (n : ℕ) → Line → List Event → Result (Answer × Option Refusal) Halt → Type 0
+DoesOrWants k n line events result = DoesLine k n line events result ⊎ (IsKept k × (events ≡ []) × (result ≡ Err halt.Memory))
 
 -- ---- behind it
 
@@ -68,10 +68,10 @@ halted_behind _ = None
 -- ---- both
 
 -- A line is answered, and what follows it doesn't end the run. Or one of the two ends it.
-abbrev pub AnswersLine : List Rule → (n : ℕ) → Line → List Event → Result (Answer × Option Refusal) Halt → Type 0
-AnswersLine choice n line events (Ok reply) =
-    Then (λ xs. DoesOrWants choice n line xs (Ok reply)) (λ ys. (made : Result (Unit {0}) Refusal) × Follows ys made × (halted_behind made ≡ None)) events
-AnswersLine choice n line events (Err how) =
-    DoesOrWants choice n line events (Err how)
+abbrev pub AnswersLine : Client → (n : ℕ) → Line → List Event → Result (Answer × Option Refusal) Halt → Type 0
+AnswersLine k n line events (Ok reply) =
+    Then (λ xs. DoesOrWants k n line xs (Ok reply)) (λ ys. (made : Result (Unit {0}) Refusal) × Follows ys made × (halted_behind made ≡ None)) events
+AnswersLine k n line events (Err how) =
+    DoesOrWants k n line events (Err how)
     ⊎ ((reply : Answer × Option Refusal)
-    × Then (λ xs. DoesOrWants choice n line xs (Ok reply)) (λ ys. (made : Result (Unit {0}) Refusal) × Follows ys made × (halted_behind made ≡ Some how)) events)
+    × Then (λ xs. DoesOrWants k n line xs (Ok reply)) (λ ys. (made : Result (Unit {0}) Refusal) × Follows ys made × (halted_behind made ≡ Some how)) events)

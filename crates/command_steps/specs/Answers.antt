@@ -1,20 +1,28 @@
 -- How what came of a command is answered.
-use Rattle.std.specs.Prelude.{◌≡◌, ◌⊎◌, ℕ, ◌+◌, ◌-◌, ◌*◌, ◌/◌, List, [], ◌++◌, length, take, drop, codes, Option, Some, None, Result, Ok, Err}
+use Rattle.std.specs.Prelude.{◌≡◌, ◌⊎◌, ℕ, ◌+◌, ◌-◌, ◌*◌, ◌/◌, List, [], ◌∷◌, ◌++◌, length, take, drop, codes, Option, Some, None, Result, Ok, Err}
 use Rattle.std.specs.List.{range_with_len, flat_map}
 use Rattle.hex.specs.Hex.{encode_lower}
 use Rattle.kinds.specs.declared.refusal.Refusal.{Refusal}
 use Rattle.kinds.specs.declared.refusal.Refusal.TheVariants as refused
+use Rattle.client_files.specs.declared.outcome.Gave.{Gave}
+use Rattle.client_files.specs.declared.outcome.Gave.TheVariants as gave
+use Rattle.incrementals.specs.declared.answering.Failure.{Failure}
+use Rattle.incrementals.specs.declared.answering.Sent.{Sent}
 use Rattle.inventory_answers.specs.declared.reply.Answer as rows
 use Rattle.reports.specs.Lines.{shown_line, refused_line}
 use Rattle.reports.specs.Pieces.{numbered}
 use Rattle.reports.specs.Printed.{printed_rows, row_count}
+use Rattle.reports.specs.declared.shown.Shown.{Shown}
 use Rattle.reports.specs.declared.shown.Shown.TheVariants as shown
+use Rattle.restores.specs.declared.choosing.RestoreLine.{RestoreLine}
+use Rattle.restores.specs.declared.process.Restored.{Restored}
 use Rattle.script_loop.specs.Reply.{Answer}
 use Rattle.script_loop.specs.Tally.{no_tally}
 use Rattle.script_loop.specs.declared.ends.Halt.{Halt}
 use Rattle.script_loop.specs.declared.ends.Halt.TheVariants as halt
 use Rattle.sessions.specs.declared.getting.FileRead.{FileRead}
 use Rattle.command_steps.specs.declared.outcome.Outcome.{Outcome}
+use Rattle.command_steps.specs.declared.outcome.Outcome.TheVariants as came
 use Rattle.command_steps.specs.declared.outcome.Outcome.TheVariants.{Read, Rows, Said}
 
 -- ---- a file's bytes
@@ -49,11 +57,46 @@ file_lines n file = data_lines n data_width file.bytes ++ shown_line n (shown.Re
 abbrev pub row_lines : (n : ℕ) → rows.Answer → List ℕ
 row_lines n answer = printed_rows n answer.rows ++ shown_line n (shown.Rows (row_count answer.rows))
 
+-- the line of a path for which nothing was committed
+abbrev pub failure_line : (n : ℕ) → Failure → List ℕ
+failure_line n f = shown_line n (shown.Failed f.path f.refusal)
+
+-- the lines of an incremental backup
+abbrev pub sent_lines : (n : ℕ) → Sent → List ℕ
+sent_lines n s = flat_map (failure_line n) s.failed ++ shown_line n (shown.Sent s.sent s.rebound s.gone s.skipped (length s.failed))
+
+-- what is shown of an object of which this came
+abbrev pub shown_of : RestoreLine → Gave → Shown
+shown_of l gave.Restored = shown.File l.path l.stored.object l.stored.size l.stored.digest
+shown_of l (gave.Failed why) = shown.Failed l.path why
+
+-- the lines of objects of which these came
+abbrev pub given_lines : (n : ℕ) → List RestoreLine → List Gave → List ℕ
+given_lines n [] given = []
+given_lines n (l ∷ lines) [] = []
+given_lines n (l ∷ lines) (g ∷ given) = shown_line n (shown_of l g) ++ given_lines n lines given
+
+-- 1 for one that failed
+abbrev pub failed_weight : Gave → ℕ
+failed_weight gave.Restored = 0
+failed_weight (gave.Failed why) = 1
+
+-- how many failed
+abbrev pub failed_gave : List Gave → ℕ
+failed_gave [] = 0
+failed_gave (g ∷ given) = failed_weight g + failed_gave given
+
+-- the lines of a restore
+abbrev pub restored_lines : (n : ℕ) → Restored → List ℕ
+restored_lines n r = given_lines n r.lines r.gave ++ shown_line n (shown.RestoredFiles (length r.gave - failed_gave r.gave) (failed_gave r.gave))
+
 -- the lines of what a command in line n came to
 abbrev pub outcome_lines : (n : ℕ) → Outcome → List ℕ
 outcome_lines n (Said line) = shown_line n line
 outcome_lines n (Read file) = file_lines n file
 outcome_lines n (Rows answer) = row_lines n answer
+outcome_lines n (came.Sent s) = sent_lines n s
+outcome_lines n (came.Restored r) = restored_lines n r
 
 -- ---- answers
 
@@ -74,6 +117,8 @@ abbrev pub failed_in : Outcome → ℕ
 failed_in (Said (shown.Copied copied failed)) = failed
 failed_in (Said (shown.Moved moved failed reused)) = failed
 failed_in (Said (shown.RestoredCopies restored failed reused)) = failed
+failed_in (came.Sent s) = length s.failed
+failed_in (came.Restored r) = failed_gave r.gave
 failed_in it = 0
 
 -- the answer of a command in line n that came to this

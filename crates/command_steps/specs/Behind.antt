@@ -4,6 +4,8 @@ use Rattle.admin_words.specs.declared.command.Command.{Command}
 use Rattle.admin_words.specs.declared.command.Command.TheVariants as commands
 use Rattle.admin_words.specs.declared.command.DatabaseCommand.{DatabaseCommand}
 use Rattle.admin_words.specs.declared.command.DatabaseCommand.TheVariants.{Day, ExpireInventory}
+use Rattle.admin_words.specs.declared.command.FileCommand.{FileCommand}
+use Rattle.admin_words.specs.declared.command.FileCommand.TheVariants.{Incremental}
 use Rattle.admin_words.specs.declared.command.NodeCommand.{NodeCommand}
 use Rattle.admin_words.specs.declared.command.NodeCommand.TheVariants.{DeleteFilespace}
 use Rattle.admin_words.specs.declared.command.PoolCommand.{PoolCommand}
@@ -38,6 +40,10 @@ volume_behind (RestoreVolume v) = reuses
 volume_behind ReuseVolumes = reuses
 volume_behind _ = no_more
 
+abbrev pub file_behind : FileCommand → Behind
+file_behind (Incremental i) = forces
+file_behind _ = no_more
+
 abbrev pub database_behind : DatabaseCommand → Behind
 database_behind (Day d) = reuses
 database_behind ExpireInventory = reuses
@@ -48,6 +54,7 @@ abbrev pub behind : Command → Behind
 behind (commands.Node c) = node_behind c
 behind (commands.Pool c) = pool_behind c
 behind (commands.Volume c) = volume_behind c
+behind (commands.File c) = file_behind c
 behind (commands.Database c) = database_behind c
 behind _ = no_more
 

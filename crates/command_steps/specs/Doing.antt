@@ -32,14 +32,15 @@ use Rattle.reuse_delay.specs.Reusing.{VolumeReuse}
 use Rattle.sessions.specs.Changing.{Changing}
 use Rattle.sessions.specs.Checkpoints.{Checkpointing}
 use Rattle.sessions.specs.Getting.{Gets}
-use Rattle.sessions.specs.InTurn.{InTurn, OrMemory}
+use Rattle.sessions.specs.InTurn.{OrMemory}
 use Rattle.sessions.specs.Putting.{Puts}
-use Rattle.sessions.specs.declared.getting.FileRead.{FileRead}
 use Rattle.steps.specs.Calls.{IsStep, Made, Then}
 use Rattle.steps.specs.Events.{Event}
 use Rattle.steps.specs.Events.Deed.{Ask, Force}
 use Rattle.command_steps.specs.Behind.{Behind, behind, forces, no_more, reuses, with_reused}
-use Rattle.command_steps.specs.Owns.{Mover, Own, back_up_pool, checkpoint, data_mover, empty_filespace, empty_volume, expire, file_put, get, last_of, moves, none_but_reuse, none_yet, own_of, pool_restorer, put, reclaimer, row_put, validate, volume_restorer}
+use Rattle.command_steps.specs.Clients.{Client, IsKept}
+use Rattle.command_steps.specs.Owns.{Mover, Own, back_up_pool, checkpoint, data_mover, empty_filespace, empty_volume, expire, file_put, get, last_of, moves, none_but_reuse, none_yet, on_tree, own_of, pool_restorer, put, reclaimer, row_put, validate, volume_restorer}
+use Rattle.command_steps.specs.Trees.{DoesThere}
 use Rattle.command_steps.specs.declared.outcome.Outcome.{Outcome}
 use Rattle.command_steps.specs.declared.outcome.Outcome.TheVariants.{Read, Rows, Said}
 
@@ -119,25 +120,31 @@ moved_line reclaimer m = shown.Moved m.moved m.failed 0
 moved_line pool_restorer m = RestoredCopies m.moved m.failed 0
 moved_line volume_restorer m = RestoredCopies m.moved m.failed 0
 
--- work of a command's own, over the numbers of the things that it names; what isn't done so far is refused like an unknown word
-abbrev pub DoesOwn : List Rule → Own → List ℕ → List Event → Result Outcome Refusal → Type 0
-DoesOwn choice (validate set) numbers events result = Validates set events result
-DoesOwn choice (put p) numbers events result = Gives (OrMemory (PutsText choice p)) (λ object. Said (Stored object)) events result
-DoesOwn choice (get g) numbers events result = Gives (OrMemory (Gets g.node g.filespace g.path)) Read events result
-DoesOwn choice checkpoint numbers events result = Gives Checkpointing (λ seq. Said Done) events result
-DoesOwn choice expire numbers events result = Gives Expiration (λ expired. Said (Expired expired 0)) events result
-DoesOwn choice empty_filespace numbers events result = Gives (FilespaceDeletion (the_number numbers)) (λ discarded. Said (DiscardedFilespace discarded 0)) events result
-DoesOwn choice empty_volume numbers events result = Gives (VolumeDeletion true (the_number numbers)) (λ (went : Removed). Said (DeletedVolume went.discarded went.dropped)) events result
-DoesOwn choice back_up_pool numbers events result = Gives (Backup (the_number numbers) (the_second numbers)) (λ (copies : Moved). Said (Copied copies.moved copies.failed)) events result
-DoesOwn choice (moves mover) numbers events result = Gives (MovesSo mover (the_number numbers) (the_second numbers)) (λ (m : Moved). Said (moved_line mover m)) events result
-DoesOwn choice none_but_reuse numbers events result = (events ≡ []) × (result ≡ Ok (Said (Reused 0)))
-DoesOwn choice none_yet numbers events result = (events ≡ []) × (result ≡ Err (UnknownWord 1))
+-- work of a command's own that has nothing to do with trees, over the numbers of the things that it names; what isn't done so far is refused like an unknown word
+abbrev pub DoesAlone : List Rule → Own → List ℕ → List Event → Result Outcome Refusal → Type 0
+DoesAlone choice (validate set) numbers events result = Validates set events result
+DoesAlone choice (put p) numbers events result = Gives (OrMemory (PutsText choice p)) (λ object. Said (Stored object)) events result
+DoesAlone choice (get g) numbers events result = Gives (OrMemory (Gets g.node g.filespace g.path)) Read events result
+DoesAlone choice checkpoint numbers events result = Gives Checkpointing (λ seq. Said Done) events result
+DoesAlone choice expire numbers events result = Gives Expiration (λ expired. Said (Expired expired 0)) events result
+DoesAlone choice empty_filespace numbers events result = Gives (FilespaceDeletion (the_number numbers)) (λ discarded. Said (DiscardedFilespace discarded 0)) events result
+DoesAlone choice empty_volume numbers events result = Gives (VolumeDeletion true (the_number numbers)) (λ (went : Removed). Said (DeletedVolume went.discarded went.dropped)) events result
+DoesAlone choice back_up_pool numbers events result = Gives (Backup (the_number numbers) (the_second numbers)) (λ (copies : Moved). Said (Copied copies.moved copies.failed)) events result
+DoesAlone choice (moves mover) numbers events result = Gives (MovesSo mover (the_number numbers) (the_second numbers)) (λ (m : Moved). Said (moved_line mover m)) events result
+DoesAlone choice none_but_reuse numbers events result = (events ≡ []) × (result ≡ Ok (Said (Reused 0)))
+DoesAlone choice none_yet numbers events result = (events ≡ []) × (result ≡ Err (UnknownWord 1))
+DoesAlone choice (on_tree work) numbers events result = ⊥
+
+-- work of a command's own: on the tree that it names, or on none
+abbrev pub DoesOwn : Client → Own → List ℕ → List Event → Result Outcome Refusal → Type 0
+DoesOwn k (on_tree work) numbers events result = DoesThere k work events result
+DoesOwn k own numbers events result = IsKept k × DoesAlone k.choice own numbers events result
 
 -- A command whose work is this does it: its change is committed, its query answered, or its own work done.
-abbrev pub Does : List Rule → Command → Work → List Event → Result Outcome Refusal → Type 0
-Does choice c (Commit what) events result = Gives (Changing what) (λ number. Said (last_of what)) events result
-Does choice c (Show q) events result = Gives (Told q) Rows events result
-Does choice c (Run numbers) events result = DoesOwn choice (own_of c) numbers events result
+abbrev pub Does : Client → Command → Work → List Event → Result Outcome Refusal → Type 0
+Does k c (Commit what) events result = IsKept k × Gives (Changing what) (λ number. Said (last_of what)) events result
+Does k c (Show q) events result = IsKept k × Gives (Told q) Rows events result
+Does k c (Run numbers) events result = DoesOwn k (own_of c) numbers events result
 
 -- ---- what comes behind work
 
@@ -170,10 +177,16 @@ EndsWork reuses said events result = (came : Result Outcome Refusal) × Then (λ
 -- ---- a command
 
 -- its work is done with what comes behind it, or it is refused before it begins
-abbrev pub DoesWork : List Rule → Command → Result Work Refusal → List Event → Result Outcome Refusal → Type 0
-DoesWork choice c (Ok work) events result = (said : Result Outcome Refusal) × Then (λ xs. Does choice c work xs said) (λ ys. EndsWork (behind c) said ys result) events
-DoesWork choice c (Err why) events result = (events ≡ []) × (result ≡ Err why)
+abbrev pub DoesWork : Client → Command → Result Work Refusal → List Event → Result Outcome Refusal → Type 0
+DoesWork k c (Ok work) events result = (said : Result Outcome Refusal) × Then (λ xs. Does k c work xs said) (λ ys. EndsWork (behind c) said ys result) events
+DoesWork k c (Err why) events result = IsKept k × (events ≡ []) × (result ≡ Err why)
+
+-- memory may be wanted before it
+abbrev pub WorksOrWants : Client → Command → Result Work Refusal → List Event → Result Outcome Refusal → Type 0
+WorksOrWants k c work events result = DoesWork k c work events result ⊎ (IsKept k × (events ≡ []) × (result ≡ Err Memory))
 
 -- A command: its look-ups are asked, and by their answers its work is done, or it is refused. Memory may be wanted before either.
-abbrev pub Doing : List Rule → Command → List Event → Result Outcome Refusal → Type 0
-Doing choice c events result = InTurn (OrMemory (AsksAll (needs c))) (λ answers. OrMemory (DoesWork choice c (work_of c answers))) events result
+abbrev pub Doing : Client → Command → List Event → Result Outcome Refusal → Type 0
+Doing k c events result =
+    ((e : Refusal) × IsKept k × OrMemory (AsksAll (needs c)) events (Err e) × (result ≡ Err e))
+    ⊎ ((answers : List rows.Answer) × Then (λ xs. OrMemory (AsksAll (needs c)) xs (Ok answers)) (λ ys. WorksOrWants k c (work_of c answers) ys result) events)

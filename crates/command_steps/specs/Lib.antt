@@ -1,7 +1,11 @@
 pub mod Answering
 pub mod Answers
 pub mod Behind
+pub mod Clients
 pub mod Doing
+pub mod Leaving
 pub mod Lines
 pub mod Owns
 pub mod Reading
+pub mod Trees
+pub mod Writing

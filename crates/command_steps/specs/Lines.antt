@@ -11,7 +11,7 @@ use Rattle.admin_words.specs.declared.command.PoolCommand.TheVariants.{MigrateAl
 use Rattle.admin_words.specs.declared.command.VolumeCommand.{VolumeCommand}
 use Rattle.admin_words.specs.declared.command.VolumeCommand.TheVariants.{AuditVolume}
 use Rattle.admin_words.specs.declared.command.FileCommand.{FileCommand}
-use Rattle.admin_words.specs.declared.command.FileCommand.TheVariants.{Get, Put}
+use Rattle.admin_words.specs.declared.command.FileCommand.TheVariants.{ArchiveFiles, RetrieveFiles}
 use Rattle.admin_words.specs.declared.command.DatabaseCommand.{DatabaseCommand}
 use Rattle.admin_words.specs.declared.command.DatabaseCommand.TheVariants.{BackupDatabase, DeleteHistory}
 
@@ -26,9 +26,9 @@ does_volume (AuditVolume a) = false
 does_volume _ = true
 
 abbrev pub does_file : FileCommand → Bool
-does_file (Get g) = true
-does_file (Put p) = true
-does_file _ = false
+does_file (ArchiveFiles a) = false
+does_file (RetrieveFiles r) = false
+does_file _ = true
 
 abbrev pub does_database : DatabaseCommand → Bool
 does_database (BackupDatabase b) = false

@@ -1,5 +1,5 @@
 -- Work of a command that is no one change and no one query.
-use Rattle.std.specs.Prelude.{if◌then◌else◌, List, length, ℕ}
+use Rattle.std.specs.Prelude.{if◌then◌else◌, length, ℕ}
 use Rattle.kinds.specs.declared.change.PoolChange.TheVariants as store
 use Rattle.kinds.specs.declared.change.Verb.TheVariants as verb
 use Rattle.client_trees.specs.Files.{ClientFile}
@@ -11,7 +11,7 @@ use Rattle.admin_words.specs.declared.command.Command.TheVariants as commands
 use Rattle.admin_words.specs.declared.command.DatabaseCommand.{DatabaseCommand}
 use Rattle.admin_words.specs.declared.command.DatabaseCommand.TheVariants.{Checkpoint, ExpireInventory}
 use Rattle.admin_words.specs.declared.command.FileCommand.{FileCommand}
-use Rattle.admin_words.specs.declared.command.FileCommand.TheVariants.{Get, Put}
+use Rattle.admin_words.specs.declared.command.FileCommand.TheVariants.{Erase, Get, Incremental, Put, RestoreFiles, Write}
 use Rattle.admin_words.specs.declared.command.NodeCommand.{NodeCommand}
 use Rattle.admin_words.specs.declared.command.NodeCommand.TheVariants.{DeleteFilespace}
 use Rattle.admin_words.specs.declared.command.PolicyCommand.{PolicyCommand}
@@ -20,8 +20,12 @@ use Rattle.admin_words.specs.declared.command.PoolCommand.{PoolCommand}
 use Rattle.admin_words.specs.declared.command.PoolCommand.TheVariants.{BackupPool, ReclaimPool, RestorePool}
 use Rattle.admin_words.specs.declared.command.VolumeCommand.{VolumeCommand}
 use Rattle.admin_words.specs.declared.command.VolumeCommand.TheVariants.{DeleteVolume, MoveData, RestoreVolume, ReuseVolumes}
+use Rattle.admin_words.specs.declared.files.FileErase.{FileErase}
 use Rattle.admin_words.specs.declared.files.FileGet.{FileGet}
 use Rattle.admin_words.specs.declared.files.FilePut.{FilePut}
+use Rattle.admin_words.specs.declared.files.FilesRestore.{FilesRestore}
+use Rattle.admin_words.specs.declared.files.FileWrite.{FileWrite}
+use Rattle.admin_words.specs.declared.files.IncrementalBackup.{IncrementalBackup}
 use Rattle.admin_words.specs.declared.policy.NamedSet.{NamedSet}
 use Rattle.reports.specs.declared.shown.Shown.{Shown}
 use Rattle.reports.specs.declared.shown.Shown.TheVariants.{DeletedVolume, Done, Reused}
@@ -34,12 +38,27 @@ pub data Mover : Type 0 where
   pool_restorer : Mover
   volume_restorer : Mover
 
--- VALIDATE of a policy set, PUT, GET, CHECKPOINT, EXPIRE INVENTORY; DELETE FILESPACE, and DELETE VOLUME with its data, over the number of what they name; REUSE VOLUMES, which does nothing but what
--- comes behind it; BACKUP STGPOOL, over the numbers of a primary pool and of a copy pool; what moves copies; and what isn't done so far
+-- work on a client's tree: WRITE, ERASE, DSMC INCREMENTAL and DSMC RESTORE
+pub data OnTree : Type 0 where
+  write : (file : FileWrite) → OnTree
+  erase : (file : FileErase) → OnTree
+  back_up : (files : IncrementalBackup) → OnTree
+  restore : (files : FilesRestore) → OnTree
+
+-- the number of the tree
+abbrev pub tree_of : OnTree → ℕ
+tree_of (write w) = w.tree
+tree_of (erase e) = e.tree
+tree_of (back_up i) = i.tree
+tree_of (restore r) = r.tree
+
+-- VALIDATE of a policy set, PUT, GET, work on a client's tree, CHECKPOINT, EXPIRE INVENTORY; DELETE FILESPACE, and DELETE VOLUME with its data, over the number of what they name; REUSE VOLUMES,
+-- which does nothing but what comes behind it; BACKUP STGPOOL, over the numbers of a primary pool and of a copy pool; what moves copies; and what isn't done so far
 pub data Own : Type 0 where
   validate : (set : NamedSet) → Own
   put : (file : FilePut) → Own
   get : (file : FileGet) → Own
+  on_tree : (work : OnTree) → Own
   checkpoint : Own
   expire : Own
   empty_filespace : Own
@@ -56,6 +75,10 @@ policy_own _ = none_yet
 abbrev pub file_own : FileCommand → Own
 file_own (Put p) = put p
 file_own (Get g) = get g
+file_own (Erase e) = on_tree (erase e)
+file_own (Incremental i) = on_tree (back_up i)
+file_own (RestoreFiles r) = on_tree (restore r)
+file_own (Write w) = on_tree (write w)
 file_own _ = none_yet
 
 abbrev pub database_own : DatabaseCommand → Own

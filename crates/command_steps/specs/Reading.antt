@@ -7,9 +7,11 @@ use Rattle.command_steps.specs.declared.behind.Behind.TheVariants.{Forces, NoMor
 use Rattle.command_steps.specs.declared.lines.Line as code
 use Rattle.command_steps.specs.declared.lines.Line.TheVariants.{Asks, Comment, Refused}
 use Rattle.command_steps.specs.declared.own.Own.{Own}
-use Rattle.command_steps.specs.declared.own.Own.TheVariants.{BackUpPool, Checkpoint, EmptyFilespace, EmptyVolume, Expire, Get, Moves, NoneButReuse, NoneYet, Put, Validate}
+use Rattle.command_steps.specs.declared.own.Own.TheVariants.{BackUpPool, Checkpoint, EmptyFilespace, EmptyVolume, Expire, Get, Moves, NoneButReuse, NoneYet, OnATree, Put, Validate}
 use Rattle.command_steps.specs.declared.own.Mover.{Mover}
 use Rattle.command_steps.specs.declared.own.Mover.TheVariants.{MoveData, Reclaim, RestorePool, RestoreVolume}
+use Rattle.command_steps.specs.declared.own.OnTree.{OnTree}
+use Rattle.command_steps.specs.declared.own.OnTree.TheVariants as tree
 
 -- what the code's value stands for
 abbrev pub line_view : code.Line → Line
@@ -23,10 +25,17 @@ mover_view Reclaim = owns.reclaimer
 mover_view RestorePool = owns.pool_restorer
 mover_view RestoreVolume = owns.volume_restorer
 
+abbrev pub tree_view : OnTree → owns.OnTree
+tree_view (tree.Write file) = owns.write file.now
+tree_view (tree.Erase file) = owns.erase file.now
+tree_view (tree.BackUp files) = owns.back_up files.now
+tree_view (tree.Restore files) = owns.restore files.now
+
 abbrev pub own_view : Own → owns.Own
 own_view (Validate set) = owns.validate set.now
 own_view (Put file) = owns.put file.now
 own_view (Get file) = owns.get file.now
+own_view (OnATree work) = owns.on_tree (tree_view work)
 own_view Checkpoint = owns.checkpoint
 own_view Expire = owns.expire
 own_view EmptyFilespace = owns.empty_filespace

@@ -6,12 +6,14 @@ ghost use Rattle.inventory_rows.specs.version_groups.Entries.{on_ok};
 ghost use Rattle.sessions.specs.Asking.{unasked};
 ghost use Rattle.steps.specs.Calls.{Call};
 ghost use Rattle.command_steps.specs.Answering.{AnswersLine, AsksLog, DoesOrWants, Follows, IfLong, halted_behind, long_log, unless_full};
+ghost use Rattle.command_steps.specs.Clients.{client};
 ghost use Rattle.command_steps.specs.Lines.{line_of};
 
 use crate::doing::do_command;
 use crate::lines::{Line, line_of};
 use crate::reply::{ends, refused_so};
 use choosers::Binder;
+use client_trees::Tree;
 use inventory_answers::{Answer, Query, Rows};
 use kinds::Refusal;
 use script_loop::{Halt, Reply};
@@ -25,9 +27,10 @@ const LONG_LOG: u64 = 4194304;
 // ---- the line itself
 
 /// Does what a line is, and answers it.
-fn do_line<P: Stepper>(
+fn do_line<P: Stepper, T: Tree>(
     alloc: Global,
     p: &mut P,
+    trees: &mut [T],
     binder: &Binder,
     buffer: &mut [u8],
     number: u32,
@@ -36,14 +39,14 @@ fn do_line<P: Stepper>(
     requires some { 1 ≤ length buffer.old }
     requires few { length buffer.old ≤ 2 ^ 16 }
     requires short { length line.now < 2 ^ 32 - 1 }
-    ensures does { Call P.did p.old p.new (λ events. DoesOrWants binder.now number (line_of line.now) events result) }
+    ensures does { Call P.did p.old p.new (λ events. DoesOrWants (client T.files T.fault_count binder.now trees.old trees.new) number (line_of line.now) events result) }
     ensures long { length buffer.new ≡ length buffer.old }
 {
     match line_of(alloc, line) {
         Ok(Line::Comment) => Ok((Reply::nothing(alloc), None)),
         Ok(Line::Refused(why)) => refused_so(alloc, number, why),
         Ok(Line::Asks(command)) => {
-            let said = do_command(alloc, p, binder, buffer, &command);
+            let said = do_command(alloc, p, trees, binder, buffer, &command);
             drop(command);
             ends(alloc, number, said)
         }
@@ -152,11 +155,13 @@ fn halted_behind(made: Result<(), Refusal>) -> Option<Halt>
 // ---- both
 
 /// Does what a line of a script is, by steps, and answers it with the lines that are printed and with its refusal, where it is refused. Behind it a checkpoint is made where the log has
-/// 4 MiB or more. `number` is the line's in the script; the buffer has 1 to 65,536 bytes, and its contents don't matter. The run ends with `LogFault` where a step of the
-/// line's or of what comes behind it answered so, with `RunFull` where one of the line's or of that checkpoint did, and for want of memory.
-pub fn answer_line<P: Stepper>(
+/// 4 MiB or more. `number` is the line's in the script, and a tree's number its place among the trees, from 0; the buffer has 1 to 65,536 bytes, and its contents don't matter. Of the trees only the
+/// one that the line names changes, and none where the line names no tree or is refused before its work. The run ends with `LogFault` where a step of the line's or of what comes behind it answered
+/// so, with `RunFull` where one of the line's or of that checkpoint did, and for want of memory.
+pub fn answer_line<P: Stepper, T: Tree>(
     alloc: Global,
     p: &mut P,
+    trees: &mut [T],
     binder: &Binder,
     buffer: &mut [u8],
     number: u32,
@@ -165,10 +170,10 @@ pub fn answer_line<P: Stepper>(
     requires some { 1 ≤ length buffer.old }
     requires few { length buffer.old ≤ 2 ^ 16 }
     requires short { length line.now < 2 ^ 32 - 1 }
-    ensures answers { Call P.did p.old p.new (λ events. AnswersLine binder.now number (line_of line.now) events result) }
+    ensures answers { Call P.did p.old p.new (λ events. AnswersLine (client T.files T.fault_count binder.now trees.old trees.new) number (line_of line.now) events result) }
     ensures long { length buffer.new ≡ length buffer.old }
 {
-    match do_line(alloc, p, binder, buffer, number, line) {
+    match do_line(alloc, p, trees, binder, buffer, number, line) {
         Ok(replied) => match halted_behind(follow(p)) {
             None => Ok(replied),
             Some(how) => Err(how),

@@ -1,13 +1,13 @@
 // What comes behind a command's work.
 ghost use Rattle.std.specs.Prelude.{◌≡◌};
 ghost use Rattle.steps.specs.Calls.{Call};
-ghost use Rattle.command_steps.specs.Behind.{node_behind, pool_behind, volume_behind, database_behind, behind, line_reused, with_reused};
+ghost use Rattle.command_steps.specs.Behind.{node_behind, pool_behind, volume_behind, file_behind, database_behind, behind, line_reused, with_reused};
 ghost use Rattle.command_steps.specs.Doing.{EndsWork, Forcing, Reusing, behind_force, within_run};
 ghost use Rattle.command_steps.specs.Reading.{behind_view};
 
 use crate::outcome::Outcome;
 use admin_words::Command;
-use admin_words::command::{DatabaseCommand, NodeCommand, PoolCommand, VolumeCommand};
+use admin_words::command::{DatabaseCommand, FileCommand, NodeCommand, PoolCommand, VolumeCommand};
 use kinds::Refusal;
 use reports::Shown;
 use reuse_delay::reuse_ready;
@@ -61,6 +61,15 @@ fn volume_behind(command: &VolumeCommand) -> Behind
     }
 }
 
+fn file_behind(command: &FileCommand) -> Behind
+    ensures { behind_view result ≡ file_behind command.now }
+{
+    match command {
+        FileCommand::Incremental(_) => Behind::Forces,
+        _ => Behind::NoMore,
+    }
+}
+
 fn database_behind(command: &DatabaseCommand) -> Behind
     ensures { behind_view result ≡ database_behind command.now }
 {
@@ -78,6 +87,7 @@ pub(crate) fn behind_of(command: &Command) -> Behind
         Command::Node(it) => node_behind(it),
         Command::Pool(it) => pool_behind(it),
         Command::Volume(it) => volume_behind(it),
+        Command::File(it) => file_behind(it),
         Command::Database(it) => database_behind(it),
         _ => Behind::NoMore,
     }

@@ -15,7 +15,8 @@ ghost use Rattle.copy_pools.specs.Backups.{Backup};
 ghost use Rattle.deletions.specs.Filespaces.{FilespaceDeletion};
 ghost use Rattle.deletions.specs.Volumes.{VolumeDeletion};
 ghost use Rattle.expiration.specs.Expiring.{Expiration};
-ghost use Rattle.command_steps.specs.Doing.{Does, DoesOwn, DoesWork, Doing, Gives, MovesSo, PutsText, Told, Validates, moved_line, the_number, the_second, validated_by, validity, within_memory};
+ghost use Rattle.command_steps.specs.Clients.{client};
+ghost use Rattle.command_steps.specs.Doing.{Does, DoesOwn, DoesWork, Doing, Gives, MovesSo, PutsText, Told, Validates, WorksOrWants, moved_line, the_number, the_second, validated_by, validity, within_memory};
 ghost use Rattle.command_steps.specs.Reading.{mover_view};
 ghost use Rattle.command_steps.specs.Owns.{file_put, last_of, own_of, row_put};
 ghost use Rattle.command_steps.specs.declared.outcome.Outcome.TheVariants as outcome;
@@ -24,6 +25,7 @@ use crate::behind::{behind_of, end_work};
 use crate::looking::look_up;
 use crate::outcome::Outcome;
 use crate::own::{Mover, Own, own_of};
+use crate::trees::do_there;
 use admin_commands::{Work, work_of};
 use admin_words::Command;
 use admin_words::files::{FileGet, FilePut};
@@ -467,9 +469,10 @@ fn empty_volume<P: Stepper>(alloc: Global, p: &mut P, file: u32) -> Result<Outco
 }
 
 /// Does what is no one change and no one query, over the numbers of the things that the command names.
-fn run_own<P: Stepper>(
+fn run_own<P: Stepper, T: Tree>(
     alloc: Global,
     p: &mut P,
+    trees: &mut [T],
     binder: &Binder,
     buffer: &mut [u8],
     command: &Command,
@@ -477,13 +480,14 @@ fn run_own<P: Stepper>(
 ) -> Result<Outcome, Refusal>
     requires some { 1 ≤ length buffer.old }
     requires few { length buffer.old ≤ 2 ^ 16 }
-    ensures does { Call P.did p.old p.new (λ events. DoesOwn binder.now (own_of command.now) numbers.now events result) }
+    ensures does { Call P.did p.old p.new (λ events. DoesOwn (client T.files T.fault_count binder.now trees.old trees.new) (own_of command.now) numbers.now events result) }
     ensures long { length buffer.new ≡ length buffer.old }
 {
     match own_of(command) {
         Own::Validate(set) => validate(p, set),
         Own::Put(file) => put(alloc, p, binder, buffer, file),
         Own::Get(file) => get(alloc, p, buffer, file),
+        Own::OnATree(work) => do_there(alloc, p, trees, binder, buffer, work),
         Own::Checkpoint => keep(p),
         Own::Expire => expire_all(alloc, p),
         Own::EmptyFilespace => empty_filespace(alloc, p, the_number(numbers)),
@@ -500,9 +504,10 @@ fn run_own<P: Stepper>(
 // ---- a command
 
 /// Does a command's work.
-fn do_work<P: Stepper>(
+fn do_work<P: Stepper, T: Tree>(
     alloc: Global,
     p: &mut P,
+    trees: &mut [T],
     binder: &Binder,
     buffer: &mut [u8],
     command: &Command,
@@ -510,7 +515,7 @@ fn do_work<P: Stepper>(
 ) -> Result<Outcome, Refusal>
     requires some { 1 ≤ length buffer.old }
     requires few { length buffer.old ≤ 2 ^ 16 }
-    ensures does { Call P.did p.old p.new (λ events. Does binder.now command.now work events result) }
+    ensures does { Call P.did p.old p.new (λ events. Does (client T.files T.fault_count binder.now trees.old trees.new) command.now work events result) }
     ensures long { length buffer.new ≡ length buffer.old }
 {
     match work {
@@ -521,7 +526,7 @@ fn do_work<P: Stepper>(
             outcome
         }
         Work::Run(numbers) => {
-            let outcome = run_own(alloc, p, binder, buffer, command, numbers.as_slice());
+            let outcome = run_own(alloc, p, trees, binder, buffer, command, numbers.as_slice());
             drop(numbers);
             outcome
         }
@@ -529,9 +534,10 @@ fn do_work<P: Stepper>(
 }
 
 /// Does a command's work, and what comes behind it.
-fn do_all<P: Stepper>(
+fn do_all<P: Stepper, T: Tree>(
     alloc: Global,
     p: &mut P,
+    trees: &mut [T],
     binder: &Binder,
     buffer: &mut [u8],
     command: &Command,
@@ -539,17 +545,18 @@ fn do_all<P: Stepper>(
 ) -> Result<Outcome, Refusal>
     requires some { 1 ≤ length buffer.old }
     requires few { length buffer.old ≤ 2 ^ 16 }
-    ensures does { Call P.did p.old p.new (λ events. DoesWork binder.now command.now (Ok work) events result) }
+    ensures does { Call P.did p.old p.new (λ events. DoesWork (client T.files T.fault_count binder.now trees.old trees.new) command.now (Ok work) events result) }
     ensures long { length buffer.new ≡ length buffer.old }
 {
-    let said = do_work(alloc, p, binder, buffer, command, work);
+    let said = do_work(alloc, p, trees, binder, buffer, command, work);
     end_work(p, behind_of(command), said)
 }
 
 /// Does the work of a command, by the answers to its look-ups.
-fn work_on<P: Stepper>(
+fn work_on<P: Stepper, T: Tree>(
     alloc: Global,
     p: &mut P,
+    trees: &mut [T],
     binder: &Binder,
     buffer: &mut [u8],
     command: &Command,
@@ -557,31 +564,32 @@ fn work_on<P: Stepper>(
 ) -> Result<Outcome, Refusal>
     requires some { 1 ≤ length buffer.old }
     requires few { length buffer.old ≤ 2 ^ 16 }
-    ensures does { Call P.did p.old p.new (λ events. OrMemory (DoesWork binder.now command.now (work_of command.now answers.now)) events result) }
+    ensures does { Call P.did p.old p.new (λ events. WorksOrWants (client T.files T.fault_count binder.now trees.old trees.new) command.now (work_of command.now answers.now) events result) }
     ensures long { length buffer.new ≡ length buffer.old }
 {
     match work_of(alloc, command, answers) {
-        Ok(work) => do_all(alloc, p, binder, buffer, command, work),
+        Ok(work) => do_all(alloc, p, trees, binder, buffer, command, work),
         Err(refusal) => Err(refusal),
     }
 }
 
 /// Does a command: its look-ups, and by their answers its work.
-pub(crate) fn do_command<P: Stepper>(
+pub(crate) fn do_command<P: Stepper, T: Tree>(
     alloc: Global,
     p: &mut P,
+    trees: &mut [T],
     binder: &Binder,
     buffer: &mut [u8],
     command: &Command,
 ) -> Result<Outcome, Refusal>
     requires some { 1 ≤ length buffer.old }
     requires few { length buffer.old ≤ 2 ^ 16 }
-    ensures does { Call P.did p.old p.new (λ events. Doing binder.now command.now events result) }
+    ensures does { Call P.did p.old p.new (λ events. Doing (client T.files T.fault_count binder.now trees.old trees.new) command.now events result) }
     ensures long { length buffer.new ≡ length buffer.old }
 {
     match look_up(alloc, p, command) {
         Ok(answers) => {
-            let outcome = work_on(alloc, p, binder, buffer, command, answers.as_slice());
+            let outcome = work_on(alloc, p, trees, binder, buffer, command, answers.as_slice());
             drop(answers);
             outcome
         }

@@ -4,12 +4,15 @@
 mod answering;
 mod behind;
 mod doing;
+pub mod laws;
 mod lines;
 mod looking;
 mod outcome;
 mod own;
 mod reply;
 mod text;
+mod trees;
+mod writing;
 
 pub use answering::answer_line;
 pub use outcome::Outcome;

@@ -43,8 +43,8 @@ fn does_file(command: &FileCommand) -> bool
     ensures { result ≡ does_file command.now }
 {
     match command {
-        FileCommand::Get(_) | FileCommand::Put(_) => true,
-        _ => false,
+        FileCommand::ArchiveFiles(_) | FileCommand::RetrieveFiles(_) => false,
+        _ => true,
     }
 }
 

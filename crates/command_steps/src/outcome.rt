@@ -1,7 +1,9 @@
 //! What a command came to.
 
+use incrementals::Sent;
 use inventory_answers::Answer;
 use reports::Shown;
+use restores::Restored;
 use sessions::FileRead;
 
 /// What a command came to, which is printed.
@@ -13,4 +15,8 @@ pub enum Outcome {
     Read(FileRead),
     /// These rows answer it.
     Rows(Answer),
+    /// A tree was backed up so; the paths for which nothing was committed ascend.
+    Sent(Sent),
+    /// These objects were to be restored, and this came of them.
+    Restored(Restored),
 }

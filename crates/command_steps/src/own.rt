@@ -1,13 +1,13 @@
 // Work that is no one change and no one query.
 ghost use Rattle.std.specs.Prelude.{◌≡◌};
-ghost use Rattle.command_steps.specs.Owns.{policy_own, node_own, pool_own, volume_own, file_own, database_own, own_of};
-ghost use Rattle.command_steps.specs.Reading.{own_view};
+ghost use Rattle.command_steps.specs.Owns.{policy_own, node_own, pool_own, volume_own, file_own, database_own, own_of, tree_of};
+ghost use Rattle.command_steps.specs.Reading.{own_view, tree_view};
 
 use admin_words::Command;
 use admin_words::command::{
     DatabaseCommand, FileCommand, NodeCommand, PolicyCommand, PoolCommand, VolumeCommand,
 };
-use admin_words::files::{FileGet, FilePut};
+use admin_words::files::{FileErase, FileGet, FilePut, FileWrite, FilesRestore, IncrementalBackup};
 use admin_words::policy::NamedSet;
 
 /// What moves copies.
@@ -23,6 +23,31 @@ pub(crate) enum Mover {
     RestoreVolume,
 }
 
+/// Work on a client's tree.
+#[derive(Clone, Copy)]
+pub(crate) enum OnTree<'a> {
+    /// WRITE.
+    Write(&'a FileWrite),
+    /// ERASE.
+    Erase(&'a FileErase),
+    /// DSMC INCREMENTAL.
+    BackUp(&'a IncrementalBackup),
+    /// DSMC RESTORE.
+    Restore(&'a FilesRestore),
+}
+
+/// The number of the tree.
+pub(crate) fn tree_of(work: OnTree<'_>) -> u64
+    ensures { result ≡ tree_of (tree_view work.entry) }
+{
+    match work {
+        OnTree::Write(it) => it.tree,
+        OnTree::Erase(it) => it.tree,
+        OnTree::BackUp(it) => it.tree,
+        OnTree::Restore(it) => it.tree,
+    }
+}
+
 /// Work of a command's own.
 #[derive(Clone, Copy)]
 pub(crate) enum Own<'a> {
@@ -32,6 +57,8 @@ pub(crate) enum Own<'a> {
     Put(&'a FilePut),
     /// GET.
     Get(&'a FileGet),
+    /// Work on a client's tree.
+    OnATree(OnTree<'a>),
     /// CHECKPOINT.
     Checkpoint,
     /// EXPIRE INVENTORY.
@@ -65,6 +92,10 @@ fn file_own(command: &FileCommand) -> Own<'_>
     match command {
         FileCommand::Put(file) => Own::Put(file),
         FileCommand::Get(file) => Own::Get(file),
+        FileCommand::Erase(it) => Own::OnATree(OnTree::Erase(it)),
+        FileCommand::Incremental(it) => Own::OnATree(OnTree::BackUp(it)),
+        FileCommand::RestoreFiles(it) => Own::OnATree(OnTree::Restore(it)),
+        FileCommand::Write(it) => Own::OnATree(OnTree::Write(it)),
         _ => Own::NoneYet,
     }
 }

@@ -3,7 +3,7 @@ ghost use Rattle.std.specs.Prelude.{◌≡◌, Err};
 ghost use Rattle.command_steps.specs.Answers.{Ends, IsRefused, counting, failed_in, halt_by};
 
 use crate::outcome::Outcome;
-use crate::text::outcome_lines;
+use crate::text::{failed_gave, outcome_lines};
 use kinds::Refusal;
 use reports::{Shown, print_refused};
 use script_loop::{Halt, Reply};
@@ -61,6 +61,8 @@ fn failed_in(outcome: &Outcome) -> u64
             failed,
             reused: _,
         }) => *failed,
+        Outcome::Sent(sent) => sent.failed.as_slice().len() as u64,
+        Outcome::Restored(it) => failed_gave(it.gave.as_slice()),
         _ => 0,
     }
 }

@@ -1,4 +1,6 @@
 pub mod Beginning
+pub mod Caused
+pub mod Causing
 pub mod Exactly
 pub mod Ordering
 pub mod Questions

@@ -13,7 +13,8 @@ use Rattle.client_batches.specs.Rounds.{AwaitsOne, InRuns, Rounds, SendsAll, Sen
 use Rattle.client_batches.specs.Sends.{Sent, Stops, sealed_in}
 use Rattle.client_batches.specs.Verdicts.{waiting}
 use Rattle.client_batches.proofs.Ordering.{Each, each-as, each-both, each-commits, each-given, each-made, each-none, each-runs, each-then, each-waits}
-use Rattle.client_batches.proofs.Quiet.{AreQuiet, IsQuiet, each_quiet, one_quiet}
+use Rattle.client_batches.proofs.Quiet.{each_quiet, one_quiet}
+use Rattle.client_batches.specs.Quiet.{AreQuiet, IsQuiet}
 use Rattle.client_files.specs.declared.outcome.Came.{Came}
 use Rattle.client_files.specs.declared.outcome.Came.TheVariants as came
 use Rattle.client_plan.specs.Plans.{Lists}

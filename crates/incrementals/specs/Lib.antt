@@ -1,5 +1,6 @@
 pub mod Answering
 pub mod Asking
+pub mod Causes
 pub mod Filespaces
 pub mod Items
 pub mod Orders

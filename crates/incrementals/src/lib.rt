@@ -4,6 +4,7 @@
 mod answering;
 mod asking;
 mod filespaces;
+pub mod laws;
 mod planning;
 mod process;
 

@@ -1,3 +1,4 @@
+pub mod Causes
 pub mod Chosen
 pub mod Given
 pub mod Restores
