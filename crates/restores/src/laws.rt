@@ -7,7 +7,9 @@ ghost use Rattle.client_trees.specs.Files.{Files, file_at};
 ghost use Rattle.restores.specs.Causes.{AreReading, IsCaused};
 ghost use Rattle.restores.specs.Given.{Gives};
 ghost use Rattle.restores.specs.Restores.{Restores};
-ghost use Rattle.restores.specs.Standing.{AreApart, HaveFiles, IsNoneOf};
+ghost use Rattle.inventory_answers.specs.declared.lines.VersionLine.{VersionLine};
+ghost use Rattle.restores.specs.Chosen.{chosen};
+ghost use Rattle.restores.specs.Standing.{AreApart, Ascend, HaveFiles, IsNoneOf};
 ghost use Rattle.restores.specs.declared.choosing.RestoreLine.{RestoreLine};
 ghost use Rattle.restores.specs.declared.choosing.Which.{Which};
 ghost use Rattle.restores.specs.declared.process.Restored.{Restored};
@@ -27,4 +29,9 @@ pub fn restores_only_read()
         → Restores node filespace which before after old new events result → AreReading events }
     ensures cause { (node filespace : List ℕ) (which : Which) (before after : ℕ) (old new : Option Files) (events : List Event) (result : Result Restored Refusal)
         → Restores node filespace which before after old new events result → IfErr result (λ e. IsCaused events e) }
+{}
+
+/// Of versions that stand by path no two are restored to one path, whichever are asked.
+pub fn chosen_paths_differ()
+    ensures { (which : Which) (lines : List VersionLine) → Ascend lines → AreApart (chosen which lines) }
 {}
