@@ -1,9 +1,9 @@
 -- A copy that isn't there any more, as a transaction placed it, doesn't come back: what is there at a number of a history of valid databases was there at each number before, from its own on.
-use Rattle.std.proofs.Common.{◌≡◌, inl, inr, ℕ, zero, suc, ◌+◌, ◌-◌, ◌≤◌, ◌<◌, ◌==◌, eqb, not, cond, Bool, true, false, List, [], ◌∷◌, length, map, take, Option, Some, None, refl, sym, ap, subst, ◌∙◌, arith}
-use Rattle.std.specs.Prelude.{nat_le, nat_lt, ◌&&◌}
-use Rattle.std.specs.List.{AllByRecursion, Contains, find, flat_map, list_all, slice_get}
+use Rattle.std.proofs.Common.{◌≡◌, inl, inr, ℕ, zero, suc, ◌+◌, ◌-◌, ◌≤◌, ◌<◌, eqb, not, cond, Bool, true, false, List, [], ◌∷◌, length, map, take, Option, Some, None, refl, sym, ap, subst, ◌∙◌, arith}
+use Rattle.std.specs.Prelude.{nat_le, nat_lt}
+use Rattle.std.specs.List.{AllByRecursion, find, list_all, slice_get}
 use Rattle.std.specs.Option.{option_map_or}
-use Rattle.std.proofs.lemmas.Bool.{and_parts, eq-eqb, eqb-true, false≢true, leb-true, ltb-true, ne_eqb}
+use Rattle.std.proofs.lemmas.Bool.{eq-eqb, eqb-true, false≢true, leb-true, ltb-true, ne_eqb}
 use Rattle.std.proofs.lemmas.List.{length-take}
 use Rattle.entries.specs.declared.change.Change.{Change}
 use Rattle.entries.specs.declared.entry.Entry.{Entry}
@@ -13,7 +13,6 @@ use Rattle.inventory_rows.specs.version_groups.Copies.{are_by_pool}
 use Rattle.inventory_rows.specs.version_groups.Versions.{are_distinct, version_of}
 use Rattle.inventory_rows.specs.Search.{copies, copy_in, version, versions}
 use Rattle.inventory_rows.specs.State.{Inv}
-use Rattle.inventory_rules.specs.Common.{this}
 use Rattle.inventory_rules.specs.Copies.{placed_by}
 use Rattle.inventory_rules.specs.Transactions.{effect}
 use Rattle.inventory_rules.specs.Valid.{is_copied, is_valid}
