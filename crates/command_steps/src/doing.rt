@@ -489,9 +489,7 @@ fn run_own<P: Stepper>(
         Own::EmptyFilespace => empty_filespace(alloc, p, the_number(numbers)),
         Own::EmptyVolume => empty_volume(alloc, p, the_number(numbers)),
         Own::BackUpPool => { back_up_pool(alloc, p, the_number(numbers), the_second(numbers)) }
-        Own::Moves(mover) => {
-            move_all(alloc, p, mover, the_number(numbers), the_second(numbers))
-        }
+        Own::Moves(mover) => { move_all(alloc, p, mover, the_number(numbers), the_second(numbers)) }
         Own::NoneButReuse => Ok(Outcome::Said(Shown::Reused { reused: 0 })),
         Own::NoneYet => Err(Refusal::UnknownWord(1)),
     }
