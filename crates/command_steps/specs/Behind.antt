@@ -7,7 +7,7 @@ use Rattle.admin_words.specs.declared.command.DatabaseCommand.TheVariants.{Day, 
 use Rattle.admin_words.specs.declared.command.NodeCommand.{NodeCommand}
 use Rattle.admin_words.specs.declared.command.NodeCommand.TheVariants.{DeleteFilespace}
 use Rattle.admin_words.specs.declared.command.PoolCommand.{PoolCommand}
-use Rattle.admin_words.specs.declared.command.PoolCommand.TheVariants.{BackupPool, ReclaimPool, RestorePool}
+use Rattle.admin_words.specs.declared.command.PoolCommand.TheVariants.{BackupPool, MigrateAll, MigratePool, ReclaimPool, RestorePool}
 use Rattle.admin_words.specs.declared.command.VolumeCommand.{VolumeCommand}
 use Rattle.admin_words.specs.declared.command.VolumeCommand.TheVariants.{DeleteVolume, MoveData, RestoreVolume, ReuseVolumes}
 use Rattle.reports.specs.declared.shown.Shown.{Shown}
@@ -27,6 +27,8 @@ node_behind _ = no_more
 
 abbrev pub pool_behind : PoolCommand → Behind
 pool_behind (BackupPool b) = forces
+pool_behind MigrateAll = reuses
+pool_behind (MigratePool m) = reuses
 pool_behind (ReclaimPool r) = reuses
 pool_behind (RestorePool p) = reuses
 pool_behind _ = no_more

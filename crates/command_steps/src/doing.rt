@@ -28,7 +28,7 @@ use admin_commands::{Work, work_of};
 use admin_words::Command;
 use admin_words::files::{FileGet, FilePut};
 use admin_words::policy::NamedSet;
-use choosers::Binder;
+use choosers::{Binder, First};
 use client_trees::{FileRow, MemTree, Tree};
 use copy_pools::backup_pool;
 use copy_runs::Moved;
@@ -37,6 +37,7 @@ use entries::Change;
 use expiration::expire;
 use inventory_answers::{Answer, Query, Rows};
 use kinds::{FilespaceName, Name, NodeName, Path, PoolChange, Refusal, Verb};
+use migration::{migrate, migrate_all};
 use pool_restores::{restore_pool, restore_volume};
 use reclamation::{move_data, reclaim};
 use reports::Shown;
@@ -403,6 +404,8 @@ fn move_so<P: Stepper>(
         Mover::Reclaim => reclaim(alloc, p, first, percentage(second)),
         Mover::RestorePool => restore_pool(alloc, p, first),
         Mover::RestoreVolume => restore_volume(alloc, p, first),
+        Mover::Migrate => migrate(alloc, p, &First, first, percentage(second)),
+        Mover::MigrateAll => migrate_all(alloc, p, &First),
     }
 }
 
@@ -411,7 +414,7 @@ fn moved_line(mover: Mover, moved: Moved) -> Shown
     ensures { result ≡ moved_line (mover_view mover) moved }
 {
     match mover {
-        Mover::MoveData | Mover::Reclaim => Shown::Moved {
+        Mover::MoveData | Mover::Reclaim | Mover::Migrate | Mover::MigrateAll => Shown::Moved {
             moved: moved.moved,
             failed: moved.failed,
             reused: 0,
