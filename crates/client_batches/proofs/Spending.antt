@@ -284,6 +284,6 @@ module _ (rules : Rules) (told : Option Files) (filespace : ℕ) where
 pub runs-held : {L : Type 0} (asking : List L → Asked) (lines : List L) (events : List Event) (result : Result (List (Option Refusal)) Refusal) → InRuns asking lines events result → AreHeld [] events
 runs-held asking lines events result h =
     closed-held [] events (each-runs (λ d. opens_one d ≡ false) (λ ticket answer. refl) (λ l. Unit {0}) asking (λ ls tickets answer is. refl) lines (any-all lines) events result h) where
-  any-all : {A : Type 0} (xs : List A) → AllByRecursion (λ x. Unit {0}) xs
-  any-all [] = tt
-  any-all (x ∷ xs) = (tt, any-all xs)
+      any-all : {A : Type 0} (xs : List A) → AllByRecursion (λ x. Unit {0}) xs
+      any-all [] = tt
+      any-all (x ∷ xs) = (tt, any-all xs)

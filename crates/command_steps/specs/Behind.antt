@@ -9,7 +9,7 @@ use Rattle.admin_words.specs.declared.command.FileCommand.TheVariants.{Increment
 use Rattle.admin_words.specs.declared.command.NodeCommand.{NodeCommand}
 use Rattle.admin_words.specs.declared.command.NodeCommand.TheVariants.{DeleteFilespace}
 use Rattle.admin_words.specs.declared.command.PoolCommand.{PoolCommand}
-use Rattle.admin_words.specs.declared.command.PoolCommand.TheVariants.{BackupPool, ReclaimPool, RestorePool}
+use Rattle.admin_words.specs.declared.command.PoolCommand.TheVariants.{BackupPool, MigrateAll, MigratePool, ReclaimPool, RestorePool}
 use Rattle.admin_words.specs.declared.command.VolumeCommand.{VolumeCommand}
 use Rattle.admin_words.specs.declared.command.VolumeCommand.TheVariants.{DeleteVolume, MoveData, RestoreVolume, ReuseVolumes}
 use Rattle.reports.specs.declared.shown.Shown.{Shown}
@@ -29,6 +29,8 @@ node_behind _ = no_more
 
 abbrev pub pool_behind : PoolCommand → Behind
 pool_behind (BackupPool b) = forces
+pool_behind MigrateAll = reuses
+pool_behind (MigratePool m) = reuses
 pool_behind (ReclaimPool r) = reuses
 pool_behind (RestorePool p) = reuses
 pool_behind _ = no_more

@@ -24,6 +24,9 @@ use Rattle.deletions.specs.Filespaces.{FilespaceDeletion}
 use Rattle.deletions.specs.Volumes.{VolumeDeletion}
 use Rattle.deletions.specs.declared.copies.Removed.{Removed}
 use Rattle.expiration.specs.Expiring.{Expiration}
+use Rattle.migration.specs.Migrating.{Migration}
+use Rattle.migration.specs.Sweeping.{AllMigration}
+use Rattle.migration.specs.Turns.{Picks}
 use Rattle.pool_restores.specs.Restoring.{PoolRestore}
 use Rattle.pool_restores.specs.Volumes.{VolumeRestore}
 use Rattle.reclamation.specs.Moving.{DataMove}
@@ -39,7 +42,7 @@ use Rattle.steps.specs.Events.{Event}
 use Rattle.steps.specs.Events.Deed.{Ask, Force}
 use Rattle.command_steps.specs.Behind.{Behind, behind, forces, no_more, reuses, with_reused}
 use Rattle.command_steps.specs.Clients.{Client, IsKept}
-use Rattle.command_steps.specs.Owns.{Mover, Own, back_up_pool, checkpoint, data_mover, empty_filespace, empty_volume, expire, file_put, get, last_of, moves, none_but_reuse, none_yet, on_tree, own_of, pool_restorer, put, reclaimer, row_put, validate, volume_restorer}
+use Rattle.command_steps.specs.Owns.{Mover, Own, all_migrator, back_up_pool, checkpoint, data_mover, empty_filespace, empty_volume, expire, file_put, get, last_of, migrator, moves, none_but_reuse, none_yet, on_tree, own_of, pool_restorer, put, reclaimer, row_put, validate, volume_restorer}
 use Rattle.command_steps.specs.Trees.{DoesThere}
 use Rattle.command_steps.specs.declared.outcome.Outcome.{Outcome}
 use Rattle.command_steps.specs.declared.outcome.Outcome.TheVariants.{Read, Rows, Said}
@@ -106,12 +109,18 @@ abbrev pub the_second : List ℕ → ℕ
 the_second [] = 0
 the_second (number ∷ others) = the_number others
 
+-- of copies that may migrate the one of the least object is next
+abbrev pub first_picks : Picks
+first_picks list place = place ≡ 0
+
 -- copies are moved, over these two numbers; a percentage is 100 at most
 abbrev pub MovesSo : Mover → (first second : ℕ) → List Event → Result Moved Refusal → Type 0
 MovesSo data_mover first second events result = DataMove first second events result
 MovesSo reclaimer first second events result = Reclamation first (min second 100) events result
 MovesSo pool_restorer first second events result = PoolRestore first events result
 MovesSo volume_restorer first second events result = VolumeRestore first events result
+MovesSo migrator first second events result = Migration first_picks first (min second 100) events result
+MovesSo all_migrator first second events result = AllMigration first_picks events result
 
 -- the last line of a command that moved so many, before any volume is used again
 abbrev pub moved_line : Mover → Moved → Shown
@@ -119,6 +128,8 @@ moved_line data_mover m = shown.Moved m.moved m.failed 0
 moved_line reclaimer m = shown.Moved m.moved m.failed 0
 moved_line pool_restorer m = RestoredCopies m.moved m.failed 0
 moved_line volume_restorer m = RestoredCopies m.moved m.failed 0
+moved_line migrator m = shown.Moved m.moved m.failed 0
+moved_line all_migrator m = shown.Moved m.moved m.failed 0
 
 -- work of a command's own that has nothing to do with trees, over the numbers of the things that it names; what isn't done so far is refused like an unknown word
 abbrev pub DoesAlone : List Rule → Own → List ℕ → List Event → Result Outcome Refusal → Type 0

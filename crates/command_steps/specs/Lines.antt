@@ -6,8 +6,6 @@ use Rattle.command_words.specs.Comments.{is_comment}
 use Rattle.admin_words.specs.Line.{command}
 use Rattle.admin_words.specs.declared.command.Command.{Command}
 use Rattle.admin_words.specs.declared.command.Command.TheVariants as commands
-use Rattle.admin_words.specs.declared.command.PoolCommand.{PoolCommand}
-use Rattle.admin_words.specs.declared.command.PoolCommand.TheVariants.{MigrateAll, MigratePool}
 use Rattle.admin_words.specs.declared.command.VolumeCommand.{VolumeCommand}
 use Rattle.admin_words.specs.declared.command.VolumeCommand.TheVariants.{AuditVolume}
 use Rattle.admin_words.specs.declared.command.FileCommand.{FileCommand}
@@ -16,11 +14,6 @@ use Rattle.admin_words.specs.declared.command.DatabaseCommand.{DatabaseCommand}
 use Rattle.admin_words.specs.declared.command.DatabaseCommand.TheVariants.{BackupDatabase, DeleteHistory}
 
 -- the commands of each family that the server does so far
-abbrev pub does_pool : PoolCommand → Bool
-does_pool MigrateAll = false
-does_pool (MigratePool m) = false
-does_pool _ = true
-
 abbrev pub does_volume : VolumeCommand → Bool
 does_volume (AuditVolume a) = false
 does_volume _ = true
@@ -40,7 +33,7 @@ abbrev pub is_done : Command → Bool
 is_done (commands.Policy c) = true
 is_done (commands.Class c) = true
 is_done (commands.Node c) = true
-is_done (commands.Pool c) = does_pool c
+is_done (commands.Pool c) = true
 is_done (commands.Volume c) = does_volume c
 is_done (commands.File c) = does_file c
 is_done (commands.Database c) = does_database c

@@ -17,7 +17,7 @@ use Rattle.admin_words.specs.declared.command.NodeCommand.TheVariants.{DeleteFil
 use Rattle.admin_words.specs.declared.command.PolicyCommand.{PolicyCommand}
 use Rattle.admin_words.specs.declared.command.PolicyCommand.TheVariants.{ValidateSet}
 use Rattle.admin_words.specs.declared.command.PoolCommand.{PoolCommand}
-use Rattle.admin_words.specs.declared.command.PoolCommand.TheVariants.{BackupPool, ReclaimPool, RestorePool}
+use Rattle.admin_words.specs.declared.command.PoolCommand.TheVariants.{BackupPool, MigrateAll, MigratePool, ReclaimPool, RestorePool}
 use Rattle.admin_words.specs.declared.command.VolumeCommand.{VolumeCommand}
 use Rattle.admin_words.specs.declared.command.VolumeCommand.TheVariants.{DeleteVolume, MoveData, RestoreVolume, ReuseVolumes}
 use Rattle.admin_words.specs.declared.files.FileErase.{FileErase}
@@ -31,12 +31,14 @@ use Rattle.reports.specs.declared.shown.Shown.{Shown}
 use Rattle.reports.specs.declared.shown.Shown.TheVariants.{DeletedVolume, Done, Reused}
 
 -- What moves copies: MOVE DATA, over the numbers of a volume's file and of a pool or 0; RECLAIM STGPOOL, over a pool's number and a percentage; RESTORE STGPOOL, over a pool's number; RESTORE VOLUME, over that
--- of a volume's file
+-- of a volume's file; MIGRATE STGPOOL, over a pool's number and a percentage; MIGRATE ALL, over nothing
 pub data Mover : Type 0 where
   data_mover : Mover
   reclaimer : Mover
   pool_restorer : Mover
   volume_restorer : Mover
+  migrator : Mover
+  all_migrator : Mover
 
 -- work on a client's tree: WRITE, ERASE, DSMC INCREMENTAL and DSMC RESTORE
 pub data OnTree : Type 0 where
@@ -92,6 +94,8 @@ node_own _ = none_yet
 
 abbrev pub pool_own : PoolCommand → Own
 pool_own (BackupPool b) = back_up_pool
+pool_own MigrateAll = moves all_migrator
+pool_own (MigratePool m) = moves migrator
 pool_own (ReclaimPool r) = moves reclaimer
 pool_own (RestorePool p) = moves pool_restorer
 pool_own _ = none_yet

@@ -9,7 +9,7 @@ use Rattle.command_steps.specs.declared.lines.Line.TheVariants.{Asks, Comment, R
 use Rattle.command_steps.specs.declared.own.Own.{Own}
 use Rattle.command_steps.specs.declared.own.Own.TheVariants.{BackUpPool, Checkpoint, EmptyFilespace, EmptyVolume, Expire, Get, Moves, NoneButReuse, NoneYet, OnATree, Put, Validate}
 use Rattle.command_steps.specs.declared.own.Mover.{Mover}
-use Rattle.command_steps.specs.declared.own.Mover.TheVariants.{MoveData, Reclaim, RestorePool, RestoreVolume}
+use Rattle.command_steps.specs.declared.own.Mover.TheVariants.{Migrate, MigrateAll, MoveData, Reclaim, RestorePool, RestoreVolume}
 use Rattle.command_steps.specs.declared.own.OnTree.{OnTree}
 use Rattle.command_steps.specs.declared.own.OnTree.TheVariants as tree
 
@@ -24,6 +24,8 @@ mover_view MoveData = owns.data_mover
 mover_view Reclaim = owns.reclaimer
 mover_view RestorePool = owns.pool_restorer
 mover_view RestoreVolume = owns.volume_restorer
+mover_view Migrate = owns.migrator
+mover_view MigrateAll = owns.all_migrator
 
 abbrev pub tree_view : OnTree → owns.OnTree
 tree_view (tree.Write file) = owns.write file.now

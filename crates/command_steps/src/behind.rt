@@ -38,7 +38,10 @@ fn pool_behind(command: &PoolCommand) -> Behind
 {
     match command {
         PoolCommand::BackupPool(_) => Behind::Forces,
-        PoolCommand::ReclaimPool(_) | PoolCommand::RestorePool(_) => Behind::Reuses,
+        PoolCommand::MigrateAll
+        | PoolCommand::MigratePool(_)
+        | PoolCommand::ReclaimPool(_)
+        | PoolCommand::RestorePool(_) => Behind::Reuses,
         _ => Behind::NoMore,
     }
 }

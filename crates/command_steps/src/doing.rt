@@ -30,7 +30,7 @@ use admin_commands::{Work, work_of};
 use admin_words::Command;
 use admin_words::files::{FileGet, FilePut};
 use admin_words::policy::NamedSet;
-use choosers::Binder;
+use choosers::{Binder, First};
 use client_trees::{FileRow, MemTree, Tree};
 use copy_pools::backup_pool;
 use copy_runs::Moved;
@@ -39,6 +39,7 @@ use entries::Change;
 use expiration::expire;
 use inventory_answers::{Answer, Query, Rows};
 use kinds::{FilespaceName, Name, NodeName, Path, PoolChange, Refusal, Verb};
+use migration::{migrate, migrate_all};
 use pool_restores::{restore_pool, restore_volume};
 use reclamation::{move_data, reclaim};
 use reports::Shown;
@@ -405,6 +406,8 @@ fn move_so<P: Stepper>(
         Mover::Reclaim => reclaim(alloc, p, first, percentage(second)),
         Mover::RestorePool => restore_pool(alloc, p, first),
         Mover::RestoreVolume => restore_volume(alloc, p, first),
+        Mover::Migrate => migrate(alloc, p, &First, first, percentage(second)),
+        Mover::MigrateAll => migrate_all(alloc, p, &First),
     }
 }
 
@@ -413,7 +416,7 @@ fn moved_line(mover: Mover, moved: Moved) -> Shown
     ensures { result ≡ moved_line (mover_view mover) moved }
 {
     match mover {
-        Mover::MoveData | Mover::Reclaim => Shown::Moved {
+        Mover::MoveData | Mover::Reclaim | Mover::Migrate | Mover::MigrateAll => Shown::Moved {
             moved: moved.moved,
             failed: moved.failed,
             reused: 0,
@@ -493,9 +496,7 @@ fn run_own<P: Stepper, T: Tree>(
         Own::EmptyFilespace => empty_filespace(alloc, p, the_number(numbers)),
         Own::EmptyVolume => empty_volume(alloc, p, the_number(numbers)),
         Own::BackUpPool => { back_up_pool(alloc, p, the_number(numbers), the_second(numbers)) }
-        Own::Moves(mover) => {
-            move_all(alloc, p, mover, the_number(numbers), the_second(numbers))
-        }
+        Own::Moves(mover) => { move_all(alloc, p, mover, the_number(numbers), the_second(numbers)) }
         Own::NoneButReuse => Ok(Outcome::Said(Shown::Reused { reused: 0 })),
         Own::NoneYet => Err(Refusal::UnknownWord(1)),
     }

@@ -1,10 +1,10 @@
 // What a line of the script is.
 ghost use Rattle.std.specs.Prelude.{◌≡◌, ◌<◌, ◌-◌, ◌^◌, false, length, IfOk, IfErr};
 ghost use Rattle.kinds.specs.declared.refusal.Refusal.TheVariants.{Memory};
-ghost use Rattle.command_steps.specs.Lines.{does_pool, does_volume, does_file, does_database, is_done, line_of};
+ghost use Rattle.command_steps.specs.Lines.{does_volume, does_file, does_database, is_done, line_of};
 ghost use Rattle.command_steps.specs.Reading.{line_view};
 
-use admin_words::command::{DatabaseCommand, FileCommand, PoolCommand, VolumeCommand};
+use admin_words::command::{DatabaseCommand, FileCommand, VolumeCommand};
 use admin_words::{Command, read_line};
 use command_words::is_comment;
 use kinds::Refusal;
@@ -19,15 +19,6 @@ pub(crate) enum Line {
     Refused(Refusal),
     /// A command that the server does.
     Asks(Command),
-}
-
-fn does_pool(command: &PoolCommand) -> bool
-    ensures { result ≡ does_pool command.now }
-{
-    match command {
-        PoolCommand::MigrateAll | PoolCommand::MigratePool(_) => false,
-        _ => true,
-    }
 }
 
 fn does_volume(command: &VolumeCommand) -> bool
@@ -62,8 +53,7 @@ fn is_done(command: &Command) -> bool
     ensures { result ≡ is_done command.now }
 {
     match command {
-        Command::Policy(_) | Command::Class(_) | Command::Node(_) => true,
-        Command::Pool(it) => does_pool(it),
+        Command::Policy(_) | Command::Class(_) | Command::Node(_) | Command::Pool(_) => true,
         Command::Volume(it) => does_volume(it),
         Command::File(it) => does_file(it),
         Command::Database(it) => does_database(it),

@@ -21,6 +21,10 @@ pub(crate) enum Mover {
     RestorePool,
     /// RESTORE VOLUME, over the number of the volume's file.
     RestoreVolume,
+    /// MIGRATE STGPOOL, over the pool's number and the hundredths down to which it goes.
+    Migrate,
+    /// MIGRATE ALL.
+    MigrateAll,
 }
 
 /// Work on a client's tree.
@@ -124,6 +128,8 @@ fn pool_own(command: &PoolCommand) -> Own<'_>
 {
     match command {
         PoolCommand::BackupPool(_) => Own::BackUpPool,
+        PoolCommand::MigrateAll => Own::Moves(Mover::MigrateAll),
+        PoolCommand::MigratePool(_) => Own::Moves(Mover::Migrate),
         PoolCommand::ReclaimPool(_) => Own::Moves(Mover::Reclaim),
         PoolCommand::RestorePool(_) => Own::Moves(Mover::RestorePool),
         _ => Own::NoneYet,

@@ -51,16 +51,20 @@ fn failed_in(outcome: &Outcome) -> u64
 {
     match outcome {
         Outcome::Said(Shown::Copied { copied: _, failed })
-        | Outcome::Said(Shown::Moved {
-            moved: _,
-            failed,
-            reused: _,
-        })
-        | Outcome::Said(Shown::RestoredCopies {
-            restored: _,
-            failed,
-            reused: _,
-        }) => *failed,
+        | Outcome::Said(
+            Shown::Moved {
+                moved: _,
+                failed,
+                reused: _,
+            },
+        )
+        | Outcome::Said(
+            Shown::RestoredCopies {
+                restored: _,
+                failed,
+                reused: _,
+            },
+        ) => *failed,
         Outcome::Sent(sent) => sent.failed.as_slice().len() as u64,
         Outcome::Restored(it) => failed_gave(it.gave.as_slice()),
         _ => 0,

@@ -26,17 +26,21 @@ module _ (P : ℕ → ℕ → List ℕ → Type 0) (contents : ℕ → List ℕ)
   abbrev Framed : ℕ → CopyRow → Type 0
   Framed object copy = FramesHave P object 0 copy.segments (contents object)
 
+  -- whatever transaction places it
+  abbrev Any : ℕ → Type 0
+  Any n = Unit {0}
+
   abbrev HasIts : Version → Type 0
   HasIts w = HasVersion P (contents w.object) w
 
   pub have_after : (c : Change) (v : Inv) → BringsHave P contents c → HaveAll P contents (versions v) → HaveAll P contents (versions (effect c v))
   have_after c v b h =
-      each_also (Has IsOf Framed) HasIts (versions (effect c v)) (λ w has. record { size = has.is.0; digest = has.is.1; copies = has.copies })
-      (effect_has IsOf Framed c v (record {
+      each_also (Has IsOf Framed Any) HasIts (versions (effect c v)) (λ w has. record { size = has.is.0; digest = has.is.1; copies = has.copies })
+      (effect_has IsOf Framed Any c v (record {
         objects = b.objects;
-        places = each_also (λ (e : ℕ × List Segment). FramesHave P e.0 0 e.1 (contents e.0)) (λ (e : ℕ × List Segment). Places IsOf Framed e.0 e.1) (placed_segments c)
-            (λ e frames pool placed. frames) b.copies;
-      }) (each_also HasIts (Has IsOf Framed) (versions v) (λ w has. record { is = (has.size, has.digest); copies = has.copies }) h))
+        places = each_also (λ (e : ℕ × List Segment). FramesHave P e.0 0 e.1 (contents e.0)) (λ (e : ℕ × List Segment). Places IsOf Framed Any e.0 e.1) (placed_segments c)
+            (λ e frames pool placed any. frames) b.copies;
+      }) tt (each_also HasIts (Has IsOf Framed Any) (versions v) (λ w has. record { is = (has.size, has.digest); copies = has.copies }) h))
 
 -- only the contents of objects that are kept matter
 pub have_same : (P : ℕ → ℕ → List ℕ → Type 0) (contents other : ℕ → List ℕ) (list : List Version) → AllByRecursion (λ (w : Version). other w.object ≡ contents w.object) list

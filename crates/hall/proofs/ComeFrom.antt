@@ -22,17 +22,22 @@ use Rattle.hall.proofs.Pairs.{each_filtered, each_flat, each_map, each_of_flat, 
 abbrev pub Nothing : ℕ → CopyRow → Type 0
 Nothing object copy = Unit {0}
 
+-- whatever transaction places it
+abbrev pub Whenever : ℕ → Type 0
+Whenever n = Unit {0}
+
 module _ (H : ℕ → ℕ → Digest → Type 0) where
-  bare : (w : Version) → H w.object w.size w.digest → Has H Nothing w
+  bare : (w : Version) → H w.object w.size w.digest → Has H Nothing Whenever w
   bare w h = record { is = h; copies = each_any (Nothing w.object) w.copies (λ c. tt) }
 
   pub objects_behind : (x : Change) (v : Inv) → AllByRecursion (λ (w : Version). H w.object w.size w.digest) (versions v)
       → AllByRecursion (λ (o : Known). H o.object o.size o.digest) (new_objects x) → AllByRecursion (λ (w : Version). H w.object w.size w.digest) (versions (effect x v))
   objects_behind x v h new =
-      each_also (Has H Nothing) (λ (w : Version). H w.object w.size w.digest) (versions (effect x v)) (λ w has. has.is)
-      (effect_has H Nothing x v
-      (record { objects = new; places = each_any (λ (e : ℕ × List Segment). Places H Nothing e.0 e.1) (placed_segments x) (λ e pool placed. tt) })
-      (each_also (λ (w : Version). H w.object w.size w.digest) (Has H Nothing) (versions v) bare h))
+      each_also (Has H Nothing Whenever) (λ (w : Version). H w.object w.size w.digest) (versions (effect x v)) (λ w has. has.is)
+      (effect_has H Nothing Whenever x v
+      (record { objects = new; places = each_any (λ (e : ℕ × List Segment). Places H Nothing Whenever e.0 e.1) (placed_segments x) (λ e pool placed is. tt) })
+      tt
+      (each_also (λ (w : Version). H w.object w.size w.digest) (Has H Nothing Whenever) (versions v) bare h))
 
 -- ---- segments
 
@@ -45,12 +50,13 @@ module _ (P : Segment → Type 0) where
 
   pub segments_behind : (x : Change) (v : Inv) → EachSegment P (versions v) → AllByRecursion (λ (e : ℕ × List Segment). AllByRecursion P e.1) (placed_segments x) → EachSegment P (versions (effect x v))
   segments_behind x v h new =
-      each_also (Has Any Of) (λ (w : Version). AllByRecursion (λ (c : CopyRow). AllByRecursion P c.segments) w.copies) (versions (effect x v)) (λ w has. has.copies)
-      (effect_has Any Of x v (record {
+      each_also (Has Any Of Whenever) (λ (w : Version). AllByRecursion (λ (c : CopyRow). AllByRecursion P c.segments) w.copies) (versions (effect x v)) (λ w has. has.copies)
+      (effect_has Any Of Whenever x v (record {
         objects = each_any (λ (o : Known). Any o.object o.size o.digest) (new_objects x) (λ o. tt);
-        places = each_also (λ (e : ℕ × List Segment). AllByRecursion P e.1) (λ (e : ℕ × List Segment). Places Any Of e.0 e.1) (placed_segments x) (λ e all pool placed. all) new;
+        places = each_also (λ (e : ℕ × List Segment). AllByRecursion P e.1) (λ (e : ℕ × List Segment). Places Any Of Whenever e.0 e.1) (placed_segments x) (λ e all pool placed is. all) new;
       })
-      (each_also (λ (w : Version). AllByRecursion (λ (c : CopyRow). AllByRecursion P c.segments) w.copies) (Has Any Of) (versions v) (λ w all. record { is = tt; copies = all }) h))
+      tt
+      (each_also (λ (w : Version). AllByRecursion (λ (c : CopyRow). AllByRecursion P c.segments) w.copies) (Has Any Of Whenever) (versions v) (λ w all. record { is = tt; copies = all }) h))
 
   -- of each segment of each copy
   pub each_copy : (v : Inv) → EachSegment P (versions v) → AllByRecursion (λ (e : ℕ × CopyRow). AllByRecursion P e.1.segments) (copies v)

@@ -25,11 +25,6 @@ fn write(alloc: Global, words: &mut Words<'_>) -> Result<Step, Fault> {
     words.make(Step::WritePiece(ticket, Listed::from_vec(bytes)))
 }
 
-fn copy_piece(words: &mut Words<'_>) -> Result<Step, Fault> {
-    let ticket = words.long();
-    words.make(Step::CopyPiece(ticket))
-}
-
 fn seal(words: &mut Words<'_>) -> Result<Step, Fault> {
     let ticket = words.long();
     words.make(Step::Seal(ticket))
@@ -47,11 +42,6 @@ fn read(alloc: Global, words: &mut Words<'_>) -> Result<Step, Fault> {
     let offset = words.long();
     let wanted = words.number();
     words.make(Step::ReadPiece(object, digest, from, offset, wanted))
-}
-
-fn reuse(words: &mut Words<'_>) -> Result<Step, Fault> {
-    let file = words.number();
-    words.make(Step::Reuse(file))
 }
 
 fn ask(words: &mut Words<'_>) -> Result<Step, Fault> {
@@ -99,7 +89,6 @@ fn ticket_step(alloc: Global, word: &str, words: &mut Words<'_>) -> Result<Step,
         "open_new" => open_new(words),
         "open_copy" => open_copy(words),
         "write" => write(alloc, words),
-        "copy_piece" => copy_piece(words),
         "seal" => seal(words),
         "drop" => drop_ticket(words),
         _ => commit_step(alloc, word, words),
@@ -113,7 +102,6 @@ pub fn step(alloc: Global, line: &[&str]) -> Result<Step, Fault> {
         "read" => read(alloc, &mut words),
         "ask" => ask(&mut words),
         "image" => image(&mut words),
-        "reuse" => reuse(&mut words),
         "force" => words.make(Step::Force),
         word => ticket_step(alloc, word, &mut words),
     }

@@ -1,6 +1,6 @@
 -- What transactions make of the rows of volumes.
-use Rattle.std.proofs.Common.{◌≡◌, ℕ, List, [], ◌∷◌, ◌++◌, map, Bool, Option, None, Some, Result, Ok, Err, refl, sym, ap, ◌∙◌}
-use Rattle.std.specs.Prelude.{OnOk}
+use Rattle.std.proofs.Common.{◌≡◌, ℕ, List, [], ◌∷◌, ◌++◌, map, Bool, true, false, cond, eqb, Option, None, Some, Result, Ok, Err, refl, sym, ap, ◌∙◌}
+use Rattle.std.specs.Prelude.{if◌then◌else◌, OnOk}
 use Rattle.std.specs.List.{flat_map}
 use Rattle.kinds.specs.declared.change.DefineOrDelete.TheVariants as two
 use Rattle.kinds.specs.declared.change.ObjectChange.{ObjectChange}
@@ -9,6 +9,7 @@ use Rattle.kinds.specs.Refusals.{foremost, sooner_of}
 use Rattle.kinds.specs.declared.refusal.Refusal.{Refusal}
 use Rattle.kinds.specs.declared.segment.Segment.{Segment}
 use Rattle.entries.specs.declared.change.Change.{Change}
+use Rattle.entries.specs.change_items.declared.items.DroppedCopy.{DroppedCopy}
 use Rattle.entries.specs.change_items.declared.items.NamedVersion.{NamedVersion}
 use Rattle.entries.specs.change_items.declared.items.NewCopy.{NewCopy}
 use Rattle.entries.specs.change_items.declared.items.NewHeldObject.{NewHeldObject}
@@ -30,7 +31,8 @@ use Rattle.inventory_rules.specs.Versions.{back_up, copies_at, copies_of, held_t
 use Rattle.inventory_laws.proofs.Causes.{front_nil}
 use Rattle.pool_rows.specs.PoolRows.{PoolRows}
 use Rattle.pool_rows.specs.Segments.{put_segment}
-use Rattle.kept_index.specs.Steps.{left_by, of_object, puts, scratches, with_put}
+use Rattle.kept_index.specs.Steps.{goes_from, left_by, of_object, puts, scratches, with_put}
+use Rattle.kept_index.proofs.Dropped.{in_the_pool, what_drops}
 use Rattle.kept_index.proofs.Going.{of_copies}
 
 pub puts_append : (es others : List (ℕ × Segment)) (s : PoolRows) → puts (es ++ others) s ≡ puts others (puts es s)
@@ -113,6 +115,26 @@ items_back object (i ∷ items) v =
     map_append (of_copies (object i) (copies_at (object i) v)) (flat_map (λ j. of_copies (object j) (copies_at (object j) v)) items)
     ∙ ap (λ (l : List Segment). l ++ map (λ (e : ℕ × Segment). e.1) (flat_map (λ j. of_copies (object j) (copies_at (object j) v)) items)) (left_back (object i) (version (object i) v))
     ∙ ap (λ (l : List Segment). left_by None (version (object i) v) ++ l) (items_back object items v)
+
+-- the copies of an object in a pool go
+filtered_back : (pool : ℕ) (cs : List CopyRow) → flat_map (λ (r : CopyRow). r.segments) (in_the_pool pool cs) ≡ flat_map (λ (r : CopyRow). if goes_from (Some pool) r then r.segments else []) cs
+filtered_back pool [] = refl
+filtered_back pool (r ∷ cs) =
+    elim (eqb r.pool pool) as (λ b. flat_map (λ (c : CopyRow). c.segments) (cond {A = List CopyRow} b (r ∷ in_the_pool pool cs) (in_the_pool pool cs))
+    ≡ (cond {A = List Segment} b r.segments []) ++ flat_map (λ (c : CopyRow). if goes_from (Some pool) c then c.segments else []) cs) [
+      | true ↦ ap (λ (l : List Segment). r.segments ++ l) (filtered_back pool cs)
+      | false ↦ filtered_back pool cs
+    ]
+
+left_in_back : (object pool : ℕ) (o : Option Version) → map (λ (e : ℕ × Segment). e.1) (of_copies object (in_the_pool pool (copies_of o))) ≡ left_by (Some pool) o
+left_in_back object pool None = refl
+left_in_back object pool (Some w) = copies_back object (in_the_pool pool w.copies) ∙ filtered_back pool w.copies
+
+pub drops_back : (items : List DroppedCopy) (v : Inv) → map (λ (e : ℕ × Segment). e.1) (flat_map (λ i. what_drops i v) items) ≡ flat_map (λ i. left_by (Some i.pool) (version i.object v)) items
+drops_back [] v = refl
+drops_back (i ∷ items) v =
+    map_append (what_drops i v) (flat_map (λ j. what_drops j v) items) ∙ ap (λ (l : List Segment). l ++ map (λ (e : ℕ × Segment). e.1) (flat_map (λ j. what_drops j v) items)) (left_in_back i.object i.pool (version i.object v))
+    ∙ ap (λ (l : List Segment). left_by (Some i.pool) (version i.object v) ++ l) (drops_back items v)
 
 -- ---- nothing refuses a legal transaction
 

@@ -81,7 +81,7 @@ took_then es others v w x first rest = record {
 
 -- ---- the segments of copies
 
-away_today : (object : ℕ) (segments : List Segment) (v : Inv) → (take_away object segments v).today ≡ v.today
+pub away_today : (object : ℕ) (segments : List Segment) (v : Inv) → (take_away object segments v).today ≡ v.today
 away_today object [] v = refl
 away_today object (x ∷ segments) v = away_today object segments (with_stores (or_same v.stores (take_segment object x v.today v.stores)) v)
 
@@ -117,7 +117,7 @@ of_copies object cs = flat_map (λ (r : CopyRow). of_object (object, r.segments)
 list_took : (p : List (ℕ × Segment)) (object : ℕ) (segments : List Segment) (v : Inv) → VolumeFacts (of_object (object, segments) ++ p) v → Took (of_object (object, segments)) v (take_away object segments v)
 list_took p object segments v f = record { lie = list_lies p object segments v f; stores = away_stores object segments v; today = away_today object segments v }
 
-copies_took : (p : List (ℕ × Segment)) (object : ℕ) (cs : List CopyRow) (v : Inv) → VolumeFacts (segments_of (map (λ (r : CopyRow). (object, r)) cs) ++ p) v → Took (of_copies object cs) v (take_all object cs v)
+pub copies_took : (p : List (ℕ × Segment)) (object : ℕ) (cs : List CopyRow) (v : Inv) → VolumeFacts (segments_of (map (λ (r : CopyRow). (object, r)) cs) ++ p) v → Took (of_copies object cs) v (take_all object cs v)
 copies_took p object [] v f = record { lie = tt; stores = refl; today = refl }
 copies_took p object (r ∷ cs) v f =
     let w : Inv = take_away object r.segments v in
@@ -132,14 +132,14 @@ abbrev pub going : (Rows → Result Rows Refusal) → ℕ → Inv → Inv
 going step object v = clients_after step (take_versions object v)
 
 -- what the clients' rows are doesn't matter to volumes
-took_elsewhere : (es : List (ℕ × Segment)) (v u w x : Inv) → u.stores ≡ v.stores → u.today ≡ v.today → x.stores ≡ w.stores → x.today ≡ w.today → Took es u w → Took es v x
+pub took_elsewhere : (es : List (ℕ × Segment)) (v u w x : Inv) → u.stores ≡ v.stores → u.today ≡ v.today → x.stores ≡ w.stores → x.today ≡ w.today → Took es u w → Took es v x
 took_elsewhere es v u w x stores today after later took = record {
   lie = subst (λ (s : PoolRows). AllLie v.today es s) stores (subst (λ (day : ℕ). AllLie day es u.stores) today took.lie);
   stores = after ∙ took.stores ∙ ap (λ (day : ℕ). takes day es u.stores) today ∙ ap (takes v.today es) stores;
   today = later ∙ took.today ∙ today;
 }
 
-all_stores : (object : ℕ) (cs : List CopyRow) (v u : Inv) → u.stores ≡ v.stores → u.today ≡ v.today → (take_all object cs u).stores ≡ (take_all object cs v).stores
+pub all_stores : (object : ℕ) (cs : List CopyRow) (v u : Inv) → u.stores ≡ v.stores → u.today ≡ v.today → (take_all object cs u).stores ≡ (take_all object cs v).stores
 all_stores object [] v u stores today = stores
 all_stores object (r ∷ cs) v u stores today =
     all_stores object cs (take_away object r.segments v) (take_away object r.segments u)

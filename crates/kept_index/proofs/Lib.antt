@@ -1,3 +1,4 @@
+pub mod Dropped
 pub mod Effects
 pub mod Going
 pub mod Rows

@@ -17,7 +17,8 @@ use Rattle.space_index.specs.declared.index.Index.{Index}
 use Rattle.space_index.specs.Tails.{IsIndexOf}
 use Rattle.kept_index.specs.Following.{AreLeaving}
 use Rattle.kept_index.specs.Steps.{IsLegalOn, gone, is_elsewhere, only_takes}
-use Rattle.kept_index.proofs.Effects.{client_stays, effect_stores, gone_stays, items_back, legal_causes, rebind_stays}
+use Rattle.kept_index.proofs.Effects.{client_stays, drops_back, effect_stores, gone_stays, items_back, legal_causes, rebind_stays}
+use Rattle.kept_index.proofs.Dropped.{drop_all_took, what_drops}
 use Rattle.kept_index.proofs.Going.{Took, discard_took, expire_took, of_copies}
 use Rattle.kept_index.proofs.Rows.{begins, ends}
 
@@ -64,6 +65,11 @@ went (change.Discard c) v h legal = record {
   segments = items_back (λ (i : DiscardedVersion). i.object) c.items v;
   took = discard_took no_journal c v legal.valid legal.tied legal.ordered (legal_causes no_journal (change.Discard c) v legal.allowed);
 }
+went (change.DropCopies c) v h legal = record {
+  all = flat_map (λ i. what_drops i v) c.items;
+  segments = drops_back c.items v;
+  took = drop_all_took no_journal c v legal.valid legal.tied (legal_causes no_journal (change.DropCopies c) v legal.allowed);
+}
 went (change.Day day) v h legal = absurd (false≢true h)
 went (change.Policy c) v h legal = absurd (false≢true h)
 went (change.Object c) v h legal = absurd (false≢true h)
@@ -74,7 +80,6 @@ went (change.Rebind c) v h legal = absurd (false≢true h)
 went (change.Gone c) v h legal = absurd (false≢true h)
 went (change.Move c) v h legal = absurd (false≢true h)
 went (change.Copy c) v h legal = absurd (false≢true h)
-went (change.DropCopies c) v h legal = absurd (false≢true h)
 went (change.Reuse file) v h legal = absurd (false≢true h)
 went (change.DbBegin file after) v h legal = absurd (false≢true h)
 went (change.DbEnd file) v h legal = absurd (false≢true h)

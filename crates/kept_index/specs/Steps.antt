@@ -80,6 +80,7 @@ is_elsewhere _ = false
 abbrev pub only_takes : Change → Bool
 only_takes (change.Expire c) = true
 only_takes (change.Discard c) = true
+only_takes (change.DropCopies c) = true
 only_takes _ = false
 
 -- ---- what a transaction takes away

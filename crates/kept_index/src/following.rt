@@ -189,7 +189,7 @@ fn only_takes(change: &Change) -> bool
     ensures { result ≡ only_takes change.now }
 {
     match change {
-        Change::Expire(_) | Change::Discard(_) => true,
+        Change::Expire(_) | Change::Discard(_) | Change::DropCopies(_) => true,
         _ => false,
     }
 }

@@ -172,7 +172,7 @@ impl KeptIndex {
     }
 
     /// A transaction with this change was made, which took these segments away: these are the rows behind it. It takes time for the segments that came and went. The index is lost where
-    /// copies move or are dropped, where pools and volumes are defined, changed or deleted, and where a volume is reused.
+    /// copies move, where pools and volumes are defined, changed or deleted, and where a volume is reused.
     pub fn follow(&mut self, change: &Change, taken: &[Placed], pools: &Pools)
         ensures { (v : Inv) (c : Claims) → IsKeptOf self.old v.stores c → IsLegalOn change.now v → map (λ p. p.segment) taken.now ≡ gone change.now v → pools.now ≡ (effect change.now v).stores → IsKeptOf self.new pools.now c }
     {

@@ -1,5 +1,5 @@
 -- Which commands are processes, behind whose work something comes.
-use Rattle.std.proofs.Common.{◌≡◌, ◌⊎◌, inl, inr, ℕ, Bool, true, false, if◌then◌else◌, List, [], ◌∷◌, Option, None, Some, Result, Ok, Err, refl}
+use Rattle.std.proofs.Common.{◌≡◌, ◌⊎◌, inl, inr, ℕ, Bool, true, false, if◌then◌else◌, List, [], ◌∷◌, Option, None, Some, is_some, Result, Ok, Err, refl}
 use Rattle.std.specs.Option.{unwrap_or}
 use Rattle.kinds.specs.declared.refusal.Refusal.{Refusal}
 use Rattle.kinds.specs.declared.refusal.Refusal.TheVariants.{BadHierarchy}
@@ -20,7 +20,7 @@ use Rattle.admin_words.specs.declared.command.PolicyCommand.TheVariants.{Validat
 use Rattle.admin_words.specs.declared.command.VolumeCommand.{VolumeCommand}
 use Rattle.admin_words.specs.declared.command.VolumeCommand.TheVariants.{DeleteVolume, MoveData, RestoreVolume, ReuseVolumes}
 use Rattle.admin_words.specs.declared.command.PoolCommand.{PoolCommand}
-use Rattle.admin_words.specs.declared.command.PoolCommand.TheVariants.{BackupPool, ReclaimPool, RestorePool}
+use Rattle.admin_words.specs.declared.command.PoolCommand.TheVariants.{BackupPool, MigrateAll, MigratePool, ReclaimPool, RestorePool}
 use Rattle.admin_commands.specs.Found.{behind as others, filespace_named, number_found, pool_called, pool_named, the_pool, the_volume}
 use Rattle.admin_commands.specs.Orders.{needs, run, work_of}
 use Rattle.admin_commands.specs.Stores.{delete_volume, may_move, move_data, moved, moved_from}
@@ -75,12 +75,23 @@ node-kind : (c : NodeCommand) → Kind (commands.Node c)
 node-kind (DeleteFilespace f) = inr (record { some = λ is. cc; own = tt; rowless = λ answers. found-rowless (filespace_named f.filespace answers) (λ it. run (it.number ∷ [])) (λ it. tt) })
 node-kind c = inl (refl, tt)
 
+moved-rowless : (b : Bool) (w : Work) → IsRowless (Ok w) → IsRowless (if b then Ok w else Err BadHierarchy)
+moved-rowless true w h = h
+moved-rowless false w h = tt
+
 pool-kind : (c : PoolCommand) → Kind (commands.Pool c)
 pool-kind (BackupPool b) = inr (record {
   some = λ is. cc;
   own = tt;
   rowless = λ answers. found-rowless (number_found answers) (λ primary. if_found (number_found (others answers)) (λ copy. run (primary ∷ copy ∷ [])))
       (λ primary. found-rowless (number_found (others answers)) (λ copy. run (primary ∷ copy ∷ [])) (λ copy. tt));
+})
+pool-kind MigrateAll = inr (record { some = λ is. cc; own = tt; rowless = λ answers. tt })
+pool-kind (MigratePool m) = inr (record {
+  some = λ is. cc;
+  own = tt;
+  rowless = λ answers. found-rowless (the_pool answers) (λ p. if is_some p.settings.next then run (p.number ∷ unwrap_or m.low p.settings.low ∷ []) else Err BadHierarchy)
+      (λ p. moved-rowless (is_some p.settings.next) (work.Run (p.number ∷ unwrap_or m.low p.settings.low ∷ [])) tt);
 })
 pool-kind (ReclaimPool r) = inr (record {
   some = λ is. cc;
@@ -105,10 +116,6 @@ DeletedKind discard work =
 deleted-kind : (discard : Bool) (volume : List ℕ) → DeletedKind discard (λ answers. if discard then run_found answers else delete_volume volume answers)
 deleted-kind true volume = inr (λ is. cc, tt, λ answers. found-rowless (number_found answers) (λ number. run (number ∷ [])) (λ number. tt))
 deleted-kind false volume = inl (refl, tt)
-
-moved-rowless : (b : Bool) (w : Work) → IsRowless (Ok w) → IsRowless (if b then Ok w else Err BadHierarchy)
-moved-rowless true w h = h
-moved-rowless false w h = tt
 
 data-rowless : (pool : Option (List ℕ)) (answers : List Answer) → IsRowless (move_data pool answers)
 data-rowless None answers = found-rowless (number_found answers) (λ file. run (file ∷ 0 ∷ [])) (λ file. tt)

@@ -34,6 +34,8 @@ use Rattle.expiration.specs.Expiring.{IsExpiring, named}
 use Rattle.copy_attempts.specs.Outcomes.{IsOf as IsOfAttempt}
 use Rattle.inventory_answers.specs.declared.lines.VolumeLine.{VolumeLine}
 use Rattle.kinds.specs.declared.pool.Access.TheVariants.{Destroyed}
+use Rattle.migration.specs.Migrating.{IsMigration}
+use Rattle.migration.specs.Sweeping.{IsSweep}
 use Rattle.pool_restores.specs.Listing.{aim_of, destroying, destroying_found, volume_with}
 use Rattle.pool_restores.specs.Restoring.{IsRestore}
 use Rattle.pool_restores.specs.Volumes.{IsVolumeRestore}
@@ -56,7 +58,7 @@ use Rattle.machine.specs.State.{Core, Machine, inventory}
 use Rattle.command_steps.specs.Answers.{halt_by}
 use Rattle.command_steps.specs.Behind.{Behind, behind, forces, no_more, reuses, with_reused}
 use Rattle.command_steps.specs.Doing.{Does as DoesBy, DoesOwn as DoesOwnBy, DoesWork, EndsWork, Forcing, MovesSo, Reusing, moved_line, the_number, the_second}
-use Rattle.command_steps.specs.Owns.{Mover, Own, back_up_pool, checkpoint, data_mover, empty_filespace, empty_volume, expire, get, last_of, moves, none_but_reuse, none_yet, own_of, pool_restorer, put, reclaimer, validate, volume_restorer}
+use Rattle.command_steps.specs.Owns.{Mover, Own, all_migrator, back_up_pool, checkpoint, data_mover, empty_filespace, empty_volume, expire, get, last_of, migrator, moves, none_but_reuse, none_yet, own_of, pool_restorer, put, reclaimer, validate, volume_restorer}
 use Rattle.command_steps.specs.declared.outcome.Outcome.{Outcome}
 use Rattle.command_steps.specs.declared.outcome.Outcome.TheVariants.{Said}
 use Rattle.line_results.specs.Commands.{Does, DoesOwn, EndsWith, IsLoss, IsReuse, IsStill, IsStopped, MayMake, Processes, Ran, Tells, Works, WorksWith}
@@ -166,6 +168,14 @@ loss-found file (Some l) c so is next_file v =
     let same : destroying l ≡ c = cc in
     subst (λ (x : Change). IsLoss file (filled next_file v x)) same (l.name, l.capacity, ap (λ (k : ℕ). change.Pool (store.Volume verb.Update l.name 0 k l.capacity Destroyed)) (so l refl))
 
+migration-moves : (pool : ℕ) (d : Deed) → IsMigration pool d → Copies true NoOther d
+migration-moves pool d (inl h) = ending-copies true NoOther d h
+migration-moves pool d (inr (object, placed, to, is)) = attempt-moves NoOther object (aim.Move pool placed to true) 0 d refl is
+
+sweep-moves : (d : Deed) → IsSweep d → Copies true NoOther d
+sweep-moves d (inl h) = ending-copies true NoOther d h
+sweep-moves d (inr (object, pool, placed, to, is)) = attempt-moves NoOther object (aim.Move pool placed to true) 0 d refl is
+
 volume-moves : (file : ℕ) (d : Deed) → IsVolumeRestore file d → Copies true (IsLoss file) d
 volume-moves file d (inl h) = restore-moves (IsLoss file) d h
 volume-moves file d (inr (lines, c, answer, of, is)) =
@@ -187,6 +197,10 @@ module _ (events : List Event) (said : Result Outcome Refusal) (leave : may_stay
   moves-settled pool_restorer first second (Err e) h is = h.came.settled (ap may_stay (sym is) ∙ leave)
   moves-settled volume_restorer first second (Ok m) h is = h.came.counts.settled
   moves-settled volume_restorer first second (Err e) h is = h.came.settled (ap may_stay (sym is) ∙ leave)
+  moves-settled migrator first second (Ok m) h is = h.came.settled
+  moves-settled migrator first second (Err e) h is = h.came.settled (ap may_stay (sym is) ∙ leave)
+  moves-settled all_migrator first second (Ok m) h is = h.came.settled
+  moves-settled all_migrator first second (Err e) h is = h.came.settled (ap may_stay (sym is) ∙ leave)
 
 backup-copies-one : (copy : ℕ) (d : Deed) → IsBackup copy d → Copies false NoOther d
 backup-copies-one copy d (inl h) = ending-copies false NoOther d h
@@ -293,6 +307,13 @@ module _ (trusted : Type 0) (places : Places) (choice : List Rule) (b : Behind) 
       copies-began true (IsLoss (the_number numbers)) numbers (moves volume_restorer) said events old mid (λ c is. is) rest h
       (all-copies true (IsLoss (the_number numbers)) (IsVolumeRestore (the_number numbers)) (volume-moves (the_number numbers)) events h.1.only)
       (λ leave. moves-settled events said leave volume_restorer (the_number numbers) (the_second numbers) h.0 h.1 h.2) f
+
+  moves-began migrator numbers said events old mid rest h f =
+      copies-began true NoOther numbers (moves migrator) said events old mid (λ c is. no-other c true is) rest h (all-copies true NoOther (IsMigration (the_number numbers)) (migration-moves (the_number numbers)) events h.1.only)
+      (λ leave. moves-settled events said leave migrator (the_number numbers) (the_second numbers) h.0 h.1 h.2) f
+  moves-began all_migrator numbers said events old mid rest h f =
+      copies-began true NoOther numbers (moves all_migrator) said events old mid (λ c is. no-other c true is) rest h (all-copies true NoOther IsSweep sweep-moves events h.1.only)
+      (λ leave. moves-settled events said leave all_migrator (the_number numbers) (the_second numbers) h.0 h.1 h.2) f
 
   own-began : (own : Own) (numbers : List ℕ) (said : Result Outcome Refusal) (events : List Event) (old mid : Machine) → IsProcessOwn own → IsAtRest old.core → DoesOwnBy choice own numbers events said
       → Alone trusted places 0 events old mid → OwnBegan trusted places (λ added. DoesOwn trusted places choice numbers own old mid said added) b old mid said

@@ -1,4 +1,5 @@
 pub mod Asking
+pub mod Exact
 pub mod Marking
 pub mod Rows
 pub mod Sweeping

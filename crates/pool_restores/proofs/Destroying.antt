@@ -268,7 +268,7 @@ volume-of file c wanted x us vs ys (Ok m) begun f got h =
         failed = p.failed;
         change = c;
         wanted = wanted;
-        begun = (first, ys, refl, begun, tt);
+        order = (first, ys, refl, begun, h);
         counts = counted-of wanted (first ++ ys) m all p;
         row = subst (λ (es : List Event). IsVolumeRestored file p.failed (first ++ es)) (sym some.2)
             (volume-row file wanted p.failed x some.0 us vs some.1 got (subst (λ (es : List Event). IsDoneAllAlong wanted p.failed (first ++ es)) some.2 p.done) all);

@@ -330,6 +330,8 @@ restored-of pool volumes wanted x us vs ys (Ok m) asked there got asks h =
     record {
       came = record {
         failed = p.failed;
+        wanted = wanted;
+        order = (first, ys, refl, (volumes, (x ∷ [], us ++ vs, refl, asked, (us, vs, refl, there, got))), h);
         counts = counted-of wanted (first ++ ys) m all p;
         row = subst (λ (es : List Event). IsPoolRestored pool p.failed (first ++ es)) (sym some.2)
             (pool-row pool volumes wanted p.failed x some.0 us vs some.1 asked got (subst (λ (es : List Event). IsDoneAllAlong wanted p.failed (first ++ es)) some.2 p.done) all);

@@ -23,6 +23,7 @@ use Rattle.steps.specs.Spent.{AreSettled}
 use Rattle.copy_runs.specs.declared.wanted.Moved.{Moved}
 use Rattle.copy_runs.specs.declared.wanted.Wanted.{Wanted}
 use Rattle.copy_runs.specs.Ends.{AreAsking, AskedPools, IsEnding, IsStopped, Unanswered, first_of, last_of}
+use Rattle.copy_runs.specs.Processes.{Completes}
 use Rattle.copy_runs.specs.Returning.{AreValid, Holds, is_kept}
 use Rattle.copy_runs.specs.Runs.{HasFailed, IsEntryFor, LeavesNone, copies_in, failing_in, is_among}
 use Rattle.sessions.specs.Changing.{Changing}
@@ -103,9 +104,11 @@ abbrev pub BeginsPool : (pool : ℕ) → List Event → Result (List Wanted) Ref
 BeginsPool pool events (Ok wanted) = BegunPool pool wanted events
 BeginsPool pool events (Err e) = (IsStopped events e ⊎ IsPoolBarred pool events e) × AreAsking events
 
--- what it did where it answered counts
+-- What it did where it answered counts: what it asked for told it which copies are wanted, and one attempt for each of these came behind it; the counts; the row; and the pool was there.
 pub record PoolRestored (pool : ℕ) (events : List Event) (m : Moved) : Type 0 where
   pub failed : List ℕ
+  pub wanted : List Wanted
+  pub order : Then (λ xs. BegunPool pool wanted xs) (λ ys. Completes wanted 0 ys (Ok m)) events
   pub counts : Counted failed events m
   pub row : IsPoolRestored pool failed events
   pub there : IsThereSo pool events true

@@ -23,6 +23,7 @@ use Rattle.steps.specs.Spent.{AreSettled}
 use Rattle.copy_runs.specs.declared.wanted.Moved.{Moved}
 use Rattle.copy_runs.specs.declared.wanted.Wanted.{Wanted}
 use Rattle.copy_runs.specs.Ends.{IsStopped, first_of, last_of}
+use Rattle.copy_runs.specs.Processes.{Completes}
 use Rattle.copy_runs.specs.Returning.{AreValid, Holds, is_kept}
 use Rattle.copy_runs.specs.Runs.{LeavesNone, is_among}
 use Rattle.sessions.specs.Changing.{Changes, Changing}
@@ -74,12 +75,13 @@ abbrev pub IsEnteredOr : (file : ℕ) → History → (actor : ℕ) → Event �
 IsEnteredOr file w actor e =
     IsEnteredSo w actor e ⊎ ((lines : List VolumeLine) × (c : Change) × (answer : Result ℕ Refusal) × (destroying_of file lines ≡ Ok c) × (e.deed ≡ Commit (asked.Plain c) [] answer))
 
--- What it did where it answered counts: the volume was there, and its own transaction was made; the counts; and the row.
+-- What it did where it answered counts: the volume was there, its own transaction was made, and what it asked for then told it which copies are wanted; one attempt for each of these came behind it; the
+-- counts; and the row.
 pub record VolumeRestored (file : ℕ) (events : List Event) (m : Moved) : Type 0 where
   pub failed : List ℕ
   pub change : Change
   pub wanted : List Wanted
-  pub begun : Then (λ xs. BegunVolume file change wanted xs) (λ ys. Unit {0}) events
+  pub order : Then (λ xs. BegunVolume file change wanted xs) (λ ys. Completes wanted 0 ys (Ok m)) events
   pub counts : Counted failed events m
   pub row : IsVolumeRestored file failed events
 

@@ -1,4 +1,4 @@
-pub mod Asking
+pub mod Beginning
 pub mod Clearing
 pub mod Counting
 pub mod Listing

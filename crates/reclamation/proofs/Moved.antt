@@ -33,7 +33,7 @@ use Rattle.copy_runs.proofs.Told.{reaches}
 use Rattle.copy_runs.proofs.Whole.{IsBegun, Told as ToldOfRun, asks-begun, asks-unmade, process-told}
 use Rattle.copy_pools.proofs.Missing.{asked-pools}
 use Rattle.reclamation.specs.Moving.{Allows, Begins, DataMove, GoesSo, IsAllowed, IsBarred, IsMovedOff, IsMoving, IsRefused, Listed, Told, goes, into, moving}
-use Rattle.reclamation.proofs.Asking.{begins-asks}
+use Rattle.reclamation.proofs.Beginning.{begins-asks}
 use Rattle.reclamation.proofs.Listing.{asked-copies, asked-volumes, copies_on}
 use Rattle.reclamation.proofs.Moves.{AreMoves, all-moves, asking-moving, caused, each-failed, entries-off, first-is, last-later, last-within, moving-in, only-moving}
 

@@ -17,7 +17,7 @@ use Rattle.copy_attempts.specs.Attempts.{stopping}
 use Rattle.copy_runs.proofs.Ending.{ask-nothing, ask-refused, stopped-behind, unlisted-by}
 use Rattle.copy_runs.specs.Ends.{AreAsking, AsksPools, Unanswered, unlisted}
 use Rattle.reclamation.specs.Reclaiming.{Answered, BeginsPool, Begun, ChecksPool, ListedFiles, ListedThere, ListsFiles, ListsThere, absent_by, is_sequential_in}
-use Rattle.reclamation.proofs.Asking.{asks-append, pools-asks}
+use Rattle.reclamation.proofs.Beginning.{asks-append, pools-asks}
 
 -- ---- the volumes
 

@@ -1,6 +1,6 @@
 -- That it was asked whether it may move there is looked for, and not cited: a body that doesn't ask is refused for want of that fact.
 use Rattle.std.proofs.Common.{rules}
-use Rattle.reclamation.proofs.Asking.{begin-refused, begins}
+use Rattle.reclamation.proofs.Beginning.{begin-refused, begins}
 use Rattle.reclamation.proofs.moving.begin.Goals as goal
 
 pub returns-in-Ok-check_if : goal.returns-in-Ok-check_if

@@ -1,4 +1,4 @@
-use Rattle.reclamation.proofs.Asking.{checks, checks-unpooled}
+use Rattle.reclamation.proofs.Beginning.{checks, checks-unpooled}
 use Rattle.reclamation.proofs.moving.check.Goals as goal
 
 pub returns-in-Ok-ask_pools : goal.returns-in-Ok-ask_pools
