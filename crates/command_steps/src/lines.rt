@@ -4,7 +4,7 @@ ghost use Rattle.kinds.specs.declared.refusal.Refusal.TheVariants.{Memory};
 ghost use Rattle.command_steps.specs.Lines.{does_volume, does_file, does_database, is_done, line_of};
 ghost use Rattle.command_steps.specs.Reading.{line_view};
 
-use admin_words::command::{DatabaseCommand, FileCommand, PoolCommand, VolumeCommand};
+use admin_words::command::{DatabaseCommand, FileCommand, VolumeCommand};
 use admin_words::{Command, read_line};
 use command_words::is_comment;
 use kinds::Refusal;
@@ -53,8 +53,7 @@ fn is_done(command: &Command) -> bool
     ensures { result ≡ is_done command.now }
 {
     match command {
-        Command::Policy(_) | Command::Class(_) | Command::Node(_) => true,
-        Command::Pool(it) => true,
+        Command::Policy(_) | Command::Class(_) | Command::Node(_) | Command::Pool(_) => true,
         Command::Volume(it) => does_volume(it),
         Command::File(it) => does_file(it),
         Command::Database(it) => does_database(it),
