@@ -307,7 +307,6 @@ module _ (trusted : Type 0) (places : Places) (choice : List Rule) (b : Behind) 
       copies-began true (IsLoss (the_number numbers)) numbers (moves volume_restorer) said events old mid (λ c is. is) rest h
       (all-copies true (IsLoss (the_number numbers)) (IsVolumeRestore (the_number numbers)) (volume-moves (the_number numbers)) events h.1.only)
       (λ leave. moves-settled events said leave volume_restorer (the_number numbers) (the_second numbers) h.0 h.1 h.2) f
-
   moves-began migrator numbers said events old mid rest h f =
       copies-began true NoOther numbers (moves migrator) said events old mid (λ c is. no-other c true is) rest h (all-copies true NoOther (IsMigration (the_number numbers)) (migration-moves (the_number numbers)) events h.1.only)
       (λ leave. moves-settled events said leave migrator (the_number numbers) (the_second numbers) h.0 h.1 h.2) f
