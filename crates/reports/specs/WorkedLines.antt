@@ -25,6 +25,7 @@ pool : printed_rows 2 (rows.Pools (record {
   class = codes "DISK";
   next = None;
   percent = 0;
+  least = Some 0;
   settings = record { max_size = sizes.NoLimit; next = None; high = 90; low = 70; reclaim = 60; reuse_delay = 0; max_scratch = 0; collocate = false };
 } ∷ []))
     ≡ codes "2 POOL 1 BACKUPPOOL type=PRIMARY device=DISK next=- percent=0 high=90 low=70 reclaim=60 reusedelay=0 maxscratch=0 maxsize=NOLIMIT\n"
