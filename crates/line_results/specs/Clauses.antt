@@ -37,13 +37,16 @@ use Rattle.sessions.specs.declared.getting.FileRead.{FileRead}
 use Rattle.sessions.specs.declared.homes.Home.{Home}
 use Rattle.command_steps.specs.Answers.{answer_of, done, file_lines, refusal, row_lines}
 use Rattle.command_steps.specs.Behind.{Behind, behind, no_more}
+use Rattle.command_steps.specs.Clients.{Client}
+use Rattle.command_steps.specs.Leaving.{ChangesOnly, tree_named}
 use Rattle.command_steps.specs.Lines.{Line, asks, comment, refused}
-use Rattle.command_steps.specs.Owns.{Own, checkpoint, get, last_of, own_of, put, validate}
+use Rattle.command_steps.specs.Owns.{OnTree, Own, back_up, checkpoint, get, last_of, on_tree, own_of, put, validate}
 use Rattle.command_steps.specs.declared.outcome.Outcome.{Outcome}
 use Rattle.admin_words.specs.declared.command.Command.{Command}
-use Rattle.line_results.specs.Commands.{Does, EndsWith, IsReuse, MayMake, Works, drawn, validated, work_over}
+use Rattle.line_results.specs.Commands.{Does, DoesThere, EndsWith, IsReuse, MayMake, Works, drawn, validated, work_over}
 use Rattle.line_results.specs.Files.{Gets, IsPlacedIn, Puts, backed_up, filespace_defined, why_no_place}
 use Rattle.line_results.specs.Resting.{Makes, RoseFrom, database, entry, why_not}
+use Rattle.line_results.specs.Trees.{IsOfTree}
 
 -- ---- journal: which transactions a line may make
 
@@ -53,31 +56,37 @@ IsOfFile p c =
     ((node : ℕ) × (number : ℕ) × (c ≡ change.Object (client.Filespace two.Define node p.filespace number)))
     ⊎ ((filespace : ℕ) × (class : List ℕ) × (place : Place) × (at : Core) × (c ≡ backed_up filespace p class place at))
 
-abbrev pub OrderedOwn : (numbers : List ℕ) → Own → Change → Type 0
-OrderedOwn numbers (put file) c = IsOfFile file c
-OrderedOwn numbers own c = MayMake numbers own c
+-- work on a tree makes the transactions of a backup, or none
+abbrev pub OrderedOn : Client → OnTree → (old : Machine) → Change → Type 0
+OrderedOn k (back_up i) old c = IsOfTree k i (database old) c
+OrderedOn k work old c = ⊥
+
+abbrev pub OrderedOwn : Client → (numbers : List ℕ) → Own → (old : Machine) → Change → Type 0
+OrderedOwn k numbers (put file) old c = IsOfFile file c
+OrderedOwn k numbers (on_tree work) old c = OrderedOn k work old c
+OrderedOwn k numbers own old c = MayMake numbers own c
 
 -- a change makes the one transaction that it names, and a query none
-abbrev pub OrderedBy : Own → Result Work Refusal → Machine → Change → Type 0
-OrderedBy own (Err why) old c = ⊥
-OrderedBy own (Ok (Commit what)) old c = c ≡ drawn what old
-OrderedBy own (Ok (Show query)) old c = ⊥
-OrderedBy own (Ok (Run numbers)) old c = OrderedOwn numbers own c
+abbrev pub OrderedBy : Client → Own → Result Work Refusal → Machine → Change → Type 0
+OrderedBy k own (Err why) old c = ⊥
+OrderedBy k own (Ok (Commit what)) old c = c ≡ drawn what old
+OrderedBy k own (Ok (Show query)) old c = ⊥
+OrderedBy k own (Ok (Run numbers)) old c = OrderedOwn k numbers own old c
 
 -- behind some commands volumes are reused
-abbrev pub OrderedWith : Behind → Own → Result Work Refusal → Machine → Change → Type 0
-OrderedWith no_more own w old c = OrderedBy own w old c
-OrderedWith b own w old c = OrderedBy own w old c ⊎ IsReuse b c
+abbrev pub OrderedWith : Client → Behind → Own → Result Work Refusal → Machine → Change → Type 0
+OrderedWith k no_more own w old c = OrderedBy k own w old c
+OrderedWith k b own w old c = OrderedBy k own w old c ⊎ IsReuse b c
 
 -- which transactions a line may make
-abbrev pub orders : Line → Machine → Change → Type 0
-orders comment old c = ⊥
-orders (refused why) old c = ⊥
-orders (asks command) old c = OrderedWith (behind command) (own_of command) (work_over command (database old)) old c
+abbrev pub orders : Client → Line → Machine → Change → Type 0
+orders k comment old c = ⊥
+orders k (refused why) old c = ⊥
+orders k (asks command) old c = OrderedWith k (behind command) (own_of command) (work_over command (database old)) old c
 
 -- each transaction of a line is of the script, actor 0, and its command orders it
-abbrev pub AreOrdered : Line → (old : Machine) → (added : List Entry) → Type 0
-AreOrdered line old added = AllByRecursion (λ e. (e.actor ≡ 0) × orders line old e.change) added
+abbrev pub AreOrdered : Client → Line → (old : Machine) → (added : List Entry) → Type 0
+AreOrdered k line old added = AllByRecursion (λ e. (e.actor ≡ 0) × orders k line old e.change) added
 
 -- ---- queries: which rows are printed
 
@@ -147,68 +156,70 @@ AreItems line old mid added = AllByRecursion (λ e. ItemsOf line old mid e.chang
 
 -- ---- causes: why a line is refused
 
--- a PUT and a GET are refused as `Puts` and `Gets` of specs/Files say, refusal by refusal
-abbrev pub CauseOwn : (trusted : Type 0) → Places → List Rule → Own → (old mid : Machine) → Refusal → (added : List Entry) → Type 0
-CauseOwn trusted places choice (validate set) old mid why added = validated set (database old) ≡ Err why
-CauseOwn trusted places choice (put p) old mid why added = Puts places choice p old mid (Err why) added
-CauseOwn trusted places choice (get g) old mid why added = Gets trusted g old mid (Err why)
-CauseOwn trusted places choice checkpoint old mid why added = (why ≡ InventoryFull) × (2 ^ 62 ≤ old.core.generation + 1)
-CauseOwn trusted places choice own old mid why added = why ≡ UnknownWord 1
+-- a PUT and a GET are refused as `Puts` and `Gets` of specs/Files say, refusal by refusal; and work on a tree as it was done there, or since there is no such tree
+abbrev pub CauseOwn : (trusted : Type 0) → Places → Client → Own → (old mid : Machine) → Refusal → (added : List Entry) → Type 0
+CauseOwn trusted places k (validate set) old mid why added = validated set (database old) ≡ Err why
+CauseOwn trusted places k (put p) old mid why added = Puts places k.choice p old mid (Err why) added
+CauseOwn trusted places k (get g) old mid why added = Gets trusted g old mid (Err why)
+CauseOwn trusted places k (on_tree work) old mid why added = DoesThere trusted places k work old mid (Err why) added
+CauseOwn trusted places k checkpoint old mid why added = (why ≡ InventoryFull) × (2 ^ 62 ≤ old.core.generation + 1)
+CauseOwn trusted places k own old mid why added = why ≡ UnknownWord 1
 
 -- a look-up or the command's own words refuse it; the database refuses its change, or its query
-abbrev pub CauseBy : (trusted : Type 0) → Places → List Rule → Own → Result Work Refusal → (old mid : Machine) → Refusal → (added : List Entry) → Type 0
-CauseBy trusted places choice own (Err given) old mid why added = why ≡ given
-CauseBy trusted places choice own (Ok (Commit what)) old mid why added = why_not (drawn what old) old.core ≡ Some why
-CauseBy trusted places choice own (Ok (Show query)) old mid why added = answered query (database old) ≡ Err why
-CauseBy trusted places choice own (Ok (Run numbers)) old mid why added = CauseOwn trusted places choice own old mid why added
+abbrev pub CauseBy : (trusted : Type 0) → Places → Client → Own → Result Work Refusal → (old mid : Machine) → Refusal → (added : List Entry) → Type 0
+CauseBy trusted places k own (Err given) old mid why added = why ≡ given
+CauseBy trusted places k own (Ok (Commit what)) old mid why added = why_not (drawn what old) old.core ≡ Some why
+CauseBy trusted places k own (Ok (Show query)) old mid why added = answered query (database old) ≡ Err why
+CauseBy trusted places k own (Ok (Run numbers)) old mid why added = CauseOwn trusted places k own old mid why added
 
 -- where something comes behind a command's work, the steps of both say why it is refused
-abbrev pub CauseWith : (trusted : Type 0) → Places → List Rule → Command → Behind → (old mid : Machine) → Refusal → (added : List Entry) → Type 0
-CauseWith trusted places choice c no_more old mid why added = CauseBy trusted places choice (own_of c) (work_over c (database old)) old mid why added
-CauseWith trusted places choice c b old mid why added = Works trusted places choice c (work_over c (database old)) b old mid (Err why) added
+abbrev pub CauseWith : (trusted : Type 0) → Places → Client → Command → Behind → (old mid : Machine) → Refusal → (added : List Entry) → Type 0
+CauseWith trusted places k c no_more old mid why added = CauseBy trusted places k (own_of c) (work_over c (database old)) old mid why added
+CauseWith trusted places k c b old mid why added = Works trusted places k c (work_over c (database old)) b old mid (Err why) added
 
 -- the cause of a line's refusal
-abbrev pub Cause : (trusted : Type 0) → Places → List Rule → Line → (old mid : Machine) → Refusal → (added : List Entry) → Type 0
-Cause trusted places choice comment old mid why added = ⊥
-Cause trusted places choice (refused given) old mid why added = why ≡ given
-Cause trusted places choice (asks command) old mid why added = CauseWith trusted places choice command (behind command) old mid why added
+abbrev pub Cause : (trusted : Type 0) → Places → Client → Line → (old mid : Machine) → Refusal → (added : List Entry) → Type 0
+Cause trusted places k comment old mid why added = ⊥
+Cause trusted places k (refused given) old mid why added = why ≡ given
+Cause trusted places k (asks command) old mid why added = CauseWith trusted places k command (behind command) old mid why added
 
 -- a line that counts as refused prints a refusal that has its cause
-abbrev pub HasCause : (trusted : Type 0) → Places → List Rule → (n : ℕ) → Line → (old mid : Machine) → Answer → (added : List Entry) → Type 0
-HasCause trusted places choice n line old mid answer added =
-    answer.tally.refused ≡ 1 → (why : Refusal) × (answer ≡ refusal n why) × Cause trusted places choice line old mid why added
+abbrev pub HasCause : (trusted : Type 0) → Places → Client → (n : ℕ) → Line → (old mid : Machine) → Answer → (added : List Entry) → Type 0
+HasCause trusted places k n line old mid answer added =
+    answer.tally.refused ≡ 1 → (why : Refusal) × (answer ≡ refusal n why) × Cause trusted places k line old mid why added
 
 -- ---- done: what a line did that was answered OK
 
-abbrev pub DidOwn : (n : ℕ) → Own → (old mid : Machine) → Answer → (added : List Entry) → Type 0
-DidOwn n (validate set) old mid answer added = (validated set (database old) ≡ Ok tt) × (added ≡ [])
-DidOwn n (put p) old mid answer added =
+abbrev pub DidOwn : (trusted : Type 0) → Places → Client → (n : ℕ) → Own → (old mid : Machine) → Answer → (added : List Entry) → Type 0
+DidOwn trusted places k n (validate set) old mid answer added = (validated set (database old) ≡ Ok tt) × (added ≡ [])
+DidOwn trusted places k n (put p) old mid answer added =
     (filespace : ℕ) × (class : List ℕ) × (place : Place) × (at : Core) × (earlier : List Entry)
     × (added ≡ earlier ++ entry (backed_up filespace p class place at) ∷ []) × (answer ≡ done (shown_line n (Stored at.next_object)))
-DidOwn n (get g) old mid answer added = added ≡ []
-DidOwn n checkpoint old mid answer added = (mid.core.generation ≡ old.core.generation + 1) × (added ≡ [])
-DidOwn n own old mid answer added = ⊥
+DidOwn trusted places k n (get g) old mid answer added = added ≡ []
+DidOwn trusted places k n checkpoint old mid answer added = (mid.core.generation ≡ old.core.generation + 1) × (added ≡ [])
+DidOwn trusted places k n (on_tree work) old mid answer added = (it : Outcome) × (answer ≡ answer_of n it) × DoesThere trusted places k work old mid (Ok it) added
+DidOwn trusted places k n own old mid answer added = ⊥
 
-abbrev pub DidBy : (n : ℕ) → Own → Result Work Refusal → (old mid : Machine) → Answer → (added : List Entry) → Type 0
-DidBy n own (Err given) old mid answer added = ⊥
-DidBy n own (Ok (Commit what)) old mid answer added = (added ≡ entry (drawn what old) ∷ []) × (answer ≡ done (shown_line n (last_of what)))
-DidBy n own (Ok (Show query)) old mid answer added = added ≡ []
-DidBy n own (Ok (Run numbers)) old mid answer added = DidOwn n own old mid answer added
+abbrev pub DidBy : (trusted : Type 0) → Places → Client → (n : ℕ) → Own → Result Work Refusal → (old mid : Machine) → Answer → (added : List Entry) → Type 0
+DidBy trusted places k n own (Err given) old mid answer added = ⊥
+DidBy trusted places k n own (Ok (Commit what)) old mid answer added = (added ≡ entry (drawn what old) ∷ []) × (answer ≡ done (shown_line n (last_of what)))
+DidBy trusted places k n own (Ok (Show query)) old mid answer added = added ≡ []
+DidBy trusted places k n own (Ok (Run numbers)) old mid answer added = DidOwn trusted places k n own old mid answer added
 
 -- where something comes behind a command's work, the steps of both say what was done, and that is printed
-abbrev pub DidWith : (trusted : Type 0) → Places → List Rule → (n : ℕ) → Command → Behind → (old mid : Machine) → Answer → (added : List Entry) → Type 0
-DidWith trusted places choice n c no_more old mid answer added = DidBy n (own_of c) (work_over c (database old)) old mid answer added
-DidWith trusted places choice n c b old mid answer added =
-    (it : Outcome) × (answer ≡ answer_of n it) × Works trusted places choice c (work_over c (database old)) b old mid (Ok it) added
+abbrev pub DidWith : (trusted : Type 0) → Places → Client → (n : ℕ) → Command → Behind → (old mid : Machine) → Answer → (added : List Entry) → Type 0
+DidWith trusted places k n c no_more old mid answer added = DidBy trusted places k n (own_of c) (work_over c (database old)) old mid answer added
+DidWith trusted places k n c b old mid answer added =
+    (it : Outcome) × (answer ≡ answer_of n it) × Works trusted places k c (work_over c (database old)) b old mid (Ok it) added
 
-abbrev pub Did : (trusted : Type 0) → Places → List Rule → (n : ℕ) → Line → (old mid : Machine) → Answer → (added : List Entry) → Type 0
-Did trusted places choice n comment old mid answer added = added ≡ []
-Did trusted places choice n (refused given) old mid answer added = ⊥
-Did trusted places choice n (asks command) old mid answer added = DidWith trusted places choice n command (behind command) old mid answer added
+abbrev pub Did : (trusted : Type 0) → Places → Client → (n : ℕ) → Line → (old mid : Machine) → Answer → (added : List Entry) → Type 0
+Did trusted places k n comment old mid answer added = added ≡ []
+Did trusted places k n (refused given) old mid answer added = ⊥
+Did trusted places k n (asks command) old mid answer added = DidWith trusted places k n command (behind command) old mid answer added
 
 -- a line that doesn't count as refused did what it names
-abbrev pub IsDone : (trusted : Type 0) → Places → List Rule → (n : ℕ) → Line → (old mid : Machine) → Answer → (added : List Entry) → Type 0
-IsDone trusted places choice n line old mid answer added = answer.tally.refused ≡ 0 → Did trusted places choice n line old mid answer added
+abbrev pub IsDone : (trusted : Type 0) → Places → Client → (n : ℕ) → Line → (old mid : Machine) → Answer → (added : List Entry) → Type 0
+IsDone trusted places k n line old mid answer added = answer.tally.refused ≡ 0 → Did trusted places k n line old mid answer added
 
 -- ---- complete: which lines are not refused
 
@@ -237,48 +248,49 @@ MayGet g v =
     (node : ℕ) × (node_named g.node v.clients.nodes ≡ Some node) × (filespace : ℕ) × (filespace_named node g.filespace v.clients.filespaces ≡ Some filespace)
     × (w : Version) × (active_version filespace g.path v ≡ Some w) × (version w.object v ≡ Some w) × (copy : CopyRow) × Contains w.copies copy × (can_read copy v ≡ true)
 
-abbrev pub MayOwn : Places → List Rule → Own → (old : Machine) → Type 0
-MayOwn places choice (validate set) old = validated set (database old) ≡ Ok tt
-MayOwn places choice (put p) old = MayPut places choice p old
-MayOwn places choice (get g) old = MayGet g (database old)
-MayOwn places choice checkpoint old = old.core.generation + 1 < 2 ^ 62
-MayOwn places choice own old = ⊥
+abbrev pub MayOwn : Places → Client → Own → (old : Machine) → Type 0
+MayOwn places k (validate set) old = validated set (database old) ≡ Ok tt
+MayOwn places k (put p) old = MayPut places k.choice p old
+MayOwn places k (get g) old = MayGet g (database old)
+MayOwn places k checkpoint old = old.core.generation + 1 < 2 ^ 62
+MayOwn places k own old = ⊥
 
 -- what the command names is there; and the database has no reason against its change, or shows its rows
-abbrev pub MayBy : Places → List Rule → Own → Result Work Refusal → (old : Machine) → Type 0
-MayBy places choice own (Err why) old = ⊥
-MayBy places choice own (Ok (Commit what)) old = why_not (drawn what old) old.core ≡ None
-MayBy places choice own (Ok (Show query)) old = (shown : rows.Answer) × (answered query (database old) ≡ Ok shown)
-MayBy places choice own (Ok (Run numbers)) old = MayOwn places choice own old
+abbrev pub MayBy : Places → Client → Own → Result Work Refusal → (old : Machine) → Type 0
+MayBy places k own (Err why) old = ⊥
+MayBy places k own (Ok (Commit what)) old = why_not (drawn what old) old.core ≡ None
+MayBy places k own (Ok (Show query)) old = (shown : rows.Answer) × (answered query (database old) ≡ Ok shown)
+MayBy places k own (Ok (Run numbers)) old = MayOwn places k own old
 
 -- A line is legal: it is a comment, or a command of the grammar that is done so far, of which this holds.
-abbrev pub IsLegal : Places → List Rule → Line → (old : Machine) → Type 0
-IsLegal places choice comment old = Unit {0}
-IsLegal places choice (refused why) old = ⊥
-IsLegal places choice (asks command) old = MayBy places choice (own_of command) (work_over command (database old)) old
+abbrev pub IsLegal : Places → Client → Line → (old : Machine) → Type 0
+IsLegal places k comment old = Unit {0}
+IsLegal places k (refused why) old = ⊥
+IsLegal places k (asks command) old = MayBy places k (own_of command) (work_over command (database old)) old
 
 -- what comes behind its work, which was done, was refused so
-abbrev pub IsRefusedBehind : (trusted : Type 0) → Places → List Rule → (n : ℕ) → Command → Behind → (old mid : Machine) → Answer → Type 0
-IsRefusedBehind trusted places choice n c b old mid answer =
+abbrev pub IsRefusedBehind : (trusted : Type 0) → Places → Client → (n : ℕ) → Command → Behind → (old mid : Machine) → Answer → Type 0
+IsRefusedBehind trusted places k n c b old mid answer =
     (why : Refusal) × (answer ≡ refusal n why) × (it : Outcome) × (between : Machine) × (first : List Entry)
-    × Does trusted places choice c (work_over c (database old)) old between (Ok it) first × EndsWith trusted places b (Ok it) between mid (Err why)
+    × Does trusted places k c (work_over c (database old)) old between (Ok it) first × EndsWith trusted places b (Ok it) between mid (Err why)
 
-abbrev pub IsAnswered : (trusted : Type 0) → Places → List Rule → (n : ℕ) → Line → (old mid : Machine) → Answer → Type 0
-IsAnswered trusted places choice n (asks c) old mid answer = (answer.tally.refused ≡ 0) ⊎ IsRefusedBehind trusted places choice n c (behind c) old mid answer
-IsAnswered trusted places choice n line old mid answer = answer.tally.refused ≡ 0
+abbrev pub IsAnswered : (trusted : Type 0) → Places → Client → (n : ℕ) → Line → (old mid : Machine) → Answer → Type 0
+IsAnswered trusted places k n (asks c) old mid answer = (answer.tally.refused ≡ 0) ⊎ IsRefusedBehind trusted places k n c (behind c) old mid answer
+IsAnswered trusted places k n line old mid answer = answer.tally.refused ≡ 0
 
 -- A line that is legal, and in which no count of faults rose, doesn't count as refused, unless what comes behind its work is.
-abbrev pub IsComplete : (trusted : Type 0) → Places → List Rule → (n : ℕ) → Line → (old mid : Machine) → Answer → Type 0
-IsComplete trusted places choice n line old mid answer = ((file : ℕ) → RoseFrom old mid file → ⊥) → IsLegal places choice line old → IsAnswered trusted places choice n line old mid answer
+abbrev pub IsComplete : (trusted : Type 0) → Places → Client → (n : ℕ) → Line → (old mid : Machine) → Answer → Type 0
+IsComplete trusted places k n line old mid answer = ((file : ℕ) → RoseFrom old mid file → ⊥) → IsLegal places k line old → IsAnswered trusted places k n line old mid answer
 
 -- ---- all of them
 
--- what holds of a line that was answered so
-pub record Holds (trusted : Type 0) (places : Places) (choice : List Rule) (n : ℕ) (line : Line) (old mid : Machine) (answer : Answer) (added : List Entry) : Type 0 where
-  pub journal : AreOrdered line old added
+-- what holds of a line that was answered so; and no tree changed but the one that it names
+pub record Holds (trusted : Type 0) (places : Places) (k : Client) (n : ℕ) (line : Line) (old mid : Machine) (answer : Answer) (added : List Entry) : Type 0 where
+  pub journal : AreOrdered k line old added
   pub queries : ShowsRows n line old answer
   pub bytes : ShowsBytes trusted n line old mid answer
   pub items : AreItems line old mid added
-  pub causes : HasCause trusted places choice n line old mid answer added
-  pub done : IsDone trusted places choice n line old mid answer added
-  pub complete : IsComplete trusted places choice n line old mid answer
+  pub causes : HasCause trusted places k n line old mid answer added
+  pub done : IsDone trusted places k n line old mid answer added
+  pub complete : IsComplete trusted places k n line old mid answer
+  pub trees : ChangesOnly (tree_named line) k

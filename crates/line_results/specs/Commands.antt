@@ -1,5 +1,5 @@
 -- What a command comes to where one actor has the machine alone.
-use Rattle.std.specs.Prelude.{◌≡◌, ◌⊎◌, ℕ, List, [], ◌∷◌, ◌++◌, Some, Result, Ok, Err}
+use Rattle.std.specs.Prelude.{◌≡◌, ◌⊎◌, ℕ, Bool, true, false, List, [], ◌∷◌, ◌++◌, Some, Result, Ok, Err}
 use Rattle.std.specs.List.{AllByRecursion}
 use Rattle.kinds.specs.declared.change.DefineOrDelete.TheVariants as two
 use Rattle.kinds.specs.declared.change.ObjectChange.TheVariants as client
@@ -9,7 +9,7 @@ use Rattle.kinds.specs.declared.change.Verb.TheVariants as verb
 use Rattle.kinds.specs.declared.pool.Access.{Access}
 use Rattle.kinds.specs.declared.pool.Access.TheVariants.{Destroyed}
 use Rattle.kinds.specs.declared.refusal.Refusal.{Refusal}
-use Rattle.kinds.specs.declared.refusal.Refusal.TheVariants.{Memory, RunFull, UnknownWord}
+use Rattle.kinds.specs.declared.refusal.Refusal.TheVariants.{Memory, NotFound, RunFull, UnknownWord}
 use Rattle.choosers.specs.declared.rule.Rule.{Rule}
 use Rattle.entries.specs.change_items.declared.items.DiscardedVersion.{DiscardedVersion}
 use Rattle.entries.specs.change_items.declared.items.DroppedCopy.{DroppedCopy}
@@ -45,13 +45,16 @@ use Rattle.machine.specs.Machine.{Places}
 use Rattle.machine.specs.State.{Machine}
 use Rattle.command_steps.specs.Answers.{halt_by}
 use Rattle.command_steps.specs.Behind.{Behind, behind, no_more, reuses}
+use Rattle.command_steps.specs.Clients.{Client, IsKept, IsNone, Known, Turns}
 use Rattle.command_steps.specs.Doing as steps
 use Rattle.command_steps.specs.Doing.{EndsWork, the_number}
-use Rattle.command_steps.specs.Owns.{Mover, Own, back_up_pool, checkpoint, empty_filespace, empty_volume, expire, get, last_of, moves, none_but_reuse, none_yet, own_of, put, validate, volume_restorer}
+use Rattle.command_steps.specs.Owns.{Mover, OnTree, Own, back_up, back_up_pool, checkpoint, empty_filespace, empty_volume, erase, expire, get, last_of, moves, none_but_reuse, none_yet, on_tree, own_of, put, restore, tree_of, validate, volume_restorer, write}
+use Rattle.command_steps.specs.Trees.{BacksUp, ErasesFile, GivesWanted, WritesFile}
 use Rattle.command_steps.specs.declared.outcome.Outcome.{Outcome}
 use Rattle.command_steps.specs.declared.outcome.Outcome.TheVariants.{Read, Rows, Said}
 use Rattle.line_results.specs.Files.{Checkpoints, Gets, Puts}
 use Rattle.line_results.specs.Resting.{Adds, Commits, EndsRun, IsLate, Onward, SameBytes, SameImage, database}
+use Rattle.line_results.specs.Trees.{GivesChosen, IsOfBackup, KeepsBytes}
 
 -- ---- what a command asks for
 
@@ -126,34 +129,57 @@ MayMake numbers _ c = ⊥
 -- A process ran: its own contract says what its steps did; and each transaction that it made is one of these.
 abbrev pub Processes : (trusted : Type 0) → Places → List Rule → (numbers : List ℕ) → Own → (old new : Machine) → Result Outcome Refusal → (added : List Entry) → Type 0
 Processes trusted places choice numbers own old new result added =
-    Ran trusted places (λ events. steps.DoesOwn choice own numbers events result) old new × AllByRecursion (λ e. (e.actor ≡ 0) × MayMake numbers own e.change) added × SameImage old new × SameBytes old new
+    Ran trusted places (λ events. steps.DoesAlone choice own numbers events result) old new × AllByRecursion (λ e. (e.actor ≡ 0) × MayMake numbers own e.change) added × SameImage old new × SameBytes old new
 
 -- ---- work
 
--- work of a command's own, over the numbers of the things that it names; what isn't done so far is refused like an unknown word
-abbrev pub DoesOwn : (trusted : Type 0) → Places → List Rule → (numbers : List ℕ) → Own → (old new : Machine) → Result Outcome Refusal → (added : List Entry) → Type 0
-DoesOwn trusted places choice numbers (validate set) old new result added = Tells (on_ok (λ done. Said Done) (validated set (database old))) old new result added
-DoesOwn trusted places choice numbers (put p) old new result added =
+-- work of a command's own that has nothing to do with trees, over the numbers of the things that it names; what isn't done so far is refused like an unknown word
+abbrev pub DoesAlone : (trusted : Type 0) → Places → List Rule → (numbers : List ℕ) → Own → (old new : Machine) → Result Outcome Refusal → (added : List Entry) → Type 0
+DoesAlone trusted places choice numbers (validate set) old new result added = Tells (on_ok (λ done. Said Done) (validated set (database old))) old new result added
+DoesAlone trusted places choice numbers (put p) old new result added =
     (answer : Result ℕ Refusal) × Puts places choice p old new answer added × (result ≡ on_ok (λ object. Said (Stored object)) answer) × SameImage old new
-DoesOwn trusted places choice numbers (get g) old new result added =
+DoesAlone trusted places choice numbers (get g) old new result added =
     (answer : Result FileRead Refusal) × Gets trusted g old new answer × (result ≡ on_ok Read answer) × (added ≡ []) × SameImage old new × SameBytes old new
-DoesOwn trusted places choice numbers checkpoint old new result added =
+DoesAlone trusted places choice numbers checkpoint old new result added =
     (answer : Result ℕ Refusal) × Checkpoints old new answer × (result ≡ on_ok (λ seq. Said Done) answer) × (added ≡ []) × SameBytes old new
-DoesOwn trusted places choice numbers expire old new result added = Processes trusted places choice numbers expire old new result added
-DoesOwn trusted places choice numbers empty_filespace old new result added = Processes trusted places choice numbers empty_filespace old new result added
-DoesOwn trusted places choice numbers empty_volume old new result added = Processes trusted places choice numbers empty_volume old new result added
-DoesOwn trusted places choice numbers back_up_pool old new result added = Processes trusted places choice numbers back_up_pool old new result added
-DoesOwn trusted places choice numbers (moves mover) old new result added = Processes trusted places choice numbers (moves mover) old new result added
-DoesOwn trusted places choice numbers none_but_reuse old new result added = Tells (Ok (Said (Reused 0))) old new result added
-DoesOwn trusted places choice numbers none_yet old new result added = Tells (Err (UnknownWord 1)) old new result added
+DoesAlone trusted places choice numbers expire old new result added = Processes trusted places choice numbers expire old new result added
+DoesAlone trusted places choice numbers empty_filespace old new result added = Processes trusted places choice numbers empty_filespace old new result added
+DoesAlone trusted places choice numbers empty_volume old new result added = Processes trusted places choice numbers empty_volume old new result added
+DoesAlone trusted places choice numbers back_up_pool old new result added = Processes trusted places choice numbers back_up_pool old new result added
+DoesAlone trusted places choice numbers (moves mover) old new result added = Processes trusted places choice numbers (moves mover) old new result added
+DoesAlone trusted places choice numbers none_but_reuse old new result added = Tells (Ok (Said (Reused 0))) old new result added
+DoesAlone trusted places choice numbers none_yet old new result added = Tells (Err (UnknownWord 1)) old new result added
+DoesAlone trusted places choice numbers (on_tree work) old new result added = ⊥
 
--- A command whose work over the database is this: it is done, or it is refused before that.
-abbrev pub Does : (trusted : Type 0) → Places → List Rule → Command → Result Work Refusal → (old new : Machine) → Result Outcome Refusal → (added : List Entry) → Type 0
-Does trusted places choice c (Err why) old new result added = Tells (Err why) old new result added
-Does trusted places choice c (Ok (Commit what)) old new result added =
-    (answer : Result ℕ Refusal) × Commits (drawn what old) old new answer added × (result ≡ on_ok (λ number. Said (last_of what)) answer) × SameImage old new × SameBytes old new
-Does trusted places choice c (Ok (Show query)) old new result added = Tells (on_ok Rows (answered query (database old))) old new result added
-Does trusted places choice c (Ok (Run numbers)) old new result added = DoesOwn trusted places choice numbers (own_of c) old new result added
+-- What was done on a tree, which was `before` and is `after`. WRITE and ERASE do nothing but that. A backup ran: its own contract says what its steps did; each transaction that it made is of the plan
+-- over the tree and the database; and what was stored already keeps its bytes. A restore ran, which changes no more of the machine than a query does.
+abbrev pub DoesOn : (trusted : Type 0) → Places → List Rule → OnTree → (before after : Known) → (old new : Machine) → Result Outcome Refusal → (added : List Entry) → Type 0
+DoesOn trusted places choice (write w) before after old new result added = WritesFile w before after result × IsStill old new × (added ≡ [])
+DoesOn trusted places choice (erase e) before after old new result added = ErasesFile e before after result × IsStill old new × (added ≡ [])
+DoesOn trusted places choice (back_up i) before after old new result added =
+    Ran trusted places (λ events. BacksUp choice i before after events result) old new
+    × AllByRecursion (λ e. (e.actor ≡ 0) × IsOfBackup choice i before.files (database old) e.change) added × SameImage old new × KeepsBytes old new
+DoesOn trusted places choice (restore r) before after old new result added =
+    Ran trusted places (λ events. GivesWanted r before after events result) old new × GivesChosen r (database old) before after result × IsStill old new × (added ≡ [])
+
+-- It was done on the tree that the command names, and all others are as they were. Or there is no such tree, and nothing was done.
+abbrev pub DoesThere : (trusted : Type 0) → Places → Client → OnTree → (old new : Machine) → Result Outcome Refusal → (added : List Entry) → Type 0
+DoesThere trusted places k work old new result added =
+    ((before : Known) × (after : Known) × Turns (tree_of work) before after k × DoesOn trusted places k.choice work before after old new result added)
+    ⊎ (IsNone (tree_of work) k × IsKept k × (result ≡ Err NotFound) × IsStill old new × (added ≡ []))
+
+-- work of a command's own: on the tree that it names, or on none
+abbrev pub DoesOwn : (trusted : Type 0) → Places → Client → (numbers : List ℕ) → Own → (old new : Machine) → Result Outcome Refusal → (added : List Entry) → Type 0
+DoesOwn trusted places k numbers (on_tree work) old new result added = DoesThere trusted places k work old new result added
+DoesOwn trusted places k numbers own old new result added = IsKept k × DoesAlone trusted places k.choice numbers own old new result added
+
+-- A command whose work over the database is this: it is done, or it is refused before that. But for work on a tree all trees are as they were.
+abbrev pub Does : (trusted : Type 0) → Places → Client → Command → Result Work Refusal → (old new : Machine) → Result Outcome Refusal → (added : List Entry) → Type 0
+Does trusted places k c (Err why) old new result added = IsKept k × Tells (Err why) old new result added
+Does trusted places k c (Ok (Commit what)) old new result added =
+    IsKept k × (answer : Result ℕ Refusal) × Commits (drawn what old) old new answer added × (result ≡ on_ok (λ number. Said (last_of what)) answer) × SameImage old new × SameBytes old new
+Does trusted places k c (Ok (Show query)) old new result added = IsKept k × Tells (on_ok Rows (answered query (database old))) old new result added
+Does trusted places k c (Ok (Run numbers)) old new result added = DoesOwn trusted places k numbers (own_of c) old new result added
 
 -- What comes behind work that came to this: nothing, or what its steps did.
 abbrev pub EndsWith : (trusted : Type 0) → Places → Behind → (said : Result Outcome Refusal) → (mid new : Machine) → Result Outcome Refusal → Type 0
@@ -166,27 +192,27 @@ IsReuse reuses c = (file : ℕ) × (c ≡ change.Reuse file)
 IsReuse b c = ⊥
 
 -- Work is done, and then what comes behind it: `first` are the transactions of the work, and `later` those behind it. Where the run ended, that has its cause.
-pub record WorksWith (trusted : Type 0) (places : Places) (choice : List Rule) (c : Command) (w : Result Work Refusal) (b : Behind) (old new : Machine) (result : Result Outcome Refusal) (added : List Entry) : Type 0 where
+pub record WorksWith (trusted : Type 0) (places : Places) (k : Client) (c : Command) (w : Result Work Refusal) (b : Behind) (old new : Machine) (result : Result Outcome Refusal) (added : List Entry) : Type 0 where
   pub said : Result Outcome Refusal
   pub mid : Machine
   pub first : List Entry
   pub later : List Entry
   pub parts : added ≡ first ++ later
   pub adds : Adds first old mid
-  pub does : Does trusted places choice c w old mid said first
+  pub does : Does trusted places k c w old mid said first
   pub ends : EndsWith trusted places b said mid new result
   pub reused : AllByRecursion (λ e. (e.actor ≡ 0) × IsReuse b e.change) later
   pub cause : (e : Refusal) (how : Halt) → result ≡ Err e → halt_by e ≡ Some how → EndsRun old new e
 
 -- A command's work over the database, with what comes behind it; or it is refused before any.
-abbrev pub Works : (trusted : Type 0) → Places → List Rule → Command → Result Work Refusal → Behind → (old new : Machine) → Result Outcome Refusal → (added : List Entry) → Type 0
-Works trusted places choice c w no_more old new result added = Does trusted places choice c w old new result added
-Works trusted places choice c (Err why) b old new result added = Tells (Err why) old new result added
-Works trusted places choice c (Ok work) b old new result added = WorksWith trusted places choice c (Ok work) b old new result added
+abbrev pub Works : (trusted : Type 0) → Places → Client → Command → Result Work Refusal → Behind → (old new : Machine) → Result Outcome Refusal → (added : List Entry) → Type 0
+Works trusted places k c w no_more old new result added = Does trusted places k c w old new result added
+Works trusted places k c (Err why) b old new result added = IsKept k × Tells (Err why) old new result added
+Works trusted places k c (Ok work) b old new result added = WorksWith trusted places k c (Ok work) b old new result added
 
 -- the run ended before the command's work was known
-abbrev pub BeginsNot : (old new : Machine) → Result Outcome Refusal → (added : List Entry) → Type 0
-BeginsNot old new result added = (e : Refusal) × (result ≡ Err e) × EndsRun old new e × (added ≡ []) × SameImage old new × SameBytes old new
+abbrev pub BeginsNot : Client → (old new : Machine) → Result Outcome Refusal → (added : List Entry) → Type 0
+BeginsNot k old new result added = IsKept k × (e : Refusal) × (result ≡ Err e) × EndsRun old new e × (added ≡ []) × SameImage old new × SameBytes old new
 
 -- the run is full, or memory is wanted
 abbrev pub IsStopped : {A : Type 0} → Result A Refusal → Type 0
@@ -199,11 +225,17 @@ IsRefusedAsRead c result =
     × (((why : Refusal) × (work_of c [] ≡ Err why) × (result ≡ Err why))
     ⊎ ((numbers : List ℕ) × (work_of c [] ≡ Ok (Run numbers)) × (own_of c ≡ none_yet) × (result ≡ Err (UnknownWord 1))))
 
--- a command that begins late, at a moment that is all but the last, finds the run full, or memory is wanted before that is seen; unless it is refused without a step
+-- work that is done without a step: WRITE and ERASE
+abbrev pub is_stepless : Own → Bool
+is_stepless (on_tree (write w)) = true
+is_stepless (on_tree (erase e)) = true
+is_stepless own = false
+
+-- a command that begins late, at a moment that is all but the last, finds the run full, or memory is wanted before that is seen; unless it is refused without a step, or is done without one
 abbrev pub IsFull : Command → (old : Machine) → Result Outcome Refusal → Type 0
-IsFull c old result = IsLate old → IsStopped result ⊎ IsRefusedAsRead c result
+IsFull c old result = IsLate old → IsStopped result ⊎ (IsRefusedAsRead c result ⊎ (is_stepless (own_of c) ≡ true))
 
 -- What a command comes to.
-abbrev pub Comes : (trusted : Type 0) → Places → List Rule → Command → (old new : Machine) → Result Outcome Refusal → (added : List Entry) → Type 0
-Comes trusted places choice c old new result added =
-    (BeginsNot old new result added ⊎ Works trusted places choice c (work_over c (database old)) (behind c) old new result added) × IsFull c old result
+abbrev pub Comes : (trusted : Type 0) → Places → Client → Command → (old new : Machine) → Result Outcome Refusal → (added : List Entry) → Type 0
+Comes trusted places k c old new result added =
+    (BeginsNot k old new result added ⊎ Works trusted places k c (work_over c (database old)) (behind c) old new result added) × IsFull c old result

@@ -3,3 +3,4 @@ pub mod Commands
 pub mod Files
 pub mod Lines
 pub mod Resting
+pub mod Trees

@@ -1,7 +1,6 @@
 -- What a line of a script comes to where one actor has the machine alone.
 use Rattle.std.specs.Prelude.{◌≡◌, ◌⊎◌, ℕ, ◌+◌, ◌^◌, ◌<◌, ◌≤◌, max, true, List, [], length, Option, None, Some, Result, Ok, Err}
 use Rattle.kinds.specs.declared.refusal.Refusal.{Refusal}
-use Rattle.choosers.specs.declared.rule.Rule.{Rule}
 use Rattle.entries.specs.declared.entry.Entry.{Entry}
 use Rattle.script_loop.specs.Reply.{Answer}
 use Rattle.script_loop.specs.declared.ends.Halt.{Halt}
@@ -11,6 +10,7 @@ use Rattle.machine.specs.State.{Machine}
 use Rattle.command_steps.specs.Answering.{long_log}
 use Rattle.command_steps.specs.Answers.{Ends, nothing, refusal}
 use Rattle.command_steps.specs.Behind.{Behind, behind, no_more}
+use Rattle.command_steps.specs.Clients.{Client, IsKept}
 use Rattle.command_steps.specs.Lines.{Line, asks, comment, refused}
 use Rattle.command_steps.specs.declared.outcome.Outcome.{Outcome}
 use Rattle.line_results.specs.Commands.{Comes}
@@ -25,16 +25,16 @@ pub record Follows (old new : Machine) : Type 0 where
       ⊎ (((old.core.log_length < long_log) ⊎ (IsLate new ⊎ (2 ^ 62 ≤ old.core.generation + 1))) × SameImage old new × (new.core.log_length ≡ old.core.log_length))
 
 -- What line n is answered by, why it is refused, and which transactions it adds, oldest first.
-abbrev pub Says : (trusted : Type 0) → Places → List Rule → (n : ℕ) → Line → (old : Machine) → Answer → (why : Option Refusal) → (added : List Entry) → (new : Machine) → Type 0
-Says trusted places choice n comment old answer why added new = (answer ≡ nothing) × (why ≡ None) × (added ≡ []) × (new ≡ old)
-Says trusted places choice n (refused given) old answer why added new = (answer ≡ refusal n given) × (why ≡ Some given) × (added ≡ []) × (new ≡ old)
-Says trusted places choice n (asks c) old answer why added new = (said : Result Outcome Refusal) × Comes trusted places choice c old new said added × Ends n said (Ok (answer, why))
+abbrev pub Says : (trusted : Type 0) → Places → Client → (n : ℕ) → Line → (old : Machine) → Answer → (why : Option Refusal) → (added : List Entry) → (new : Machine) → Type 0
+Says trusted places k n comment old answer why added new = IsKept k × (answer ≡ nothing) × (why ≡ None) × (added ≡ []) × (new ≡ old)
+Says trusted places k n (refused given) old answer why added new = IsKept k × (answer ≡ refusal n given) × (why ≡ Some given) × (added ≡ []) × (new ≡ old)
+Says trusted places k n (asks c) old answer why added new = (said : Result Outcome Refusal) × Comes trusted places k c old new said added × Ends n said (Ok (answer, why))
 
 -- A line may be answered so. Behind it the machine is at rest again: each transaction is durable, and nothing is in progress.
-pub record Replies (trusted : Type 0) (places : Places) (choice : List Rule) (n : ℕ) (line : Line) (old : Machine) (answer : Answer) (why : Option Refusal) (new : Machine) : Type 0 where
+pub record Replies (trusted : Type 0) (places : Places) (k : Client) (n : ℕ) (line : Line) (old : Machine) (answer : Answer) (why : Option Refusal) (new : Machine) : Type 0 where
   pub added : List Entry
   pub mid : Machine
-  pub says : Says trusted places choice n line old answer why added mid
+  pub says : Says trusted places k n line old answer why added mid
   pub adds : Adds added old mid
   pub log : LogEnds added old mid
   pub first : Onward old mid
@@ -59,12 +59,12 @@ pub record EndsFollowing (old new : Machine) (how : Halt) : Type 0 where
   pub due : (how ≡ halt.Memory) ⊎ (long_log ≤ old.core.log_length)
 
 -- How a line ended the run. Memory was wanted before it was known what the line is, and nothing changed; what it asks ended the run, by its result; or it was answered, and what follows it ended the run.
-abbrev pub EndsAt : (trusted : Type 0) → Places → List Rule → (n : ℕ) → Line → (old : Machine) → Halt → (added : List Entry) → (new : Machine) → Type 0
-EndsAt trusted places choice n (asks c) old how added new =
-    ((how ≡ halt.Memory) × (added ≡ []) × (new ≡ old))
-    ⊎ ((said : Result Outcome Refusal) × (mid : Machine) × Comes trusted places choice c old mid said added × (((new ≡ mid) × Ends n said (Err how)) ⊎ EndsFollowing mid new how))
-EndsAt trusted places choice n comment old how added new = (added ≡ []) × EndsFollowing old new how
-EndsAt trusted places choice n (refused given) old how added new = (added ≡ []) × EndsFollowing old new how
+abbrev pub EndsAt : (trusted : Type 0) → Places → Client → (n : ℕ) → Line → (old : Machine) → Halt → (added : List Entry) → (new : Machine) → Type 0
+EndsAt trusted places k n (asks c) old how added new =
+    (IsKept k × (how ≡ halt.Memory) × (added ≡ []) × (new ≡ old))
+    ⊎ ((said : Result Outcome Refusal) × (mid : Machine) × Comes trusted places k c old mid said added × (((new ≡ mid) × Ends n said (Err how)) ⊎ EndsFollowing mid new how))
+EndsAt trusted places k n comment old how added new = IsKept k × (added ≡ []) × EndsFollowing old new how
+EndsAt trusted places k n (refused given) old how added new = IsKept k × (added ≡ []) × EndsFollowing old new how
 
 -- how many of a line's transactions may be in doubt behind it where it ended the run: the newest; of a command behind whose work all is forced together all of them
 abbrev pub in_doubt : Behind → List Entry → ℕ
@@ -77,9 +77,9 @@ doubtful line added = 1
 
 -- A line may end the run so, and which transactions it adds. But for those in doubt each transaction is durable. Where the run ended for want of memory, each is, unless it was wanted behind one
 -- that was made, or for the answer to a command that a fault or a full run ended. A fault and a full run have their cause.
-pub record Halts (trusted : Type 0) (places : Places) (choice : List Rule) (n : ℕ) (line : Line) (old : Machine) (how : Halt) (new : Machine) : Type 0 where
+pub record Halts (trusted : Type 0) (places : Places) (k : Client) (n : ℕ) (line : Line) (old : Machine) (how : Halt) (new : Machine) : Type 0 where
   pub added : List Entry
-  pub ends : EndsAt trusted places choice n line old how added new
+  pub ends : EndsAt trusted places k n line old how added new
   pub adds : Adds added old new
   pub log : LogEnds added old new
   pub onward : Onward old new

@@ -1,6 +1,5 @@
 // What the definitions mean, as laws. Each stands on a function that does nothing.
 ghost use Rattle.std.specs.Prelude.{◌≡◌, ℕ, List, Option, Ok, Err};
-ghost use Rattle.choosers.specs.declared.rule.Rule.{Rule};
 ghost use Rattle.kinds.specs.declared.refusal.Refusal.{Refusal};
 ghost use Rattle.script_loop.specs.Reply.{Answer};
 ghost use Rattle.script_loop.specs.declared.ends.Halt.{Halt};
@@ -8,6 +7,7 @@ ghost use Rattle.machine.specs.Alone.{Alone};
 ghost use Rattle.machine.specs.State.{Machine};
 ghost use Rattle.steps.specs.Events.{Event};
 ghost use Rattle.command_steps.specs.Answering.{AnswersLine};
+ghost use Rattle.command_steps.specs.Clients.{Client};
 ghost use Rattle.command_steps.specs.Lines.{Line};
 ghost use Rattle.line_results.specs.Clauses.{Holds};
 ghost use Rattle.line_results.specs.Lines.{Halts, Replies};
@@ -29,22 +29,22 @@ pub trait Placing {
 }
 
 /// A line whose steps one actor made on a machine that it has alone, and which was at rest, comes to what its command says of the database; or it ends the run, by its cause. So it is where the
-/// store is trusted to have the bytes of the objects, and so it is where nothing is known of it.
+/// store is trusted to have the bytes of the objects, and so it is where nothing is known of it. `k` has the clients' include-exclude list and trees, before the line and behind it.
 pub fn lines_come_to<P: Placing>()
-    ensures answered { (choice : List Rule) (n : ℕ) (line : Line) (events : List Event) (answer : Answer) (why : Option Refusal) (old new : Machine) → IsAtRest old.core → HasSizes old
-        → AnswersLine choice n line events (Ok (answer, why)) → Alone (Unit {0}) P.places 0 events old new → Replies (Unit {0}) P.places choice n line old answer why new }
-    ensures ended { (choice : List Rule) (n : ℕ) (line : Line) (events : List Event) (how : Halt) (old new : Machine) → IsAtRest old.core → HasSizes old
-        → AnswersLine choice n line events (Err how) → Alone (Unit {0}) P.places 0 events old new → Halts (Unit {0}) P.places choice n line old how new }
-    ensures answered_unknown { (choice : List Rule) (n : ℕ) (line : Line) (events : List Event) (answer : Answer) (why : Option Refusal) (old new : Machine) → IsAtRest old.core → HasSizes old
-        → AnswersLine choice n line events (Ok (answer, why)) → Alone ⊥ P.places 0 events old new → Replies ⊥ P.places choice n line old answer why new }
-    ensures ended_unknown { (choice : List Rule) (n : ℕ) (line : Line) (events : List Event) (how : Halt) (old new : Machine) → IsAtRest old.core → HasSizes old
-        → AnswersLine choice n line events (Err how) → Alone ⊥ P.places 0 events old new → Halts ⊥ P.places choice n line old how new }
+    ensures answered { (k : Client) (n : ℕ) (line : Line) (events : List Event) (answer : Answer) (why : Option Refusal) (old new : Machine) → IsAtRest old.core → HasSizes old
+        → AnswersLine k n line events (Ok (answer, why)) → Alone (Unit {0}) P.places 0 events old new → Replies (Unit {0}) P.places k n line old answer why new }
+    ensures ended { (k : Client) (n : ℕ) (line : Line) (events : List Event) (how : Halt) (old new : Machine) → IsAtRest old.core → HasSizes old
+        → AnswersLine k n line events (Err how) → Alone (Unit {0}) P.places 0 events old new → Halts (Unit {0}) P.places k n line old how new }
+    ensures answered_unknown { (k : Client) (n : ℕ) (line : Line) (events : List Event) (answer : Answer) (why : Option Refusal) (old new : Machine) → IsAtRest old.core → HasSizes old
+        → AnswersLine k n line events (Ok (answer, why)) → Alone ⊥ P.places 0 events old new → Replies ⊥ P.places k n line old answer why new }
+    ensures ended_unknown { (k : Client) (n : ℕ) (line : Line) (events : List Event) (how : Halt) (old new : Machine) → IsAtRest old.core → HasSizes old
+        → AnswersLine k n line events (Err how) → Alone ⊥ P.places 0 events old new → Halts ⊥ P.places k n line old how new }
 {}
 
-/// Of each line that was answered so holds what is said of its transactions, its rows and bytes, its refusal and what it did, and when it isn't refused.
+/// Of each line that was answered so holds what is said of its transactions, its rows and bytes, its refusal and what it did, when it isn't refused, and which tree it may change.
 pub fn answered_lines_hold<P: Placing>()
-    ensures trusted { (choice : List Rule) (n : ℕ) (line : Line) (answer : Answer) (why : Option Refusal) (old new : Machine) → (r : Replies (Unit {0}) P.places choice n line old answer why new)
-        → Holds (Unit {0}) P.places choice n line old r.mid answer r.added }
-    ensures unknown { (choice : List Rule) (n : ℕ) (line : Line) (answer : Answer) (why : Option Refusal) (old new : Machine) → (r : Replies ⊥ P.places choice n line old answer why new)
-        → Holds ⊥ P.places choice n line old r.mid answer r.added }
+    ensures trusted { (k : Client) (n : ℕ) (line : Line) (answer : Answer) (why : Option Refusal) (old new : Machine) → (r : Replies (Unit {0}) P.places k n line old answer why new)
+        → Holds (Unit {0}) P.places k n line old r.mid answer r.added }
+    ensures unknown { (k : Client) (n : ℕ) (line : Line) (answer : Answer) (why : Option Refusal) (old new : Machine) → (r : Replies ⊥ P.places k n line old answer why new)
+        → Holds ⊥ P.places k n line old r.mid answer r.added }
 {}

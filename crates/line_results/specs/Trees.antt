@@ -1,0 +1,97 @@
+-- What DSMC INCREMENTAL and DSMC RESTORE go by where one actor has the machine alone: the plan over the tree and the database, the transactions that it orders, and the versions that are restored.
+use Rattle.std.specs.Prelude.{◌≡◌, ◌⊎◌, ℕ, ◌<◌, Contains, List, [], map, Option, Some, Result, Ok, Err}
+use Rattle.std.specs.List.{AllByRecursion}
+use Rattle.kinds.specs.declared.change.DefineOrDelete.TheVariants as two
+use Rattle.kinds.specs.declared.change.ObjectChange.TheVariants as client
+use Rattle.kinds.specs.declared.refusal.Refusal.{Refusal}
+use Rattle.kinds.specs.declared.refusal.Refusal.TheVariants.{NotFound}
+use Rattle.choosers.specs.declared.rule.Rule.{Rule}
+use Rattle.entries.specs.change_items.declared.items.NewVersion.{NewVersion}
+use Rattle.entries.specs.change_items.declared.items.ScratchVolume.{ScratchVolume}
+use Rattle.entries.specs.declared.change.Change.{Change}
+use Rattle.entries.specs.declared.change.Change.TheVariants as change
+use Rattle.inventory_rows.specs.object_rows.Names.{node_named}
+use Rattle.inventory_rows.specs.State.{Inv}
+use Rattle.inventory_work.specs.Rules.{rules_of}
+use Rattle.inventory_work.specs.declared.lines.Rules.{Rules}
+use Rattle.inventory_answers.specs.Clients.{versions_of}
+use Rattle.inventory_answers.specs.declared.lines.VersionLine.{VersionLine}
+use Rattle.admin_words.specs.declared.files.FilesRestore.{FilesRestore}
+use Rattle.admin_words.specs.declared.files.IncrementalBackup.{IncrementalBackup}
+use Rattle.client_trees.specs.Files.{Files}
+use Rattle.client_trees.specs.declared.tree.FileRow.{FileRow}
+use Rattle.client_plan.specs.Plans.{AreActive, Lists, actives, plan_of, scheme}
+use Rattle.client_plan.specs.declared.lines.GoneLine.{GoneLine}
+use Rattle.client_plan.specs.declared.lines.RebindLine.{RebindLine}
+use Rattle.client_plan.specs.declared.lines.SendLine.{SendLine}
+use Rattle.client_batches.specs.Listings.{named, rebound}
+use Rattle.incrementals.specs.Planning.{IsListing}
+use Rattle.restores.specs.Chosen.{chosen}
+use Rattle.restores.specs.Standing.{AreApart, HaveFiles}
+use Rattle.restores.specs.declared.choosing.RestoreLine.{RestoreLine}
+use Rattle.restores.specs.declared.choosing.Which.{Which}
+use Rattle.restores.specs.declared.process.Restored.{Restored}
+use Rattle.machine.specs.State.{Machine}
+use Rattle.command_steps.specs.Clients.{Client, Known, Turns}
+use Rattle.command_steps.specs.Trees.{which_of}
+use Rattle.command_steps.specs.declared.outcome.Outcome.{Outcome}
+use Rattle.command_steps.specs.declared.outcome.Outcome.TheVariants as came
+
+-- ---- what an incremental backup may do
+
+-- the versions of a filespace, by path; one that isn't there has none
+abbrev pub HasVersions : (node filespace : List ℕ) → Inv → List VersionLine → Type 0
+HasVersions node filespace v versions = (versions_of node filespace v ≡ Ok versions) ⊎ ((versions_of node filespace v ≡ Err NotFound) × (versions ≡ []))
+
+-- This is the plan of a tree's files over the database: by the rules of the node's classes, the include-exclude list and the day, of all files of the tree, which are these where it tells them, and of the
+-- active versions of the filespace.
+pub record IsPlan (choice : List Rule) (i : IncrementalBackup) (told : Option Files) (v : Inv) (plan : Lists) : Type 0 where
+  pub node : ℕ
+  pub rules : Rules
+  pub files : List FileRow
+  pub versions : List VersionLine
+  pub found : node_named i.node v.clients.nodes ≡ Some node
+  pub ruled : rules_of node v ≡ Ok rules
+  pub listed : IsListing told files
+  pub kept : HasVersions i.node i.filespace v versions
+  pub value : AreActive (actives versions) → plan ≡ plan_of (scheme rules choice v.today) files (actives versions)
+
+-- a file of the plan that is to be sent becomes a version of its path, under its class and with its time
+abbrev pub IsSent : Lists → NewVersion → Type 0
+IsSent plan item = (l : SendLine) × Contains plan.send l × (item.path ≡ l.file.path) × (item.class ≡ l.class) × (item.mtime ≡ l.file.mtime)
+
+-- files of the plan are stored, paths of the plan are bound anew, or versions of the plan are ended; or a filespace is defined
+abbrev pub IsOrdered : Lists → Change → Type 0
+IsOrdered plan c =
+    ((filespace : ℕ) × (scratch : List ScratchVolume) × (items : List NewVersion) × (c ≡ change.Backup (record { filespace = filespace; scratch = scratch; items = items })) × AllByRecursion (IsSent plan) items)
+    ⊎ ((filespace : ℕ) × (lines : List RebindLine) × (c ≡ change.Rebind (record { filespace = filespace; items = map rebound lines })) × AllByRecursion (λ l. Contains plan.rebind l) lines)
+    ⊎ ((filespace : ℕ) × (lines : List GoneLine) × (c ≡ change.Gone (record { filespace = filespace; items = map named lines })) × AllByRecursion (λ l. Contains plan.gone l) lines)
+    ⊎ ((node : ℕ) × (name : List ℕ) × (filespace : ℕ) × (c ≡ change.Object (client.Filespace two.Define node name filespace)))
+
+-- the backup of a tree that tells these files, over this database, may make this transaction
+abbrev pub IsOfBackup : List Rule → IncrementalBackup → (told : Option Files) → Inv → Change → Type 0
+IsOfBackup choice i told v c = (plan : Lists) × IsPlan choice i told v plan × IsOrdered plan c
+
+-- the backup of the tree that the command names may
+abbrev pub IsOfTree : Client → IncrementalBackup → Inv → Change → Type 0
+IsOfTree k i v c = (before : Known) × (after : Known) × Turns i.tree before after k × IsOfBackup k.choice i before.files v c
+
+-- each object whose number was drawn already has the bytes that it had
+abbrev pub KeepsBytes : (old new : Machine) → Type 0
+KeepsBytes old new = (object : ℕ) → object < old.core.next_object → new.contents object ≡ old.contents object
+
+-- ---- what a restore gives
+
+-- these of the filespace's versions are wanted
+abbrev pub IsChosen : FilesRestore → Inv → List RestoreLine → Type 0
+IsChosen r v lines = (which : Which) × (which_of r.wanted ≡ Ok which) × (versions : List VersionLine) × (versions_of r.node r.filespace v ≡ Ok versions) × (lines ≡ chosen which versions)
+
+-- Where a tree tells its files, each object that was restored stands at its path, of its size and with its digest and time, if no two are restored to one path.
+abbrev pub Stand : Restored → (old new : Option Files) → Type 0
+Stand x (Some old) (Some new) = AreApart x.lines → HaveFiles x.lines x.gave new
+Stand x old new = Unit {0}
+
+-- what is answered is said of each version that is wanted, and those that were restored stand in the tree
+abbrev pub GivesChosen : FilesRestore → Inv → (before after : Known) → Result Outcome Refusal → Type 0
+GivesChosen r v before after (Ok (came.Restored x)) = IsChosen r v x.lines × Stand x before.files after.files
+GivesChosen r v before after result = Unit {0}
