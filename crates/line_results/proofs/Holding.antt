@@ -52,7 +52,7 @@ use Rattle.line_results.specs.Commands.{Comes, Does, DoesOwn, EndsWith, IsReuse,
 use Rattle.line_results.specs.Files.{Checkpoints, Gets, GetsOf, GetsUnder, Puts, ShowsFound, active_at}
 use Rattle.line_results.specs.Lines.{Replies, Says}
 use Rattle.line_results.specs.Resting.{Commits, EndsRun, RoseFrom, database, why_not}
-use Rattle.line_results.proofs.Kinds.{IsPlainOwn, IsProcess, IsProcessOwn, IsRowless, kind, over-rowless}
+use Rattle.line_results.proofs.Processing.{IsPlainOwn, IsProcess, IsProcessOwn, IsRowless, kind, over-rowless}
 use Rattle.line_results.proofs.PutHeld.{IsMild, PutHeld, no-end, no-put, put-held}
 
 -- ---- answers

@@ -10,12 +10,12 @@ pub mod Followed
 pub mod Forced
 pub mod Got
 pub mod Holding
-pub mod Kinds
 pub mod Leaving
 pub mod Line
 pub mod Mild
 pub mod Needs
 pub mod Processed
+pub mod Processing
 pub mod PutHeld
 pub mod PutHomes
 pub mod PutIn
