@@ -45,7 +45,7 @@ use Rattle.line_results.proofs.Asked.{EndsBy, Looked, asked-step, last-of, looke
 use Rattle.line_results.proofs.Changed.{changes}
 use Rattle.line_results.proofs.Checkpointed.{checkpoints}
 use Rattle.line_results.proofs.Earlier.{works-since}
-use Rattle.line_results.proofs.Kinds.{IsPlainOwn, IsProcess, IsRowless, Kind, kind}
+use Rattle.line_results.proofs.Processing.{IsPlainOwn, IsProcess, IsRowless, Kind, kind}
 use Rattle.line_results.proofs.Leaving.{Left, left-of, rest-as, sizes-as, still-leaves}
 use Rattle.line_results.proofs.Mild.{is_common}
 use Rattle.line_results.proofs.Needs.{IsPlainWork, looks_up, needs-unlogged, own-asks, work-plain}

@@ -76,7 +76,7 @@ use Rattle.command_steps.specs.declared.outcome.Outcome.TheVariants.{Read, Rows,
 use Rattle.line_results.specs.Commands.{Comes, Does, DoesOn, DoesOwn, DoesThere, Works, answers_to, drawn, validated, work_over}
 use Rattle.line_results.specs.Files.{Checkpoints, Gets, GetsOf, GetsUnder, IsPlacedIn, Puts, PutsBy, PutsHome, PutsOf, PutsUnder, ShowsFound, Stores, StoresAt, StoresBy, active_at, backed_up, filespace_defined, why_no_place}
 use Rattle.line_results.specs.Resting.{Commits, EndsNoRun, EndsRun, database, why_not}
-use Rattle.line_results.proofs.Kinds.{IsPlainOwn, IsPlainTree, kind}
+use Rattle.line_results.proofs.Processing.{IsPlainOwn, IsPlainTree, kind}
 use Rattle.line_results.proofs.Mild.{IsMild, is_common, m-after, m-found, m-if, m-on, m-refused, mild-err}
 use Rattle.line_results.proofs.Needs.{IsPlainWork, work-plain}
 use Rattle.line_results.proofs.Runs.{ends-since}

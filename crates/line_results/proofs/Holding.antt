@@ -55,7 +55,7 @@ use Rattle.line_results.specs.Lines.{Replies, Says}
 use Rattle.line_results.specs.Resting.{Commits, EndsRun, RoseFrom, database, why_not}
 use Rattle.line_results.specs.Trees.{IsOfBackup, IsOfTree}
 use Rattle.line_results.proofs.Changing.{comes-trees}
-use Rattle.line_results.proofs.Kinds.{IsPlainOwn, IsPlainTree, IsProcess, IsProcessOwn, IsRowless, kind, over-rowless}
+use Rattle.line_results.proofs.Processing.{IsPlainOwn, IsPlainTree, IsProcess, IsProcessOwn, IsRowless, kind, over-rowless}
 use Rattle.line_results.proofs.PutHeld.{IsMild, PutHeld, no-end, no-put, put-held}
 
 -- ---- answers

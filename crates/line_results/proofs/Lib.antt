@@ -11,13 +11,13 @@ pub mod Followed
 pub mod Forced
 pub mod Got
 pub mod Holding
-pub mod Kinds
 pub mod Leaving
 pub mod Line
 pub mod Mild
 pub mod Needs
 pub mod Planned
 pub mod Processed
+pub mod Processing
 pub mod PutHeld
 pub mod PutHomes
 pub mod PutIn

@@ -72,7 +72,7 @@ use Rattle.line_results.specs.Trees.{IsOfBackup}
 use Rattle.reports.specs.declared.shown.Shown.TheVariants.{Copied, Reused}
 use Rattle.line_results.proofs.Changed.{changes}
 use Rattle.line_results.proofs.Copying.{AllCopy, Copies, IsCopy, MayJoin, copied-none, copies-walk, settled-free}
-use Rattle.line_results.proofs.Kinds.{IsProcess, IsProcessOwn, IsProcessTree, IsRowless}
+use Rattle.line_results.proofs.Processing.{IsProcess, IsProcessOwn, IsProcessTree, IsRowless}
 use Rattle.line_results.proofs.Leaving.{Left}
 use Rattle.line_results.proofs.Mild.{is_common}
 use Rattle.line_results.proofs.Needs.{IsPlainWork}

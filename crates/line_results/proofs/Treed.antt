@@ -12,7 +12,7 @@ use Rattle.command_steps.specs.Trees.{DoesOn as DoesOnBy, DoesThere as DoesThere
 use Rattle.command_steps.specs.declared.outcome.Outcome.{Outcome}
 use Rattle.line_results.specs.Commands.{DoesOn, DoesThere, is_stepless}
 use Rattle.line_results.specs.Resting.{IsAtRest}
-use Rattle.line_results.proofs.Kinds.{IsPlainTree}
+use Rattle.line_results.proofs.Processing.{IsPlainTree}
 use Rattle.line_results.proofs.Needs.{looks_up}
 use Rattle.line_results.proofs.Restoring.{restore-did, still-of}
 use Rattle.line_results.proofs.Runs.{Became, alone-none, became-same}
