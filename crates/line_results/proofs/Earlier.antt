@@ -17,6 +17,7 @@ use Rattle.admin_words.specs.declared.files.FileGet.{FileGet}
 use Rattle.admin_words.specs.declared.files.FilePut.{FilePut}
 use Rattle.admin_commands.specs.declared.work.Work.{Work}
 use Rattle.admin_commands.specs.declared.work.Work.TheVariants.{Commit, Show, Run}
+use Rattle.steps.specs.Events.{Event}
 use Rattle.machine.specs.Machine.{Places}
 use Rattle.machine.specs.Pieces.{IsCopyLost, IsLost, IsUnavailable, asked_copies}
 use Rattle.machine.specs.State.{Machine, Place}
@@ -24,9 +25,11 @@ use Rattle.sessions.specs.Homes.{home_of}
 use Rattle.sessions.specs.declared.getting.FileRead.{FileRead}
 use Rattle.sessions.specs.declared.homes.Home.{Home}
 use Rattle.command_steps.specs.Behind.{Behind, forces, no_more, reuses}
-use Rattle.command_steps.specs.Owns.{Own, back_up_pool, checkpoint, empty_filespace, empty_volume, expire, get, moves, none_but_reuse, none_yet, own_of, put, validate}
+use Rattle.command_steps.specs.Clients.{Client, Known}
+use Rattle.command_steps.specs.Owns.{OnTree, Own, back_up, back_up_pool, checkpoint, empty_filespace, empty_volume, erase, expire, get, moves, none_but_reuse, none_yet, on_tree, own_of, put, restore, validate, write}
+use Rattle.command_steps.specs.Trees.{BacksUp, GivesWanted}
 use Rattle.command_steps.specs.declared.outcome.Outcome.{Outcome}
-use Rattle.line_results.specs.Commands.{Does, DoesOwn, Processes, Tells, Works, WorksWith, drawn}
+use Rattle.line_results.specs.Commands.{Does, DoesOn, DoesOwn, DoesThere, EndsSo, IsStill, Processes, Ran, Tells, Works, WorksWith, drawn}
 use Rattle.line_results.specs.Files.{Gets, GetsNot, GetsOf, GetsUnder, Puts, PutsBy, PutsHome, PutsOf, PutsUnder, Shows, ShowsFound, Stores, StoresAt, StoresBy, active_at, why_no_place}
 use Rattle.line_results.specs.Resting.{Breaks, EndsRun, RoseFrom, database}
 use Rattle.line_results.proofs.Runs.{Became, is-as, onward-then, rose-from}
@@ -129,55 +132,75 @@ module _ (trusted : Type 0) (old mid new : Machine) (b : Became old.core old mid
 
 -- ---- work
 
-module _ (trusted : Type 0) (places : Places) (choice : List Rule) (result : Result Outcome Refusal) (added : List Entry) (old mid new : Machine) (b : Became old.core old mid) where
-  processes-as : (numbers : List ℕ) (own : Own) → Processes trusted places choice numbers own (later_of old mid) new result added → Processes trusted places choice numbers own old new result added
+module _ (trusted : Type 0) (places : Places) (k : Client) (result : Result Outcome Refusal) (added : List Entry) (old mid new : Machine) (b : Became old.core old mid) where
+  still-as : (end : Machine) → IsStill (later_of old mid) end → IsStill old end
+  still-as end still = record { core = still.core; contents = still.contents; onward = onward-then old (later_of old mid) end (on-later old mid b) still.onward }
+
+  processes-as : (numbers : List ℕ) (own : Own) → Processes trusted places k.choice numbers own (later_of old mid) new result added → Processes trusted places k.choice numbers own old new result added
   processes-as numbers own ((start, events, still, alone, did), are, image, bytes) = (
-    (start, events, record { core = still.core; contents = still.contents; onward = onward-then old (later_of old mid) start (on-later old mid b) still.onward }, alone, did),
+    (start, events, still-as start still, alone, did),
     are,
     image,
     bytes,
   )
 
-  own-as : (numbers : List ℕ) (own : Own) → DoesOwn trusted places choice numbers own (later_of old mid) new result added → DoesOwn trusted places choice numbers own old new result added
-  own-as numbers (validate set) h = tells-as _ result added old mid new b h
-  own-as numbers (put p) (answer, puts, is, image) = (answer, puts-as places choice p answer old mid new b added puts, is, image)
-  own-as numbers (get g) (answer, gets, is, none, image, bytes) = (answer, gets-as trusted old mid new b g answer gets, is, none, image, bytes)
-  own-as numbers checkpoint (answer, came, is, none, bytes) = (answer, came-as answer old mid new b came, is, none, bytes)
-  own-as numbers expire h = processes-as numbers expire h
-  own-as numbers empty_filespace h = processes-as numbers empty_filespace h
-  own-as numbers empty_volume h = processes-as numbers empty_volume h
-  own-as numbers back_up_pool h = processes-as numbers back_up_pool h
-  own-as numbers (moves mover) h = processes-as numbers (moves mover) h
-  own-as numbers none_but_reuse h = tells-as _ result added old mid new b h
-  own-as numbers none_yet h = tells-as _ result added old mid new b h
+  ran-as : (Did : List Event → Type 0) → Ran trusted places Did (later_of old mid) new → Ran trusted places Did old new
+  ran-as Did (start, events, still, alone, did) = (start, events, still-as start still, alone, did)
 
-  does-as : (c : Command) (w : Result Work Refusal) → Does trusted places choice c w (later_of old mid) new result added → Does trusted places choice c w old new result added
-  does-as c (Err why) h = tells-as (Err why) result added old mid new b h
-  does-as c (Ok (Commit what)) (answer, commits, is, image, bytes) = (answer, commits-as (drawn what old) answer added old mid new b commits, is, image, bytes)
-  does-as c (Ok (Show q)) h = tells-as _ result added old mid new b h
+  ends-so-as : EndsSo (later_of old mid) new result → EndsSo old new result
+  ends-so-as h e how is halts = ends-as old mid new e b (h e how is halts)
+
+  on-as : (work : OnTree) (before after : Known) → DoesOn trusted places k.choice work before after (later_of old mid) new result added → DoesOn trusted places k.choice work before after old new result added
+  on-as (write w) before after (did, still, none) = (did, still-as new still, none)
+  on-as (erase e) before after (did, still, none) = (did, still-as new still, none)
+  on-as (back_up i) before after (ran, are, image, bytes) = (ran-as (λ events. BacksUp k.choice i before after events result) ran, are, image, bytes)
+  on-as (restore r) before after (ran, gives, ends, still, none) = (ran-as (λ events. GivesWanted r before after events result) ran, gives, ends-so-as ends, still-as new still, none)
+
+  there-as : (work : OnTree) → DoesThere trusted places k work (later_of old mid) new result added → DoesThere trusted places k work old new result added
+  there-as work (inl (before, after, turns, did)) = inl (before, after, turns, on-as work before after did)
+  there-as work (inr (none, kept, is, still, same)) = inr (none, kept, is, still-as new still, same)
+
+  own-as : (numbers : List ℕ) (own : Own) → DoesOwn trusted places k numbers own (later_of old mid) new result added → DoesOwn trusted places k numbers own old new result added
+  own-as numbers (validate set) (kept, h) = (kept, tells-as _ result added old mid new b h)
+  own-as numbers (put p) (kept, (answer, puts, is, image)) = (kept, (answer, puts-as places k.choice p answer old mid new b added puts, is, image))
+  own-as numbers (get g) (kept, (answer, gets, is, none, image, bytes)) = (kept, (answer, gets-as trusted old mid new b g answer gets, is, none, image, bytes))
+  own-as numbers checkpoint (kept, (answer, came, is, none, bytes)) = (kept, (answer, came-as answer old mid new b came, is, none, bytes))
+  own-as numbers expire (kept, h) = (kept, processes-as numbers expire h)
+  own-as numbers empty_filespace (kept, h) = (kept, processes-as numbers empty_filespace h)
+  own-as numbers empty_volume (kept, h) = (kept, processes-as numbers empty_volume h)
+  own-as numbers back_up_pool (kept, h) = (kept, processes-as numbers back_up_pool h)
+  own-as numbers (moves mover) (kept, h) = (kept, processes-as numbers (moves mover) h)
+  own-as numbers none_but_reuse (kept, h) = (kept, tells-as _ result added old mid new b h)
+  own-as numbers (on_tree work) h = there-as work h
+  own-as numbers none_yet (kept, h) = (kept, tells-as _ result added old mid new b h)
+
+  does-as : (c : Command) (w : Result Work Refusal) → Does trusted places k c w (later_of old mid) new result added → Does trusted places k c w old new result added
+  does-as c (Err why) (kept, h) = (kept, tells-as (Err why) result added old mid new b h)
+  does-as c (Ok (Commit what)) (kept, answer, commits, is, image, bytes) = (kept, answer, commits-as (drawn what old) answer added old mid new b commits, is, image, bytes)
+  does-as c (Ok (Show q)) (kept, h) = (kept, tells-as _ result added old mid new b h)
   does-as c (Ok (Run numbers)) h = own-as numbers (own_of c) h
 
-module _ (trusted : Type 0) (places : Places) (choice : List Rule) (result : Result Outcome Refusal) (added : List Entry) (old mid new : Machine) (b : Became old.core old mid) where
-  with-as : (c : Command) (w : Result Work Refusal) (k : Behind) → WorksWith trusted places choice c w k (later_of old mid) new result added → WorksWith trusted places choice c w k old new result added
-  with-as c w k h = record {
+module _ (trusted : Type 0) (places : Places) (k : Client) (result : Result Outcome Refusal) (added : List Entry) (old mid new : Machine) (b : Became old.core old mid) where
+  with-as : (c : Command) (w : Result Work Refusal) (it : Behind) → WorksWith trusted places k c w it (later_of old mid) new result added → WorksWith trusted places k c w it old new result added
+  with-as c w it h = record {
     said = h.said;
     mid = h.mid;
     first = h.first;
     later = h.later;
     parts = h.parts;
     adds = record { base = h.adds.base; journal = h.adds.journal };
-    does = does-as trusted places choice h.said h.first old mid h.mid b c w h.does;
+    does = does-as trusted places k h.said h.first old mid h.mid b c w h.does;
     ends = h.ends;
     reused = h.reused;
     cause = λ e how is halts. ends-as old mid new e b (h.cause e how is halts);
   }
 
-  works-as : (c : Command) (w : Result Work Refusal) (k : Behind) → Works trusted places choice c w k (later_of old mid) new result added → Works trusted places choice c w k old new result added
-  works-as c w no_more h = does-as trusted places choice result added old mid new b c w h
-  works-as c (Err why) forces h = tells-as (Err why) result added old mid new b h
-  works-as c (Err why) reuses h = tells-as (Err why) result added old mid new b h
+  works-as : (c : Command) (w : Result Work Refusal) (it : Behind) → Works trusted places k c w it (later_of old mid) new result added → Works trusted places k c w it old new result added
+  works-as c w no_more h = does-as trusted places k result added old mid new b c w h
+  works-as c (Err why) forces (kept, h) = (kept, tells-as (Err why) result added old mid new b h)
+  works-as c (Err why) reuses (kept, h) = (kept, tells-as (Err why) result added old mid new b h)
   works-as c (Ok work) forces h = with-as c (Ok work) forces h
   works-as c (Ok work) reuses h = with-as c (Ok work) reuses h
 
-  pub works-since : (c : Command) (w : Result Work Refusal) (k : Behind) → Works trusted places choice c w k mid new result added → Works trusted places choice c w k old new result added
-  works-since c w k h = works-as c w k (subst (λ (m : Machine). Works trusted places choice c w k m new result added) (is-as old.core old mid b) h)
+  pub works-since : (c : Command) (w : Result Work Refusal) (it : Behind) → Works trusted places k c w it mid new result added → Works trusted places k c w it old new result added
+  works-since c w it h = works-as c w it (subst (λ (m : Machine). Works trusted places k c w it m new result added) (is-as old.core old mid b) h)

@@ -68,13 +68,15 @@ use Rattle.sessions.specs.declared.getting.FileRead.{FileRead}
 use Rattle.sessions.specs.declared.homes.Home.{Home}
 use Rattle.command_steps.specs.Answers.{halt_by}
 use Rattle.command_steps.specs.Behind.{Behind, behind, forces, no_more, reuses}
-use Rattle.command_steps.specs.Owns.{Own, checkpoint, get, last_of, none_yet, own_of, put, validate}
+use Rattle.command_steps.specs.Clients.{Client, Known}
+use Rattle.command_steps.specs.Owns.{OnTree, Own, back_up, checkpoint, erase, get, last_of, none_yet, on_tree, own_of, put, restore, validate, write}
+use Rattle.command_steps.specs.Writing.{Erases, Writes, bytes_of}
 use Rattle.command_steps.specs.declared.outcome.Outcome.{Outcome}
 use Rattle.command_steps.specs.declared.outcome.Outcome.TheVariants.{Read, Rows, Said}
-use Rattle.line_results.specs.Commands.{Comes, Does, DoesOwn, Works, answers_to, drawn, validated, work_over}
+use Rattle.line_results.specs.Commands.{Comes, Does, DoesOn, DoesOwn, DoesThere, Works, answers_to, drawn, validated, work_over}
 use Rattle.line_results.specs.Files.{Checkpoints, Gets, GetsOf, GetsUnder, IsPlacedIn, Puts, PutsBy, PutsHome, PutsOf, PutsUnder, ShowsFound, Stores, StoresAt, StoresBy, active_at, backed_up, filespace_defined, why_no_place}
 use Rattle.line_results.specs.Resting.{Commits, EndsNoRun, EndsRun, database, why_not}
-use Rattle.line_results.proofs.Kinds.{IsPlainOwn, kind}
+use Rattle.line_results.proofs.Kinds.{IsPlainOwn, IsPlainTree, kind}
 use Rattle.line_results.proofs.Mild.{IsMild, is_common, m-after, m-found, m-if, m-on, m-refused, mild-err}
 use Rattle.line_results.proofs.Needs.{IsPlainWork, work-plain}
 use Rattle.line_results.proofs.Runs.{ends-since}
@@ -140,7 +142,7 @@ m-rows-of query.Unretained v = tt
 m-rows-of query.Emptied v = tt
 m-rows-of query.LogBytes v = tt
 
-m-answered : (q : Query) (v : Inv) → IsMild (answered q v)
+pub m-answered : (q : Query) (v : Inv) → IsMild (answered q v)
 m-answered q v = m-on (λ it. record { n = v.number; today = v.today; rows = it }) (rows_of q v) (m-rows-of q v)
 
 m-then : {A B : Type 0} (r : Result A Refusal) (f : A → Result B Refusal) → IsMild r → ((x : A) → IsMild (f x)) → IsMild (r >>= f)
@@ -359,46 +361,68 @@ tells-end : (told : Result Outcome Refusal) (e : Refusal) (how : Halt) (old new 
 tells-end told e how old new mild (inl same) is = absurd (not-end e how (mild-err told e mild (sym same)) is)
 tells-end told e how old new mild (inr (f, same, ends)) is = subst (λ (x : Refusal). EndsRun old new x) (sym (ap outcome_error same)) ends
 
-module _ (trusted : Type 0) (places : Places) (goes_on : EndsNoRun places) (choice : List Rule) (e : Refusal) (how : Halt) (is : halt_by e ≡ Some how) (old new : Machine) (added : List Entry) where
-  own-ends : (own : Own) (numbers : List ℕ) → IsPlainOwn own → DoesOwn trusted places choice numbers own old new (Err e) added → EndsRun old new e
-  own-ends (validate set) numbers so h =
+-- work on a tree, behind which nothing comes
+module _ (trusted : Type 0) (places : Places) (k : Client) (e : Refusal) (how : Halt) (is : halt_by e ≡ Some how) (old new : Machine) (added : List Entry) where
+  -- a call on the tree failed
+  written-not : (answer : Result (Unit {0}) Refusal) (before after : Known) (path bytes : List ℕ) (mtime : ℕ) → Writes path bytes mtime before after answer → no_outcome e ≡ on_ok (λ done. Said Done) answer → ⊥
+  written-not (Ok done) before after path bytes mtime h same = absurd cc
+  written-not (Err x) before after path bytes mtime h same = not-end e how (ap halt_by (ap outcome_error same ∙ h.0)) is
+
+  erased-not : (answer : Result (Unit {0}) Refusal) (before after : Known) (path : List ℕ) → Erases path before after answer → no_outcome e ≡ on_ok (λ done. Said Done) answer → ⊥
+  erased-not (Ok done) before after path h same = absurd cc
+  erased-not (Err x) before after path h same = not-end e how (ap halt_by (ap outcome_error same ∙ h.0)) is
+
+  on-ends : (work : OnTree) (before after : Known) → IsPlainTree work → DoesOn trusted places k.choice work before after old new (Err e) added → EndsRun old new e
+  on-ends (write w) before after so ((answer, writes, same), still, none) = absurd (written-not answer before after w.path (bytes_of w.contents) w.mtime writes same)
+  on-ends (erase x) before after so ((answer, erases, same), still, none) = absurd (erased-not answer before after x.path erases same)
+  on-ends (back_up i) before after so h = absurd so
+  on-ends (restore r) before after so (ran, gives, ends, still, none) = ends e how refl is
+
+  there-ends : (work : OnTree) → IsPlainTree work → DoesThere trusted places k work old new (Err e) added → EndsRun old new e
+  there-ends work so (inl (before, after, turns, did)) = on-ends work before after so did
+  there-ends work so (inr (missing, kept, same, still, none)) = absurd (not-end e how (ap halt_by (ap outcome_error same)) is)
+
+module _ (trusted : Type 0) (places : Places) (goes_on : EndsNoRun places) (k : Client) (e : Refusal) (how : Halt) (is : halt_by e ≡ Some how) (old new : Machine) (added : List Entry) where
+  own-ends : (own : Own) (numbers : List ℕ) → IsPlainOwn own → DoesOwn trusted places k numbers own old new (Err e) added → EndsRun old new e
+  own-ends (validate set) numbers so (kept, h) =
       tells-end (on_ok (λ it. Said Done) (validated set (database old))) e how old new
       (m-on (λ it. Said Done) (validated set (database old)) (m-on (λ domains. tt {0}) (after (policy.Activate set.domain set.set) (database old).domains) (m-after (policy.Activate set.domain set.set) (database old).domains))) h.0 is
-  own-ends (put p) numbers so (answer, puts, same, image) =
+  own-ends (put p) numbers so (kept, (answer, puts, same, image)) =
       let r = on-err (λ object. Said (Stored object)) answer e (sym same) in
-      puts-end places goes_on choice p e how is old new added (subst (λ (x : Refusal). Puts places choice p old new (Err x) added) r.2 (subst (λ (x : Result ℕ Refusal). Puts places choice p old new x added) r.1 puts))
-  own-ends (get g) numbers so (answer, gets, same, none, image, bytes) =
+      puts-end places goes_on k.choice p e how is old new added (subst (λ (x : Refusal). Puts places k.choice p old new (Err x) added) r.2 (subst (λ (x : Result ℕ Refusal). Puts places k.choice p old new x added) r.1 puts))
+  own-ends (get g) numbers so (kept, (answer, gets, same, none, image, bytes)) =
       let r = on-err Read answer e (sym same) in
       gets-end trusted g e how is old new (subst (λ (x : Refusal). Gets trusted g old new (Err x)) r.2 (subst (λ (x : Result FileRead Refusal). Gets trusted g old new x) r.1 gets))
-  own-ends checkpoint numbers so (answer, came, same, none, bytes) =
+  own-ends checkpoint numbers so (kept, (answer, came, same, none, bytes)) =
       let r = on-err (λ seq. Said Done) answer e (sym same) in
       checkpoint-ends e how old new (subst (λ (x : Refusal). Checkpoints {A = ℕ} old new (Err x)) r.2 (subst (λ (x : Result ℕ Refusal). Checkpoints old new x) r.1 came)) is
-  own-ends none_yet numbers so h = tells-end (Err (refused.UnknownWord 1)) e how old new refl h.0 is
+  own-ends (on_tree work) numbers so h = there-ends trusted places k e how is old new added work so h
+  own-ends none_yet numbers so (kept, h) = tells-end (Err (refused.UnknownWord 1)) e how old new refl h.0 is
   own-ends own numbers so h = absurd so
 
-  does-end : (c : Command) (w : Result Work Refusal) → IsPlainOwn (own_of c) → IsMild w → IsCommonWork w → Does trusted places choice c w old new (Err e) added → EndsRun old new e
-  does-end c (Err why) so mild common h = tells-end (Err why) e how old new mild h.0 is
-  does-end c (Ok (Commit what)) so mild common (answer, commits, same, image, bytes) =
+  does-end : (c : Command) (w : Result Work Refusal) → IsPlainOwn (own_of c) → IsMild w → IsCommonWork w → Does trusted places k c w old new (Err e) added → EndsRun old new e
+  does-end c (Err why) so mild common (kept, h) = tells-end (Err why) e how old new mild h.0 is
+  does-end c (Ok (Commit what)) so mild common (kept, answer, commits, same, image, bytes) =
       let r = on-err (λ number. Said (last_of what)) answer e (sym same) in
       commits-end ℕ (drawn what old) e how old new added (filled-common old.core.next_file (database old) what common)
       (subst (λ (x : Refusal). Commits {A = ℕ} (drawn what old) old new (Err x) added) r.2 (subst (λ (x : Result ℕ Refusal). Commits (drawn what old) old new x added) r.1 commits)) is
-  does-end c (Ok (Show q)) so mild common h = tells-end (on_ok Rows (answered q (database old))) e how old new (m-on Rows (answered q (database old)) (m-answered q (database old))) h.0 is
+  does-end c (Ok (Show q)) so mild common (kept, h) = tells-end (on_ok Rows (answered q (database old))) e how old new (m-on Rows (answered q (database old)) (m-answered q (database old))) h.0 is
   does-end c (Ok (Run numbers)) so mild common h = own-ends (own_of c) numbers so h
 
   -- of a process it says so itself
-  process-end : (c : Command) (w : Result Work Refusal) (b : Behind) → (b ≡ no_more → ⊥) → IsMild w → Works trusted places choice c w b old new (Err e) added → EndsRun old new e
+  process-end : (c : Command) (w : Result Work Refusal) (b : Behind) → (b ≡ no_more → ⊥) → IsMild w → Works trusted places k c w b old new (Err e) added → EndsRun old new e
   process-end c w no_more some mild h = absurd (some refl)
-  process-end c (Err why) forces some mild h = tells-end (Err why) e how old new mild h.0 is
-  process-end c (Err why) reuses some mild h = tells-end (Err why) e how old new mild h.0 is
+  process-end c (Err why) forces some mild (kept, h) = tells-end (Err why) e how old new mild h.0 is
+  process-end c (Err why) reuses some mild (kept, h) = tells-end (Err why) e how old new mild h.0 is
   process-end c (Ok work) forces some mild h = h.cause e how refl is
   process-end c (Ok work) reuses some mild h = h.cause e how refl is
 
-  work-end : (c : Command) (w : Result Work Refusal) → IsMild w → IsCommonWork w → Works trusted places choice c w (behind c) old new (Err e) added → EndsRun old new e
+  work-end : (c : Command) (w : Result Work Refusal) → IsMild w → IsCommonWork w → Works trusted places k c w (behind c) old new (Err e) added → EndsRun old new e
   work-end c w mild common h = elim (kind c) as (λ _. EndsRun old new e) [
-    | inl it ↦ does-end c w it.1 mild common (subst (λ (b : Behind). Works trusted places choice c w b old new (Err e) added) it.0 h)
+    | inl it ↦ does-end c w it.1 mild common (subst (λ (b : Behind). Works trusted places k c w b old new (Err e) added) it.0 h)
     | inr it ↦ process-end c w (behind c) it.some mild h
   ]
 
-  pub comes-end : (c : Command) → Comes trusted places choice c old new (Err e) added → EndsRun old new e
-  comes-end c (inl (f, same, ends, none, image, bytes), full) = subst (λ (x : Refusal). EndsRun old new x) (sym (ap outcome_error same)) ends
+  pub comes-end : (c : Command) → Comes trusted places k c old new (Err e) added → EndsRun old new e
+  comes-end c (inl (kept, f, same, ends, none, image, bytes), full) = subst (λ (x : Refusal). EndsRun old new x) (sym (ap outcome_error same)) ends
   comes-end c (inr does, full) = work-end c (work_over c (database old)) (m-work c (database old)) (c-work c (database old)) does

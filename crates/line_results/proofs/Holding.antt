@@ -6,7 +6,6 @@ use Rattle.std.specs.List.{AllByRecursion, list_all}
 use Rattle.kinds.specs.declared.refusal.Refusal.{Refusal}
 use Rattle.kinds.specs.declared.refusal.Refusal.TheVariants as refused
 use Rattle.kinds.specs.declared.segment.Segment.{Segment}
-use Rattle.choosers.specs.declared.rule.Rule.{Rule}
 use Rattle.kinds.specs.declared.change.PoolChange.TheVariants as store
 use Rattle.kinds.specs.declared.change.Verb.TheVariants as verb
 use Rattle.entries.specs.declared.change.Change.{Change}
@@ -27,6 +26,7 @@ use Rattle.placing.specs.Placing.{active_of, active_version, can_read, is_readab
 use Rattle.admin_words.specs.declared.command.Command.{Command}
 use Rattle.admin_words.specs.declared.files.FileGet.{FileGet}
 use Rattle.admin_words.specs.declared.files.FilePut.{FilePut}
+use Rattle.admin_words.specs.declared.files.IncrementalBackup.{IncrementalBackup}
 use Rattle.admin_words.specs.declared.policy.NamedSet.{NamedSet}
 use Rattle.admin_commands.specs.declared.work.Work.{Work}
 use Rattle.admin_commands.specs.declared.work.Work.TheVariants.{Commit, Show, Run}
@@ -41,18 +41,21 @@ use Rattle.machine.specs.Pieces.{IsCopyLost, IsUnavailable}
 use Rattle.machine.specs.State.{Machine}
 use Rattle.sessions.specs.declared.getting.FileRead.{FileRead}
 use Rattle.command_steps.specs.Answers.{Ends, answer_of, counting, done, failed_in, halt_by, outcome_lines, refusal, row_lines}
+use Rattle.command_steps.specs.Clients.{Client, IsKept, Known, Turns}
 use Rattle.command_steps.specs.Lines.{Line, asks, comment, refused as refused_line}
 use Rattle.command_steps.specs.Behind.{Behind, behind, forces, no_more, reuses}
 use Rattle.command_steps.specs.Doing.{Forcing, Reusing, within_run}
-use Rattle.command_steps.specs.Owns.{Own, back_up_pool, checkpoint, empty_filespace, empty_volume, expire, get, last_of, moves, none_but_reuse, none_yet, own_of, put, validate}
+use Rattle.command_steps.specs.Owns.{OnTree, Own, back_up, back_up_pool, checkpoint, empty_filespace, empty_volume, erase, expire, get, last_of, moves, none_but_reuse, none_yet, on_tree, own_of, put, restore, validate, write}
 use Rattle.command_steps.specs.declared.outcome.Outcome.{Outcome}
 use Rattle.command_steps.specs.declared.outcome.Outcome.TheVariants.{Read, Rows, Said}
 use Rattle.line_results.specs.Clauses.{BytesBy, BytesOwn, CauseBy, CauseOwn, CauseWith, DidBy, DidWith, Holds, IsRefusedBehind, IsRows, ItemsBy, ItemsOf, ItemsOwn, MayBy, MayGet, MayOwn, OrderedBy, OrderedWith, RowsBy, orders}
-use Rattle.line_results.specs.Commands.{Comes, Does, DoesOwn, EndsWith, IsReuse, Tells, Works, WorksWith, drawn, validated, work_over}
+use Rattle.line_results.specs.Commands.{Comes, Does, DoesOwn, DoesThere, EndsWith, IsReuse, Tells, Works, WorksWith, drawn, validated, work_over}
 use Rattle.line_results.specs.Files.{Checkpoints, Gets, GetsOf, GetsUnder, Puts, ShowsFound, active_at}
 use Rattle.line_results.specs.Lines.{Replies, Says}
 use Rattle.line_results.specs.Resting.{Commits, EndsRun, RoseFrom, database, why_not}
-use Rattle.line_results.proofs.Kinds.{IsPlainOwn, IsProcess, IsProcessOwn, IsRowless, kind, over-rowless}
+use Rattle.line_results.specs.Trees.{IsOfBackup, IsOfTree}
+use Rattle.line_results.proofs.Changing.{comes-trees}
+use Rattle.line_results.proofs.Kinds.{IsPlainOwn, IsPlainTree, IsProcess, IsProcessOwn, IsRowless, kind, over-rowless}
 use Rattle.line_results.proofs.PutHeld.{IsMild, PutHeld, no-end, no-put, put-held}
 
 -- ---- answers
@@ -88,23 +91,23 @@ zero-one : (k : ℕ) → k ≡ 0 → k ≡ 1 → ⊥
 zero-one k a b = omega (arith, a, b)
 
 -- what holds of a command that asks for this work
-pub record HeldBy (trusted : Type 0) (places : Places) (choice : List Rule) (n : ℕ) (own : Own) (w : Result Work Refusal) (old mid : Machine) (answer : Answer) (added : List Entry) : Type 0 where
-  pub journal : AllByRecursion (λ e. (e.actor ≡ 0) × OrderedBy own w old e.change) added
+pub record HeldBy (trusted : Type 0) (places : Places) (k : Client) (n : ℕ) (own : Own) (w : Result Work Refusal) (old mid : Machine) (answer : Answer) (added : List Entry) : Type 0 where
+  pub journal : AllByRecursion (λ e. (e.actor ≡ 0) × OrderedBy k own w old e.change) added
   pub queries : RowsBy n (database old) w answer
   pub bytes : BytesBy trusted n own w old mid answer
   pub items : AllByRecursion (λ e. ItemsBy own w mid e.change) added
-  pub causes : answer.tally.refused ≡ 1 → (why : Refusal) × (answer ≡ refusal n why) × CauseBy trusted places choice own w old mid why added
-  pub done : answer.tally.refused ≡ 0 → DidBy n own w old mid answer added
-  pub complete : ((file : ℕ) → RoseFrom old mid file → ⊥) → MayBy places choice own w old → answer.tally.refused ≡ 0
+  pub causes : answer.tally.refused ≡ 1 → (why : Refusal) × (answer ≡ refusal n why) × CauseBy trusted places k own w old mid why added
+  pub done : answer.tally.refused ≡ 0 → DidBy trusted places k n own w old mid answer added
+  pub complete : ((file : ℕ) → RoseFrom old mid file → ⊥) → MayBy places k own w old → answer.tally.refused ≡ 0
 
 no-entries : (P : Entry → Type 0) (added : List Entry) → added ≡ [] → AllByRecursion P added
 no-entries P added none = subst (λ (l : List Entry). AllByRecursion P l) (sym none) tt
 
-module _ (trusted : Type 0) (places : Places) (choice : List Rule) (n : ℕ) (old mid : Machine) (answer : Answer) (added : List Entry) where
+module _ (trusted : Type 0) (places : Places) (k : Client) (n : ℕ) (old mid : Machine) (answer : Answer) (added : List Entry) where
   -- it was refused
-  as-refused : (own : Own) (w : Result Work Refusal) (e : Refusal) → answer ≡ refusal n e → AllByRecursion (λ x. (x.actor ≡ 0) × OrderedBy own w old x.change) added → RowsBy n (database old) w answer
-      → BytesBy trusted n own w old mid answer → AllByRecursion (λ x. ItemsBy own w mid x.change) added → CauseBy trusted places choice own w old mid e added
-      → (((file : ℕ) → RoseFrom old mid file → ⊥) → MayBy places choice own w old → ⊥) → HeldBy trusted places choice n own w old mid answer added
+  as-refused : (own : Own) (w : Result Work Refusal) (e : Refusal) → answer ≡ refusal n e → AllByRecursion (λ x. (x.actor ≡ 0) × OrderedBy k own w old x.change) added → RowsBy n (database old) w answer
+      → BytesBy trusted n own w old mid answer → AllByRecursion (λ x. ItemsBy own w mid x.change) added → CauseBy trusted places k own w old mid e added
+      → (((file : ℕ) → RoseFrom old mid file → ⊥) → MayBy places k own w old → ⊥) → HeldBy trusted places k n own w old mid answer added
   as-refused own w e is journal rows bytes items cause never = record {
     journal = journal;
     queries = rows;
@@ -116,8 +119,8 @@ module _ (trusted : Type 0) (places : Places) (choice : List Rule) (n : ℕ) (ol
   }
 
   -- it was done
-  as-done : (own : Own) (w : Result Work Refusal) (text : List ℕ) → answer ≡ done text → AllByRecursion (λ x. (x.actor ≡ 0) × OrderedBy own w old x.change) added → RowsBy n (database old) w answer
-      → BytesBy trusted n own w old mid answer → AllByRecursion (λ x. ItemsBy own w mid x.change) added → DidBy n own w old mid answer added → HeldBy trusted places choice n own w old mid answer added
+  as-done : (own : Own) (w : Result Work Refusal) (text : List ℕ) → answer ≡ done text → AllByRecursion (λ x. (x.actor ≡ 0) × OrderedBy k own w old x.change) added → RowsBy n (database old) w answer
+      → BytesBy trusted n own w old mid answer → AllByRecursion (λ x. ItemsBy own w mid x.change) added → DidBy trusted places k n own w old mid answer added → HeldBy trusted places k n own w old mid answer added
   as-done own w text is journal rows bytes items did = record {
     journal = journal;
     queries = rows;
@@ -137,34 +140,34 @@ answer-none : (r : Result rows.Answer Refusal) (a : rows.Answer) (e : Refusal) �
 answer-none (Ok x) a e h k = cc
 answer-none (Err f) a e h k = cc
 
-module _ (trusted : Type 0) (places : Places) (choice : List Rule) (n : ℕ) (own : Own) (old mid : Machine) (answer : Answer) (added : List Entry) where
+module _ (trusted : Type 0) (places : Places) (k : Client) (n : ℕ) (own : Own) (old mid : Machine) (answer : Answer) (added : List Entry) where
   commit-held : (what : Change) (r : Result ℕ Refusal) → Commits (drawn what old) old mid r added → IsShown n (on_ok (λ number. Said (last_of what)) r) answer
-      → HeldBy trusted places choice n own (Ok (Commit what)) old mid answer added
+      → HeldBy trusted places k n own (Ok (Commit what)) old mid answer added
   commit-held what (Ok number) (legal, is) shown =
-      as-done trusted places choice n old mid answer added own (Ok (Commit what)) (shown_line n (last_of what)) (last-shown n what answer shown)
+      as-done trusted places k n old mid answer added own (Ok (Commit what)) (shown_line n (last_of what)) (last-shown n what answer shown)
       (subst (λ (l : List Entry). AllByRecursion (λ x. (x.actor ≡ 0) × (x.change ≡ drawn what old)) l) (sym is) ((refl, refl), tt)) tt tt
       (subst (λ (l : List Entry). AllByRecursion (λ x. ItemsBy own (Ok (Commit what)) mid x.change) l) (sym is) (tt, tt)) (is, last-shown n what answer shown)
   commit-held what (Err e) (inl (why, none)) shown =
-      as-refused trusted places choice n old mid answer added own (Ok (Commit what)) e shown.1 (no-entries (λ x. (x.actor ≡ 0) × OrderedBy own (Ok (Commit what)) old x.change) added none) tt tt
+      as-refused trusted places k n old mid answer added own (Ok (Commit what)) e shown.1 (no-entries (λ x. (x.actor ≡ 0) × OrderedBy k own (Ok (Commit what)) old x.change) added none) tt tt
       (no-entries (λ x. ItemsBy own (Ok (Commit what)) mid x.change) added none) why (λ rose may. work-none (why_not (drawn what old) old.core) e may why)
   commit-held what (Err e) (inr (ends, h)) shown = absurd (no-end e old mid ends shown.0)
 
   -- ---- a query
 
-  show-held : (q : Query) (r : Result rows.Answer Refusal) → answered q (database old) ≡ r → added ≡ [] → IsShown n (on_ok Rows r) answer → HeldBy trusted places choice n own (Ok (Show q)) old mid answer added
+  show-held : (q : Query) (r : Result rows.Answer Refusal) → answered q (database old) ≡ r → added ≡ [] → IsShown n (on_ok Rows r) answer → HeldBy trusted places k n own (Ok (Show q)) old mid answer added
   show-held q (Ok a) is none shown =
-      as-done trusted places choice n old mid answer added own (Ok (Show q)) (row_lines n a) shown (no-entries (λ x. (x.actor ≡ 0) × OrderedBy own (Ok (Show q)) old x.change) added none)
+      as-done trusted places k n old mid answer added own (Ok (Show q)) (row_lines n a) shown (no-entries (λ x. (x.actor ≡ 0) × OrderedBy k own (Ok (Show q)) old x.change) added none)
       (subst (λ (x : Result rows.Answer Refusal). IsRows n x answer) (sym is) shown) tt (no-entries (λ x. ItemsBy own (Ok (Show q)) mid x.change) added none) none
   show-held q (Err e) is none shown =
-      as-refused trusted places choice n old mid answer added own (Ok (Show q)) e shown.1 (no-entries (λ x. (x.actor ≡ 0) × OrderedBy own (Ok (Show q)) old x.change) added none)
+      as-refused trusted places k n old mid answer added own (Ok (Show q)) e shown.1 (no-entries (λ x. (x.actor ≡ 0) × OrderedBy k own (Ok (Show q)) old x.change) added none)
       (subst (λ (x : Result rows.Answer Refusal). IsRows n x answer) (sym is) shown.1) tt (no-entries (λ x. ItemsBy own (Ok (Show q)) mid x.change) added none) is
       (λ rose may. answer-none (answered q (database old)) may.0 e may.1 is)
 
   -- ---- a refusal before any work
 
-  given-held : (given : Refusal) → added ≡ [] → answer ≡ refusal n given → HeldBy trusted places choice n own (Err given) old mid answer added
+  given-held : (given : Refusal) → added ≡ [] → answer ≡ refusal n given → HeldBy trusted places k n own (Err given) old mid answer added
   given-held given none is =
-      as-refused trusted places choice n old mid answer added own (Err given) given is (no-entries (λ x. (x.actor ≡ 0) × OrderedBy own (Err given) old x.change) added none) tt tt
+      as-refused trusted places k n old mid answer added own (Err given) given is (no-entries (λ x. (x.actor ≡ 0) × OrderedBy k own (Err given) old x.change) added none) tt tt
       (no-entries (λ x. ItemsBy own (Err given) mid x.change) added none) refl (λ rose may. may)
 
 -- ---- a file that may be read
@@ -242,41 +245,41 @@ no_number e = Err e
 number-same : (e f : Refusal) → no_number e ≡ no_number f → e ≡ f
 number-same e f h = ap number_error h
 
-module _ (trusted : Type 0) (places : Places) (choice : List Rule) (n : ℕ) (numbers : List ℕ) (old mid : Machine) (answer : Answer) (added : List Entry) where
-  refused-own : (own : Own) (e : Refusal) → answer ≡ refusal n e → added ≡ [] → BytesBy trusted n own (Ok (Run numbers)) old mid answer → CauseOwn trusted places choice own old mid e added
-      → (((file : ℕ) → RoseFrom old mid file → ⊥) → MayOwn places choice own old → ⊥) → HeldBy trusted places choice n own (Ok (Run numbers)) old mid answer added
+module _ (trusted : Type 0) (places : Places) (k : Client) (n : ℕ) (numbers : List ℕ) (old mid : Machine) (answer : Answer) (added : List Entry) where
+  refused-own : (own : Own) (e : Refusal) → answer ≡ refusal n e → added ≡ [] → BytesBy trusted n own (Ok (Run numbers)) old mid answer → CauseOwn trusted places k own old mid e added
+      → (((file : ℕ) → RoseFrom old mid file → ⊥) → MayOwn places k own old → ⊥) → HeldBy trusted places k n own (Ok (Run numbers)) old mid answer added
   refused-own own e is none bytes cause never =
-      as-refused trusted places choice n old mid answer added own (Ok (Run numbers)) e is (no-entries (λ x. (x.actor ≡ 0) × OrderedBy own (Ok (Run numbers)) old x.change) added none) tt bytes
+      as-refused trusted places k n old mid answer added own (Ok (Run numbers)) e is (no-entries (λ x. (x.actor ≡ 0) × OrderedBy k own (Ok (Run numbers)) old x.change) added none) tt bytes
       (no-entries (λ x. ItemsBy own (Ok (Run numbers)) mid x.change) added none) cause never
 
-  done-own : (own : Own) (text : List ℕ) → answer ≡ done text → added ≡ [] → BytesBy trusted n own (Ok (Run numbers)) old mid answer → DidBy n own (Ok (Run numbers)) old mid answer added
-      → HeldBy trusted places choice n own (Ok (Run numbers)) old mid answer added
+  done-own : (own : Own) (text : List ℕ) → answer ≡ done text → added ≡ [] → BytesBy trusted n own (Ok (Run numbers)) old mid answer → DidBy trusted places k n own (Ok (Run numbers)) old mid answer added
+      → HeldBy trusted places k n own (Ok (Run numbers)) old mid answer added
   done-own own text is none bytes did =
-      as-done trusted places choice n old mid answer added own (Ok (Run numbers)) text is (no-entries (λ x. (x.actor ≡ 0) × OrderedBy own (Ok (Run numbers)) old x.change) added none) tt bytes
+      as-done trusted places k n old mid answer added own (Ok (Run numbers)) text is (no-entries (λ x. (x.actor ≡ 0) × OrderedBy k own (Ok (Run numbers)) old x.change) added none) tt bytes
       (no-entries (λ x. ItemsBy own (Ok (Run numbers)) mid x.change) added none) did
 
   validate-held : (set : NamedSet) (r : Result (Unit {0}) Refusal) → validated set (database old) ≡ r → added ≡ [] → IsShown n (on_ok (λ it. Said Done) r) answer
-      → HeldBy trusted places choice n (validate set) (Ok (Run numbers)) old mid answer added
+      → HeldBy trusted places k n (validate set) (Ok (Run numbers)) old mid answer added
   validate-held set (Ok it) is none shown = done-own (validate set) (shown_line n Done) shown none tt (is, none)
   validate-held set (Err e) is none shown = refused-own (validate set) e shown.1 none tt is (λ rose may. unit-none (validated set (database old)) e may is)
 
-  get-held : (g : FileGet) (r : Result FileRead Refusal) → Gets trusted g old mid r → added ≡ [] → IsShown n (on_ok Read r) answer → HeldBy trusted places choice n (get g) (Ok (Run numbers)) old mid answer added
+  get-held : (g : FileGet) (r : Result FileRead Refusal) → Gets trusted g old mid r → added ≡ [] → IsShown n (on_ok Read r) answer → HeldBy trusted places k n (get g) (Ok (Run numbers)) old mid answer added
   get-held g (Ok file) gets none shown = done-own (get g) (outcome_lines n (Read file)) shown none (inl (file, gets, shown)) none
   get-held g (Err e) gets none shown = refused-own (get g) e shown.1 none (inr (e, gets, shown.1)) gets (λ rose may. no-get trusted g e old mid shown.0 rose may gets)
 
-  checkpoint-held : (r : Result ℕ Refusal) → Checkpoints old mid r → added ≡ [] → IsShown n (on_ok (λ seq. Said Done) r) answer → HeldBy trusted places choice n checkpoint (Ok (Run numbers)) old mid answer added
+  checkpoint-held : (r : Result ℕ Refusal) → Checkpoints old mid r → added ≡ [] → IsShown n (on_ok (λ seq. Said Done) r) answer → HeldBy trusted places k n checkpoint (Ok (Run numbers)) old mid answer added
   checkpoint-held (Ok seq) came none shown = done-own checkpoint (shown_line n Done) shown none tt (came.0, none)
   checkpoint-held (Err e) (inl full) none shown = refused-own checkpoint e shown.1 none tt full (λ rose may. (let most : 2 ^ 62 ≤ old.core.generation + 1 = full.1 in let less : old.core.generation + 1 < 2 ^ 62 = may in omega (arith, most, less)))
   checkpoint-held (Err e) (inr ends) none shown = absurd (no-end e old mid ends shown.0)
 
-  put-by : (p : FilePut) (r : Result ℕ Refusal) → Puts places choice p old mid r added → PutHeld p r mid added → IsMild r → IsShown n (on_ok (λ object. Said (Stored object)) r) answer
-      → HeldBy trusted places choice n (put p) (Ok (Run numbers)) old mid answer added
+  put-by : (p : FilePut) (r : Result ℕ Refusal) → Puts places k.choice p old mid r added → PutHeld p r mid added → IsMild r → IsShown n (on_ok (λ object. Said (Stored object)) r) answer
+      → HeldBy trusted places k n (put p) (Ok (Run numbers)) old mid answer added
   put-by p (Ok object) puts h mild shown =
       let d = h.done object refl in
-      as-done trusted places choice n old mid answer added (put p) (Ok (Run numbers)) (shown_line n (Stored object)) shown h.journal tt tt h.items
+      as-done trusted places k n old mid answer added (put p) (Ok (Run numbers)) (shown_line n (Stored object)) shown h.journal tt tt h.items
       (d.0, d.1, d.2, d.3, d.4, d.5, subst (λ (k : ℕ). answer ≡ done (shown_line n (Stored k))) d.6 shown)
   put-by p (Err e) puts h mild shown =
-      as-refused trusted places choice n old mid answer added (put p) (Ok (Run numbers)) e shown.1 h.journal tt tt h.items puts (λ rose may. no-put places choice p (Err e) e old mid added mild rose may refl puts)
+      as-refused trusted places k n old mid answer added (put p) (Ok (Run numbers)) e shown.1 h.journal tt tt h.items puts (λ rose may. no-put places k.choice p (Err e) e old mid added mild rose may refl puts)
 
   mild-shown : (r : Result ℕ Refusal) → IsShown n (on_ok (λ object. Said (Stored object)) r) answer → (e : Refusal) → r ≡ Err e → halt_by e ≡ None
   mild-shown (Ok object) shown e is = absurd cc
@@ -289,50 +292,77 @@ told-as n old mid answer told said shown (inr (e, is, ends)) =
     let by : IsShown n (Err e) answer = subst (λ (r : Result Outcome Refusal). IsShown n r answer) is shown in
     absurd (no-end e old mid ends by.0)
 
-module _ (trusted : Type 0) (places : Places) (choice : List Rule) (n : ℕ) (old mid : Machine) (answer : Answer) (added : List Entry) where
-  own-held : (own : Own) (numbers : List ℕ) (said : Result Outcome Refusal) → IsPlainOwn own → DoesOwn trusted places choice numbers own old mid said added → IsShown n said answer
-      → HeldBy trusted places choice n own (Ok (Run numbers)) old mid answer added
-  own-held (validate set) numbers said so h shown =
+module _ (trusted : Type 0) (places : Places) (k : Client) (n : ℕ) (old mid : Machine) (answer : Answer) (added : List Entry) where
+  -- work on a tree, behind which nothing comes, makes no transaction
+  tree-quiet : (work : OnTree) (said : Result Outcome Refusal) → IsPlainTree work → DoesThere trusted places k work old mid said added → added ≡ []
+  tree-quiet (write w) said so (inl (before, after, turns, (did, still, none))) = none
+  tree-quiet (erase e) said so (inl (before, after, turns, (did, still, none))) = none
+  tree-quiet (back_up i) said so h = absurd so
+  tree-quiet (restore r) said so (inl (before, after, turns, (ran, gives, ends, still, none))) = none
+  tree-quiet work said so (inr (missing, kept, is, still, none)) = none
+
+  tree-held : (work : OnTree) (numbers : List ℕ) (said : Result Outcome Refusal) → IsPlainTree work → DoesThere trusted places k work old mid said added → IsShown n said answer
+      → HeldBy trusted places k n (on_tree work) (Ok (Run numbers)) old mid answer added
+  tree-held work numbers (Ok it) so h shown =
+      let none : added ≡ [] = tree-quiet work (Ok it) so h in
+      record {
+        journal = no-entries (λ x. (x.actor ≡ 0) × OrderedBy k (on_tree work) (Ok (Run numbers)) old x.change) added none;
+        queries = tt;
+        bytes = tt;
+        items = no-entries (λ x. ItemsBy (on_tree work) (Ok (Run numbers)) mid x.change) added none;
+        causes = λ one. absurd (zero-one answer.tally.refused (came-refused n it answer shown) one);
+        done = λ zero. (it, shown, h);
+        complete = λ rose may. came-refused n it answer shown;
+      }
+  tree-held work numbers (Err e) so h shown =
+      as-refused trusted places k n old mid answer added (on_tree work) (Ok (Run numbers)) e shown.1
+      (no-entries (λ x. (x.actor ≡ 0) × OrderedBy k (on_tree work) (Ok (Run numbers)) old x.change) added (tree-quiet work (Err e) so h)) tt tt
+      (no-entries (λ x. ItemsBy (on_tree work) (Ok (Run numbers)) mid x.change) added (tree-quiet work (Err e) so h)) h (λ rose may. may)
+
+  own-held : (own : Own) (numbers : List ℕ) (said : Result Outcome Refusal) → IsPlainOwn own → DoesOwn trusted places k numbers own old mid said added → IsShown n said answer
+      → HeldBy trusted places k n own (Ok (Run numbers)) old mid answer added
+  own-held (validate set) numbers said so (kept, h) shown =
       let is = told-as n old mid answer (on_ok (λ it. Said Done) (validated set (database old))) said shown h.0 in
-      validate-held trusted places choice n numbers old mid answer added set (validated set (database old)) refl h.1 (subst (λ (r : Result Outcome Refusal). IsShown n r answer) is shown)
-  own-held (put p) numbers said so (r, puts, is, image) shown =
+      validate-held trusted places k n numbers old mid answer added set (validated set (database old)) refl h.1 (subst (λ (r : Result Outcome Refusal). IsShown n r answer) is shown)
+  own-held (put p) numbers said so (kept, (r, puts, is, image)) shown =
       let by = subst (λ (x : Result Outcome Refusal). IsShown n x answer) is shown in
-      let mild = mild-shown trusted places choice n numbers old mid answer added r by in
-      put-by trusted places choice n numbers old mid answer added p r puts (put-held places choice p r old mid added mild puts) mild by
-  own-held (get g) numbers said so (r, gets, is, none, image, bytes) shown =
-      get-held trusted places choice n numbers old mid answer added g r gets none (subst (λ (x : Result Outcome Refusal). IsShown n x answer) is shown)
-  own-held checkpoint numbers said so (r, came, is, none, bytes) shown =
-      checkpoint-held trusted places choice n numbers old mid answer added r came none (subst (λ (x : Result Outcome Refusal). IsShown n x answer) is shown)
-  own-held none_yet numbers said so h shown =
+      let mild = mild-shown trusted places k n numbers old mid answer added r by in
+      put-by trusted places k n numbers old mid answer added p r puts (put-held places k.choice p r old mid added mild puts) mild by
+  own-held (get g) numbers said so (kept, (r, gets, is, none, image, bytes)) shown =
+      get-held trusted places k n numbers old mid answer added g r gets none (subst (λ (x : Result Outcome Refusal). IsShown n x answer) is shown)
+  own-held checkpoint numbers said so (kept, (r, came, is, none, bytes)) shown =
+      checkpoint-held trusted places k n numbers old mid answer added r came none (subst (λ (x : Result Outcome Refusal). IsShown n x answer) is shown)
+  own-held (on_tree work) numbers said so h shown = tree-held work numbers said so h shown
+  own-held none_yet numbers said so (kept, h) shown =
       let is = told-as n old mid answer (Err (refused.UnknownWord 1)) said shown h.0 in
       let by : IsShown n (Err (refused.UnknownWord 1)) answer = subst (λ (r : Result Outcome Refusal). IsShown n r answer) is shown in
-      refused-own trusted places choice n numbers old mid answer added none_yet (refused.UnknownWord 1) by.1 h.1 tt refl (λ rose may. may)
+      refused-own trusted places k n numbers old mid answer added none_yet (refused.UnknownWord 1) by.1 h.1 tt refl (λ rose may. may)
   own-held own numbers said so h shown = absurd so
 
-  does-held : (c : Command) (w : Result Work Refusal) (said : Result Outcome Refusal) → IsPlainOwn (own_of c) → Does trusted places choice c w old mid said added → IsShown n said answer
-      → HeldBy trusted places choice n (own_of c) w old mid answer added
-  does-held c (Err given) said so h shown =
+  does-held : (c : Command) (w : Result Work Refusal) (said : Result Outcome Refusal) → IsPlainOwn (own_of c) → Does trusted places k c w old mid said added → IsShown n said answer
+      → HeldBy trusted places k n (own_of c) w old mid answer added
+  does-held c (Err given) said so (kept, h) shown =
       let is = told-as n old mid answer (Err given) said shown h.0 in
       let by : IsShown n (Err given) answer = subst (λ (r : Result Outcome Refusal). IsShown n r answer) is shown in
-      given-held trusted places choice n (own_of c) old mid answer added given h.1 by.1
-  does-held c (Ok (Commit what)) said so (r, commits, is, image, bytes) shown =
-      commit-held trusted places choice n (own_of c) old mid answer added what r commits (subst (λ (x : Result Outcome Refusal). IsShown n x answer) is shown)
-  does-held c (Ok (Show q)) said so h shown =
+      given-held trusted places k n (own_of c) old mid answer added given h.1 by.1
+  does-held c (Ok (Commit what)) said so (kept, r, commits, is, image, bytes) shown =
+      commit-held trusted places k n (own_of c) old mid answer added what r commits (subst (λ (x : Result Outcome Refusal). IsShown n x answer) is shown)
+  does-held c (Ok (Show q)) said so (kept, h) shown =
       let is = told-as n old mid answer (on_ok Rows (answered q (database old))) said shown h.0 in
-      show-held trusted places choice n (own_of c) old mid answer added q (answered q (database old)) refl h.1 (subst (λ (r : Result Outcome Refusal). IsShown n r answer) is shown)
+      show-held trusted places k n (own_of c) old mid answer added q (answered q (database old)) refl h.1 (subst (λ (r : Result Outcome Refusal). IsShown n r answer) is shown)
   does-held c (Ok (Run numbers)) said so h shown = own-held (own_of c) numbers said so h shown
 
 -- ---- a process
 
 -- what holds of a command with what comes behind its work
-pub record HeldWith (trusted : Type 0) (places : Places) (choice : List Rule) (n : ℕ) (c : Command) (b : Behind) (old mid : Machine) (answer : Answer) (added : List Entry) : Type 0 where
-  pub journal : AllByRecursion (λ e. (e.actor ≡ 0) × OrderedWith b (own_of c) (work_over c (database old)) old e.change) added
+pub record HeldWith (trusted : Type 0) (places : Places) (k : Client) (n : ℕ) (c : Command) (b : Behind) (old mid : Machine) (answer : Answer) (added : List Entry) : Type 0 where
+  pub journal : AllByRecursion (λ e. (e.actor ≡ 0) × OrderedWith k b (own_of c) (work_over c (database old)) old e.change) added
   pub queries : RowsBy n (database old) (work_over c (database old)) answer
   pub bytes : BytesBy trusted n (own_of c) (work_over c (database old)) old mid answer
   pub items : AllByRecursion (λ e. ItemsBy (own_of c) (work_over c (database old)) mid e.change) added
-  pub causes : answer.tally.refused ≡ 1 → (why : Refusal) × (answer ≡ refusal n why) × CauseWith trusted places choice c b old mid why added
-  pub done : answer.tally.refused ≡ 0 → DidWith trusted places choice n c b old mid answer added
-  pub complete : ((file : ℕ) → RoseFrom old mid file → ⊥) → MayBy places choice (own_of c) (work_over c (database old)) old → (answer.tally.refused ≡ 0) ⊎ IsRefusedBehind trusted places choice n c b old mid answer
+  pub causes : answer.tally.refused ≡ 1 → (why : Refusal) × (answer ≡ refusal n why) × CauseWith trusted places k c b old mid why added
+  pub done : answer.tally.refused ≡ 0 → DidWith trusted places k n c b old mid answer added
+  pub complete : ((file : ℕ) → RoseFrom old mid file → ⊥) → MayBy places k (own_of c) (work_over c (database old)) old → (answer.tally.refused ≡ 0) ⊎ IsRefusedBehind trusted places k n c b old mid answer
 
 rows-none : (n : ℕ) (v : Inv) (w : Result Work Refusal) (answer : Answer) → IsRowless w → RowsBy n v w answer
 rows-none n v (Ok (Commit what)) answer so = tt
@@ -366,60 +396,76 @@ all-items-none own w mid (e ∷ added) so = (items-none own w mid e.change so, a
 
 -- ---- which transactions
 
-abbrev AreBy : Own → Result Work Refusal → Machine → List Entry → Type 0
-AreBy own w old added = AllByRecursion (λ e. (e.actor ≡ 0) × OrderedBy own w old e.change) added
+abbrev AreBy : Client → Own → Result Work Refusal → Machine → List Entry → Type 0
+AreBy k own w old added = AllByRecursion (λ e. (e.actor ≡ 0) × OrderedBy k own w old e.change) added
 
-commits-ordered : {A : Type 0} (own : Own) (what : Change) (old mid : Machine) (r : Result A Refusal) (added : List Entry) → Commits (drawn what old) old mid r added → AreBy own (Ok (Commit what)) old added
-commits-ordered own what old mid (Ok x) added h = subst (λ (l : List Entry). AreBy own (Ok (Commit what)) old l) (sym h.1) ((refl, refl), tt)
-commits-ordered own what old mid (Err e) added (inl h) = no-entries (λ x. (x.actor ≡ 0) × OrderedBy own (Ok (Commit what)) old x.change) added h.1
-commits-ordered own what old mid (Err e) added (inr (ends, inl none)) = no-entries (λ x. (x.actor ≡ 0) × OrderedBy own (Ok (Commit what)) old x.change) added none
-commits-ordered own what old mid (Err e) added (inr (ends, inr h)) = subst (λ (l : List Entry). AreBy own (Ok (Commit what)) old l) (sym h.1) ((refl, refl), tt)
+commits-ordered : {A : Type 0} (k : Client) (own : Own) (what : Change) (old mid : Machine) (r : Result A Refusal) (added : List Entry) → Commits (drawn what old) old mid r added → AreBy k own (Ok (Commit what)) old added
+commits-ordered k own what old mid (Ok x) added h = subst (λ (l : List Entry). AreBy k own (Ok (Commit what)) old l) (sym h.1) ((refl, refl), tt)
+commits-ordered k own what old mid (Err e) added (inl h) = no-entries (λ x. (x.actor ≡ 0) × OrderedBy k own (Ok (Commit what)) old x.change) added h.1
+commits-ordered k own what old mid (Err e) added (inr (ends, inl none)) = no-entries (λ x. (x.actor ≡ 0) × OrderedBy k own (Ok (Commit what)) old x.change) added none
+commits-ordered k own what old mid (Err e) added (inr (ends, inr h)) = subst (λ (l : List Entry). AreBy k own (Ok (Commit what)) old l) (sym h.1) ((refl, refl), tt)
 
-process-ordered : (trusted : Type 0) (places : Places) (choice : List Rule) (numbers : List ℕ) (own : Own) (old mid : Machine) (said : Result Outcome Refusal) (added : List Entry) → IsProcessOwn own
-    → DoesOwn trusted places choice numbers own old mid said added → AreBy own (Ok (Run numbers)) old added
-process-ordered trusted places choice numbers expire old mid said added so h = h.1
-process-ordered trusted places choice numbers empty_filespace old mid said added so h = h.1
-process-ordered trusted places choice numbers empty_volume old mid said added so h = h.1
-process-ordered trusted places choice numbers back_up_pool old mid said added so h = h.1
-process-ordered trusted places choice numbers (moves mover) old mid said added so h = h.1
-process-ordered trusted places choice numbers none_but_reuse old mid said added so h = no-entries (λ x. (x.actor ≡ 0) × OrderedBy none_but_reuse (Ok (Run numbers)) old x.change) added h.1
-process-ordered trusted places choice numbers none_yet old mid said added so h = no-entries (λ x. (x.actor ≡ 0) × OrderedBy none_yet (Ok (Run numbers)) old x.change) added h.1
-process-ordered trusted places choice numbers own old mid said added so h = absurd so
+-- of the plan of the tree that the command names
+of-tree : (k : Client) (i : IncrementalBackup) (before after : Known) (old : Machine) (added : List Entry) → Turns i.tree before after k
+    → AllByRecursion (λ e. (e.actor ≡ 0) × IsOfBackup k.choice i before.files (database old) e.change) added → AllByRecursion (λ e. (e.actor ≡ 0) × IsOfTree k i (database old) e.change) added
+of-tree k i before after old [] turns h = tt
+of-tree k i before after old (e ∷ added) turns h = ((h.0.0, (before, after, turns, h.0.1)), of-tree k i before after old added turns h.1)
 
-work-ordered : (trusted : Type 0) (places : Places) (choice : List Rule) (c : Command) (w : Work) (old mid : Machine) (said : Result Outcome Refusal) (added : List Entry) → IsProcessOwn (own_of c) → IsRowless (Ok w)
-    → Does trusted places choice c (Ok w) old mid said added → AreBy (own_of c) (Ok w) old added
-work-ordered trusted places choice c (Commit what) old mid said added so rowless (r, commits, is, image, bytes) = commits-ordered (own_of c) what old mid r added commits
-work-ordered trusted places choice c (Show q) old mid said added so rowless h = absurd rowless
-work-ordered trusted places choice c (Run numbers) old mid said added so rowless h = process-ordered trusted places choice numbers (own_of c) old mid said added so h
+there-ordered : (trusted : Type 0) (places : Places) (k : Client) (numbers : List ℕ) (work : OnTree) (old mid : Machine) (said : Result Outcome Refusal) (added : List Entry)
+    → DoesThere trusted places k work old mid said added → AreBy k (on_tree work) (Ok (Run numbers)) old added
+there-ordered trusted places k numbers (back_up i) old mid said added (inl (before, after, turns, (ran, are, image, keeps))) = of-tree k i before after old added turns are
+there-ordered trusted places k numbers (write w) old mid said added (inl (before, after, turns, (did, still, none))) = no-entries (λ x. (x.actor ≡ 0) × OrderedBy k (on_tree (write w)) (Ok (Run numbers)) old x.change) added none
+there-ordered trusted places k numbers (erase e) old mid said added (inl (before, after, turns, (did, still, none))) = no-entries (λ x. (x.actor ≡ 0) × OrderedBy k (on_tree (erase e)) (Ok (Run numbers)) old x.change) added none
+there-ordered trusted places k numbers (restore r) old mid said added (inl (before, after, turns, (ran, gives, ends, still, none))) =
+    no-entries (λ x. (x.actor ≡ 0) × OrderedBy k (on_tree (restore r)) (Ok (Run numbers)) old x.change) added none
+there-ordered trusted places k numbers work old mid said added (inr (missing, kept, is, still, none)) = no-entries (λ x. (x.actor ≡ 0) × OrderedBy k (on_tree work) (Ok (Run numbers)) old x.change) added none
+
+process-ordered : (trusted : Type 0) (places : Places) (k : Client) (numbers : List ℕ) (own : Own) (old mid : Machine) (said : Result Outcome Refusal) (added : List Entry) → IsProcessOwn own
+    → DoesOwn trusted places k numbers own old mid said added → AreBy k own (Ok (Run numbers)) old added
+process-ordered trusted places k numbers (on_tree work) old mid said added so h = there-ordered trusted places k numbers work old mid said added h
+process-ordered trusted places k numbers expire old mid said added so h = h.1.1
+process-ordered trusted places k numbers empty_filespace old mid said added so h = h.1.1
+process-ordered trusted places k numbers empty_volume old mid said added so h = h.1.1
+process-ordered trusted places k numbers back_up_pool old mid said added so h = h.1.1
+process-ordered trusted places k numbers (moves mover) old mid said added so h = h.1.1
+process-ordered trusted places k numbers none_but_reuse old mid said added so h = no-entries (λ x. (x.actor ≡ 0) × OrderedBy k none_but_reuse (Ok (Run numbers)) old x.change) added h.1.1
+process-ordered trusted places k numbers none_yet old mid said added so h = no-entries (λ x. (x.actor ≡ 0) × OrderedBy k none_yet (Ok (Run numbers)) old x.change) added h.1.1
+process-ordered trusted places k numbers own old mid said added so h = absurd so
+
+work-ordered : (trusted : Type 0) (places : Places) (k : Client) (c : Command) (w : Work) (old mid : Machine) (said : Result Outcome Refusal) (added : List Entry) → IsProcessOwn (own_of c) → IsRowless (Ok w)
+    → Does trusted places k c (Ok w) old mid said added → AreBy k (own_of c) (Ok w) old added
+work-ordered trusted places k c (Commit what) old mid said added so rowless (kept, r, commits, is, image, bytes) = commits-ordered k (own_of c) what old mid r added commits
+work-ordered trusted places k c (Show q) old mid said added so rowless h = absurd rowless
+work-ordered trusted places k c (Run numbers) old mid said added so rowless h = process-ordered trusted places k numbers (own_of c) old mid said added so h
 
 -- of both parts
-abbrev AreWith : Behind → Own → Result Work Refusal → Machine → List Entry → Type 0
-AreWith b own w old added = AllByRecursion (λ e. (e.actor ≡ 0) × OrderedWith b own w old e.change) added
+abbrev AreWith : Client → Behind → Own → Result Work Refusal → Machine → List Entry → Type 0
+AreWith k b own w old added = AllByRecursion (λ e. (e.actor ≡ 0) × OrderedWith k b own w old e.change) added
 
-some-with : (b : Behind) (own : Own) (w : Result Work Refusal) (old : Machine) (c : Change) → (b ≡ no_more → ⊥) → OrderedBy own w old c ⊎ IsReuse b c → OrderedWith b own w old c
-some-with no_more own w old c some h = absurd (some refl)
-some-with forces own w old c some h = h
-some-with reuses own w old c some h = h
+some-with : (k : Client) (b : Behind) (own : Own) (w : Result Work Refusal) (old : Machine) (c : Change) → (b ≡ no_more → ⊥) → OrderedBy k own w old c ⊎ IsReuse b c → OrderedWith k b own w old c
+some-with k no_more own w old c some h = absurd (some refl)
+some-with k forces own w old c some h = h
+some-with k reuses own w old c some h = h
 
-both-ordered : (b : Behind) (own : Own) (w : Result Work Refusal) (old : Machine) (first later : List Entry) → (b ≡ no_more → ⊥) → AreBy own w old first → AllByRecursion (λ e. (e.actor ≡ 0) × IsReuse b e.change) later
-    → AreWith b own w old (first ++ later)
-both-ordered b own w old [] [] some h k = tt
-both-ordered b own w old [] (e ∷ later) some h k = ((k.0.0, some-with b own w old e.change some (inr k.0.1)), both-ordered b own w old [] later some tt k.1)
-both-ordered b own w old (e ∷ first) later some h k = ((h.0.0, some-with b own w old e.change some (inl h.0.1)), both-ordered b own w old first later some h.1 k)
+both-ordered : (k : Client) (b : Behind) (own : Own) (w : Result Work Refusal) (old : Machine) (first later : List Entry) → (b ≡ no_more → ⊥) → AreBy k own w old first → AllByRecursion (λ e. (e.actor ≡ 0) × IsReuse b e.change) later
+    → AreWith k b own w old (first ++ later)
+both-ordered k b own w old [] [] some h l = tt
+both-ordered k b own w old [] (e ∷ later) some h l = ((l.0.0, some-with k b own w old e.change some (inr l.0.1)), both-ordered k b own w old [] later some tt l.1)
+both-ordered k b own w old (e ∷ first) later some h l = ((h.0.0, some-with k b own w old e.change some (inl h.0.1)), both-ordered k b own w old first later some h.1 l)
 
 -- ---- put together
 
-cause-with : (trusted : Type 0) (places : Places) (choice : List Rule) (c : Command) (b : Behind) (old mid : Machine) (why : Refusal) (added : List Entry) → (b ≡ no_more → ⊥)
-    → Works trusted places choice c (work_over c (database old)) b old mid (Err why) added → CauseWith trusted places choice c b old mid why added
-cause-with trusted places choice c no_more old mid why added some h = absurd (some refl)
-cause-with trusted places choice c forces old mid why added some h = h
-cause-with trusted places choice c reuses old mid why added some h = h
+cause-with : (trusted : Type 0) (places : Places) (k : Client) (c : Command) (b : Behind) (old mid : Machine) (why : Refusal) (added : List Entry) → (b ≡ no_more → ⊥)
+    → Works trusted places k c (work_over c (database old)) b old mid (Err why) added → CauseWith trusted places k c b old mid why added
+cause-with trusted places k c no_more old mid why added some h = absurd (some refl)
+cause-with trusted places k c forces old mid why added some h = h
+cause-with trusted places k c reuses old mid why added some h = h
 
-did-with : (trusted : Type 0) (places : Places) (choice : List Rule) (n : ℕ) (c : Command) (b : Behind) (old mid : Machine) (answer : Answer) (it : Outcome) (added : List Entry) → (b ≡ no_more → ⊥)
-    → answer ≡ answer_of n it → Works trusted places choice c (work_over c (database old)) b old mid (Ok it) added → DidWith trusted places choice n c b old mid answer added
-did-with trusted places choice n c no_more old mid answer it added some is h = absurd (some refl)
-did-with trusted places choice n c forces old mid answer it added some is h = (it, is, h)
-did-with trusted places choice n c reuses old mid answer it added some is h = (it, is, h)
+did-with : (trusted : Type 0) (places : Places) (k : Client) (n : ℕ) (c : Command) (b : Behind) (old mid : Machine) (answer : Answer) (it : Outcome) (added : List Entry) → (b ≡ no_more → ⊥)
+    → answer ≡ answer_of n it → Works trusted places k c (work_over c (database old)) b old mid (Ok it) added → DidWith trusted places k n c b old mid answer added
+did-with trusted places k n c no_more old mid answer it added some is h = absurd (some refl)
+did-with trusted places k n c forces old mid answer it added some is h = (it, is, h)
+did-with trusted places k n c reuses old mid answer it added some is h = (it, is, h)
 
 -- ---- a process that was refused
 
@@ -478,73 +524,73 @@ answer-legal : (what : Change) (f : Refusal) (r : Result ℕ Refusal) (old mid :
 answer-legal what f (Ok number) old mid added may mild is h = absurd cc
 answer-legal what f (Err x) old mid added may mild is h = commit-legal ℕ what x old mid added may (subst (λ (y : Refusal). halt_by y ≡ None) (said-same f x is) mild) h
 
-never-own : (places : Places) (choice : List Rule) (own : Own) (old : Machine) → IsProcessOwn own → MayOwn places choice own old → ⊥
-never-own places choice (validate set) old so may = so
-never-own places choice (put p) old so may = so
-never-own places choice (get g) old so may = so
-never-own places choice checkpoint old so may = so
-never-own places choice own old so may = may
+never-own : (places : Places) (k : Client) (own : Own) (old : Machine) → IsProcessOwn own → MayOwn places k own old → ⊥
+never-own places k (validate set) old so may = so
+never-own places k (put p) old so may = so
+never-own places k (get g) old so may = so
+never-own places k checkpoint old so may = so
+never-own places k own old so may = may
 
-module _ (trusted : Type 0) (places : Places) (choice : List Rule) (c : Command) (old : Machine) where
+module _ (trusted : Type 0) (places : Places) (k : Client) (c : Command) (old : Machine) where
   -- work that is legal isn't refused
-  never-refused : (w : Result Work Refusal) (f : Refusal) (between : Machine) (first : List Entry) → IsProcessOwn (own_of c) → IsRowless w → MayBy places choice (own_of c) w old → halt_by f ≡ None
-      → Does trusted places choice c w old between (Err f) first → ⊥
+  never-refused : (w : Result Work Refusal) (f : Refusal) (between : Machine) (first : List Entry) → IsProcessOwn (own_of c) → IsRowless w → MayBy places k (own_of c) w old → halt_by f ≡ None
+      → Does trusted places k c w old between (Err f) first → ⊥
   never-refused (Err why) f between first so rowless may mild h = may
-  never-refused (Ok (Commit what)) f between first so rowless may mild (r, commits, is, image, bytes) = answer-legal what f r old between first may mild is commits
+  never-refused (Ok (Commit what)) f between first so rowless may mild (kept, r, commits, is, image, bytes) = answer-legal what f r old between first may mild is commits
   never-refused (Ok (Show q)) f between first so rowless may mild h = rowless
-  never-refused (Ok (Run numbers)) f between first so rowless may mild h = never-own places choice (own_of c) old so may
+  never-refused (Ok (Run numbers)) f between first so rowless may mild h = never-own places k (own_of c) old so may
 
 -- what comes behind this work, which was done, was refused so
-abbrev BehindIn : (trusted : Type 0) → Places → List Rule → (n : ℕ) → Command → Result Work Refusal → Behind → (old mid : Machine) → Answer → Type 0
-BehindIn trusted places choice n c w b old mid answer =
+abbrev BehindIn : (trusted : Type 0) → Places → Client → (n : ℕ) → Command → Result Work Refusal → Behind → (old mid : Machine) → Answer → Type 0
+BehindIn trusted places k n c w b old mid answer =
     (why : Refusal) × (answer ≡ refusal n why) × (it : Outcome) × (between : Machine) × (first : List Entry)
-    × Does trusted places choice c w old between (Ok it) first × EndsWith trusted places b (Ok it) between mid (Err why)
+    × Does trusted places k c w old between (Ok it) first × EndsWith trusted places b (Ok it) between mid (Err why)
 
 -- where a result is a refusal by which no run ends, of work that is legal, what comes behind it was refused
-abbrev Blames : (trusted : Type 0) → Places → List Rule → (n : ℕ) → Command → Result Work Refusal → Behind → (old mid : Machine) → Answer → Result Outcome Refusal → Type 0
-Blames trusted places choice n c w b old mid answer said =
-    (why : Refusal) → said ≡ Err why → answer ≡ refusal n why → halt_by why ≡ None → MayBy places choice (own_of c) w old → BehindIn trusted places choice n c w b old mid answer
+abbrev Blames : (trusted : Type 0) → Places → Client → (n : ℕ) → Command → Result Work Refusal → Behind → (old mid : Machine) → Answer → Result Outcome Refusal → Type 0
+Blames trusted places k n c w b old mid answer said =
+    (why : Refusal) → said ≡ Err why → answer ≡ refusal n why → halt_by why ≡ None → MayBy places k (own_of c) w old → BehindIn trusted places k n c w b old mid answer
 
-module _ (trusted : Type 0) (places : Places) (choice : List Rule) (n : ℕ) (c : Command) (own : IsProcessOwn (own_of c)) (old mid : Machine) (answer : Answer) where
+module _ (trusted : Type 0) (places : Places) (k : Client) (n : ℕ) (c : Command) (own : IsProcessOwn (own_of c)) (old mid : Machine) (answer : Answer) where
   -- what comes behind it was refused, unless the work wasn't legal
   refused-behind : (b : Behind) (w : Result Work Refusal) (why : Refusal) (said : Result Outcome Refusal) (between : Machine) (first : List Entry) → (b ≡ no_more → ⊥) → IsRowless w → answer ≡ refusal n why → halt_by why ≡ None
-      → Does trusted places choice c w old between said first → EndsWith trusted places b said between mid (Err why) → MayBy places choice (own_of c) w old → BehindIn trusted places choice n c w b old mid answer
+      → Does trusted places k c w old between said first → EndsWith trusted places b said between mid (Err why) → MayBy places k (own_of c) w old → BehindIn trusted places k n c w b old mid answer
   refused-behind b w why (Ok it) between first some rowless is mild does ends may = (why, is, it, between, first, does, ends)
   refused-behind b w why (Err f) between first some rowless is mild does ends may =
       let same : why ≡ f = own-refused trusted places b f why between mid some ends mild in
-      absurd (never-refused trusted places choice c old w f between first own rowless may (subst (λ (x : Refusal). halt_by x ≡ None) same mild) does)
+      absurd (never-refused trusted places k c old w f between first own rowless may (subst (λ (x : Refusal). halt_by x ≡ None) same mild) does)
 
-  with-parts : (b : Behind) (w : Work) (said : Result Outcome Refusal) (added : List Entry) → (b ≡ no_more → ⊥) → IsRowless (Ok w) → WorksWith trusted places choice c (Ok w) b old mid said added
-      → AreWith b (own_of c) (Ok w) old added × Blames trusted places choice n c (Ok w) b old mid answer said
+  with-parts : (b : Behind) (w : Work) (said : Result Outcome Refusal) (added : List Entry) → (b ≡ no_more → ⊥) → IsRowless (Ok w) → WorksWith trusted places k c (Ok w) b old mid said added
+      → AreWith k b (own_of c) (Ok w) old added × Blames trusted places k n c (Ok w) b old mid answer said
   with-parts b w said added some rowless h = (
-    subst (λ (l : List Entry). AreWith b (own_of c) (Ok w) old l) (sym h.parts)
-        (both-ordered b (own_of c) (Ok w) old h.first h.later some (work-ordered trusted places choice c w old h.mid h.said h.first own rowless h.does) h.reused),
+    subst (λ (l : List Entry). AreWith k b (own_of c) (Ok w) old l) (sym h.parts)
+        (both-ordered k b (own_of c) (Ok w) old h.first h.later some (work-ordered trusted places k c w old h.mid h.said h.first own rowless h.does) h.reused),
     λ why same is mild may. refused-behind b (Ok w) why h.said h.mid h.first some rowless is mild h.does (subst (λ (r : Result Outcome Refusal). EndsWith trusted places b h.said h.mid mid r) same h.ends) may,
   )
 
-  given-parts : (b : Behind) (given : Refusal) (said : Result Outcome Refusal) (added : List Entry) → Tells (Err given) old mid said added
-      → AreWith b (own_of c) (Err given) old added × Blames trusted places choice n c (Err given) b old mid answer said
-  given-parts b given said added h = (no-entries (λ e. (e.actor ≡ 0) × OrderedWith b (own_of c) (Err given) old e.change) added h.1, λ why same is mild may. absurd may)
+  given-parts : (b : Behind) (given : Refusal) (said : Result Outcome Refusal) (added : List Entry) → IsKept k × Tells (Err given) old mid said added
+      → AreWith k b (own_of c) (Err given) old added × Blames trusted places k n c (Err given) b old mid answer said
+  given-parts b given said added h = (no-entries (λ e. (e.actor ≡ 0) × OrderedWith k b (own_of c) (Err given) old e.change) added h.1.1, λ why same is mild may. absurd may)
 
-  parts : (b : Behind) (w : Result Work Refusal) (said : Result Outcome Refusal) (added : List Entry) → (b ≡ no_more → ⊥) → IsRowless w → Works trusted places choice c w b old mid said added
-      → AreWith b (own_of c) w old added × Blames trusted places choice n c w b old mid answer said
+  parts : (b : Behind) (w : Result Work Refusal) (said : Result Outcome Refusal) (added : List Entry) → (b ≡ no_more → ⊥) → IsRowless w → Works trusted places k c w b old mid said added
+      → AreWith k b (own_of c) w old added × Blames trusted places k n c w b old mid answer said
   parts no_more w said added some rowless h = absurd (some refl)
   parts forces (Err given) said added some rowless h = given-parts forces given said added h
   parts reuses (Err given) said added some rowless h = given-parts reuses given said added h
   parts forces (Ok w) said added some rowless h = with-parts forces w said added some rowless h
   parts reuses (Ok w) said added some rowless h = with-parts reuses w said added some rowless h
 
-module _ (trusted : Type 0) (places : Places) (choice : List Rule) (n : ℕ) (c : Command) (p : IsProcess c) (old mid : Machine) (answer : Answer) (added : List Entry) where
-  held-with : (b : Behind) (said : Result Outcome Refusal) → (b ≡ no_more → ⊥) → Works trusted places choice c (work_over c (database old)) b old mid said added
-      → AreWith b (own_of c) (work_over c (database old)) old added → Blames trusted places choice n c (work_over c (database old)) b old mid answer said → IsShown n said answer
-      → HeldWith trusted places choice n c b old mid answer added
+module _ (trusted : Type 0) (places : Places) (k : Client) (n : ℕ) (c : Command) (p : IsProcess c) (old mid : Machine) (answer : Answer) (added : List Entry) where
+  held-with : (b : Behind) (said : Result Outcome Refusal) → (b ≡ no_more → ⊥) → Works trusted places k c (work_over c (database old)) b old mid said added
+      → AreWith k b (own_of c) (work_over c (database old)) old added → Blames trusted places k n c (work_over c (database old)) b old mid answer said → IsShown n said answer
+      → HeldWith trusted places k n c b old mid answer added
   held-with b (Ok it) some works are blames shown = record {
     journal = are;
     queries = rows-none n (database old) (work_over c (database old)) answer (over-rowless c (database old) p);
     bytes = bytes-none trusted n (own_of c) (work_over c (database old)) old mid answer p.own;
     items = all-items-none (own_of c) (work_over c (database old)) mid added p.own;
     causes = λ one. absurd (zero-one answer.tally.refused (came-refused n it answer shown) one);
-    done = λ none. did-with trusted places choice n c b old mid answer it added some shown works;
+    done = λ none. did-with trusted places k n c b old mid answer it added some shown works;
     complete = λ rose may. inl (came-refused n it answer shown);
   }
   held-with b (Err e) some works are blames shown = record {
@@ -552,64 +598,66 @@ module _ (trusted : Type 0) (places : Places) (choice : List Rule) (n : ℕ) (c 
     queries = rows-none n (database old) (work_over c (database old)) answer (over-rowless c (database old) p);
     bytes = bytes-none trusted n (own_of c) (work_over c (database old)) old mid answer p.own;
     items = all-items-none (own_of c) (work_over c (database old)) mid added p.own;
-    causes = λ one. (e, shown.1, cause-with trusted places choice c b old mid e added some works);
+    causes = λ one. (e, shown.1, cause-with trusted places k c b old mid e added some works);
     done = λ none. absurd (zero-one answer.tally.refused none (one-refused n e answer shown.1));
     complete = λ rose may. inr (blames e refl shown.1 shown.0 may);
   }
 
-  process-held : (b : Behind) (said : Result Outcome Refusal) → (b ≡ no_more → ⊥) → Works trusted places choice c (work_over c (database old)) b old mid said added → IsShown n said answer
-      → HeldWith trusted places choice n c b old mid answer added
+  process-held : (b : Behind) (said : Result Outcome Refusal) → (b ≡ no_more → ⊥) → Works trusted places k c (work_over c (database old)) b old mid said added → IsShown n said answer
+      → HeldWith trusted places k n c b old mid answer added
   process-held b said some works shown =
-      let h = parts trusted places choice n c p.own old mid answer b (work_over c (database old)) said added some (over-rowless c (database old) p) works in
+      let h = parts trusted places k n c p.own old mid answer b (work_over c (database old)) said added some (over-rowless c (database old) p) works in
       held-with b said some works h.0 h.1 shown
 
 -- what holds of a command behind whose work nothing comes, with what may have come
-module _ (trusted : Type 0) (places : Places) (choice : List Rule) (n : ℕ) (c : Command) (old mid : Machine) (answer : Answer) (added : List Entry) where
-  plain-held : HeldBy trusted places choice n (own_of c) (work_over c (database old)) old mid answer added → HeldWith trusted places choice n c no_more old mid answer added
+module _ (trusted : Type 0) (places : Places) (k : Client) (n : ℕ) (c : Command) (old mid : Machine) (answer : Answer) (added : List Entry) where
+  plain-held : HeldBy trusted places k n (own_of c) (work_over c (database old)) old mid answer added → HeldWith trusted places k n c no_more old mid answer added
   plain-held h = record { journal = h.journal; queries = h.queries; bytes = h.bytes; items = h.items; causes = h.causes; done = h.done; complete = λ rose may. inl (h.complete rose may) }
 
-  works-held : (said : Result Outcome Refusal) → Works trusted places choice c (work_over c (database old)) (behind c) old mid said added → IsShown n said answer
-      → HeldWith trusted places choice n c (behind c) old mid answer added
-  works-held said h shown = elim (kind c) as (λ _. HeldWith trusted places choice n c (behind c) old mid answer added) [
-    | inl it ↦ subst (λ (b : Behind). HeldWith trusted places choice n c b old mid answer added) (sym it.0)
-        (plain-held (does-held trusted places choice n old mid answer added c (work_over c (database old)) said it.1
-        (subst (λ (b : Behind). Works trusted places choice c (work_over c (database old)) b old mid said added) it.0 h) shown))
-    | inr it ↦ process-held trusted places choice n c it old mid answer added (behind c) said it.some h shown
+  works-held : (said : Result Outcome Refusal) → Works trusted places k c (work_over c (database old)) (behind c) old mid said added → IsShown n said answer
+      → HeldWith trusted places k n c (behind c) old mid answer added
+  works-held said h shown = elim (kind c) as (λ _. HeldWith trusted places k n c (behind c) old mid answer added) [
+    | inl it ↦ subst (λ (b : Behind). HeldWith trusted places k n c b old mid answer added) (sym it.0)
+        (plain-held (does-held trusted places k n old mid answer added c (work_over c (database old)) said it.1
+        (subst (λ (b : Behind). Works trusted places k c (work_over c (database old)) b old mid said added) it.0 h) shown))
+    | inr it ↦ process-held trusted places k n c it old mid answer added (behind c) said it.some h shown
   ]
 
-  comes-held : (said : Result Outcome Refusal) → Comes trusted places choice c old mid said added → IsShown n said answer → HeldWith trusted places choice n c (behind c) old mid answer added
-  comes-held said (inl (e, is, ends, none, image, bytes), full) shown =
+  comes-held : (said : Result Outcome Refusal) → Comes trusted places k c old mid said added → IsShown n said answer → HeldWith trusted places k n c (behind c) old mid answer added
+  comes-held said (inl (kept, e, is, ends, none, image, bytes), full) shown =
       let by : IsShown n (Err e) answer = subst (λ (r : Result Outcome Refusal). IsShown n r answer) is shown in
       absurd (no-end e old mid ends by.0)
   comes-held said (inr works, full) shown = works-held said works shown
 
 -- ---- a line
 
-module _ (trusted : Type 0) (places : Places) (choice : List Rule) (n : ℕ) (old mid : Machine) (answer : Answer) (added : List Entry) where
-  says-held : (line : Line) (why : Option Refusal) → Says trusted places choice n line old answer why added mid → Holds trusted places choice n line old mid answer added
-  says-held comment why (is, w, none, same) = record {
-    journal = no-entries (λ x. (x.actor ≡ 0) × orders comment old x.change) added none;
+module _ (trusted : Type 0) (places : Places) (k : Client) (n : ℕ) (old mid : Machine) (answer : Answer) (added : List Entry) where
+  says-held : (line : Line) (why : Option Refusal) → Says trusted places k n line old answer why added mid → Holds trusted places k n line old mid answer added
+  says-held comment why (kept, is, w, none, same) = record {
+    journal = no-entries (λ x. (x.actor ≡ 0) × orders k comment old x.change) added none;
     queries = tt;
     bytes = tt;
     items = no-entries (λ x. ItemsOf comment old mid x.change) added none;
     causes = λ one. absurd (zero-one answer.tally.refused (ap (λ (a : Answer). a.tally.refused) is) one);
     done = λ zero. none;
     complete = λ rose may. ap (λ (a : Answer). a.tally.refused) is;
+    trees = kept;
   }
-  says-held (refused_line given) why (is, w, none, same) = record {
-    journal = no-entries (λ x. (x.actor ≡ 0) × orders (refused_line given) old x.change) added none;
+  says-held (refused_line given) why (kept, is, w, none, same) = record {
+    journal = no-entries (λ x. (x.actor ≡ 0) × orders k (refused_line given) old x.change) added none;
     queries = tt;
     bytes = tt;
     items = no-entries (λ x. ItemsOf (refused_line given) old mid x.change) added none;
     causes = λ one. (given, is, refl);
     done = λ zero. absurd (zero-one answer.tally.refused zero (one-refused n given answer is));
     complete = λ rose may. absurd may;
+    trees = kept;
   }
   says-held (asks c) why (said, comes, ends) =
-      let h = comes-held trusted places choice n c old mid answer added said comes (shown-of n said answer why ends) in
-      record { journal = h.journal; queries = h.queries; bytes = h.bytes; items = h.items; causes = h.causes; done = h.done; complete = h.complete }
+      let h = comes-held trusted places k n c old mid answer added said comes (shown-of n said answer why ends) in
+      record { journal = h.journal; queries = h.queries; bytes = h.bytes; items = h.items; causes = h.causes; done = h.done; complete = h.complete; trees = comes-trees trusted places k c old mid added said comes }
 
 -- what holds of a line that was answered so
-pub replies-hold : (trusted : Type 0) (places : Places) (choice : List Rule) (n : ℕ) (line : Line) (old new : Machine) (answer : Answer) (why : Option Refusal)
-    → (r : Replies trusted places choice n line old answer why new) → Holds trusted places choice n line old r.mid answer r.added
-replies-hold trusted places choice n line old new answer why r = says-held trusted places choice n old r.mid answer r.added line why r.says
+pub replies-hold : (trusted : Type 0) (places : Places) (k : Client) (n : ℕ) (line : Line) (old new : Machine) (answer : Answer) (why : Option Refusal)
+    → (r : Replies trusted places k n line old answer why new) → Holds trusted places k n line old r.mid answer r.added
+replies-hold trusted places k n line old new answer why r = says-held trusted places k n old r.mid answer r.added line why r.says

@@ -12,7 +12,7 @@ use Rattle.admin_words.specs.declared.command.Command.TheVariants as commands
 use Rattle.admin_words.specs.declared.command.DatabaseCommand.{DatabaseCommand}
 use Rattle.admin_words.specs.declared.command.DatabaseCommand.TheVariants.{Checkpoint, Day, ExpireInventory}
 use Rattle.admin_words.specs.declared.command.FileCommand.{FileCommand}
-use Rattle.admin_words.specs.declared.command.FileCommand.TheVariants.{Get, Put}
+use Rattle.admin_words.specs.declared.command.FileCommand.TheVariants.{Erase, Get, Incremental, Put, RestoreFiles, Write}
 use Rattle.admin_words.specs.declared.command.NodeCommand.{NodeCommand}
 use Rattle.admin_words.specs.declared.command.NodeCommand.TheVariants.{DeleteFilespace}
 use Rattle.admin_words.specs.declared.command.PolicyCommand.{PolicyCommand}
@@ -28,11 +28,21 @@ use Rattle.admin_commands.specs.Orders.{run_found}
 use Rattle.admin_commands.specs.declared.work.Work.{Work}
 use Rattle.admin_commands.specs.declared.work.Work.TheVariants as work
 use Rattle.command_steps.specs.Behind.{Behind, behind, database_behind, forces, node_behind, no_more, pool_behind, reuses, volume_behind}
-use Rattle.command_steps.specs.Owns.{Own, back_up_pool, checkpoint, database_own, empty_filespace, empty_volume, expire, file_own, get, moves, node_own, none_but_reuse, none_yet, own_of, policy_own, pool_own, put, validate, volume_own}
+use Rattle.command_steps.specs.Owns.{OnTree, Own, back_up, back_up_pool, checkpoint, database_own, empty_filespace, empty_volume, expire, file_own, get, moves, node_own, none_but_reuse, none_yet, on_tree, own_of, policy_own, pool_own, put, validate, volume_own}
 use Rattle.line_results.specs.Commands.{answers_to, work_over}
+
+-- work on a tree behind which something comes: a backup
+abbrev pub IsProcessTree : OnTree → Type 0
+IsProcessTree (back_up i) = Unit {0}
+IsProcessTree work = ⊥
+
+abbrev pub IsPlainTree : OnTree → Type 0
+IsPlainTree (back_up i) = ⊥
+IsPlainTree work = Unit {0}
 
 -- work of a command's own that is done by the steps of a process, or isn't done so far
 abbrev pub IsProcessOwn : Own → Type 0
+IsProcessOwn (on_tree work) = IsProcessTree work
 IsProcessOwn (validate set) = ⊥
 IsProcessOwn (put p) = ⊥
 IsProcessOwn (get g) = ⊥
@@ -41,6 +51,7 @@ IsProcessOwn own = Unit {0}
 
 -- work of a command's own that isn't
 abbrev pub IsPlainOwn : Own → Type 0
+IsPlainOwn (on_tree work) = IsPlainTree work
 IsPlainOwn expire = ⊥
 IsPlainOwn empty_filespace = ⊥
 IsPlainOwn empty_volume = ⊥
@@ -137,6 +148,10 @@ volume-kind c = inl (refl, tt)
 file-kind : (c : FileCommand) → Kind (commands.File c)
 file-kind (Put p) = inl (refl, tt)
 file-kind (Get g) = inl (refl, tt)
+file-kind (Write w) = inl (refl, tt)
+file-kind (Erase e) = inl (refl, tt)
+file-kind (RestoreFiles r) = inl (refl, tt)
+file-kind (Incremental i) = inr (record { some = λ is. cc; own = tt; rowless = λ answers. found-rowless (number_found answers) (λ number. run (number ∷ [])) (λ number. tt) })
 file-kind c = inl (refl, tt)
 
 database-kind : (c : DatabaseCommand) → Kind (commands.Database c)

@@ -1,5 +1,6 @@
 pub mod Asked
 pub mod Changed
+pub mod Changing
 pub mod Checkpointed
 pub mod Chosen
 pub mod Copying
@@ -15,6 +16,7 @@ pub mod Leaving
 pub mod Line
 pub mod Mild
 pub mod Needs
+pub mod Planned
 pub mod Processed
 pub mod PutHeld
 pub mod PutHomes
@@ -26,7 +28,11 @@ pub mod PutStored
 pub mod PutStoring
 pub mod Putting
 pub mod Read
+pub mod Restoring
 pub mod Runs
+pub mod Sending
 pub mod Settling
 pub mod Since
+pub mod Spent
+pub mod Treed
 pub mod Walking

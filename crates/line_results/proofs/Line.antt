@@ -4,7 +4,6 @@ use Rattle.std.proofs.lemmas.List.{append-nil}
 use Rattle.std.proofs.lemmas.Option.{same_Some}
 use Rattle.kinds.specs.declared.refusal.Refusal.{Refusal}
 use Rattle.kinds.specs.declared.refusal.Refusal.TheVariants as refused
-use Rattle.choosers.specs.declared.rule.Rule.{Rule}
 use Rattle.entries.specs.declared.entry.Entry.{Entry}
 use Rattle.script_loop.specs.Reply.{Answer}
 use Rattle.script_loop.specs.declared.ends.Halt.{Halt}
@@ -17,6 +16,7 @@ use Rattle.machine.specs.State.{Core, Machine}
 use Rattle.command_steps.specs.Answering.{AnswersLine, DoesOrWants}
 use Rattle.command_steps.specs.Answers.{Ends, halt_by, nothing}
 use Rattle.command_steps.specs.Behind.{behind}
+use Rattle.command_steps.specs.Clients.{Client, IsKept}
 use Rattle.command_steps.specs.Lines.{Line, asks, comment, refused as refused_line}
 use Rattle.command_steps.specs.declared.outcome.Outcome.{Outcome}
 use Rattle.line_results.specs.Lines.{EndsAt, EndsBehind, EndsFollowing, Halts, Replies, Says, doubtful}
@@ -31,9 +31,9 @@ use Rattle.line_results.proofs.Runs.{alone-none, alone-parts, became-same, onwar
 -- ---- the line itself
 
 -- It was answered so, and the machine is at rest.
-pub record LineDid (trusted : Type 0) (places : Places) (choice : List Rule) (n : ℕ) (line : Line) (old : Machine) (answer : Answer) (why : Option Refusal) (mid : Machine) : Type 0 where
+pub record LineDid (trusted : Type 0) (places : Places) (k : Client) (n : ℕ) (line : Line) (old : Machine) (answer : Answer) (why : Option Refusal) (mid : Machine) : Type 0 where
   pub added : List Entry
-  pub says : Says trusted places choice n line old answer why added mid
+  pub says : Says trusted places k n line old answer why added mid
   pub adds : Adds added old mid
   pub log : LogEnds added old mid
   pub onward : Onward old mid
@@ -50,9 +50,9 @@ answered-rests : (n : ℕ) (said : Result Outcome Refusal) (reply : Answer × Op
 answered-rests n (Ok it) reply h = refl
 answered-rests n (Err e) reply h = goes-on e h.0
 
-module _ (trusted : Type 0) (places : Places) (choice : List Rule) where
-  still-did : (n : ℕ) (line : Line) (old mid : Machine) (answer : Answer) (why : Option Refusal) → IsAtRest old.core → mid ≡ old → Says trusted places choice n line old answer why [] mid
-      → LineDid trusted places choice n line old answer why mid
+module _ (trusted : Type 0) (places : Places) (k : Client) where
+  still-did : (n : ℕ) (line : Line) (old mid : Machine) (answer : Answer) (why : Option Refusal) → IsAtRest old.core → mid ≡ old → Says trusted places k n line old answer why [] mid
+      → LineDid trusted places k n line old answer why mid
   still-did n line old mid answer why rest same says =
       let b = became-same old mid same in
       record {
@@ -86,18 +86,18 @@ halt_in (Err how) = how
 same-halt : (a b : Halt) → as_halt a ≡ as_halt b → a ≡ b
 same-halt a b h = ap halt_in h
 
-module _ (trusted : Type 0) (places : Places) (choice : List Rule) (puts : PutsAs trusted places choice) (gets : GetsAs trusted places) where
-  line-did : (n : ℕ) (line : Line) (events : List Event) (answer : Answer) (why : Option Refusal) (old mid : Machine) → IsAtRest old.core → HasSizes old → DoesOrWants choice n line events (Ok (answer, why))
-      → Alone trusted places 0 events old mid → LineDid trusted places choice n line old answer why mid
-  line-did n comment events answer why old mid rest sizes (inl (none, is)) f =
+module _ (trusted : Type 0) (places : Places) (k : Client) (puts : PutsAs trusted places k.choice) (gets : GetsAs trusted places) where
+  line-did : (n : ℕ) (line : Line) (events : List Event) (answer : Answer) (why : Option Refusal) (old mid : Machine) → IsAtRest old.core → HasSizes old → DoesOrWants k n line events (Ok (answer, why))
+      → Alone trusted places 0 events old mid → LineDid trusted places k n line old answer why mid
+  line-did n comment events answer why old mid rest sizes (inl (kept, none, is)) f =
       let pair : (let p : Answer × Option Refusal = (answer, why) in p) ≡ (nothing, None) = same-reply (answer, why) (nothing, None) is in
       let same : mid ≡ old = alone-none trusted places 0 events old mid none f in
-      still-did trusted places choice n comment old mid answer why rest same (ap (λ (p : Answer × Option Refusal). p.0) pair, ap (λ (p : Answer × Option Refusal). p.1) pair, refl, same)
-  line-did n (refused_line given) events answer why old mid rest sizes (inl (none, is)) f =
+      still-did trusted places k n comment old mid answer why rest same (kept, ap (λ (p : Answer × Option Refusal). p.0) pair, ap (λ (p : Answer × Option Refusal). p.1) pair, refl, same)
+  line-did n (refused_line given) events answer why old mid rest sizes (inl (kept, none, is)) f =
       let same : mid ≡ old = alone-none trusted places 0 events old mid none f in
-      still-did trusted places choice n (refused_line given) old mid answer why rest same (ap (λ (p : Answer × Option Refusal). p.0) is, ap (λ (p : Answer × Option Refusal). p.1) is, refl, same)
+      still-did trusted places k n (refused_line given) old mid answer why rest same (kept, ap (λ (p : Answer × Option Refusal). p.0) is, ap (λ (p : Answer × Option Refusal). p.1) is, refl, same)
   line-did n (asks c) events answer why old mid rest sizes (inl (said, doing, ends)) f =
-      let d = command-did trusted places choice puts gets c events said old mid rest sizes doing f in
+      let d = command-did trusted places k puts gets c events said old mid rest sizes doing f in
       record {
         added = d.added;
         says = (said, d.comes, ends);
@@ -106,12 +106,12 @@ module _ (trusted : Type 0) (places : Places) (choice : List Rule) (puts : PutsA
         onward = d.left.onward;
         rests = d.left.rests (answered-rests n said (answer, why) ends);
       }
-  line-did n line events answer why old mid rest sizes (inr (none, is)) f = absurd cc
+  line-did n line events answer why old mid rest sizes (inr (kept, none, is)) f = absurd cc
 
   -- ---- a line is answered
 
-  pub answered : (n : ℕ) (line : Line) (events : List Event) (answer : Answer) (why : Option Refusal) (old new : Machine) → IsAtRest old.core → HasSizes old → AnswersLine choice n line events (Ok (answer, why))
-      → Alone trusted places 0 events old new → Replies trusted places choice n line old answer why new
+  pub answered : (n : ℕ) (line : Line) (events : List Event) (answer : Answer) (why : Option Refusal) (old new : Machine) → IsAtRest old.core → HasSizes old → AnswersLine k n line events (Ok (answer, why))
+      → Alone trusted places 0 events old new → Replies trusted places k n line old answer why new
   answered n line events answer why old new rest sizes (xs, ys, cut, does, (made, follows, halts)) f =
       let parts = alone-parts trusted places 0 events xs ys old new cut f in
       let d = line-did n line xs answer why old parts.0 rest sizes does parts.1 in
@@ -137,17 +137,17 @@ wanted-following how old new is same =
       due = inl is;
     }
 
-module _ (trusted : Type 0) (places : Places) (choice : List Rule) where
-  says-ends : (n : ℕ) (line : Line) (answer : Answer) (why : Option Refusal) (added : List Entry) (how : Halt) (old mid new : Machine) → Says trusted places choice n line old answer why added mid
-      → EndsFollowing mid new how → EndsAt trusted places choice n line old how added new
-  says-ends n comment answer why added how old mid new (a, w, none, same) ends = (none, subst (λ (m : Machine). EndsFollowing m new how) same ends)
-  says-ends n (refused_line given) answer why added how old mid new (a, w, none, same) ends = (none, subst (λ (m : Machine). EndsFollowing m new how) same ends)
+module _ (trusted : Type 0) (places : Places) (k : Client) where
+  says-ends : (n : ℕ) (line : Line) (answer : Answer) (why : Option Refusal) (added : List Entry) (how : Halt) (old mid new : Machine) → Says trusted places k n line old answer why added mid
+      → EndsFollowing mid new how → EndsAt trusted places k n line old how added new
+  says-ends n comment answer why added how old mid new (kept, a, w, none, same) ends = (kept, none, subst (λ (m : Machine). EndsFollowing m new how) same ends)
+  says-ends n (refused_line given) answer why added how old mid new (kept, a, w, none, same) ends = (kept, none, subst (λ (m : Machine). EndsFollowing m new how) same ends)
   says-ends n (asks c) answer why added how old mid new (said, comes, replied) ends = inr (said, mid, comes, inr ends)
 
-  wants-ends : (n : ℕ) (line : Line) (how : Halt) (old new : Machine) → how ≡ halt.Memory → new ≡ old → EndsAt trusted places choice n line old how [] new
-  wants-ends n comment how old new is same = (refl, wanted-following how old new is same)
-  wants-ends n (refused_line given) how old new is same = (refl, wanted-following how old new is same)
-  wants-ends n (asks c) how old new is same = inl (is, refl, same)
+  wants-ends : (n : ℕ) (line : Line) (how : Halt) (old new : Machine) → IsKept k → how ≡ halt.Memory → new ≡ old → EndsAt trusted places k n line old how [] new
+  wants-ends n comment how old new kept is same = (kept, refl, wanted-following how old new is same)
+  wants-ends n (refused_line given) how old new kept is same = (kept, refl, wanted-following how old new is same)
+  wants-ends n (asks c) how old new kept is same = inl (kept, is, refl, same)
 
 adds-behind : (added : List Entry) (old mid new : Machine) → Adds added old mid → Adds [] mid new → Adds added old new
 adds-behind added old mid new a b = record { base = b.base ∙ a.base; journal = b.journal ∙ append-nil mid.core.journal ∙ a.journal }
@@ -189,15 +189,15 @@ log-behind : (added : List Entry) (how : Halt) (old mid new : Machine) → LogEn
 log-behind added how old mid new (inl (same, long)) b = inl (b.image ∙ same, b.log ∙ long)
 log-behind added how old mid new (inr (next, none)) b = inr (b.image ∙ next, b.log ∙ none)
 
-command-behind : (trusted : Type 0) (places : Places) (goes_on : EndsNoRun places) (choice : List Rule) (n : ℕ) (c : Command) (said : Result Outcome Refusal) (how : Halt) (old new : Machine) (added : List Entry)
-    → Comes trusted places choice c old new said added → Ends n said (Err how) → EndsBehind old new how
-command-behind trusted places goes_on choice n c (Ok it) how old new added comes is = wanted-behind how old new is
-command-behind trusted places goes_on choice n c (Err e) how old new added comes (inl is) = run-behind e how old new (comes-end trusted places goes_on choice e how is old new added c comes) is
-command-behind trusted places goes_on choice n c (Err e) how old new added comes (inr is) = wanted-behind how old new is
+command-behind : (trusted : Type 0) (places : Places) (goes_on : EndsNoRun places) (k : Client) (n : ℕ) (c : Command) (said : Result Outcome Refusal) (how : Halt) (old new : Machine) (added : List Entry)
+    → Comes trusted places k c old new said added → Ends n said (Err how) → EndsBehind old new how
+command-behind trusted places goes_on k n c (Ok it) how old new added comes is = wanted-behind how old new is
+command-behind trusted places goes_on k n c (Err e) how old new added comes (inl is) = run-behind e how old new (comes-end trusted places goes_on k e how is old new added c comes) is
+command-behind trusted places goes_on k n c (Err e) how old new added comes (inr is) = wanted-behind how old new is
 
-module _ (trusted : Type 0) (places : Places) (choice : List Rule) (puts : PutsAs trusted places choice) (gets : GetsAs trusted places) (goes_on : EndsNoRun places) where
-  still-halts : (n : ℕ) (line : Line) (how : Halt) (old new : Machine) → IsAtRest old.core → new ≡ old → EndsAt trusted places choice n line old how [] new → EndsBehind old new how
-      → Halts trusted places choice n line old how new
+module _ (trusted : Type 0) (places : Places) (k : Client) (puts : PutsAs trusted places k.choice) (gets : GetsAs trusted places) (goes_on : EndsNoRun places) where
+  still-halts : (n : ℕ) (line : Line) (how : Halt) (old new : Machine) → IsAtRest old.core → new ≡ old → EndsAt trusted places k n line old how [] new → EndsBehind old new how
+      → Halts trusted places k n line old how new
   still-halts n line how old new rest same ends why =
       let b = became-same old new same in
       record {
@@ -211,38 +211,38 @@ module _ (trusted : Type 0) (places : Places) (choice : List Rule) (puts : PutsA
         durable = λ h. inl (subst (λ (m : Machine). IsAtRest m.core) (sym same) rest).durable;
       }
 
-  ends-line : (n : ℕ) (line : Line) (events : List Event) (how : Halt) (old new : Machine) → IsAtRest old.core → HasSizes old → DoesOrWants choice n line events (Err how) → Alone trusted places 0 events old new
-      → Halts trusted places choice n line old how new
-  ends-line n comment events how old new rest sizes (inl (none, is)) f = absurd cc
-  ends-line n (refused_line given) events how old new rest sizes (inl (none, is)) f =
+  ends-line : (n : ℕ) (line : Line) (events : List Event) (how : Halt) (old new : Machine) → IsAtRest old.core → HasSizes old → DoesOrWants k n line events (Err how) → Alone trusted places 0 events old new
+      → Halts trusted places k n line old how new
+  ends-line n comment events how old new rest sizes (inl (kept, none, is)) f = absurd cc
+  ends-line n (refused_line given) events how old new rest sizes (inl (kept, none, is)) f =
       let same : new ≡ old = alone-none trusted places 0 events old new none f in
-      still-halts n (refused_line given) how old new rest same (refl, wanted-following how old new is same) (wanted-behind how old new is)
+      still-halts n (refused_line given) how old new rest same (kept, refl, wanted-following how old new is same) (wanted-behind how old new is)
   ends-line n (asks c) events how old new rest sizes (inl (said, doing, ends)) f =
-      let d = command-did trusted places choice puts gets c events said old new rest sizes doing f in
+      let d = command-did trusted places k puts gets c events said old new rest sizes doing f in
       record {
         added = d.added;
         ends = inr (said, new, d.comes, inl (refl, ends));
         adds = d.left.adds;
         log = d.left.log;
         onward = d.left.onward;
-        cause = command-behind trusted places goes_on choice n c said how old new d.added d.comes ends;
+        cause = command-behind trusted places goes_on k n c said how old new d.added d.comes ends;
         nearly = d.doubt;
         durable = λ h. kept-durable n said d.added how old new d.left ends (has_broken said) refl;
       }
-  ends-line n line events how old new rest sizes (inr (none, is)) f =
+  ends-line n line events how old new rest sizes (inr (kept, none, is)) f =
       let same : new ≡ old = alone-none trusted places 0 events old new none f in
-      still-halts n line how old new rest same (wants-ends trusted places choice n line how old new (same-halt how halt.Memory is) same) (wanted-behind how old new (same-halt how halt.Memory is))
+      still-halts n line how old new rest same (wants-ends trusted places k n line how old new kept (same-halt how halt.Memory is) same) (wanted-behind how old new (same-halt how halt.Memory is))
 
-  pub ended : (n : ℕ) (line : Line) (events : List Event) (how : Halt) (old new : Machine) → IsAtRest old.core → HasSizes old → AnswersLine choice n line events (Err how) → Alone trusted places 0 events old new
-      → Halts trusted places choice n line old how new
+  pub ended : (n : ℕ) (line : Line) (events : List Event) (how : Halt) (old new : Machine) → IsAtRest old.core → HasSizes old → AnswersLine k n line events (Err how) → Alone trusted places 0 events old new
+      → Halts trusted places k n line old how new
   ended n line events how old new rest sizes (inl h) f = ends-line n line events how old new rest sizes h f
   ended n line events how old new rest sizes (inr ((answer, why), (xs, ys, cut, does, (made, follows, halts)))) f =
       let parts = alone-parts trusted places 0 events xs ys old new cut f in
-      let d = line-did trusted places choice puts gets n line xs answer why old parts.0 rest sizes does parts.1 in
+      let d = line-did trusted places k puts gets n line xs answer why old parts.0 rest sizes does parts.1 in
       let b = followed trusted places ys made parts.0 new d.rests follows parts.2 in
       record {
         added = d.added;
-        ends = says-ends trusted places choice n line answer why d.added how old parts.0 new d.says (b.off how halts);
+        ends = says-ends trusted places k n line answer why d.added how old parts.0 new d.says (b.off how halts);
         adds = adds-behind d.added old parts.0 new d.adds b.adds;
         log = log-behind d.added how old parts.0 new d.log (b.off how halts);
         onward = onward-then old parts.0 new d.onward b.onward;

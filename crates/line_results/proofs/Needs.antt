@@ -22,7 +22,6 @@ use Rattle.inventory_answers.specs.declared.reply.Answer.{Answer}
 use Rattle.inventory_answers.specs.declared.lines.PoolLine.{PoolLine}
 use Rattle.admin_words.specs.declared.command.Command.{Command}
 use Rattle.admin_words.specs.declared.command.Command.TheVariants as commands
-use Rattle.admin_words.specs.declared.files.FilePut.{FilePut}
 use Rattle.admin_words.specs.declared.policy.ArchiveUpdate.{ArchiveUpdate}
 use Rattle.admin_words.specs.declared.policy.GroupUpdate.{GroupUpdate}
 use Rattle.admin_words.specs.declared.pools.PoolDefinition.{PoolDefinition}
@@ -49,7 +48,7 @@ use Rattle.admin_commands.specs.Policy.{archive_changed, destination_for, group_
 use Rattle.admin_commands.specs.Orders.{class_needs, class_work, clients, database_needs, database_work, dev_class, file_needs, file_work, for_move, if_given, if_next, needs, node_needs, node_work, policies, policy_needs, policy_work, pool, pool_needs, pool_row, pool_work, run, run_found, run_in, show, stores, volume, volume_needs, volume_row, volume_work, work_of}
 use Rattle.admin_commands.specs.Stores.{access_changed, capacity_for, class_deleted, collocates_disk, delete_volume, is_definition, is_ordered, may_move, move_data, moved, moved_from, new_settings, new_volume, next_for, other_settings, pool_changed, update_found, update_settings, volume_deleted}
 use Rattle.machine.specs.Causes.{is_plain}
-use Rattle.command_steps.specs.Owns.{database_own, empty_volume, file_own, node_own, none_yet, own_of, policy_own, pool_own, put, volume_own}
+use Rattle.command_steps.specs.Owns.{OnTree, Own, back_up, database_own, empty_volume, file_own, node_own, none_yet, on_tree, own_of, policy_own, pool_own, put, restore, volume_own}
 use Rattle.command_steps.specs.Answers.{halt_by}
 use Rattle.line_results.proofs.Asked.{AreUnlogged, is_log}
 use Rattle.line_results.proofs.Mild.{is_common}
@@ -316,42 +315,55 @@ work-plain (commands.File c) answers = files-plain c answers
 work-plain (commands.Database c) answers = database-plain c answers
 work-plain (commands.Block c) answers = tt
 
--- ---- a PUT looks something up
+-- ---- a PUT, a backup and a restore look something up
 
-policy-put : (c : PolicyCommand) (p : FilePut) → policy_own c ≡ put p → ⊥
-policy-put (ValidateSet s) p h = cc
-policy-put c p h = cc
+-- work on a tree whose command looks something up first
+abbrev tree_asks : OnTree → Bool
+tree_asks (back_up i) = true
+tree_asks (restore r) = true
+tree_asks work = false
 
-file-put : (c : FileCommand) (p : FilePut) → file_own c ≡ put p → file_needs c ≡ [] → ⊥
-file-put (Put q) p h none = cc
-file-put (Get g) p h none = cc
-file-put c p h none = cc
+-- work of a command's own whose command does
+abbrev pub looks_up : Own → Bool
+looks_up (put p) = true
+looks_up (on_tree work) = tree_asks work
+looks_up own = false
 
-database-put : (c : DatabaseCommand) (p : FilePut) → database_own c ≡ put p → ⊥
-database-put Checkpoint p h = cc
-database-put c p h = cc
+policy-asks : (c : PolicyCommand) → looks_up (policy_own c) ≡ true → ⊥
+policy-asks (ValidateSet s) h = cc
+policy-asks c h = cc
 
-node-put : (c : NodeCommand) (p : FilePut) → node_own c ≡ put p → ⊥
-node-put (DeleteFilespace f) p h = cc
-node-put c p h = cc
+file-asks : (c : FileCommand) → looks_up (file_own c) ≡ true → file_needs c ≡ [] → ⊥
+file-asks (Put q) h none = cc
+file-asks (Incremental i) h none = cc
+file-asks (RestoreFiles r) h none = cc
+file-asks c h none = cc
 
-deleted-put : (discard : Bool) (p : FilePut) → (if discard then empty_volume else none_yet) ≡ put p → ⊥
-deleted-put true p h = cc
-deleted-put false p h = cc
+database-asks : (c : DatabaseCommand) → looks_up (database_own c) ≡ true → ⊥
+database-asks Checkpoint h = cc
+database-asks c h = cc
 
-volume-put : (c : VolumeCommand) (p : FilePut) → volume_own c ≡ put p → ⊥
-volume-put (DeleteVolume d) p h = deleted-put d.discard_data p h
-volume-put c p h = cc
+node-asks : (c : NodeCommand) → looks_up (node_own c) ≡ true → ⊥
+node-asks (DeleteFilespace f) h = cc
+node-asks c h = cc
 
-pool-put : (c : PoolCommand) (p : FilePut) → pool_own c ≡ put p → ⊥
-pool-put (BackupPool b) p h = cc
-pool-put c p h = cc
+deleted-asks : (discard : Bool) → looks_up (if discard then empty_volume else none_yet) ≡ true → ⊥
+deleted-asks true h = cc
+deleted-asks false h = cc
 
-pub put-asks : (c : Command) (p : FilePut) → own_of c ≡ put p → needs c ≡ [] → ⊥
-put-asks (commands.Policy c) p h none = policy-put c p h
-put-asks (commands.Node c) p h none = node-put c p h
-put-asks (commands.Pool c) p h none = pool-put c p h
-put-asks (commands.Volume c) p h none = volume-put c p h
-put-asks (commands.File c) p h none = file-put c p h none
-put-asks (commands.Database c) p h none = database-put c p h
-put-asks c p h none = cc
+volume-asks : (c : VolumeCommand) → looks_up (volume_own c) ≡ true → ⊥
+volume-asks (DeleteVolume d) h = deleted-asks d.discard_data h
+volume-asks c h = cc
+
+pool-asks : (c : PoolCommand) → looks_up (pool_own c) ≡ true → ⊥
+pool-asks (BackupPool b) h = cc
+pool-asks c h = cc
+
+pub own-asks : (c : Command) → looks_up (own_of c) ≡ true → needs c ≡ [] → ⊥
+own-asks (commands.Policy c) h none = policy-asks c h
+own-asks (commands.Node c) h none = node-asks c h
+own-asks (commands.Pool c) h none = pool-asks c h
+own-asks (commands.Volume c) h none = volume-asks c h
+own-asks (commands.File c) h none = file-asks c h none
+own-asks (commands.Database c) h none = database-asks c h
+own-asks c h none = cc

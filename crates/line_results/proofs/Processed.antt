@@ -20,6 +20,7 @@ use Rattle.entries.specs.declared.entry.Entry.{Entry}
 use Rattle.inventory_rows.specs.State.{Inv}
 use Rattle.inventory_rows.specs.version_groups.Entries.{on_ok}
 use Rattle.admin_words.specs.declared.command.Command.{Command}
+use Rattle.admin_words.specs.declared.files.IncrementalBackup.{IncrementalBackup}
 use Rattle.admin_commands.specs.declared.work.Work.{Work}
 use Rattle.admin_commands.specs.declared.work.Work.TheVariants.{Commit as CommitWork, Run, Show}
 use Rattle.steps.specs.Spent.{AreSettled}
@@ -32,6 +33,8 @@ use Rattle.deletions.specs.Filespaces as filespaces
 use Rattle.deletions.specs.Volumes as volumes
 use Rattle.expiration.specs.Expiring.{IsExpiring, named}
 use Rattle.copy_attempts.specs.Outcomes.{IsOf as IsOfAttempt}
+use Rattle.incrementals.specs.Process.{may_leave}
+use Rattle.incrementals.specs.declared.answering.Sent.{Sent}
 use Rattle.inventory_answers.specs.declared.lines.VolumeLine.{VolumeLine}
 use Rattle.kinds.specs.declared.pool.Access.TheVariants.{Destroyed}
 use Rattle.migration.specs.Migrating.{IsMigration}
@@ -50,29 +53,35 @@ use Rattle.steps.specs.declared.asked.Asked.{Asked}
 use Rattle.steps.specs.declared.asked.Asked.TheVariants.{Plain}
 use Rattle.steps.specs.Events.{Deed, Event}
 use Rattle.steps.specs.Events.Deed.{Ask, Commit, CopyPiece, DropTicket, Force, OpenCopy, Reuse, Seal}
-use Rattle.machine.specs.Alone.{Alone}
+use Rattle.machine.specs.Alone.{Alone, with_contents}
 use Rattle.machine.specs.Causes.{is_plain}
 use Rattle.machine.specs.Changes.{filled, is_moving}
 use Rattle.machine.specs.Machine.{Places, asked_change}
 use Rattle.machine.specs.State.{Core, Machine, inventory}
 use Rattle.command_steps.specs.Answers.{halt_by}
 use Rattle.command_steps.specs.Behind.{Behind, behind, forces, no_more, reuses, with_reused}
-use Rattle.command_steps.specs.Doing.{Does as DoesBy, DoesOwn as DoesOwnBy, DoesWork, EndsWork, Forcing, MovesSo, Reusing, moved_line, the_number, the_second}
-use Rattle.command_steps.specs.Owns.{Mover, Own, all_migrator, back_up_pool, checkpoint, data_mover, empty_filespace, empty_volume, expire, get, last_of, migrator, moves, none_but_reuse, none_yet, own_of, pool_restorer, put, reclaimer, validate, volume_restorer}
+use Rattle.command_steps.specs.Clients.{Client, IsKept}
+use Rattle.command_steps.specs.Doing.{Does as DoesBy, DoesAlone as DoesAloneBy, DoesOwn as DoesOwnBy, DoesWork, EndsWork, Forcing, MovesSo, Reusing, moved_line, the_number, the_second}
+use Rattle.command_steps.specs.Owns.{Mover, OnTree, Own, all_migrator, back_up, back_up_pool, checkpoint, data_mover, empty_filespace, empty_volume, expire, get, last_of, migrator, moves, none_but_reuse, none_yet, on_tree, own_of, pool_restorer, put, reclaimer, validate, volume_restorer}
+use Rattle.command_steps.specs.Trees.{DoesThere as DoesThereBy, ShowsSent}
 use Rattle.command_steps.specs.declared.outcome.Outcome.{Outcome}
 use Rattle.command_steps.specs.declared.outcome.Outcome.TheVariants.{Said}
-use Rattle.line_results.specs.Commands.{Does, DoesOwn, EndsWith, IsLoss, IsReuse, IsStill, IsStopped, MayMake, Processes, Ran, Tells, Works, WorksWith}
-use Rattle.line_results.specs.Resting.{Adds, EndsRun, IsAtRest, IsLate, SameBytes, SameImage}
+use Rattle.line_results.specs.Commands.{Does, DoesAlone, DoesOwn, DoesThere, EndsWith, IsLoss, IsReuse, IsStill, IsStopped, MayMake, Processes, Ran, Tells, Works, WorksWith}
+use Rattle.line_results.specs.Resting.{Adds, EndsRun, IsAtRest, IsLate, SameBytes, SameImage, database}
+use Rattle.line_results.specs.Trees.{IsOfBackup}
 use Rattle.reports.specs.declared.shown.Shown.TheVariants.{Copied, Reused}
 use Rattle.line_results.proofs.Changed.{changes}
 use Rattle.line_results.proofs.Copying.{AllCopy, Copies, IsCopy, MayJoin, copied-none, copies-walk, settled-free}
-use Rattle.line_results.proofs.Kinds.{IsProcess, IsProcessOwn, IsRowless}
+use Rattle.line_results.proofs.Kinds.{IsProcess, IsProcessOwn, IsProcessTree, IsRowless}
 use Rattle.line_results.proofs.Leaving.{Left}
 use Rattle.line_results.proofs.Mild.{is_common}
 use Rattle.line_results.proofs.Needs.{IsPlainWork}
+use Rattle.line_results.proofs.Planned.{backup-sends}
 use Rattle.line_results.proofs.Runs.{alone-none, alone-parts, onward-none}
+use Rattle.line_results.proofs.Sending.{Sends, Stored, has-tickets, sends-walk, stored-none}
 use Rattle.line_results.proofs.Settling.{Settled, may_stay, settles}
-use Rattle.line_results.proofs.Walking.{AllWalk, AreOf, Grew, Under, Walked, Walks, all-walk, are-as, grew-none, grew-on, walk, walked-none}
+use Rattle.line_results.proofs.Spent.{spent-free}
+use Rattle.line_results.proofs.Walking.{AllWalk, AreOf, Grew, Under, Walked, Walks, all-walk, are-as, grew-none, grew-since, rose-in-as, walk, walked-none}
 
 -- ---- steps of processes
 
@@ -231,46 +240,54 @@ changing-walks what d h = absurd h
 
 -- ---- the work
 
+-- the earlier state with the bytes that objects have in the later one
+abbrev since_of : (old mid : Machine) → Machine
+since_of old mid = with_contents mid.contents old
+
 -- The work of a process came to this, and these transactions were made.
-pub record Began (trusted : Type 0) (places : Places) (choice : List Rule) (c : Command) (w : Work) (b : Behind) (old mid : Machine) (said : Result Outcome Refusal) : Type 0 where
+pub record Began (trusted : Type 0) (places : Places) (k : Client) (c : Command) (w : Work) (b : Behind) (old mid : Machine) (said : Result Outcome Refusal) : Type 0 where
   pub first : List Entry
-  pub does : Does trusted places choice c (Ok w) old mid said first
-  pub grew : Grew (IsReuse b) first [] old mid
+  pub does : Does trusted places k c (Ok w) old mid said first
+  pub grew : Grew (IsReuse b) first [] (since_of old mid) mid
   pub free : may_stay said ≡ false → mid.core.tickets ≡ []
 
 -- work of a command's own
 pub record OwnBegan (trusted : Type 0) (places : Places) (Did : List Entry → Type 0) (b : Behind) (old mid : Machine) (said : Result Outcome Refusal) : Type 0 where
   pub first : List Entry
   pub does : Did first
-  pub grew : Grew (IsReuse b) first [] old mid
+  pub grew : Grew (IsReuse b) first [] (since_of old mid) mid
   pub free : may_stay said ≡ false → mid.core.tickets ≡ []
 
 still-none : (m : Machine) → IsStill m m
 still-none m = record { core = refl; contents = refl; onward = onward-none m }
 
+-- what was made, in front of what is to come
+began-grew : (P Q : Change → Type 0) (first : List Entry) (old mid : Machine) → Grew P [] first old mid → Grew Q first [] (since_of old mid) mid
+began-grew P Q first old mid w = grew-since Q first old mid w.core w.onward w.fault
+
 module _ (trusted : Type 0) (places : Places) (choice : List Rule) (b : Behind) where
   -- steps of a process without tickets, each of which is one of these
-  process-began : (numbers : List ℕ) (own : Own) (said : Result Outcome Refusal) (events : List Event) (old mid : Machine) → IsAtRest old.core → DoesOwnBy choice own numbers events said → AllWalk (MayMake numbers own) events
+  process-began : (numbers : List ℕ) (own : Own) (said : Result Outcome Refusal) (events : List Event) (old mid : Machine) → IsAtRest old.core → DoesAloneBy choice own numbers events said → AllWalk (MayMake numbers own) events
       → Alone trusted places 0 events old mid → OwnBegan trusted places (λ added. Processes trusted places choice numbers own old mid said added) b old mid said
   process-began numbers own said events old mid rest did all f =
       let r = walk trusted places (MayMake numbers own) [] events [] old old mid all (walked-none (MayMake numbers own) old rest) f in
       record {
         first = r.0;
         does = ((old, events, still-none old, f, did), r.1.grew.are, r.1.grew.core.generation, r.1.grew.contents);
-        grew = grew-on (MayMake numbers own) (IsReuse b) r.0 old mid r.1.grew;
+        grew = began-grew (MayMake numbers own) (IsReuse b) r.0 old mid r.1.grew;
         free = λ h. r.1.free;
       }
 
   -- steps that make further copies, or move some
   copies-began : (moving : Bool) (P : Change → Type 0) (numbers : List ℕ) (own : Own) (said : Result Outcome Refusal) (events : List Event) (old mid : Machine) → ((c : Change) → MayJoin moving P c → MayMake numbers own c) → IsAtRest old.core
-      → DoesOwnBy choice own numbers events said → AllCopy moving P events → (may_stay said ≡ false → AreSettled events) → Alone trusted places 0 events old mid
+      → DoesAloneBy choice own numbers events said → AllCopy moving P events → (may_stay said ≡ false → AreSettled events) → Alone trusted places 0 events old mid
       → OwnBegan trusted places (λ added. Processes trusted places choice numbers own old mid said added) b old mid said
   copies-began moving P numbers own said events old mid may rest did all settled f =
       let r = copies-walk moving P trusted places [] events [] old old mid all (copied-none moving P old rest) f in
       record {
         first = r.0;
         does = ((old, events, still-none old, f, did), are-as (MayJoin moving P) (MayMake numbers own) may r.0 r.1.grew.are, r.1.grew.core.generation, r.1.grew.contents);
-        grew = grew-on (MayJoin moving P) (IsReuse b) r.0 old mid r.1.grew;
+        grew = began-grew (MayJoin moving P) (IsReuse b) r.0 old mid r.1.grew;
         free = λ h. settled-free moving P trusted places events old mid rest.tickets all (settled h) f;
       }
 
@@ -282,7 +299,7 @@ module _ (trusted : Type 0) (places : Places) (choice : List Rule) (b : Behind) 
       record {
         first = [];
         does = (inl is, refl, ap (λ (m : Machine). m.core.generation) same, ap (λ (m : Machine). m.contents) same);
-        grew = subst (λ (m : Machine). Grew (IsReuse b) [] [] old m) (sym same) (grew-none (IsReuse b) old rest);
+        grew = subst (λ (m : Machine). Grew (IsReuse b) [] [] (since_of old m) m) (sym same) (began-grew (IsReuse b) (IsReuse b) [] old old (grew-none (IsReuse b) old rest));
         free = λ h. subst (λ (m : Machine). m.core.tickets ≡ []) (sym same) rest.tickets;
       }
 
@@ -290,8 +307,8 @@ module _ (trusted : Type 0) (places : Places) (choice : List Rule) (b : Behind) 
   no-other c moving (inl h) = h
   no-other c moving (inr h) = absurd h
 
-  moves-began : (mover : Mover) (numbers : List ℕ) (said : Result Outcome Refusal) (events : List Event) (old mid : Machine) → IsAtRest old.core → DoesOwnBy choice (moves mover) numbers events said
-      → Alone trusted places 0 events old mid → OwnBegan trusted places (λ added. DoesOwn trusted places choice numbers (moves mover) old mid said added) b old mid said
+  moves-began : (mover : Mover) (numbers : List ℕ) (said : Result Outcome Refusal) (events : List Event) (old mid : Machine) → IsAtRest old.core → DoesAloneBy choice (moves mover) numbers events said
+      → Alone trusted places 0 events old mid → OwnBegan trusted places (λ added. DoesAlone trusted places choice numbers (moves mover) old mid said added) b old mid said
   moves-began data_mover numbers said events old mid rest h f =
       copies-began true NoOther numbers (moves data_mover) said events old mid (λ c is. no-other c true is) rest h
       (all-copies true NoOther (IsMoving (the_number numbers) (the_second numbers)) (data-moves (the_number numbers) (the_second numbers)) events h.1.only)
@@ -314,35 +331,96 @@ module _ (trusted : Type 0) (places : Places) (choice : List Rule) (b : Behind) 
       copies-began true NoOther numbers (moves all_migrator) said events old mid (λ c is. no-other c true is) rest h (all-copies true NoOther IsSweep sweep-moves events h.1.only)
       (λ leave. moves-settled events said leave all_migrator (the_number numbers) (the_second numbers) h.0 h.1 h.2) f
 
-  own-began : (own : Own) (numbers : List ℕ) (said : Result Outcome Refusal) (events : List Event) (old mid : Machine) → IsProcessOwn own → IsAtRest old.core → DoesOwnBy choice own numbers events said
-      → Alone trusted places 0 events old mid → OwnBegan trusted places (λ added. DoesOwn trusted places choice numbers own old mid said added) b old mid said
-  own-began expire numbers said events old mid so rest h f = process-began numbers expire said events old mid rest h (all-walk IsExpiring (MayMake numbers expire) (expiring-walks numbers) events h.1.only) f
-  own-began empty_filespace numbers said events old mid so rest h f =
+  alone-began : (own : Own) (numbers : List ℕ) (said : Result Outcome Refusal) (events : List Event) (old mid : Machine) → IsProcessOwn own → IsAtRest old.core → DoesAloneBy choice own numbers events said
+      → Alone trusted places 0 events old mid → OwnBegan trusted places (λ added. DoesAlone trusted places choice numbers own old mid said added) b old mid said
+  alone-began expire numbers said events old mid so rest h f = process-began numbers expire said events old mid rest h (all-walk IsExpiring (MayMake numbers expire) (expiring-walks numbers) events h.1.only) f
+  alone-began empty_filespace numbers said events old mid so rest h f =
       process-began numbers empty_filespace said events old mid rest h (all-walk (filespaces.IsDeleting (the_number numbers)) (MayMake numbers empty_filespace) (filespace-walks numbers) events h.1.only) f
-  own-began empty_volume numbers said events old mid so rest h f =
+  alone-began empty_volume numbers said events old mid so rest h f =
       process-began numbers empty_volume said events old mid rest h (all-walk (volumes.IsDeleting true (the_number numbers)) (MayMake numbers empty_volume) (volume-walks numbers) events h.1.only) f
-  own-began back_up_pool numbers said events old mid so rest h f =
+  alone-began back_up_pool numbers said events old mid so rest h f =
       copies-began false NoOther numbers back_up_pool said events old mid (λ c is. no-other c false is) rest h (backup-copies (the_second numbers) events h.1.only) (backup-settled (the_number numbers) (the_second numbers) events h.0 said h.1.came h.2) f
-  own-began (moves mover) numbers said events old mid so rest h f = moves-began mover numbers said events old mid rest h f
-  own-began none_but_reuse numbers said events old mid so rest h f = none-began (Ok (Said (Reused 0))) said events old mid rest h.0 h.1 f
-  own-began none_yet numbers said events old mid so rest h f = none-began (Err (refused.UnknownWord 1)) said events old mid rest h.0 h.1 f
+  alone-began (moves mover) numbers said events old mid so rest h f = moves-began mover numbers said events old mid rest h f
+  alone-began none_but_reuse numbers said events old mid so rest h f = none-began (Ok (Said (Reused 0))) said events old mid rest h.0 h.1 f
+  alone-began none_yet numbers said events old mid so rest h f = none-began (Err (refused.UnknownWord 1)) said events old mid rest h.0 h.1 f
+  alone-began (on_tree work) numbers said events old mid so rest h f = absurd h
+  alone-began own numbers said events old mid so rest h f = absurd so
+
+-- all trees are as they were
+kept-began : (trusted : Type 0) (places : Places) (k : Client) (Did : List Entry → Type 0) (b : Behind) (old mid : Machine) (said : Result Outcome Refusal) → IsKept k → OwnBegan trusted places Did b old mid said
+    → OwnBegan trusted places (λ added. IsKept k × Did added) b old mid said
+kept-began trusted places k Did b old mid said kept r = record { first = r.first; does = (kept, r.does); grew = r.grew; free = r.free }
+
+stored-grew : (P Q : Change → Type 0) (first : List Entry) (old mid : Machine) → Stored P [] first old mid → Grew Q first [] (since_of old mid) mid
+stored-grew P Q first old mid w =
+    grew-since Q first old mid w.grew.core (record { counts = w.grew.onward.counts; since = w.grew.onward.since })
+    (rose-in-as old (with_contents old.contents mid) old mid (λ file h. h) mid.core.fault w.grew.fault)
+
+-- a backup that is answered so may leave no ticket
+sent-leaves : (answer : Result Sent Refusal) (said : Result Outcome Refusal) → ShowsSent answer said → may_stay said ≡ false → may_leave answer ≡ false
+sent-leaves (Ok s) said h stays = refl
+sent-leaves (Err e) said h stays = ap may_stay (sym h) ∙ stays
+
+module _ (trusted : Type 0) (places : Places) (k : Client) (b : Behind) where
+  -- the backup of a tree; or there is no such tree
+  back-up-began : (i : IncrementalBackup) (said : Result Outcome Refusal) (events : List Event) (old mid : Machine) → IsAtRest old.core → DoesThereBy k (back_up i) events said → Alone trusted places 0 events old mid
+      → OwnBegan trusted places (λ added. DoesThere trusted places k (back_up i) old mid said added) b old mid said
+  back-up-began i said events old mid rest (inl (before, after, turns, (answer, made, same, shows))) f =
+      let P : Change → Type 0 = IsOfBackup k.choice i before.files (database old) in
+      let all = backup-sends trusted places k.choice i before.files before.faults events old mid rest made.only f in
+      let r = sends-walk P trusted places [] events [] old old mid all (stored-none P old rest) f in
+      record {
+        first = r.0;
+        does = inl (before, after, turns, ((old, events, still-none old, f, (answer, made, same, shows)), r.1.grew.are, r.1.grew.core.generation, r.1.keeps));
+        grew = stored-grew P (IsReuse b) r.0 old mid r.1;
+        free = λ h. spent-free trusted places (Sends P) (has-tickets P) events old mid rest.tickets all (made.settled (sent-leaves answer said shows h)) f;
+      }
+  back-up-began i said events old mid rest (inr (missing, kept, none, is)) f =
+      let same : mid ≡ old = alone-none trusted places 0 events old mid none f in
+      record {
+        first = [];
+        does = inr (missing, kept, is, subst (λ (m : Machine). IsStill old m) (sym same) (still-none old), refl);
+        grew = subst (λ (m : Machine). Grew (IsReuse b) [] [] (since_of old m) m) (sym same) (began-grew (IsReuse b) (IsReuse b) [] old old (grew-none (IsReuse b) old rest));
+        free = λ h. subst (λ (m : Machine). m.core.tickets ≡ []) (sym same) rest.tickets;
+      }
+
+  tree-began : (work : OnTree) (said : Result Outcome Refusal) (events : List Event) (old mid : Machine) → IsProcessTree work → IsAtRest old.core → DoesThereBy k work events said → Alone trusted places 0 events old mid
+      → OwnBegan trusted places (λ added. DoesThere trusted places k work old mid said added) b old mid said
+  tree-began (back_up i) said events old mid so rest h f = back-up-began i said events old mid rest h f
+  tree-began work said events old mid so rest h f = absurd so
+
+  alone : (own : Own) (numbers : List ℕ) (said : Result Outcome Refusal) (events : List Event) (old mid : Machine) → IsProcessOwn own → IsAtRest old.core → IsKept k × DoesAloneBy k.choice own numbers events said
+      → Alone trusted places 0 events old mid → OwnBegan trusted places (λ added. IsKept k × DoesAlone trusted places k.choice numbers own old mid said added) b old mid said
+  alone own numbers said events old mid so rest (kept, h) f =
+      kept-began trusted places k (λ added. DoesAlone trusted places k.choice numbers own old mid said added) b old mid said kept (alone-began trusted places k.choice b own numbers said events old mid so rest h f)
+
+  own-began : (own : Own) (numbers : List ℕ) (said : Result Outcome Refusal) (events : List Event) (old mid : Machine) → IsProcessOwn own → IsAtRest old.core → DoesOwnBy k own numbers events said
+      → Alone trusted places 0 events old mid → OwnBegan trusted places (λ added. DoesOwn trusted places k numbers own old mid said added) b old mid said
+  own-began (on_tree work) numbers said events old mid so rest h f = tree-began work said events old mid so rest h f
+  own-began expire numbers said events old mid so rest h f = alone expire numbers said events old mid so rest h f
+  own-began empty_filespace numbers said events old mid so rest h f = alone empty_filespace numbers said events old mid so rest h f
+  own-began empty_volume numbers said events old mid so rest h f = alone empty_volume numbers said events old mid so rest h f
+  own-began back_up_pool numbers said events old mid so rest h f = alone back_up_pool numbers said events old mid so rest h f
+  own-began (moves mover) numbers said events old mid so rest h f = alone (moves mover) numbers said events old mid so rest h f
+  own-began none_but_reuse numbers said events old mid so rest h f = alone none_but_reuse numbers said events old mid so rest h f
+  own-began none_yet numbers said events old mid so rest h f = alone none_yet numbers said events old mid so rest h f
   own-began own numbers said events old mid so rest h f = absurd so
 
   -- a change, which is known by what it makes of the database
-  same-first : (first more : List Entry) (old mid : Machine) → Adds first old mid → Grew IsAny [] more old mid → Grew (IsReuse b) first [] old mid
+  same-first : (first more : List Entry) (old mid : Machine) → Adds first old mid → Grew IsAny [] more old mid → Grew (IsReuse b) first [] (since_of old mid) mid
   same-first first more old mid adds w =
       let same : more ≡ first = append_cancel_left old.core.journal more first (sym w.core.journal ∙ adds.journal) in
-      subst (λ (l : List Entry). Grew (IsReuse b) l [] old mid) same (grew-on IsAny (IsReuse b) more old mid w)
+      subst (λ (l : List Entry). Grew (IsReuse b) l [] (since_of old mid) mid) same (began-grew IsAny (IsReuse b) more old mid w)
 
-  change-began : (c : Command) (what : Change) (said : Result Outcome Refusal) (events : List Event) (old mid : Machine) → is_plain what ≡ true → IsAtRest old.core → DoesBy choice c (CommitWork what) events said
-      → Alone trusted places 0 events old mid → Began trusted places choice c (CommitWork what) b old mid said
-  change-began c what said events old mid plain rest (answer, called, is) f =
+  change-began : (c : Command) (what : Change) (said : Result Outcome Refusal) (events : List Event) (old mid : Machine) → is_plain what ≡ true → IsAtRest old.core → DoesBy k c (CommitWork what) events said
+      → Alone trusted places 0 events old mid → Began trusted places k c (CommitWork what) b old mid said
+  change-began c what said events old mid plain rest (kept, (answer, called, is)) f =
       let r = changes trusted places what events answer old mid plain rest called.order f in
       let w = walk trusted places IsAny [] events [] old old mid (all-walk (IsOf what) IsAny (changing-walks what) events called.only) (walked-none IsAny old rest) f in
-      record { first = r.added; does = (answer, r.commits, is, r.image, r.bytes); grew = same-first r.added w.0 old mid r.leaves.adds w.1.grew; free = λ h. w.1.free }
+      record { first = r.added; does = (kept, answer, r.commits, is, r.image, r.bytes); grew = same-first r.added w.0 old mid r.leaves.adds w.1.grew; free = λ h. w.1.free }
 
-  began : (c : Command) (w : Work) (said : Result Outcome Refusal) (events : List Event) (old mid : Machine) → IsProcessOwn (own_of c) → IsRowless (Ok w) → IsPlainWork (Ok w) → IsAtRest old.core → DoesBy choice c w events said
-      → Alone trusted places 0 events old mid → Began trusted places choice c w b old mid said
+  began : (c : Command) (w : Work) (said : Result Outcome Refusal) (events : List Event) (old mid : Machine) → IsProcessOwn (own_of c) → IsRowless (Ok w) → IsPlainWork (Ok w) → IsAtRest old.core → DoesBy k c w events said
+      → Alone trusted places 0 events old mid → Began trusted places k c w b old mid said
   began c (CommitWork what) said events old mid own rowless plain rest h f = change-began c what said events old mid (and_parts (is_plain what) (is_common what) plain).0 rest h f
   began c (Show q) said events old mid own rowless plain rest h f = absurd rowless
   began c (Run numbers) said events old mid own rowless plain rest h f =
@@ -352,10 +430,28 @@ module _ (trusted : Type 0) (places : Places) (choice : List Rule) (b : Behind) 
 -- ---- what comes behind it
 
 -- All that came of it, and what is left.
-pub record Processed (trusted : Type 0) (places : Places) (choice : List Rule) (c : Command) (w : Work) (b : Behind) (old new : Machine) (result : Result Outcome Refusal) : Type 0 where
+pub record Processed (trusted : Type 0) (places : Places) (k : Client) (c : Command) (w : Work) (b : Behind) (old new : Machine) (result : Result Outcome Refusal) : Type 0 where
   pub added : List Entry
-  pub works : WorksWith trusted places choice c (Ok w) b old new result added
-  pub settled : Settled added old new result
+  pub works : WorksWith trusted places k c (Ok w) b old new result added
+  pub left : Left result added old new
+  pub doubt : length new.core.journal ≤ length new.core.stamps + length added
+  pub late : IsLate old → IsStopped result
+
+-- what was left is the same whatever bytes objects had before
+left-with : (contents : ℕ → List ℕ) (result : Result Outcome Refusal) (added : List Entry) (old new : Machine) → Left result added (with_contents contents old) new → Left result added old new
+left-with contents result added old new l = record {
+  adds = record { base = l.adds.base; journal = l.adds.journal };
+  onward = record { counts = l.onward.counts; since = l.onward.since };
+  log = l.log;
+  rests = l.rests;
+  durable = l.durable;
+}
+
+ends-with : (contents : ℕ → List ℕ) (old new : Machine) (e : Refusal) → EndsRun (with_contents contents old) new e → EndsRun old new e
+ends-with contents old new (refused.LogFault file count) h = h
+ends-with contents old new refused.RunFull h = h
+ends-with contents old new refused.Memory h = h
+ends-with contents old new e h = absurd h
 
 -- the reuse of volumes behind work that came to this
 reused-grew : (trusted : Type 0) (places : Places) (first : List Entry) (said came : Result Outcome Refusal) (events : List Event) (old mid new : Machine) → Grew (IsReuse reuses) first [] old mid
@@ -371,9 +467,9 @@ reused-grew trusted places first (Err e) came events old mid new g free (none, i
       λ h. subst (λ (m : Machine). m.core.tickets ≡ []) (sym same) (free (ap may_stay (sym is) ∙ h)),
     )
 
-module _ (trusted : Type 0) (places : Places) (choice : List Rule) (c : Command) (w : Work) where
-  ended : (b : Behind) (said result : Result Outcome Refusal) (events : List Event) (old mid new : Machine) (g : Began trusted places choice c w b old mid said) (later : List Entry) → AreOf (IsReuse b) later
-      → EndsWith trusted places b said mid new result → Settled (g.first ++ later) old new result → Processed trusted places choice c w b old new result
+module _ (trusted : Type 0) (places : Places) (k : Client) (c : Command) (w : Work) where
+  ended : (b : Behind) (said result : Result Outcome Refusal) (events : List Event) (old mid new : Machine) (g : Began trusted places k c w b old mid said) (later : List Entry) → AreOf (IsReuse b) later
+      → EndsWith trusted places b said mid new result → Settled (g.first ++ later) (since_of old mid) new result → Processed trusted places k c w b old new result
   ended b said result events old mid new g later are ends s = record {
     added = g.first ++ later;
     works = record {
@@ -386,40 +482,42 @@ module _ (trusted : Type 0) (places : Places) (choice : List Rule) (c : Command)
       does = g.does;
       ends = ends;
       reused = are;
-      cause = s.ends;
+      cause = λ e how is halts. ends-with mid.contents old new e (s.ends e how is halts);
     };
-    settled = s;
+    left = left-with mid.contents result (g.first ++ later) old new s.left;
+    doubt = s.doubt;
+    late = s.late;
   }
 
   -- the newest image and the objects' bytes are what they were between
-  since-image : (added : List Entry) (b : Behind) (first : List Entry) (old mid new : Machine) (result : Result Outcome Refusal) → Grew (IsReuse b) first [] old mid → Settled added old new result → SameImage mid new
+  since-image : (added : List Entry) (b : Behind) (first : List Entry) (old mid new : Machine) (result : Result Outcome Refusal) → Grew (IsReuse b) first [] (since_of old mid) mid → Settled added (since_of old mid) new result → SameImage mid new
   since-image added b first old mid new result g s = s.image ∙ sym g.core.generation
 
-  since-bytes : (added : List Entry) (b : Behind) (first : List Entry) (old mid new : Machine) (result : Result Outcome Refusal) → Grew (IsReuse b) first [] old mid → Settled added old new result → SameBytes mid new
-  since-bytes added b first old mid new result g s = s.bytes ∙ sym g.contents
+  since-bytes : (added : List Entry) (old mid new : Machine) (result : Result Outcome Refusal) → Settled added (since_of old mid) new result → SameBytes mid new
+  since-bytes added old mid new result s = s.bytes
 
-  behind-did : (b : Behind) (said result : Result Outcome Refusal) (events : List Event) (old mid new : Machine) → (b ≡ no_more → ⊥) → IsAtRest old.core → Began trusted places choice c w b old mid said → EndsWork b said events result
-      → Alone trusted places 0 events mid new → Processed trusted places choice c w b old new result
+  behind-did : (b : Behind) (said result : Result Outcome Refusal) (events : List Event) (old mid new : Machine) → (b ≡ no_more → ⊥) → IsAtRest old.core → Began trusted places k c w b old mid said → EndsWork b said events result
+      → Alone trusted places 0 events mid new → Processed trusted places k c w b old new result
   behind-did no_more said result events old mid new some rest g h f = absurd (some refl)
   behind-did forces said result events old mid new some rest g h f =
-      let s = settles trusted places (IsReuse forces) g.first [] said result events old mid new rest g.grew g.free h f in
+      let s = settles trusted places (IsReuse forces) g.first [] said result events (since_of old mid) mid new rest g.grew g.free h f in
       ended forces said result events old mid new g [] tt
-      (events, f, h, since-image (g.first ++ []) forces g.first old mid new result g.grew s, since-bytes (g.first ++ []) forces g.first old mid new result g.grew s) s
+      (events, f, h, since-image (g.first ++ []) forces g.first old mid new result g.grew s, since-bytes (g.first ++ []) old mid new result s) s
   behind-did reuses said result events old mid new some rest g (came, (xs, ys, cut, reusing, forcing)) f =
       let parts = alone-parts trusted places 0 events xs ys mid new cut f in
-      let r = reused-grew trusted places g.first said came xs old mid parts.0 g.grew g.free reusing parts.1 in
-      let s = settles trusted places (IsReuse reuses) g.first r.0 came result ys old parts.0 new rest r.1 r.2 forcing parts.2 in
+      let r = reused-grew trusted places g.first said came xs (since_of old mid) mid parts.0 g.grew g.free reusing parts.1 in
+      let s = settles trusted places (IsReuse reuses) g.first r.0 came result ys (since_of old mid) parts.0 new rest r.1 r.2 forcing parts.2 in
       ended reuses said result events old mid new g r.0 r.1.are (
         events,
         f,
         (came, (xs, ys, cut, reusing, forcing)),
         since-image (g.first ++ r.0) reuses g.first old mid new result g.grew s,
-        since-bytes (g.first ++ r.0) reuses g.first old mid new result g.grew s,
+        since-bytes (g.first ++ r.0) old mid new result s,
       ) s
 
-  pub processed : (result : Result Outcome Refusal) (events : List Event) (old new : Machine) → IsProcess c → IsRowless (Ok w) → IsPlainWork (Ok w) → IsAtRest old.core → DoesWork choice c (Ok w) events result
-      → Alone trusted places 0 events old new → Processed trusted places choice c w (behind c) old new result
+  pub processed : (result : Result Outcome Refusal) (events : List Event) (old new : Machine) → IsProcess c → IsRowless (Ok w) → IsPlainWork (Ok w) → IsAtRest old.core → DoesWork k c (Ok w) events result
+      → Alone trusted places 0 events old new → Processed trusted places k c w (behind c) old new result
   processed result events old new p rowless plain rest (said, (xs, ys, cut, does, ends)) f =
       let parts = alone-parts trusted places 0 events xs ys old new cut f in
-      let g = began trusted places choice (behind c) c w said xs old parts.0 p.own rowless plain rest does parts.1 in
+      let g = began trusted places k (behind c) c w said xs old parts.0 p.own rowless plain rest does parts.1 in
       behind-did (behind c) said result ys old parts.0 new p.some rest g ends parts.2

@@ -11,7 +11,7 @@ use Rattle.inventory_answers.specs.declared.reply.Answer.{Answer}
 use Rattle.steps.specs.declared.asked.Asked.{Asked}
 use Rattle.steps.specs.Events.{Deed, Event}
 use Rattle.steps.specs.Events.Deed.{Ask, Commit, Force, Reuse}
-use Rattle.machine.specs.Alone.{Alone, AreBytes, behind}
+use Rattle.machine.specs.Alone.{Alone, AreBytes, behind, with_contents}
 use Rattle.machine.specs.Machine.{Asks, Case, Commits, Forces, IsLogFault, Later, Places, Reuses, Stays, asked_change, committed, halting, made, record_length, records_length, stamped, with_tickets}
 use Rattle.machine.specs.State.{Core, Machine, Ticket, unforced, without}
 use Rattle.line_results.specs.Resting.{IsAtRest, Onward, RoseFrom, entry}
@@ -109,7 +109,7 @@ halting-under added file count old c u = record {
   few = u.few;
 }
 
-stamped-under : (added : List Entry) (moment : ℕ) (old c : Core) → Under added old c → Under added old (stamped moment c)
+pub stamped-under : (added : List Entry) (moment : ℕ) (old c : Core) → Under added old c → Under added old (stamped moment c)
 stamped-under added moment old c u = record {
   base = u.base;
   journal = u.journal;
@@ -308,12 +308,16 @@ module _ (trusted : Type 0) (places : Places) (P : Change → Type 0) (first : L
       let r = deed-walk P first later old m next w (onward-later m next s.0) places e.deed all.0 s.1 in
       walk events r.0 old next new all.1 r.1 rest
 
--- what was made is in front of what is to come
-pub grew-on : (P Q : Change → Type 0) (later : List Entry) (old m : Machine) → Grew P [] later old m → Grew Q later [] old m
-grew-on P Q later old m w = record {
-  core = subst (λ (l : List Entry). Under l old.core m.core) (sym (append-nil later)) w.core;
+pub rose-in-as : (old m p q : Machine) → ((file : ℕ) → RoseFrom old m file → RoseFrom p q file) → (fault : Option (ℕ × ℕ)) → RoseIn old m fault → RoseIn p q fault
+rose-in-as old m p q f None h = tt
+rose-in-as old m p q f (Some x) h = (h.0, f x.0 h.1)
+
+-- what was made is in front of what is to come, and the objects have the bytes that they have by then
+pub grew-since : (Q : Change → Type 0) (later : List Entry) (old m : Machine) → Under later old.core m.core → Onward old m → RoseIn old m m.core.fault → Grew Q later [] (with_contents m.contents old) m
+grew-since Q later old m core onward fault = record {
+  core = subst (λ (l : List Entry). Under l old.core m.core) (sym (append-nil later)) core;
   are = tt;
-  contents = w.contents;
-  onward = w.onward;
-  fault = w.fault;
+  contents = refl;
+  onward = record { counts = onward.counts; since = onward.since };
+  fault = rose-in-as old m (with_contents m.contents old) m (λ file h. h) m.core.fault fault;
 }

@@ -83,6 +83,10 @@ drawn c m = filled m.core.next_file (database m) c
 abbrev pub Tells : Result Outcome Refusal → (old new : Machine) → Result Outcome Refusal → (added : List Entry) → Type 0
 Tells told old new result added = ((result ≡ told) ⊎ ((e : Refusal) × (result ≡ Err e) × EndsRun old new e)) × (added ≡ []) × SameImage old new × SameBytes old new
 
+-- where the run ended, that has its cause
+abbrev pub EndsSo : (old new : Machine) → Result Outcome Refusal → Type 0
+EndsSo old new result = (e : Refusal) (how : Halt) → result ≡ Err e → halt_by e ≡ Some how → EndsRun old new e
+
 -- ---- processes, which are said by their steps
 
 -- nothing changed but the moment and the counts of faults
@@ -160,7 +164,7 @@ DoesOn trusted places choice (back_up i) before after old new result added =
     Ran trusted places (λ events. BacksUp choice i before after events result) old new
     × AllByRecursion (λ e. (e.actor ≡ 0) × IsOfBackup choice i before.files (database old) e.change) added × SameImage old new × KeepsBytes old new
 DoesOn trusted places choice (restore r) before after old new result added =
-    Ran trusted places (λ events. GivesWanted r before after events result) old new × GivesChosen r (database old) before after result × IsStill old new × (added ≡ [])
+    Ran trusted places (λ events. GivesWanted r before after events result) old new × GivesChosen r (database old) before after result × EndsSo old new result × IsStill old new × (added ≡ [])
 
 -- It was done on the tree that the command names, and all others are as they were. Or there is no such tree, and nothing was done.
 abbrev pub DoesThere : (trusted : Type 0) → Places → Client → OnTree → (old new : Machine) → Result Outcome Refusal → (added : List Entry) → Type 0
@@ -202,7 +206,7 @@ pub record WorksWith (trusted : Type 0) (places : Places) (k : Client) (c : Comm
   pub does : Does trusted places k c w old mid said first
   pub ends : EndsWith trusted places b said mid new result
   pub reused : AllByRecursion (λ e. (e.actor ≡ 0) × IsReuse b e.change) later
-  pub cause : (e : Refusal) (how : Halt) → result ≡ Err e → halt_by e ≡ Some how → EndsRun old new e
+  pub cause : EndsSo old new result
 
 -- A command's work over the database, with what comes behind it; or it is refused before any.
 abbrev pub Works : (trusted : Type 0) → Places → Client → Command → Result Work Refusal → Behind → (old new : Machine) → Result Outcome Refusal → (added : List Entry) → Type 0

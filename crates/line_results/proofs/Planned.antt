@@ -1,0 +1,229 @@
+-- What an incremental backup goes by where one actor has the machine alone: the plan over the database, and the transactions that it orders.
+use Rattle.std.proofs.Common.{◌≡◌, ◌⊎◌, inl, inr, ℕ, ◌==◌, true, false, if◌then◌else◌, List, [], ◌∷◌, ◌++◌, length, map, Option, None, Some, Result, Ok, Err, refl, sym, ap, subst, ◌∙◌}
+use Rattle.std.proofs.lemmas.Bool.{false≢true}
+use Rattle.std.proofs.lemmas.Option.{same_Some}
+use Rattle.std.specs.List.{AllByRecursion}
+use Rattle.kinds.specs.Refusals.{number_of}
+use Rattle.kinds.specs.declared.change.DefineOrDelete.TheVariants as two
+use Rattle.kinds.specs.declared.change.ObjectChange.TheVariants as client
+use Rattle.kinds.specs.declared.refusal.Refusal.{Refusal}
+use Rattle.kinds.specs.declared.refusal.Refusal.TheVariants as refused
+use Rattle.choosers.specs.declared.rule.Rule.{Rule}
+use Rattle.entries.specs.declared.change.Change.{Change}
+use Rattle.entries.specs.declared.change.Change.TheVariants as change
+use Rattle.inventory_rows.specs.object_rows.Names.{node_named}
+use Rattle.inventory_rows.specs.version_groups.Entries.{on_ok}
+use Rattle.inventory_rows.specs.State.{Inv}
+use Rattle.inventory_work.specs.Rules.{rules_of}
+use Rattle.inventory_work.specs.declared.search.Found.{Found}
+use Rattle.inventory_work.specs.declared.search.Found.TheVariants as found
+use Rattle.inventory_work.specs.declared.search.Named.TheVariants as thing
+use Rattle.inventory_answers.specs.Answered.{answered, rows_of}
+use Rattle.inventory_answers.specs.Clients.{versions_of}
+use Rattle.inventory_answers.specs.declared.lines.VersionLine.{VersionLine}
+use Rattle.inventory_answers.specs.declared.query.Query.TheVariants as query
+use Rattle.inventory_answers.specs.declared.reply.Answer.{Answer}
+use Rattle.inventory_answers.specs.declared.reply.Rows.{Rows}
+use Rattle.inventory_answers.specs.declared.reply.Rows.TheVariants as rows
+use Rattle.admin_words.specs.declared.files.IncrementalBackup.{IncrementalBackup}
+use Rattle.client_trees.specs.Files.{Files}
+use Rattle.client_plan.specs.Plans.{Lists, actives, plan_of, scheme}
+use Rattle.client_batches.specs.Listings.{named, rebound, stored, storing}
+use Rattle.client_batches.specs.declared.listing.SealedLine.{SealedLine}
+use Rattle.incrementals.specs.Asking.{AsksNode, AsksNodeRules, AsksRules, AsksVersions, number_found}
+use Rattle.incrementals.specs.Orders.{AreOfBackup, AreQuestions, IsOfBackup as IsStepOf, IsOfPlan, IsOrdered as IsAsked, IsQuestion}
+use Rattle.incrementals.specs.Planning.{Begins}
+use Rattle.incrementals.specs.Process.{Only}
+use Rattle.incrementals.specs.declared.asking.Ruled.{Ruled}
+use Rattle.incrementals.specs.declared.planning.Begun.{Begun}
+use Rattle.steps.specs.declared.asked.Asked.{Asked}
+use Rattle.steps.specs.declared.asked.Asked.TheVariants as asked
+use Rattle.steps.specs.Events.{Deed, Event}
+use Rattle.steps.specs.Events.Deed.{Ask, Commit, DropTicket, Force, OpenNew, Seal, WritePiece}
+use Rattle.machine.specs.Alone.{Alone}
+use Rattle.machine.specs.Changes.{all_tickets, are_so_many, paired, scratch_of, version_from}
+use Rattle.machine.specs.Machine.{Places, asked_change}
+use Rattle.machine.specs.State.{Core, Machine, Ticket, inventory, sight}
+use Rattle.line_results.specs.Resting.{EndsRun, IsAtRest, database}
+use Rattle.line_results.specs.Trees.{HasVersions, IsOfBackup, IsOrdered, IsPlan, IsSent}
+use Rattle.line_results.proofs.Asked.{EndsBy, asked-step}
+use Rattle.line_results.proofs.Leaving.{rest-as}
+use Rattle.line_results.proofs.PutHomes.{asks-to, err-of, node-of, ok-of, rules-told}
+use Rattle.line_results.proofs.Runs.{Became, alone-parts, became-still}
+use Rattle.line_results.proofs.Sending.{AllSend, Sends}
+
+-- ---- questions
+
+-- only what isn't there has that number
+not-there : (e : Refusal) → (number_of e == 10) ≡ true → e ≡ refused.NotFound
+not-there refused.NotFound h = refl
+not-there e h = absurd (false≢true h)
+
+abbrev pub versions_in : Rows → List VersionLine
+versions_in (rows.Versions lines) = lines
+versions_in _ = []
+
+abbrev no_versions : Refusal → Result (List VersionLine) Refusal
+no_versions e = Err e
+
+none-told : (node filespace : List ℕ) (why : Refusal) (old new : Machine) → (number_of why == 10) ≡ true → (Err why ≡ answered (query.Versions node filespace) (database old)) ⊎ EndsBy {A = Answer} old new (Err why)
+    → versions_of node filespace (database old) ≡ no_versions refused.NotFound
+none-told node filespace why old new ten (inl h) =
+    err-of rows.Versions (versions_of node filespace (database old)) why
+    (err-of (λ (x : Rows). record { n = (database old).number; today = (database old).today; rows = x }) (rows_of (query.Versions node filespace) (database old)) why (sym h))
+    ∙ ap no_versions (not-there why ten)
+none-told node filespace why old new ten (inr (e, is, ends)) =
+    let same : why ≡ e = cc in
+    absurd (subst (λ (x : Refusal). EndsRun old new x) (sym same ∙ not-there why ten) ends)
+
+found-is : (f : Found) (number : ℕ) → number_found f ≡ Some number → f ≡ found.Number number
+found-is (found.Number n) number h = ap found.Number (same_Some n number h)
+found-is (found.DevClass capacity) number h = absurd cc
+
+answer-today : (r : Result Rows Refusal) (n today : ℕ) (answer : Answer) → Ok answer ≡ on_ok (λ (x : Rows). record { n = n; today = today; rows = x }) r → answer.today ≡ today
+answer-today (Ok x) n today answer h = (let same : answer ≡ record { n = n; today = today; rows = x } = cc in ap (λ (a : Answer). a.today) same)
+answer-today (Err e) n today answer h = absurd cc
+
+today-told : (number : ℕ) (answer : Answer) (old new : Machine) → (Ok answer ≡ answered (query.Rules number) (database old)) ⊎ EndsBy old new (Ok answer) → answer.today ≡ (database old).today
+today-told number answer old new (inl h) = answer-today (rows_of (query.Rules number) (database old)) (database old).number (database old).today answer h
+today-told number answer old new (inr (e, is, ends)) = absurd cc
+
+-- the rules that were answered
+pub record AreRules (node : List ℕ) (r : Ruled) (v : Inv) : Type 0 where
+  pub has_node : node_named node v.clients.nodes ≡ Some r.node
+  pub ruled : rules_of r.node v ≡ Ok r.rules
+  pub today : r.today ≡ v.today
+
+module _ (trusted : Type 0) (places : Places) where
+  asked-versions : (node filespace : List ℕ) (lines : List VersionLine) (events : List Event) (old new : Machine) → IsAtRest old.core → AsksVersions node filespace events (Ok lines) → Alone trusted places 0 events old new
+      → Became old.core old new × HasVersions node filespace (database old) lines
+  asked-versions node filespace lines events old new rest (inl told) f =
+      let k = asks-to trusted places (query.Versions node filespace) rows.Versions (Ok lines) events old new refl rest told f in
+      (k.0, inl (ok-of rows.Versions versions_in (λ x. refl) (versions_of node filespace (database old)) lines k.1))
+  asked-versions node filespace lines events old new rest (inr (none, why, ten, made)) f =
+      let t = asked-step trusted places (query.Versions node filespace) (Err why) events old new refl rest made f in
+      (t.still, inr (none-told node filespace why old new ten t.told, none))
+
+  asked-node : (node : List ℕ) (number : ℕ) (events : List Event) (old new : Machine) → IsAtRest old.core → AsksNode node events (Ok number) → Alone trusted places 0 events old new
+      → Became old.core old new × (node_named node (database old).clients.nodes ≡ Some number)
+  asked-node node number events old new rest (answer, (f, is, numbered), made) a =
+      let k = asks-to trusted places (query.Lookup (thing.Node node)) (λ n. rows.Lookup (found.Number n)) (Ok number) events old new refl rest (answer, is ∙ ap rows.Lookup (found-is f number numbered), made) a in
+      (k.0, node-of node number (database old) k.1)
+
+  asked-rules : (number : ℕ) (r : Ruled) (events : List Event) (old new : Machine) → IsAtRest old.core → AsksRules number events (Ok r) → Alone trusted places 0 events old new
+      → Became old.core old new × (rules_of number (database old) ≡ Ok r.rules) × (r.today ≡ (database old).today) × (r.node ≡ number)
+  asked-rules number r events old new rest (answer, (is, today, node), made) a =
+      let k = asks-to trusted places (query.Rules number) rows.Rules (Ok r.rules) events old new refl rest (answer, is, made) a in
+      let t = asked-step trusted places (query.Rules number) (Ok answer) events old new refl rest made a in
+      (k.0, rules-told number r.rules (database old) k.1, today ∙ today-told number answer old new t.told, node)
+
+  asked-node-rules : (node : List ℕ) (r : Ruled) (events : List Event) (old new : Machine) → IsAtRest old.core → AsksNodeRules node events (Ok r) → Alone trusted places 0 events old new
+      → Became old.core old new × AreRules node r (database old)
+  asked-node-rules node r events old new rest (inl (number, (xs, ys, cut, first, next))) a =
+      let parts = alone-parts trusted places 0 events xs ys old new cut a in
+      let n = asked-node node number xs old parts.0 rest first parts.1 in
+      let k = asked-rules number r ys parts.0 new (rest-as parts.0.core old.core n.0.core rest) next parts.2 in
+      let core : inventory parts.0.core ≡ inventory old.core = ap (λ (c : Core). inventory c) n.0.core in (
+        became-still old.core old parts.0 new n.0 k.0,
+        record {
+          has_node = n.1 ∙ ap (λ (x : ℕ). Some x) (sym k.3);
+          ruled = ap (λ (x : ℕ). rules_of x (database old)) k.3 ∙ ap (λ (v : Inv). rules_of number v) (sym core) ∙ k.1;
+          today = k.2 ∙ ap (λ (v : Inv). v.today) core;
+        },
+      )
+  asked-node-rules node r events old new rest (inr (e, refuses, is)) a = absurd cc
+
+  -- ---- the plan
+
+  -- it was asked and listed, and this is the plan
+  begun-plan : (choice : List Rule) (i : IncrementalBackup) (told : Option Files) (before count : ℕ) (b : Begun) (events : List Event) (old new : Machine) → IsAtRest old.core
+      → Begins i.node i.filespace choice told before count events (Ok b) → Alone trusted places 0 events old new → IsPlan choice i told (database old) b.plan
+  begun-plan choice i told before count b events old new rest (basis, (xs, ys, cut, first, next), (files, listing, planned)) a =
+      let parts = alone-parts trusted places 0 events xs ys old new cut a in
+      let n = asked-versions i.node i.filespace basis.versions xs old parts.0 rest first parts.1 in
+      let k = asked-node-rules i.node basis.ruled ys parts.0 new (rest-as parts.0.core old.core n.0.core rest) next parts.2 in
+      let r : AreRules i.node basis.ruled (database old) = subst (λ (c : Core). AreRules i.node basis.ruled (inventory c)) n.0.core k.1 in
+      record {
+        node = basis.ruled.node;
+        rules = basis.ruled.rules;
+        files = files;
+        versions = basis.versions;
+        found = r.has_node;
+        ruled = r.ruled;
+        listed = listing;
+        kept = n.1;
+        value = λ active. planned.value active ∙ ap (λ (today : ℕ). plan_of (scheme basis.ruled.rules choice today) files (actives basis.versions)) r.today;
+      }
+
+-- ---- transactions
+
+sent-all : (plan : Lists) (lines : List SealedLine) (tickets : List Ticket) → AllByRecursion (IsOfPlan plan) lines → AllByRecursion (IsSent plan) (paired version_from (map stored lines) tickets)
+sent-all plan [] tickets h = tt
+sent-all plan (line ∷ lines) [] h = tt
+sent-all plan (line ∷ lines) (t ∷ tickets) ((l, digest, among, is), later) =
+    ((l, among, ap (λ (x : SealedLine). x.path) is, ap (λ (x : SealedLine). x.class) is, ap (λ (x : SealedLine). x.mtime) is), sent-all plan lines tickets later)
+
+storing-ordered : (plan : Lists) (filespace : ℕ) (lines : List SealedLine) (tickets : List ℕ) (c : Change) (core : Core) → AllByRecursion (IsOfPlan plan) lines → asked_change 0 (storing filespace lines) tickets core ≡ Some c → IsOrdered plan c
+storing-ordered plan filespace lines tickets c core h is =
+    let all = all_tickets tickets (sight 0 core) in
+    let new = change.Backup (record { filespace = filespace; scratch = scratch_of (inventory core) all; items = paired version_from (map stored lines) all }) in
+    elim (are_so_many (length (map stored lines)) tickets (sight 0 core)) as (λ b. (if b then Some new else None) ≡ Some c → IsOrdered plan c) [
+      | true ↦ λ same. inl (filespace, scratch_of (inventory core) all, paired version_from (map stored lines) all, sym (same_Some new c same), sent-all plan lines all h)
+      | false ↦ λ odd. absurd cc
+    ] is
+
+abbrev plain_change : Change → (tickets : List ℕ) → Core → Option Change
+plain_change w tickets core = asked_change 0 (asked.Plain w) tickets core
+
+-- what joins by what the plan orders is of the plan
+ordered : (plan : Lists) (given : Asked) (tickets : List ℕ) (c : Change) (core : Core) → IsAsked plan given → asked_change 0 given tickets core ≡ Some c → IsOrdered plan c
+ordered plan given tickets c core (inl (filespace, lines, is, of)) joins =
+    storing-ordered plan filespace lines tickets c core of (subst (λ (x : Asked). asked_change 0 x tickets core ≡ Some c) is joins)
+ordered plan given tickets c core (inr (inl (filespace, lines, is, of))) joins =
+    let same : change.Rebind (record { filespace = filespace; items = map rebound lines }) ≡ c = same_Some _ c (subst (λ (x : Asked). asked_change 0 x tickets core ≡ Some c) is joins) in
+    inr (inl (filespace, lines, sym same, of))
+ordered plan given tickets c core (inr (inr (inl (filespace, lines, is, of)))) joins =
+    let same : change.Gone (record { filespace = filespace; items = map named lines }) ≡ c = same_Some _ c (subst (λ (x : Asked). asked_change 0 x tickets core ≡ Some c) is joins) in
+    inr (inr (inl (filespace, lines, sym same, of)))
+ordered plan given tickets c core (inr (inr (inr (node, name, is)))) joins =
+    let same : change.Object (client.Filespace two.Define node name (inventory core).next_filespace) ≡ c = same_Some _ c (subst (λ (x : Asked). asked_change 0 x tickets core ≡ Some c) is joins) in
+    inr (inr (inr (node, name, (inventory core).next_filespace, sym same)))
+
+-- ---- steps
+
+question-sends : (P : Change → Type 0) (d : Deed) → IsQuestion d → Sends P d
+question-sends P (Ask query answer) h = tt
+question-sends P d h = absurd h
+
+step-sends : (P : Change → Type 0) (plan : Lists) → ((c : Change) → IsOrdered plan c → P c) → (d : Deed) → IsStepOf plan d → Sends P d
+step-sends P plan may (OpenNew pool size prefer answer) h = tt
+step-sends P plan may (WritePiece ticket bytes answer) h = tt
+step-sends P plan may (Seal ticket answer) h = tt
+step-sends P plan may (DropTicket ticket answer) h = tt
+step-sends P plan may (Ask query answer) h = tt
+step-sends P plan may (Force answer) h = tt
+step-sends P plan may (Commit given tickets answer) h = λ c core joins. may c (ordered plan given tickets c core h joins)
+step-sends P plan may d h = absurd h
+
+questions-send : (P : Change → Type 0) (events : List Event) → AreQuestions events → AllSend P events
+questions-send P [] h = tt
+questions-send P (e ∷ events) h = (question-sends P e.deed h.0, questions-send P events h.1)
+
+steps-send : (P : Change → Type 0) (plan : Lists) → ((c : Change) → IsOrdered plan c → P c) → (events : List Event) → AreOfBackup plan events → AllSend P events
+steps-send P plan may [] h = tt
+steps-send P plan may (e ∷ events) h = (step-sends P plan may e.deed h.0, steps-send P plan may events h.1)
+
+both-send : (P : Change → Type 0) (xs ys : List Event) → AllSend P xs → AllSend P ys → AllSend P (xs ++ ys)
+both-send P [] ys h k = k
+both-send P (x ∷ xs) ys h k = (h.0, both-send P xs ys h.1 k)
+
+-- the steps of a backup, each transaction of which is of the plan over the database
+pub backup-sends : (trusted : Type 0) (places : Places) (choice : List Rule) (i : IncrementalBackup) (told : Option Files) (before : ℕ) (events : List Event) (old new : Machine) → IsAtRest old.core
+    → Only i.node i.filespace choice told before events → Alone trusted places 0 events old new → AllSend (IsOfBackup choice i told (database old)) events
+backup-sends trusted places choice i told before events old new rest (inl questions) a = questions-send (IsOfBackup choice i told (database old)) events questions
+backup-sends trusted places choice i told before events old new rest (inr (b, count, (xs, ys, cut, (begins, questions), of))) a =
+    let parts = alone-parts trusted places 0 events xs ys old new cut a in
+    let plan = begun-plan trusted places choice i told before count b xs old parts.0 rest begins parts.1 in
+    subst (λ (l : List Event). AllSend (IsOfBackup choice i told (database old)) l) (sym cut)
+    (both-send (IsOfBackup choice i told (database old)) xs ys (questions-send (IsOfBackup choice i told (database old)) xs questions)
+    (steps-send (IsOfBackup choice i told (database old)) b.plan (λ c is. (b.plan, plan, is)) ys of))
