@@ -1,5 +1,6 @@
 //! What a command is answered.
 use std::alloc::{AllocError, Global};
+use tree_api::Failed;
 
 /// Why a line has no answer.
 #[derive(Clone, Copy)]
@@ -8,6 +9,8 @@ pub enum Fault {
     NoCommand,
     /// The store refused.
     Store,
+    /// A call on a tree failed.
+    Tree,
     /// Memory was wanted.
     Memory,
 }
@@ -18,12 +21,19 @@ impl From<AllocError> for Fault {
     }
 }
 
+impl From<Failed> for Fault {
+    fn from(_failed: Failed) -> Fault {
+        Fault::Tree
+    }
+}
+
 /// The words of what a command was answered.
 pub fn text(alloc: Global, answered: Result<String, Fault>) -> Result<String, AllocError> {
     match answered {
         Ok(text) => Ok(text),
         Err(Fault::NoCommand) => String::from_str(alloc, "no command"),
         Err(Fault::Store) => String::from_str(alloc, "the store failed"),
+        Err(Fault::Tree) => String::from_str(alloc, "the tree failed"),
         Err(Fault::Memory) => Err(AllocError),
     }
 }

@@ -1,5 +1,6 @@
 //! A call of the server, and what it leaves.
 use choosers::Binder;
+use client_trees::{MemTree, Tree};
 use mem_files::{MemReader, MemWriter};
 use real_edge::{StdSink, StdSource};
 use std::alloc::{AllocError, Global};
@@ -7,7 +8,14 @@ use std::io::Read;
 use store_api::Store;
 use tsm_top::{Ended, serve};
 
-/// What a call put, and what it left beside the store.
+/// What a call is made over, and what it leaves of that.
+#[derive(Drop)]
+pub struct Under<S: Store, T: Tree> {
+    pub store: S,
+    pub trees: Vec<T>,
+}
+
+/// What a call put, and what it left beside the store and the trees.
 #[derive(Drop)]
 pub struct Said {
     pub put: Vec<u8>,
@@ -39,10 +47,15 @@ fn unread(reader: &mut MemReader) -> usize {
 }
 
 /// What a call left, by its parts; what it put is still to be filled in.
-fn parts<S: Store + Drop>(alloc: Global, ended: Ended<S>, unread: usize) -> (S, Said) {
+fn parts<S: Store + Drop, T: Tree + Drop>(
+    alloc: Global,
+    ended: Ended<S, T>,
+    unread: usize,
+) -> (Under<S, T>, Said) {
     let Ended {
         status,
         store,
+        trees,
         journal,
         stamps,
         notes,
@@ -62,7 +75,7 @@ fn parts<S: Store + Drop>(alloc: Global, ended: Ended<S>, unread: usize) -> (S, 
     drop(journal);
     drop(notes);
     drop(base);
-    (store, said)
+    (Under { store, trees }, said)
 }
 
 /// The words, each its own.
@@ -75,28 +88,42 @@ fn owned(alloc: Global, words: &[&str]) -> Result<Vec<String>, AllocError> {
 }
 
 /// Calls the server, as the program does: over streams of which each call is one of the reader or the writer.
-pub fn call<S: Store + Drop>(
+pub fn call<S: Store + Drop, T: Tree + Drop>(
+    alloc: Global,
+    words: &[&str],
+    under: Under<S, T>,
+    binder: Binder,
+    reader: MemReader,
+    writer: MemWriter,
+) -> Result<(Under<S, T>, Said), AllocError> {
+    let words = owned(alloc, words)?;
+    let Under { store, trees } = under;
+    let mut reader = reader;
+    let mut writer = writer;
+    let mut script = StdSource::new(&mut reader);
+    let mut out = StdSink::new(&mut writer);
+    let ended = serve(alloc, &words, store, trees, &mut script, &mut out, binder);
+    let (under, mut said) = parts(alloc, ended, unread(&mut reader));
+    said.put = writer.bytes().to_vec(alloc)?;
+    Ok((under, said))
+}
+
+/// The same with no trees and no include-exclude list.
+pub fn call_alone<S: Store + Drop>(
     alloc: Global,
     words: &[&str],
     store: S,
     reader: MemReader,
     writer: MemWriter,
 ) -> Result<(S, Said), AllocError> {
-    let words = owned(alloc, words)?;
-    let mut reader = reader;
-    let mut writer = writer;
-    let mut script = StdSource::new(&mut reader);
-    let mut out = StdSink::new(&mut writer);
-    let ended = serve(
-        alloc,
-        &words,
+    let under = Under {
         store,
-        &mut script,
-        &mut out,
-        Binder::new(Vec::new(alloc)),
-    );
-    let (store, mut said) = parts(alloc, ended, unread(&mut reader));
-    said.put = writer.bytes().to_vec(alloc)?;
+        trees: Vec::<MemTree>::new(alloc),
+    };
+    let binder = Binder::new(Vec::new(alloc));
+    let (under, said) = call(alloc, words, under, binder, reader, writer)?;
+    let Under { store, trees } = under;
+    drop(trees);
     Ok((store, said))
 }
 

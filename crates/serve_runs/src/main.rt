@@ -10,6 +10,8 @@
 //!   calls fail; of `sink 0` it takes none. The server reads and writes them as the program does, by `StdSource` and `StdSink`.
 //! - `new`: an empty store. `stop CHOICE`: the machine stops and starts again. `fail MOMENT..`: the calls that begin then fail.
 //! - `write FILE OFFSET HEX`: these bytes are written and made durable; `show FILE`; `moment`; `faults FILE`: how often calls on it failed.
+//! - `trees N`: the clients have N empty trees in memory, in place of those that they had; `put TREE PATH TIME HEX`: a file with these bytes, by three calls; `tree TREE PATH`: the file's time and
+//!   its bytes, `-` where there is none; `break TREE CALL..`: these calls of a tree fail, counted from its first, and no others. `& TEXT`: a line of the next call's include-exclude list.
 //! - `blank MOMENT HEX WORD..`: the server is called over another store, which keeps nothing and whose files always read as these bytes.
 //! - `stops CHOICE`: the script is run by `fresh` over an empty store, once for each moment: all calls fail from then on, and there the machine
 //!   stops. Then `run` follows with no script, and another with a GET of each file. Two rows, with a sign for each moment: how many files the first call said
@@ -40,6 +42,7 @@ mod files;
 mod folders;
 mod run;
 mod sweeps;
+mod trees;
 mod trials;
 
 use run::Run;

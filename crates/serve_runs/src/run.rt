@@ -1,11 +1,13 @@
 //! A run over the commands.
 use crate::answer::{Fault, large, number, numbers, text};
 use crate::blank::BlankStore;
-use crate::call::{Said, call, last_line, text_of, words_of};
+use crate::call::{Said, Under, call, call_alone, last_line, text_of, words_of};
 use crate::devices::Devices;
 use crate::folders::Folders;
 use crate::trials::{Bench, Trial};
-use crate::{echo, files, sweeps};
+use crate::{echo, files, sweeps, trees};
+use choosers::Binder;
+use client_trees::MemTree;
 use hex::{decode, encode};
 use mem_files::{MemReader, MemWriter};
 use mem_store::MemStore;
@@ -21,12 +23,14 @@ struct Way {
     failing: Vec<u64>,
 }
 
-/// The store that the commands are about, and what the next call of the server is given.
+/// The store and the clients' trees that the commands are about, and what the next call of the server is given.
 #[derive(Drop)]
 pub struct Run {
     alloc: Global,
     store: MemStore,
+    trees: Vec<MemTree>,
     script: String,
+    rules: String,
     source: Way,
     sink: Way,
 }
@@ -64,12 +68,14 @@ fn writer(alloc: Global, way: Way) -> MemWriter {
 }
 
 impl Run {
-    /// An empty store, and no script.
+    /// An empty store, no trees, and no script.
     pub fn new(alloc: Global) -> Run {
         Run {
             alloc,
             store: MemStore::new(alloc),
+            trees: Vec::new(alloc),
             script: String::new(alloc),
+            rules: String::new(alloc),
             source: plain(alloc),
             sink: plain(alloc),
         }
@@ -84,16 +90,28 @@ impl Run {
         mem::replace(&mut self.script, String::new(self.alloc))
     }
 
-    /// Calls the server over the store.
+    /// The include-exclude list, which is empty then.
+    fn take_binder(&mut self) -> Result<Binder, Fault> {
+        let rules = mem::replace(&mut self.rules, String::new(self.alloc));
+        trees::binder_of(self.alloc, rules.as_bytes())
+    }
+
+    /// Calls the server over the store and the trees.
     fn ask(&mut self, words: &[&str]) -> Result<Said, Fault> {
         let alloc = self.alloc;
         let script = self.take_script();
         let from = mem::replace(&mut self.source, plain(alloc));
         let to = mem::replace(&mut self.sink, plain(alloc));
         let from = reader(alloc, &script, from)?;
-        let store = mem::replace(&mut self.store, MemStore::new(alloc));
-        let (store, answered) = call(alloc, words, store, from, writer(alloc, to))?;
+        let binder = self.take_binder()?;
+        let under = Under {
+            store: mem::replace(&mut self.store, MemStore::new(alloc)),
+            trees: mem::replace(&mut self.trees, Vec::new(alloc)),
+        };
+        let (under, answered) = call(alloc, words, under, binder, from, writer(alloc, to))?;
+        let Under { store, trees } = under;
         drop(mem::replace(&mut self.store, store));
+        drop(mem::replace(&mut self.trees, trees));
         Ok(answered)
     }
 
@@ -112,7 +130,13 @@ impl Run {
         let script = self.take_script();
         let store = BlankStore::new(large(moment)?, self.bytes(bytes)?);
         let from = reader(alloc, &script, plain(alloc))?;
-        let (_store, answered) = call(alloc, words, store, from, writer(alloc, plain(alloc)))?;
+        let (_store, answered) = call_alone(
+            alloc,
+            words,
+            store,
+            from,
+            writer(alloc, plain(alloc)),
+        )?;
         Ok(words_of(alloc, &answered, text_of(&answered))?)
     }
 
@@ -130,6 +154,41 @@ impl Run {
     fn start_again(&mut self) -> Result<String, Fault> {
         drop(mem::replace(&mut self.store, MemStore::new(self.alloc)));
         self.done()
+    }
+
+    /// So many empty trees, in place of those that were there.
+    fn plant(&mut self, count: &str) -> Result<String, Fault> {
+        let trees = trees::empty(self.alloc, number(count)?)?;
+        drop(mem::replace(&mut self.trees, trees));
+        self.done()
+    }
+
+    fn put_file(
+        &mut self,
+        tree: &str,
+        path: &str,
+        mtime: &str,
+        bytes: &str,
+    ) -> Result<String, Fault> {
+        let bytes = self.bytes(bytes)?;
+        trees::put(self.alloc, &mut self.trees, tree, path, mtime, &bytes)?;
+        self.done()
+    }
+
+    fn fail_tree(&mut self, tree: &str, calls: &[&str]) -> Result<String, Fault> {
+        trees::fail_at(self.alloc, &mut self.trees, tree, calls)?;
+        self.done()
+    }
+
+    /// What a command on the trees is answered.
+    fn on_trees(&mut self, words: &[&str]) -> Result<String, Fault> {
+        match words {
+            ["trees", count] => self.plant(count),
+            ["put", tree, path, mtime, bytes] => self.put_file(tree, path, mtime, bytes),
+            ["tree", tree, path] => trees::show(self.alloc, &self.trees, tree, path),
+            ["break", tree, calls @ ..] => self.fail_tree(tree, calls),
+            _ => self.on_store(words),
+        }
     }
 
     fn stop(&mut self, choice: &str) -> Result<String, Fault> {
@@ -293,11 +352,11 @@ impl Run {
             ["blank", moment, bytes, words @ ..] => self.call_blank(moment, bytes, words),
             ["source", most, calls @ ..] => self.set_source(most, calls),
             ["sink", most, calls @ ..] => self.set_sink(most, calls),
-            _ => self.on_store(words),
+            _ => self.on_trees(words),
         }
     }
 
-    /// What the line is answered: a comment is given back, and a line of the script has no answer.
+    /// What the line is answered: a comment is given back, and a line of the script or of the include-exclude list has no answer.
     pub fn line(&mut self, line: &str) -> Result<Option<String>, AllocError> {
         if line.is_empty() || line.starts_with('#') {
             return Ok(Some(String::from_str(self.alloc, line)?));
@@ -305,6 +364,11 @@ impl Run {
         if let Some(line) = line.strip_prefix("| ") {
             self.script.push_str(line)?;
             self.script.push('\n')?;
+            return Ok(None);
+        }
+        if let Some(line) = line.strip_prefix("& ") {
+            self.rules.push_str(line)?;
+            self.rules.push('\n')?;
             return Ok(None);
         }
         if let Some(line) = line.strip_prefix("% ") {

@@ -1,6 +1,6 @@
 //! What is tried over and over with another call that fails, and what comes of it once.
 use crate::answer::Fault;
-use crate::call::{Said, call, text_of, words_of};
+use crate::call::{Said, call_alone, text_of, words_of};
 use crate::files::FILES;
 use hex::encode;
 use mem_files::{MemReader, MemWriter};
@@ -163,7 +163,7 @@ pub fn run<S: Store + Drop>(
 ) -> Result<(S, Said), AllocError> {
     let reader = MemReader::new(MemSource::new(alloc, script.as_bytes().to_vec(alloc)?));
     let writer = MemWriter::new(MemSink::new(alloc), usize::MAX);
-    call(alloc, &[word], store, reader, writer)
+    call_alone(alloc, &[word], store, reader, writer)
 }
 
 /// What is shown over a store, where no call fails.

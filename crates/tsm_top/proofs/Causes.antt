@@ -4,6 +4,7 @@ use Rattle.store_api.specs.Cause.{NoneFell, Rose}
 use Rattle.store_api.specs.Disk.{History}
 use Rattle.kinds.specs.declared.refusal.OpenRefused.TheVariants as opening
 use Rattle.choosers.specs.declared.rule.Rule.{Rule}
+use Rattle.command_steps.specs.Clients.{Client}
 use Rattle.entries.specs.declared.entry.Entry.{Entry}
 use Rattle.inventory_rows.specs.State.{Inv}
 use Rattle.script_loop.specs.Ends.{status_of}
@@ -56,11 +57,11 @@ module _ (trusted : Type 0) (choice : List Rule) (told : Option History) where
   status_fault old new script (TooLong n) printed is run = absurd (omega (arith, is))
 
 -- a script's run that ended with that status had a fault since the call began
-pub ran_fault : (command : Command) (choice : List Rule) (told left_told : Option History) (before mid after : ℕ → ℕ) (opened last : ℕ) (end : End) (status : ℕ) (journal : List Entry) (stamps : List ℕ) (notes : List Note) (base : Option Inv) (generation : ℕ) (script left was is : Option (List ℕ)) → NoneFell before mid →
-    RanScript command choice told left_told mid after opened last end status journal stamps notes base generation script left was is → status ≡ 6 → (file : ℕ) × (file < 4) × Rose (before file) (after file)
-ran_fault command choice told left_told before mid after opened last end status journal stamps notes base generation script left was is none ran six =
+pub ran_fault : (command : Command) (k : Client) (told left_told : Option History) (before mid after : ℕ → ℕ) (opened last : ℕ) (end : End) (status : ℕ) (journal : List Entry) (stamps : List ℕ) (notes : List Note) (base : Option Inv) (generation : ℕ) (script left was is : Option (List ℕ)) → NoneFell before mid →
+    RanScript command k told left_told mid after opened last end status journal stamps notes base generation script left was is → status ≡ 6 → (file : ℕ) × (file < 4) × Rose (before file) (after file)
+ran_fault command k told left_told before mid after opened last end status journal stamps notes base generation script left was is none ran six =
     let over = ran.whole.2 in
-    let rose = status_fault ⊥ choice left_told _ _ script end over.says.0 (sym ran.code ∙ six) over.says.2 in
+    let rose = status_fault ⊥ k.choice left_told _ _ script end over.says.0 (sym ran.code ∙ six) over.says.2 in
     let risen = subst (λ (f : ℕ → ℕ). Rose (f rose.0) (over.final.counts rose.0)) over.begins.faults rose.2 in
     let risen_last = subst (λ (f : ℕ → ℕ). Rose (mid rose.0) (f rose.0)) over.faults risen in
     (rose.0, rose.1, omega (arith, none rose.0, risen_last))

@@ -5,4 +5,5 @@ pub mod Opening
 pub mod Running
 pub mod Safe
 pub mod There
+pub mod Treed
 pub mod Words

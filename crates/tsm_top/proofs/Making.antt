@@ -9,7 +9,7 @@ use Rattle.fields.specs.Editions.{first_form, second_form}
 use Rattle.kinds.specs.declared.refusal.OpenRefused.{OpenRefused}
 use Rattle.kinds.specs.declared.refusal.OpenRefused.TheVariants as refused
 use Rattle.entries.specs.declared.entry.Entry.{Entry}
-use Rattle.choosers.specs.declared.rule.Rule.{Rule}
+use Rattle.command_steps.specs.Clients.{Client}
 use Rattle.inventory.specs.Meant.{meaning}
 use Rattle.inventory.specs.Meaningful.{is_meaning}
 use Rattle.inventory_rows.specs.Fresh.{fresh}
@@ -86,9 +86,9 @@ tells_on R None (Some b) t = absurd t
 tells_on R (Some a) None t = absurd t
 
 -- a script that was run over it
-pub new_script : (x y left_told : Option History) (choice : List Rule) (before after : ℕ → ℕ) (opened last : ℕ) (end : End) (status : ℕ) (journal : List Entry) (stamps : List ℕ) (notes : List Note) (base : Option Inv) (generation : ℕ) (script left was is : Option (List ℕ)) → is_some y ≡ is_some x → HasImage false x → IsNew y →
-    RanScript run choice y left_told before after opened last end status journal stamps notes base generation script left was is → RanScript fresh_run choice x left_told before after opened last end status journal stamps notes base generation script left was is
-new_script x y left_told choice before after opened last end status journal stamps notes base generation script left was is same had new ran = record {
+pub new_script : (x y left_told : Option History) (k : Client) (before after : ℕ → ℕ) (opened last : ℕ) (end : End) (status : ℕ) (journal : List Entry) (stamps : List ℕ) (notes : List Note) (base : Option Inv) (generation : ℕ) (script left was is : Option (List ℕ)) → is_some y ≡ is_some x → HasImage false x → IsNew y →
+    RanScript run k y left_told before after opened last end status journal stamps notes base generation script left was is → RanScript fresh_run k x left_told before after opened last end status journal stamps notes base generation script left was is
+new_script x y left_told k before after opened last end status journal stamps notes base generation script left was is same had new ran = record {
   code = ran.code;
   database = ran.database;
   base_is = ran.base_is;

@@ -8,7 +8,7 @@ use Rattle.store_api.proofs.Runs.{goes_none, goes_then, told_map, told_then}
 use Rattle.vault.proofs.of_log_file.Told.{told_same}
 use Rattle.kinds.specs.declared.refusal.OpenRefused.{OpenRefused}
 use Rattle.kinds.specs.declared.refusal.OpenRefused.TheVariants as refused
-use Rattle.choosers.specs.declared.rule.Rule.{Rule}
+use Rattle.client_trees.specs.Files.{Files}
 use Rattle.entries.specs.declared.entry.Entry.{Entry}
 use Rattle.inventory.specs.Meant.{meaning}
 use Rattle.inventory_rows.specs.State.{Inv}
@@ -27,14 +27,16 @@ use Rattle.hall.specs.Opening.{IsNewHall, IsSound, IsWith, Opens, OpensFiles}
 use Rattle.hall.specs.Steps.{IsTrusted}
 use Rattle.hall.proofs.Imaging.{no_image}
 use Rattle.hall_turns.specs.Left.{LeavesSound}
+use Rattle.command_steps.specs.Clients.{Client}
 use Rattle.line_results.specs.Resting.{IsAtRest}
 use Rattle.tsm_top.specs.declared.note.Note.{Note}
 use Rattle.tsm_top.specs.declared.session.Session.{Session}
 use Rattle.tsm_top.specs.Serve.{Begins, IsNone, IsOurFile, Later, OpensNot, Ran, RanFrom, RanScript, RoseBetween, RunsOver, StartsAt, Sure, run}
-use Rattle.tsm_top.specs.Sessions.{HaltsLine, ServesLine}
+use Rattle.tsm_top.specs.Sessions.{HaltsLine, ServesLine, clients}
 use Rattle.tsm_top.specs.Sites.{IsThere, RepliesAt, StopsAt, site}
 use Rattle.tsm_top.proofs.Running.{AreAlone, AreThere, At, Come, End_, Ended, GoOn, Hold, says}
 use Rattle.tsm_top.proofs.There.{there}
+use Rattle.tsm_top.proofs.Treed.{ChangeTheirTree}
 
 no_seats : (seats : List (ℕ × Seat)) (tickets : List Ticket) → seats ≡ [] → AreSeatsOf seats tickets → tickets ≡ []
 no_seats seats [] none are = refl
@@ -91,31 +93,35 @@ module _ {S : Type 0} (told : S → Option History) (moment : S → ℕ) (faults
     left_over leave last m None tells is trusted = tt
     left_over leave last m (Some h) tells is trusted = leave last m h tells is trusted
 
-    module _ (goes : GoOn told moment faults) (gives : AreThere told moment faults) (kept : AreKept) (leave : LeaveSound) (choice : List Rule) (old new : Session S) (begun : old.hall ≡ hall) (unnoted : old.notes.items ≡ [])
-        (bound : old.binder ≡ choice) (end : End) (script was is : Option (List ℕ))
-        (said : Says (λ a n line answer b. ServesLine told moment faults a n line answer b) (λ a n line how b. HaltsLine told moment faults a n line how b) old new script was is end) where
+    module _ {T : Type 0} (files : T → Option Files) (tree_faults : T → ℕ) (changes : ChangeTheirTree) (goes : GoOn told moment faults) (gives : AreThere told moment faults) (kept : AreKept) (leave : LeaveSound) (old new : Session S T)
+        (begun : old.hall ≡ hall) (unnoted : old.notes.items ≡ []) (end : End) (script was is : Option (List ℕ))
+        (said : Says (λ a n line answer b. ServesLine told moment faults files tree_faults a n line answer b) (λ a n line how b. HaltsLine told moment faults files tree_faults a n line how b) old new script was is end) where
+      -- the clients between the two
+      abbrev served : Client
+      served = clients files tree_faults old new
+
       begun_at : (trusted : Type 0) (alone : AreAlone trusted told moment faults) (come : Come trusted) (ends : End_ trusted) (hold : Hold trusted) (m : Machine) → Is told moment faults hall m
-          → (trusted → IsTrusted (told hall.store) hall.held) → At told moment faults clock goes gives goes_further goes_no_further trusted alone come ends hold choice old m
+          → (trusted → IsTrusted (told hall.store) hall.held) → At told moment faults files tree_faults clock changes goes gives goes_further goes_no_further trusted alone come ends hold old.binder old m
       begun_at trusted alone come ends hold m in_it known = record {
         is = subst (λ (h : Hall S). Is told moment faults h m) (sym begun) in_it;
         known = subst (λ (h : Hall S). trusted → IsTrusted (told h.store) h.held) (sym begun) known;
         rests = (begins m in_it).rests;
-        binder = bound;
+        binder = refl;
       }
 
       pub ran : (trusted : Type 0) → AreAlone trusted told moment faults → Come trusted → End_ trusted → Hold trusted → (m : Machine) → Is told moment faults hall m → (trusted → IsTrusted (told hall.store) hall.held)
           → (journal : List Entry) (stamps : List ℕ) (notes : List Note) (generation : ℕ) → journal ≡ new.hall.held.vault.journal → stamps ≡ new.hall.held.stamps → notes ≡ new.notes.items → generation ≡ new.hall.held.vault.generation
-          → Ran trusted choice hall.held.base (told new.hall.store) (faults hall.store) (faults new.hall.store) (moment hall.store) (moment new.hall.store) end journal stamps notes generation script was is m
+          → Ran trusted served hall.held.base (told new.hall.store) (faults hall.store) (faults new.hall.store) (moment hall.store) (moment new.hall.store) end journal stamps notes generation script was is m
       ran trusted alone come ends hold m in_it known journal stamps notes generation journal_is stamps_are notes_are generation_is =
-          let all = says told moment faults clock goes gives goes_further goes_no_further trusted alone come ends hold choice end script was is old new m (begun_at trusted alone come ends hold m in_it known) said in
+          let all = says told moment faults files tree_faults clock changes goes gives goes_further goes_no_further trusted alone come ends hold old.binder end script was is old new m (begun_at trusted alone come ends hold m in_it known) said in
           let on = subst (λ (h : Hall S). (new.hall.held.base ≡ h.held.base) × (new.hall.held.opened ≡ h.held.opened) × Told (told h.store) (told new.hall.store) (GoesOn (λ file. Unit {0}))) begun all.goes in
           record {
             begins = begins m in_it;
             there = λ t. there told moment faults clock gives hall m (told new.hall.store) in_it (begins m in_it).rests.fault (begins m in_it).rests.durable (known t) on.2;
             final = all.next;
             says =
-                subst (λ (l : List Note). Says (RepliesAt trusted choice (told new.hall.store)) (StopsAt trusted choice (told new.hall.store)) (site m l) (site all.next notes) script was is end) unnoted
-                (subst (λ (l : List Note). Says (RepliesAt trusted choice (told new.hall.store)) (StopsAt trusted choice (told new.hall.store)) (site m old.notes.items) (site all.next l) script was is end) (sym notes_are) all.run);
+                subst (λ (l : List Note). Says (RepliesAt trusted old.binder (told new.hall.store)) (StopsAt trusted old.binder (told new.hall.store)) (site m served.old l) (site all.next served.new notes) script was is end) unnoted
+                (subst (λ (l : List Note). Says (RepliesAt trusted old.binder (told new.hall.store)) (StopsAt trusted old.binder (told new.hall.store)) (site m served.old old.notes.items) (site all.next served.new l) script was is end) (sym notes_are) all.run);
             onward = all.onward;
             base_stays = all.same ∙ in_it.core.base;
             journal_is = journal_is ∙ sym all.is.core.journal;
@@ -131,11 +137,11 @@ module _ {S : Type 0} (told : S → Option History) (moment : S → ℕ) (faults
       pub from : AreAlone ⊥ told moment faults → AreAlone (Unit {0}) told moment faults → Come ⊥ → Come (Unit {0}) → End_ ⊥ → End_ (Unit {0}) → Hold ⊥ → Hold (Unit {0}) → (m : Machine) → Is told moment faults hall m
           → (left_store : S) (status : ℕ) (journal : List Entry) (stamps : List ℕ) (notes : List Note) (generation : ℕ) (left : Option (List ℕ)) → left_store ≡ new.hall.store → status ≡ status_of end → DoneAtEnd end left
           → journal ≡ new.hall.held.vault.journal → stamps ≡ new.hall.held.stamps → notes ≡ new.notes.items → generation ≡ new.hall.held.vault.generation
-          → RanFrom told moment faults hall choice left_store end status journal stamps notes generation script left was is × (new.hall.held.base ≡ hall.held.base) × (new.hall.held.opened ≡ hall.held.opened)
+          → RanFrom told moment faults hall served left_store end status journal stamps notes generation script left was is × (new.hall.held.base ≡ hall.held.base) × (new.hall.held.opened ≡ hall.held.opened)
       from alone_unknown alone come_unknown come ends_unknown ends hold_unknown hold m in_it left_store status journal stamps notes generation left store_is code rest journal_is stamps_are notes_are generation_is =
-          let all = says told moment faults clock goes gives goes_further goes_no_further ⊥ alone_unknown come_unknown ends_unknown hold_unknown choice end script was is old new m (begun_at ⊥ alone_unknown come_unknown ends_unknown hold_unknown m in_it (λ f. absurd f)) said in
+          let all = says told moment faults files tree_faults clock changes goes gives goes_further goes_no_further ⊥ alone_unknown come_unknown ends_unknown hold_unknown old.binder end script was is old new m (begun_at ⊥ alone_unknown come_unknown ends_unknown hold_unknown m in_it (λ f. absurd f)) said in
           let on = subst (λ (h : Hall S). (new.hall.held.base ≡ h.held.base) × (new.hall.held.opened ≡ h.held.opened) × Told (told h.store) (told new.hall.store) (GoesOn (λ file. Unit {0}))) begun all.goes in
-          let whole : RanFrom told moment faults hall choice new.hall.store end status journal stamps notes generation script left was is = record {
+          let whole : RanFrom told moment faults hall served new.hall.store end status journal stamps notes generation script left was is = record {
             code = code;
             rest = rest;
             rise =
@@ -153,7 +159,7 @@ module _ {S : Type 0} (told : S → Option History) (moment : S → ℕ) (faults
             whole = λ n it. ran ⊥ alone_unknown come_unknown ends_unknown hold_unknown n it (λ f. absurd f) journal stamps notes generation journal_is stamps_are notes_are generation_is;
             sound = λ n it trusted. ran (Unit {0}) alone come ends hold n it (λ t. trusted) journal stamps notes generation journal_is stamps_are notes_are generation_is;
           } in
-          (subst (λ (s : S). RanFrom told moment faults hall choice s end status journal stamps notes generation script left was is) (sym store_is) whole, on.0, on.1)
+          (subst (λ (s : S). RanFrom told moment faults hall served s end status journal stamps notes generation script left was is) (sym store_is) whole, on.0, on.1)
 
 -- ---- why nothing is opened
 
@@ -206,10 +212,10 @@ module _ {S : Type 0} (told : S → Option History) (moment : S → ℕ) (faults
       let was : IfSome (Some b) (IsSoundWith contents hall.held.base hall.held.opened) = subst (λ (o : Option History). IfSome o (IsSoundWith contents hall.held.base hall.held.opened)) left with.3 in
       (with.0, with.1, with.2, subst (λ (o : Option History). IsTrusted o hall.held) (sym left) (contents, was))
 
-  pub script : (left_store : S) (choice : List Rule) (end : End) (status : ℕ) (journal : List Entry) (stamps : List ℕ) (notes : List Note) (base : Option Inv) (generation : ℕ) (text left was is : Option (List ℕ)) → base ≡ Some hall.held.base
-      → RanFrom told moment faults hall choice left_store end status journal stamps notes generation text left was is
-      → RanScript run choice (told store) (told left_store) (faults hall.store) (faults left_store) (moment hall.store) (moment left_store) end status journal stamps notes base generation text left was is
-  script left_store choice end status journal stamps notes base generation text left was is base_is from = record {
+  pub script : (left_store : S) (k : Client) (end : End) (status : ℕ) (journal : List Entry) (stamps : List ℕ) (notes : List Note) (base : Option Inv) (generation : ℕ) (text left was is : Option (List ℕ)) → base ≡ Some hall.held.base
+      → RanFrom told moment faults hall k left_store end status journal stamps notes generation text left was is
+      → RanScript run k (told store) (told left_store) (faults hall.store) (faults left_store) (moment hall.store) (moment left_store) end status journal stamps notes base generation text left was is
+  script left_store k end status journal stamps notes base generation text left was is base_is from = record {
     code = from.code;
     database = hall.held.base;
     base_is = base_is;

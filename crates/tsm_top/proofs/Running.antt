@@ -1,4 +1,4 @@
--- A script's run on a hall is a run of the machine, line by line.
+-- A script's run on a hall and the clients' trees is a run of the machine beside them, line by line.
 use Rattle.std.proofs.Common.{◌≡◌, inl, inr, ℕ, ◌+◌, Option, None, Some, List, [], ◌∷◌, length, Ok, Err, refl, sym, ap, subst, ◌∙◌, arith}
 use Rattle.std.specs.Prelude.{IfSome, ◌≤◌, true}
 use Rattle.std.specs.List.{AllByRecursion}
@@ -7,6 +7,7 @@ use Rattle.store_api.specs.Runs.{GoesOn}
 use Rattle.store_api.specs.Told.{Told}
 use Rattle.kinds.specs.declared.refusal.Refusal.{Refusal}
 use Rattle.choosers.specs.declared.rule.Rule.{Rule}
+use Rattle.client_trees.specs.Files.{Files}
 use Rattle.inventory_rows.specs.State.{Inv}
 use Rattle.inventory_rules.specs.Valid.{is_valid}
 use Rattle.script_loop.specs.Reply.{Answer}
@@ -28,16 +29,18 @@ use Rattle.hall.proofs.Databases.{valid_at}
 use Rattle.hall_turns.specs.Left.{GivesState}
 use Rattle.hall_turns.proofs.Lefts.{inv_at_all}
 use Rattle.command_steps.specs.Answering.{AnswersLine}
+use Rattle.command_steps.specs.Clients.{Client, all_seen, client}
 use Rattle.command_steps.specs.Lines.{Line, line_of}
 use Rattle.line_results.specs.Clauses.{Holds}
 use Rattle.line_results.specs.Lines.{Halts as EndsLine, Replies}
 use Rattle.line_results.specs.Resting.{HasSizes, IsAtRest, Onward}
 use Rattle.tsm_top.specs.Notes.{note_of, number_in, with_note}
 use Rattle.tsm_top.specs.Sessions.{HaltsLine, ServesLine, number_of}
-use Rattle.tsm_top.specs.Sites.{IsInOrder, IsTimely, RepliesAt, Site, StopsAt, site}
+use Rattle.tsm_top.specs.Sites.{IsInOrder, IsTimely, RepliesAt, Site, StopsAt, between, site}
 use Rattle.tsm_top.specs.declared.note.Note.{Note}
 use Rattle.tsm_top.specs.declared.session.Session.{Session}
 use Rattle.tsm_top.proofs.There.{there}
+use Rattle.tsm_top.proofs.Treed.{ChangeTheirTree, leaves_file}
 
 -- ---- the laws that a run stands on
 
@@ -63,19 +66,19 @@ AreThere {S} told moment faults =
 -- a line's steps come to what it says, or end the run
 abbrev pub Come : Type 0 → Type 0
 Come trusted =
-    (choice : List Rule) (n : ℕ) (line : Line) (events : List Event) (answer : Answer) (why : Option Refusal) (old new : Machine) → IsAtRest old.core → HasSizes old
-    → AnswersLine choice n line events (Ok (answer, why)) → Alone trusted hall_places 0 events old new → Replies trusted hall_places choice n line old answer why new
+    (k : Client) (n : ℕ) (line : Line) (events : List Event) (answer : Answer) (why : Option Refusal) (old new : Machine) → IsAtRest old.core → HasSizes old
+    → AnswersLine k n line events (Ok (answer, why)) → Alone trusted hall_places 0 events old new → Replies trusted hall_places k n line old answer why new
 
 abbrev pub End_ : Type 0 → Type 0
 End_ trusted =
-    (choice : List Rule) (n : ℕ) (line : Line) (events : List Event) (how : Halt) (old new : Machine) → IsAtRest old.core → HasSizes old
-    → AnswersLine choice n line events (Err how) → Alone trusted hall_places 0 events old new → EndsLine trusted hall_places choice n line old how new
+    (k : Client) (n : ℕ) (line : Line) (events : List Event) (how : Halt) (old new : Machine) → IsAtRest old.core → HasSizes old
+    → AnswersLine k n line events (Err how) → Alone trusted hall_places 0 events old new → EndsLine trusted hall_places k n line old how new
 
 -- and then it has what the headline says of each line
 abbrev pub Hold : Type 0 → Type 0
 Hold trusted =
-    (choice : List Rule) (n : ℕ) (line : Line) (answer : Answer) (why : Option Refusal) (old new : Machine) → (r : Replies trusted hall_places choice n line old answer why new)
-    → Holds trusted hall_places choice n line old r.mid answer r.added
+    (k : Client) (n : ℕ) (line : Line) (answer : Answer) (why : Option Refusal) (old new : Machine) → (r : Replies trusted hall_places k n line old answer why new)
+    → Holds trusted hall_places k n line old r.mid answer r.added
 
 onward_then : (a b c : Machine) → Onward a b → Onward b c → Onward a c
 onward_then a b c first second = record {
@@ -105,42 +108,42 @@ in_order told moment faults hall m is = record {
 onward_here : (a : Machine) → Onward a a
 onward_here a = record { counts = λ file. omega arith; since = omega arith }
 
-module _ {S : Type 0} (told : S → Option History) (moment : S → ℕ) (faults : S → ℕ → ℕ) (clock : (s : S) → IfSome (told s) (λ h. now h ≡ moment s))
-    (steps_go : GoOn told moment faults) (gives : AreThere told moment faults)
+module _ {S T : Type 0} (told : S → Option History) (moment : S → ℕ) (faults : S → ℕ → ℕ) (files : T → Option Files) (tree_faults : T → ℕ) (clock : (s : S) → IfSome (told s) (λ h. now h ≡ moment s))
+    (changes : ChangeTheirTree) (steps_go : GoOn told moment faults) (gives : AreThere told moment faults)
     (goes_then : (x y z : Option History) → Told x y (GoesOn (λ file. Unit {0})) → Told y z (GoesOn (λ file. Unit {0})) → Told x z (GoesOn (λ file. Unit {0}))) (goes_here : (x : Option History) → Told x x (GoesOn (λ file. Unit {0})))
     (trusted : Type 0) (alone : AreAlone trusted told moment faults) (comes : Come trusted) (ends : End_ trusted) (hold : Hold trusted) (choice : List Rule) where
   -- a session is in this state of the machine, and at rest
-  pub record At (s : Session S) (m : Machine) : Type 0 where
+  pub record At (s : Session S T) (m : Machine) : Type 0 where
     pub is : Is told moment faults s.hall m
     pub known : trusted → IsTrusted (told s.hall.store) s.hall.held
     pub rests : IsAtRest m.core
     pub binder : s.binder ≡ choice
 
   -- the store of the one goes on from the other's
-  abbrev pub Goes : Session S → Session S → Type 0
+  abbrev pub Goes : Session S T → Session S T → Type 0
   Goes old new = (new.hall.held.base ≡ old.hall.held.base) × (new.hall.held.opened ≡ old.hall.held.opened) × Told (told old.hall.store) (told new.hall.store) (GoesOn (λ file. Unit {0}))
 
-  then_goes : (a b c : Session S) → Goes a b → Goes b c → Goes a c
+  then_goes : (a b c : Session S T) → Goes a b → Goes b c → Goes a c
   then_goes a b c first second = (second.0 ∙ first.0, second.1 ∙ first.1, goes_then (told a.hall.store) (told b.hall.store) (told c.hall.store) first.2 second.2)
 
-  here_goes : (a : Session S) → Goes a a
+  here_goes : (a : Session S T) → Goes a a
   here_goes a = (refl, refl, goes_here (told a.hall.store))
 
-  abbrev pub Machined : Session S → Site → ℕ → List ℕ → Answer → Site → Type 0
+  abbrev pub Machined : Session S T → Site → ℕ → List ℕ → Answer → Site → Type 0
   Machined last = RepliesAt trusted choice (told last.hall.store)
 
-  abbrev pub Ending : Session S → Site → ℕ → List ℕ → Halt → Site → Type 0
+  abbrev pub Ending : Session S T → Site → ℕ → List ℕ → Halt → Site → Type 0
   Ending last = StopsAt trusted choice (told last.hall.store)
 
-  abbrev pub Serves : Session S → ℕ → List ℕ → Answer → Session S → Type 0
-  Serves = ServesLine told moment faults
+  abbrev pub Serves : Session S T → ℕ → List ℕ → Answer → Session S T → Type 0
+  Serves = ServesLine told moment faults files tree_faults
 
-  abbrev pub Stops : Session S → ℕ → List ℕ → Halt → Session S → Type 0
-  Stops = HaltsLine told moment faults
+  abbrev pub Stops : Session S T → ℕ → List ℕ → Halt → Session S T → Type 0
+  Stops = HaltsLine told moment faults files tree_faults
 
   -- the site of a session in this state
-  abbrev pub of : Session S → Machine → Site
-  of s m = site m s.notes.items
+  abbrev pub of : Session S T → Machine → Site
+  of s m = site m (all_seen files tree_faults s.trees.items) s.notes.items
 
   numbered : (hall : Hall S) (m : Machine) → Is told moment faults hall m → number_of hall ≡ number_in m
   numbered hall m is = ap (λ (v : Inv). v.number) is.core.database
@@ -151,20 +154,21 @@ module _ {S : Type 0} (told : S → Option History) (moment : S → ℕ) (faults
 
   -- ---- a line
 
-  pub record Stepped (old new : Session S) (n : ℕ) (line : List ℕ) (answer : Answer) (m : Machine) : Type 0 where
+  pub record Stepped (old new : Session S T) (n : ℕ) (line : List ℕ) (answer : Answer) (m : Machine) : Type 0 where
     pub next : Machine
     pub at : At new next
     pub goes : Goes old new
     pub onward : Onward m next
     pub same : next.core.base ≡ m.core.base
-    pub run : (last : Session S) → Goes new last → Machined last (of old m) n line answer (of new next)
+    pub run : (last : Session S T) → Goes new last → Machined last (of old m) n line answer (of new next)
 
-  step : (old new : Session S) (n : ℕ) (line : List ℕ) (answer : Answer) (m : Machine) → At old m → Serves old n line answer new → Stepped old new n line answer m
+  step : (old new : Session S T) (n : ℕ) (line : List ℕ) (answer : Answer) (m : Machine) → At old m → Serves old n line answer new → Stepped old new n line answer m
   step old new n line answer m at (why, (events, ran, did), binder, notes) =
       let run = alone 0 events old.hall new.hall m at.is at.known ran in
       let on = steps_go 0 events old.hall new.hall ran in
-      let said = subst (λ (rules : List Rule). AnswersLine rules n (line_of line) events (Ok (answer, why))) at.binder did in
-      let r = comes choice n (line_of line) events answer why m run.0 at.rests at.is.good.bytes.sized said run.1 in
+      let k = between choice (of old m) (of new run.0) in
+      let said : AnswersLine k n (line_of line) events (Ok (answer, why)) = subst (λ (rules : List Rule). AnswersLine (client files tree_faults rules old.trees.items new.trees.items) n (line_of line) events (Ok (answer, why))) at.binder did in
+      let r = comes k n (line_of line) events answer why m run.0 at.rests at.is.good.bytes.sized said run.1 in
       record {
         next = run.0;
         at = record { is = run.2; known = run.3; rests = r.rests; binder = binder ∙ at.binder };
@@ -174,7 +178,8 @@ module _ {S : Type 0} (told : S → Option History) (moment : S → ℕ) (faults
         run = λ last more. (
           why,
           r,
-          hold choice n (line_of line) answer why m run.0 r,
+          hold k n (line_of line) answer why m run.0 r,
+          leaves_file changes k n (line_of line) events answer why said,
           (λ t. there told moment faults clock gives new.hall run.0 (told last.hall.store) run.2 r.rests.fault r.rests.durable (run.3 t) more.2),
           timely told moment faults new.hall m run.0 run.2 run.4,
           in_order told moment faults new.hall run.0 run.2,
@@ -184,7 +189,7 @@ module _ {S : Type 0} (told : S → Option History) (moment : S → ℕ) (faults
         );
       }
 
-  pub record Halting (old new : Session S) (n : ℕ) (line : List ℕ) (how : Halt) (m : Machine) : Type 0 where
+  pub record Halting (old new : Session S T) (n : ℕ) (line : List ℕ) (how : Halt) (m : Machine) : Type 0 where
     pub next : Machine
     pub is : Is told moment faults new.hall next
     pub known : trusted → IsTrusted (told new.hall.store) new.hall.held
@@ -193,12 +198,13 @@ module _ {S : Type 0} (told : S → Option History) (moment : S → ℕ) (faults
     pub same : next.core.base ≡ m.core.base
     pub run : Ending new (of old m) n line how (of new next)
 
-  halt : (old new : Session S) (n : ℕ) (line : List ℕ) (how : Halt) (m : Machine) → At old m → Stops old n line how new → Halting old new n line how m
+  halt : (old new : Session S T) (n : ℕ) (line : List ℕ) (how : Halt) (m : Machine) → At old m → Stops old n line how new → Halting old new n line how m
   halt old new n line how m at ((events, ran, did), binder, notes) =
       let run = alone 0 events old.hall new.hall m at.is at.known ran in
       let on = steps_go 0 events old.hall new.hall ran in
-      let said = subst (λ (rules : List Rule). AnswersLine rules n (line_of line) events (Err how)) at.binder did in
-      let r = ends choice n (line_of line) events how m run.0 at.rests at.is.good.bytes.sized said run.1 in
+      let k = between choice (of old m) (of new run.0) in
+      let said : AnswersLine k n (line_of line) events (Err how) = subst (λ (rules : List Rule). AnswersLine (client files tree_faults rules old.trees.items new.trees.items) n (line_of line) events (Err how)) at.binder did in
+      let r = ends k n (line_of line) events how m run.0 at.rests at.is.good.bytes.sized said run.1 in
       record {
         next = run.0;
         is = run.2;
@@ -206,27 +212,27 @@ module _ {S : Type 0} (told : S → Option History) (moment : S → ℕ) (faults
         goes = on;
         onward = r.onward;
         same = run.2.core.base ∙ on.0 ∙ sym at.is.core.base;
-        run = (r, timely told moment faults new.hall m run.0 run.2 run.4, in_order told moment faults new.hall run.0 run.2, (λ t free durable. there told moment faults clock gives new.hall run.0 (told new.hall.store) run.2 free durable (run.3 t) (goes_here (told new.hall.store))), notes);
+        run = (r, changes.only k n (line_of line) events (Err how) said, timely told moment faults new.hall m run.0 run.2 run.4, in_order told moment faults new.hall run.0 run.2, (λ t free durable. there told moment faults clock gives new.hall run.0 (told new.hall.store) run.2 free durable (run.3 t) (goes_here (told new.hall.store))), notes);
       }
 
   -- ---- lines
 
-  pub record RanLines (n : ℕ) (old new : Session S) (lines : List (List ℕ)) (text : List ℕ) (tally : Tally) (m : Machine) : Type 0 where
+  pub record RanLines (n : ℕ) (old new : Session S T) (lines : List (List ℕ)) (text : List ℕ) (tally : Tally) (m : Machine) : Type 0 where
     pub next : Machine
     pub at : At new next
     pub goes : Goes old new
     pub onward : Onward m next
     pub same : next.core.base ≡ m.core.base
-    pub run : (last : Session S) → Goes new last → Runs (Machined last) n (of old m) lines text tally (of new next)
+    pub run : (last : Session S T) → Goes new last → Runs (Machined last) n (of old m) lines text tally (of new next)
 
-  runs : (lines : List (List ℕ)) (n : ℕ) (old new : Session S) (text : List ℕ) (tally : Tally) (m : Machine) → At old m → Runs Serves n old lines text tally new → RanLines n old new lines text tally m
+  runs : (lines : List (List ℕ)) (n : ℕ) (old new : Session S T) (text : List ℕ) (tally : Tally) (m : Machine) → At old m → Runs Serves n old lines text tally new → RanLines n old new lines text tally m
   runs [] n old new text tally m at run = record {
     next = m;
-    at = subst (λ (s : Session S). At s m) (sym run.2) at;
-    goes = subst (λ (s : Session S). Goes old s) (sym run.2) (here_goes old);
+    at = subst (λ (s : Session S T). At s m) (sym run.2) at;
+    goes = subst (λ (s : Session S T). Goes old s) (sym run.2) (here_goes old);
     onward = onward_here m;
     same = refl;
-    run = λ last more. (run.0, run.1, ap (λ (s : Session S). of s m) run.2);
+    run = λ last more. (run.0, run.1, ap (λ (s : Session S T). of s m) run.2);
   }
   runs (line ∷ more) n old new text tally m at (answer, mid, rest, others, serves, is, counts, run) =
       let one = step old mid n line answer m at serves in
@@ -242,7 +248,7 @@ module _ {S : Type 0} (told : S → Option History) (moment : S → ℕ) (faults
 
   -- ---- how a run ended
 
-  pub record Ended (old new : Session S) (m : Machine) (P : Site → Type 0) : Type 0 where
+  pub record Ended (old new : Session S T) (m : Machine) (P : Site → Type 0) : Type 0 where
     pub next : Machine
     pub is : Is told moment faults new.hall next
     pub known : trusted → IsTrusted (told new.hall.store) new.hall.held
@@ -251,7 +257,7 @@ module _ {S : Type 0} (told : S → Option History) (moment : S → ℕ) (faults
     pub same : next.core.base ≡ m.core.base
     pub run : P (of new next)
 
-  halts : (script : Option (List ℕ)) (taken : List (List ℕ)) (tally : Tally) (text : List ℕ) (old mid new : Session S) (how : Halt) (m : Machine) → RanLines 1 old mid taken text tally m
+  halts : (script : Option (List ℕ)) (taken : List (List ℕ)) (tally : Tally) (text : List ℕ) (old mid new : Session S T) (how : Halt) (m : Machine) → RanLines 1 old mid taken text tally m
       → Halts Stops script taken mid how new → Ended old new m (λ after. Answers (Machined new) (Ending new) (of old m) script (Halted how) text after)
   halts script taken tally text old mid new how m ran (inl (line, front, stopped)) =
       let last = halt mid new (length taken + 1) line how ran.next ran.at stopped in
@@ -266,19 +272,19 @@ module _ {S : Type 0} (told : S → Option History) (moment : S → ℕ) (faults
       }
   halts script taken tally text old mid new how m ran (inr (is, none, same)) = record {
     next = ran.next;
-    is = subst (λ (s : Session S). Is told moment faults s.hall ran.next) (sym same) ran.at.is;
-    known = subst (λ (s : Session S). trusted → IsTrusted (told s.hall.store) s.hall.held) (sym same) ran.at.known;
-    goes = subst (λ (s : Session S). Goes old s) (sym same) ran.goes;
+    is = subst (λ (s : Session S T). Is told moment faults s.hall ran.next) (sym same) ran.at.is;
+    known = subst (λ (s : Session S T). trusted → IsTrusted (told s.hall.store) s.hall.held) (sym same) ran.at.known;
+    goes = subst (λ (s : Session S T). Goes old s) (sym same) ran.goes;
     onward = ran.onward;
     same = ran.same;
-    run = (taken, tally, of mid ran.next, ran.run new (subst (λ (s : Session S). Goes mid s) (sym same) (here_goes mid)), inr (is, none, ap (λ (s : Session S). of s ran.next) same));
+    run = (taken, tally, of mid ran.next, ran.run new (subst (λ (s : Session S T). Goes mid s) (sym same) (here_goes mid)), inr (is, none, ap (λ (s : Session S T). of s ran.next) same));
   }
 
-  at_end : (old new : Session S) (m : Machine) (n : ℕ) (lines : List (List ℕ)) (text : List ℕ) (tally : Tally) (P : Site → Type 0) → (ran : RanLines n old new lines text tally m)
+  at_end : (old new : Session S T) (m : Machine) (n : ℕ) (lines : List (List ℕ)) (text : List ℕ) (tally : Tally) (P : Site → Type 0) → (ran : RanLines n old new lines text tally m)
       → P (of new ran.next) → Ended old new m P
   at_end old new m n lines text tally P ran run = record { next = ran.next; is = ran.at.is; known = ran.at.known; goes = ran.goes; onward = ran.onward; same = ran.same; run = run }
 
-  answers : (end : End) (script : Option (List ℕ)) (text : List ℕ) (old new : Session S) (m : Machine) → At old m → Answers Serves Stops old script end text new
+  answers : (end : End) (script : Option (List ℕ)) (text : List ℕ) (old new : Session S T) (m : Machine) → At old m → Answers Serves Stops old script end text new
       → Ended old new m (λ after. Answers (Machined new) (Ending new) (of old m) script end text after)
   answers (Done tally) script text old new m at (taken, run, whole) =
       let ran = runs taken 1 old new text tally m at run in
@@ -292,16 +298,16 @@ module _ {S : Type 0} (told : S → Option History) (moment : S → ℕ) (faults
       let ran = runs taken 1 old new text tally m at run in
       at_end old new m 1 taken text tally (λ after. Answers (Machined new) (Ending new) (of old m) script (TooLong n) text after) ran (taken, tally, ran.run new (here_goes new), exceeds)
 
-  with_run : (old new : Session S) (m : Machine) (P Q : Site → Type 0) → ((after : Site) → P after → Q after) → Ended old new m P → Ended old new m Q
+  with_run : (old new : Session S T) (m : Machine) (P Q : Site → Type 0) → ((after : Site) → P after → Q after) → Ended old new m P → Ended old new m Q
   with_run old new m P Q leads ran = record { next = ran.next; is = ran.is; known = ran.known; goes = ran.goes; onward = ran.onward; same = ran.same; run = leads (of new ran.next) ran.run }
 
-  allows : (end : End) (script : Option (List ℕ)) (whole : List ℕ) (old new : Session S) (m : Machine) → At old m → Allows Serves Stops old script end whole new
+  allows : (end : End) (script : Option (List ℕ)) (whole : List ℕ) (old new : Session S T) (m : Machine) → At old m → Allows Serves Stops old script end whole new
       → Ended old new m (λ after. Allows (Machined new) (Ending new) (of old m) script end whole after)
   allows end script whole old new m at (text, is, run) =
       with_run old new m (λ after. Answers (Machined new) (Ending new) (of old m) script end text after) (λ after. Allows (Machined new) (Ending new) (of old m) script end whole after) (λ after a. (text, is, a))
       (answers end script text old new m at run)
 
-  prints : (end : End) (script : Option (List ℕ)) (put : List ℕ) (old new : Session S) (m : Machine) → At old m → Prints Serves Stops old script end put new
+  prints : (end : End) (script : Option (List ℕ)) (put : List ℕ) (old new : Session S T) (m : Machine) → At old m → Prints Serves Stops old script end put new
       → Ended old new m (λ after. Prints (Machined new) (Ending new) (of old m) script end put after)
   prints (Done tally) script put old new m at run = allows (Done tally) script put old new m at run
   prints SourceFault script put old new m at run = allows SourceFault script put old new m at run
@@ -312,7 +318,7 @@ module _ {S : Type 0} (told : S → Option History) (moment : S → ℕ) (faults
   prints (TooLong n) script put old new m at run = allows (TooLong n) script put old new m at run
 
   -- what the session's run says, the machine's says
-  pub says : (end : End) (script before after : Option (List ℕ)) (old new : Session S) (m : Machine) → At old m → Says Serves Stops old new script before after end
+  pub says : (end : End) (script before after : Option (List ℕ)) (old new : Session S T) (m : Machine) → At old m → Says Serves Stops old new script before after end
       → Ended old new m (λ left. Says (Machined new) (Ending new) (of old m) left script before after end)
   says end script before after old new m at (put, appends, run) =
       with_run old new m (λ left. Prints (Machined new) (Ending new) (of old m) script end put left) (λ left. Says (Machined new) (Ending new) (of old m) left script before after end)

@@ -3,3 +3,4 @@ pub mod Serve
 pub mod Sessions
 pub mod Sites
 pub mod Spots
+pub mod Trees

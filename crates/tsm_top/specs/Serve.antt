@@ -4,7 +4,6 @@ use Rattle.std.specs.Io.KnownBytes.{Appends}
 use Rattle.std.specs.declared.alloc.Global.{Global}
 use Rattle.store_api.specs.Disk.{History, now, reads}
 use Rattle.store_api.specs.Runs.{EachImage, GoesOn}
-use Rattle.choosers.specs.declared.rule.Rule.{Rule}
 use Rattle.store_api.specs.Told.{Told}
 use Rattle.store_api.specs.Cause.{NoneFell}
 use Rattle.store_api.specs.Cause as store
@@ -26,6 +25,7 @@ use Rattle.hall.specs.Held.{Hall}
 use Rattle.hall.specs.Opening.{IsSound}
 use Rattle.hall.specs.Steps.{IsTrusted}
 use Rattle.hall_turns.specs.Left.{LeavesSound}
+use Rattle.command_steps.specs.Clients.{Client}
 use Rattle.line_results.specs.Resting.{IsAtRest, Onward}
 use Rattle.machine.specs.State.{Machine}
 use Rattle.tsm_top.specs.declared.note.Note.{Note}
@@ -213,14 +213,14 @@ pub record Begins (base : Inv) (opened : ℕ) (counts : ℕ → ℕ) (m : Machin
   pub clock : m.moment ≡ opened
   pub faults : m.counts ≡ counts
 
--- A script ran from this state of the machine on. `trusted` says that the store was sound when it was opened. The lines' answers were put; the journal and the stamps are the machine's at the end; and where
+-- A script ran from this state of the machine on, over the clients' trees, which were `k.old` and are `k.new`. `trusted` says that the store was sound when it was opened. The lines' answers were put; the journal and the stamps are the machine's at the end; and where
 -- the store is trusted each image of each moment since the opening is safe: it recovers to the database behind a transaction that is at least the last with a stamp by then, and holds every copy of
 -- every object of it, with the object's bytes. And what is left is a sound store with every transaction that has a stamp.
-pub record Ran (trusted : Type 0) (choice : List Rule) (base : Inv) (left_told : Option History) (before after : ℕ → ℕ) (opened last : ℕ) (end : End) (journal : List Entry) (stamps : List ℕ) (notes : List Note) (generation : ℕ) (script was is : Option (List ℕ)) (first : Machine) : Type 0 where
+pub record Ran (trusted : Type 0) (k : Client) (base : Inv) (left_told : Option History) (before after : ℕ → ℕ) (opened last : ℕ) (end : End) (journal : List Entry) (stamps : List ℕ) (notes : List Note) (generation : ℕ) (script was is : Option (List ℕ)) (first : Machine) : Type 0 where
   pub begins : Begins base opened before first
   pub there : trusted → IsThere left_told first
   pub final : Machine
-  pub says : Says (RepliesAt trusted choice left_told) (StopsAt trusted choice left_told) (site first []) (site final notes) script was is end
+  pub says : Says (RepliesAt trusted k.choice left_told) (StopsAt trusted k.choice left_told) (site first k.old []) (site final k.new notes) script was is end
   pub onward : Onward first final
   pub base_stays : final.core.base ≡ base
   pub journal_is : journal ≡ final.core.journal
@@ -231,9 +231,9 @@ pub record Ran (trusted : Type 0) (choice : List Rule) (base : Inv) (left_told :
   pub images : trusted → IfSome left_told (AlwaysSafe final.contents final.core opened)
   pub left : trusted → IfSome left_told (LeavesSound final)
 
--- A script was run over a database. `told` is what the store told at the start, and `left_told` what it tells at the return; `opened` and `last` are the moments, and `before` and `after` the counts of faults, at the
+-- A script was run over a database and the clients' trees. `told` is what the store told at the start, and `left_told` what it tells at the return; `opened` and `last` are the moments, and `before` and `after` the counts of faults, at the
 -- end of opening and at the return. Over a store of which nothing is known the run is one of the machine in which bytes that are read are whatever was read; over a sound one they are the objects'.
-pub record RanScript (command : Command) (choice : List Rule) (told left_told : Option History) (before after : ℕ → ℕ) (opened last : ℕ) (end : End) (status : ℕ) (journal : List Entry) (stamps : List ℕ) (notes : List Note) (base : Option Inv) (generation : ℕ) (script left was is : Option (List ℕ)) : Type 0 where
+pub record RanScript (command : Command) (k : Client) (told left_told : Option History) (before after : ℕ → ℕ) (opened last : ℕ) (end : End) (status : ℕ) (journal : List Entry) (stamps : List ℕ) (notes : List Note) (base : Option Inv) (generation : ℕ) (script left was is : Option (List ℕ)) : Type 0 where
   pub code : status ≡ status_of end
   pub database : Inv
   pub base_is : base ≡ Some database
@@ -242,9 +242,9 @@ pub record RanScript (command : Command) (choice : List Rule) (told left_told : 
   pub rise : Rise opened last stamps
   pub start : ℕ
   pub starts : StartsAt command told start
-  pub whole : (first : Machine) × (first.core.generation ≡ start) × Ran ⊥ choice database left_told before after opened last end journal stamps notes generation script was is first
+  pub whole : (first : Machine) × (first.core.generation ≡ start) × Ran ⊥ k database left_told before after opened last end journal stamps notes generation script was is first
   pub sound : (contents : ℕ → List ℕ) → Sure command contents told
-      → (first : Machine) × (first.contents ≡ contents) × (first.core.generation ≡ start) × Ran (Unit {0}) choice database left_told before after opened last end journal stamps notes generation script was is first
+      → (first : Machine) × (first.contents ≡ contents) × (first.core.generation ≡ start) × Ran (Unit {0}) k database left_told before after opened last end journal stamps notes generation script was is first
 
 -- At every moment since the opening each image is safe, and what is left is a sound store.
 pub record RanSafe (command : Command) (told left_told : Option History) (opened : ℕ) (journal : List Entry) (stamps : List ℕ) (base : Option Inv) : Type 0 where
@@ -262,14 +262,14 @@ pub record Later {S : Type 0} (moment : S → ℕ) (faults : S → ℕ → ℕ) 
 abbrev pub Images : {S : Type 0} → (asked : Command → Type 0) → (told : S → Option History) → (store left : S) → (opened : ℕ) → (journal : List Entry) → (stamps : List ℕ) → (base : Option Inv) → Type 0
 Images asked told store left opened journal stamps base = (base ≡ None) ⊎ ((command : Command) × asked command × RanSafe command (told store) (told left) opened journal stamps base)
 
--- A script was run on a hall that was just opened, and left this store. In whatever state of the machine the hall was, the run went on from there.
-pub record RanFrom {S : Type 0} (told : S → Option History) (moment : S → ℕ) (faults : S → ℕ → ℕ) (hall : Hall S) (choice : List Rule) (left_store : S) (end : End) (status : ℕ) (journal : List Entry) (stamps : List ℕ) (notes : List Note) (generation : ℕ) (script left was is : Option (List ℕ)) : Type 0 where
+-- A script was run on a hall that was just opened and over the clients' trees, and left this store. In whatever state of the machine the hall was, the run went on from there.
+pub record RanFrom {S : Type 0} (told : S → Option History) (moment : S → ℕ) (faults : S → ℕ → ℕ) (hall : Hall S) (k : Client) (left_store : S) (end : End) (status : ℕ) (journal : List Entry) (stamps : List ℕ) (notes : List Note) (generation : ℕ) (script left was is : Option (List ℕ)) : Type 0 where
   pub code : status ≡ status_of end
   pub rest : DoneAtEnd end left
   pub rise : Rise (moment hall.store) (moment left_store) stamps
   pub later : Later moment faults hall.store left_store
   pub goes : Told (told hall.store) (told left_store) (GoesOn (λ file. Unit {0}))
   pub whole : (m : Machine) → Is told moment faults hall m
-      → Ran ⊥ choice hall.held.base (told left_store) (faults hall.store) (faults left_store) (moment hall.store) (moment left_store) end journal stamps notes generation script was is m
+      → Ran ⊥ k hall.held.base (told left_store) (faults hall.store) (faults left_store) (moment hall.store) (moment left_store) end journal stamps notes generation script was is m
   pub sound : (m : Machine) → Is told moment faults hall m → IsTrusted (told hall.store) hall.held
-      → Ran (Unit {0}) choice hall.held.base (told left_store) (faults hall.store) (faults left_store) (moment hall.store) (moment left_store) end journal stamps notes generation script was is m
+      → Ran (Unit {0}) k hall.held.base (told left_store) (faults hall.store) (faults left_store) (moment hall.store) (moment left_store) end journal stamps notes generation script was is m

@@ -10,6 +10,7 @@ ghost use Rattle.kinds.specs.declared.refusal.OpenRefused.TheVariants.{Memory as
 ghost use Rattle.script_loop.specs.declared.ends.End.{End};
 ghost use Rattle.script_loop.specs.Ends.{SourceCause, SinkCause};
 ghost use Rattle.vault.specs.log_file.Cursor.{Looked};
+ghost use Rattle.command_steps.specs.Clients.{client};
 ghost use Rattle.machine.specs.State.{Machine};
 ghost use Rattle.hall.specs.Good.{Is};
 ghost use Rattle.hall.specs.Opening.{IsNewHall};
@@ -18,6 +19,8 @@ ghost use Rattle.tsm_top.specs.Serve.{IsOnly, Asks, Command, format, run, fresh_
 use crate::note::Note;
 use crate::session::{HallPlaces, Session};
 use choosers::Binder;
+use client_trees::Tree;
+use command_steps::laws::lines_change_their_tree;
 use entries::Entry;
 use hall::laws::trusted_halls_are_safe;
 use hall::{Closed, Hall};
@@ -33,11 +36,13 @@ use vault::{Vault, is_formatted};
 
 /// What a call of `serve` leaves.
 #[derive(Drop)]
-pub struct Ended<S: Store> {
+pub struct Ended<S: Store, T: Tree> {
     /// The exit status.
     pub status: u8,
     /// The store as it was left.
     pub store: S,
+    /// The clients' trees as they were left, in their order.
+    pub trees: Vec<T>,
     /// The transactions that this run made, oldest first. Those that have no stamp, which only a fault of a log or an image or a full run leaves, are in doubt: a stop may leave them or not.
     pub journal: Vec<Entry>,
     /// The store's moment at which each of the journal's first transactions was known to be durable, oldest first.
@@ -75,25 +80,26 @@ fn is_only(words: &[String], name: &[u8]) -> bool
 
 /// Does what the words behind the program's name ask, and answers how it ended. `format` makes a new database in a store that has none,
 /// `run` opens the store's database, answers each line of a script and puts the answers, and `fresh` does the one and then the other.
-/// `alloc` gives the memory, and `binder` has the include-exclude list by which the paths of files are bound to management classes.
+/// `alloc` gives the memory, `trees` are the clients' trees, which lines name by their place, from 0, and `binder` has the include-exclude list by which the paths of files are bound to management classes.
 ///
-/// A line is a comment or a command of the administrative command language (`admin_words`), outside blocks. Every change of policy, nodes, device classes,
-/// storage pools and volumes is done, every query, VALIDATE, DAY, CHECKPOINT, PUT and GET; any other command is refused with `UnknownWord(1)`.
-pub fn serve<S: Store, I: Source, O: Sink>(
+/// A line is a comment or a command of the administrative command language (`admin_words`), outside blocks. Each command is done but DSMC ARCHIVE, DSMC RETRIEVE, AUDIT VOLUME, BACKUP DB and DELETE VOLHISTORY,
+/// which are refused with `UnknownWord(1)`. Where no script is run the trees are given back as they came.
+pub fn serve<S: Store, T: Tree, I: Source, O: Sink>(
     alloc: Global,
     words: &[String],
     store: S,
+    trees: Vec<T>,
     script: &mut I,
     out: &mut O,
     binder: Binder,
-) -> Ended<S>
+) -> Ended<S, T>
     // What was put, what is in the journal, and what images of the store give back, by how the call ended. Where a script was run each line has what `Holds` of `line_results` says: which transactions
     // it made, and that its command orders them; the rows that queries show; the bytes that files are shown with; what each stored version says of its bytes; why lines are refused; what lines did that are
-    // answered OK; and which lines aren't refused.
+    // answered OK; and which lines aren't refused. No line changed another tree than the one that it names, in which a WRITE left its file with its bytes and its time, and an ERASE none (`LeavesFile`).
     ensures outcome { ((why : Closing) × HasCauseOf why words.now (S.told store) (S.told result.store) (S.moment_of result.store) (RoseBetween (S.faults_of store) (S.faults_of result.store))
-        × Shuts why (O.contents out.old) (O.contents out.new) (RoseIn (O.fault_count out.old) (O.fault_count out.new)) result.status result.journal.items result.stamps.items result.notes.items result.base result.generation result.opened (S.moment_of result.store) × (script.new ≡ script.old))
+        × Shuts why (O.contents out.old) (O.contents out.new) (RoseIn (O.fault_count out.old) (O.fault_count out.new)) result.status result.journal.items result.stamps.items result.notes.items result.base result.generation result.opened (S.moment_of result.store) × (script.new ≡ script.old) × (result.trees ≡ trees))
         ⊎ ((command : Command) × Asks words.now command × (end : End) × (opening : S) × (S.moment_of opening ≡ result.opened) × Later S.moment_of S.faults_of store opening × Later S.moment_of S.faults_of opening result.store × Opens command (S.told store) (S.told opening) × Told (S.told opening) (S.told result.store) (GoesOn (λ file. Unit {0}))
-        × RanScript command binder (S.told store) (S.told result.store) (S.faults_of opening) (S.faults_of result.store) result.opened (S.moment_of result.store) end result.status result.journal.items result.stamps.items result.notes.items result.base result.generation (I.left script.old) (I.left script.new) (O.contents out.old) (O.contents out.new)
+        × RanScript command (client T.files T.fault_count binder trees.items result.trees.items) (S.told store) (S.told result.store) (S.faults_of opening) (S.faults_of result.store) result.opened (S.moment_of result.store) end result.status result.journal.items result.stamps.items result.notes.items result.base result.generation (I.left script.old) (I.left script.new) (O.contents out.old) (O.contents out.new)
         × SourceCause end (I.fault_count script.old) (I.fault_count script.new) × SinkCause end (O.fault_count out.old) (O.fault_count out.new)) }
 
     // Each status by its cause.
@@ -108,22 +114,23 @@ pub fn serve<S: Store, I: Source, O: Sink>(
     // At every moment since the opening each image that a stop may leave is safe, and what is left is a sound store.
     ensures images { Images (Asks words.now) S.told store result.store result.opened result.journal.items result.stamps.items result.base }
 {
-    call(alloc, words, store, script, out, binder)
+    call(alloc, words, store, trees, script, out, binder)
 }
 
 // Does what the words ask.
-fn call<S: Store, I: Source, O: Sink>(
+fn call<S: Store, T: Tree, I: Source, O: Sink>(
     alloc: Global,
     words: &[String],
     store: S,
+    trees: Vec<T>,
     script: &mut I,
     out: &mut O,
     binder: Binder,
-) -> Ended<S>
+) -> Ended<S, T>
     ensures outcome { ((why : Closing) × HasCauseOf why words.now (S.told store) (S.told result.store) (S.moment_of result.store) (RoseBetween (S.faults_of store) (S.faults_of result.store))
-        × Shuts why (O.contents out.old) (O.contents out.new) (RoseIn (O.fault_count out.old) (O.fault_count out.new)) result.status result.journal.items result.stamps.items result.notes.items result.base result.generation result.opened (S.moment_of result.store) × (script.new ≡ script.old))
+        × Shuts why (O.contents out.old) (O.contents out.new) (RoseIn (O.fault_count out.old) (O.fault_count out.new)) result.status result.journal.items result.stamps.items result.notes.items result.base result.generation result.opened (S.moment_of result.store) × (script.new ≡ script.old) × (result.trees ≡ trees))
         ⊎ ((command : Command) × Asks words.now command × (end : End) × (opening : S) × (S.moment_of opening ≡ result.opened) × Later S.moment_of S.faults_of store opening × Later S.moment_of S.faults_of opening result.store × Opens command (S.told store) (S.told opening) × Told (S.told opening) (S.told result.store) (GoesOn (λ file. Unit {0}))
-        × RanScript command binder (S.told store) (S.told result.store) (S.faults_of opening) (S.faults_of result.store) result.opened (S.moment_of result.store) end result.status result.journal.items result.stamps.items result.notes.items result.base result.generation (I.left script.old) (I.left script.new) (O.contents out.old) (O.contents out.new)
+        × RanScript command (client T.files T.fault_count binder trees.items result.trees.items) (S.told store) (S.told result.store) (S.faults_of opening) (S.faults_of result.store) result.opened (S.moment_of result.store) end result.status result.journal.items result.stamps.items result.notes.items result.base result.generation (I.left script.old) (I.left script.new) (O.contents out.old) (O.contents out.new)
         × SourceCause end (I.fault_count script.old) (I.fault_count script.new) × SinkCause end (O.fault_count out.old) (O.fault_count out.new)) }
     ensures source_fault { result.status ≡ 3 → RoseIn (I.fault_count script.old) (I.fault_count script.new) }
     ensures sink_fault { result.status ≡ 4 → RoseIn (O.fault_count out.old) (O.fault_count out.new) }
@@ -134,19 +141,19 @@ fn call<S: Store, I: Source, O: Sink>(
     ensures opened { (S.moment_of store ≤ result.opened) × (result.opened ≤ S.moment_of result.store) }
 {
     if is_only(words, b"format") {
-        return format(alloc, store, out);
+        return format(alloc, store, trees, out);
     }
     if is_only(words, b"run") {
-        return open(alloc, store, script, out, binder);
+        return open(alloc, store, trees, script, out, binder);
     }
     if is_only(words, b"fresh") {
-        return format_and_run(alloc, store, script, out, binder);
+        return format_and_run(alloc, store, trees, script, out, binder);
     }
-    closed(alloc, store, out, 2, USAGE)
+    closed(alloc, store, trees, out, 2, USAGE)
 }
 
 // What is left where no script was run.
-fn unopened<S: Store>(alloc: Global, store: S, status: u8) -> Ended<S>
+fn unopened<S: Store, T: Tree>(alloc: Global, store: S, trees: Vec<T>, status: u8) -> Ended<S, T>
     ensures status { result.status ≡ status }
     ensures journal { result.journal.items ≡ [] }
     ensures stamps { result.stamps.items ≡ [] }
@@ -154,12 +161,14 @@ fn unopened<S: Store>(alloc: Global, store: S, status: u8) -> Ended<S>
     ensures base { result.base ≡ None }
     ensures generation { result.generation ≡ 0 }
     ensures store { result.store ≡ store }
+    ensures trees { result.trees ≡ trees }
     ensures opened { result.opened ≡ S.moment_of store }
 {
     let opened = store.moment();
     Ended {
         status,
         store,
+        trees,
         journal: Vec::new(alloc),
         stamps: Vec::new(alloc),
         notes: Vec::new(alloc),
@@ -170,13 +179,14 @@ fn unopened<S: Store>(alloc: Global, store: S, status: u8) -> Ended<S>
 }
 
 // Puts the one line of a call that runs no script; the sink may fail at it.
-fn closed<S: Store, O: Sink>(
+fn closed<S: Store, T: Tree, O: Sink>(
     alloc: Global,
     store: S,
+    trees: Vec<T>,
     out: &mut O,
     status: u8,
     line: &[u8],
-) -> Ended<S>
+) -> Ended<S, T>
     ensures line { PutsLine line.now status result.status (O.contents out.old) (O.contents out.new) (RoseIn (O.fault_count out.old) (O.fault_count out.new)) }
     ensures journal { result.journal.items ≡ [] }
     ensures stamps { result.stamps.items ≡ [] }
@@ -184,11 +194,12 @@ fn closed<S: Store, O: Sink>(
     ensures base { result.base ≡ None }
     ensures generation { result.generation ≡ 0 }
     ensures store { result.store ≡ store }
+    ensures trees { result.trees ≡ trees }
     ensures opened { result.opened ≡ S.moment_of store }
 {
     match put_all(out, line) {
-        Ok(()) => unopened(alloc, store, status),
-        Err(_) => unopened(alloc, store, 4),
+        Ok(()) => unopened(alloc, store, trees, status),
+        Err(_) => unopened(alloc, store, trees, 4),
     }
 }
 
@@ -207,12 +218,13 @@ fn damaged_words(file: u32) -> &'static [u8]
 }
 
 // Puts the line of a call that couldn't open the store.
-fn refused_by<S: Store, O: Sink>(
+fn refused_by<S: Store, T: Tree, O: Sink>(
     alloc: Global,
     store: S,
+    trees: Vec<T>,
     out: &mut O,
     refusal: OpenRefused,
-) -> Ended<S>
+) -> Ended<S, T>
     requires ours { IsOurFile refusal }
     ensures line { PutsLine (closing_line (refused_opening refusal)) (closing_status (refused_opening refusal)) result.status (O.contents out.old) (O.contents out.new) (RoseIn (O.fault_count out.old) (O.fault_count out.new)) }
     ensures journal { result.journal.items ≡ [] }
@@ -221,25 +233,32 @@ fn refused_by<S: Store, O: Sink>(
     ensures base { result.base ≡ None }
     ensures generation { result.generation ≡ 0 }
     ensures store { result.store ≡ store }
+    ensures trees { result.trees ≡ trees }
     ensures opened { result.opened ≡ S.moment_of store }
 {
     match refusal {
         OpenRefused::ReadFault(file) => {
             let line = number_line(b"STORE FAULT ", u64::from(file));
-            closed(alloc, store, out, 5, line.as_slice())
+            closed(alloc, store, trees, out, 5, line.as_slice())
         }
         OpenRefused::Damaged(file, at) => {
             let line = number_line(damaged_words(file), at);
-            closed(alloc, store, out, 7, line.as_slice())
+            closed(alloc, store, trees, out, 7, line.as_slice())
         }
-        OpenRefused::NotFormatted => closed(alloc, store, out, 7, b"NOT FORMATTED\n"),
-        OpenRefused::RunFull => closed(alloc, store, out, 9, b"RUN FULL\n"),
-        OpenRefused::Memory => closed(alloc, store, out, 8, b"MEMORY\n"),
+        OpenRefused::NotFormatted => closed(alloc, store, trees, out, 7, b"NOT FORMATTED\n"),
+        OpenRefused::RunFull => closed(alloc, store, trees, out, 9, b"RUN FULL\n"),
+        OpenRefused::Memory => closed(alloc, store, trees, out, 8, b"MEMORY\n"),
     }
 }
 
 // Puts the line of a call that couldn't make a new database.
-fn not_made<S: Store, O: Sink>(alloc: Global, store: S, out: &mut O, why: NotMade) -> Ended<S>
+fn not_made<S: Store, T: Tree, O: Sink>(
+    alloc: Global,
+    store: S,
+    trees: Vec<T>,
+    out: &mut O,
+    why: NotMade,
+) -> Ended<S, T>
     requires ours { IsOurClosing why }
     ensures line { PutsLine (closing_line (closing_of why)) (closing_status (closing_of why)) result.status (O.contents out.old) (O.contents out.new) (RoseIn (O.fault_count out.old) (O.fault_count out.new)) }
     ensures journal { result.journal.items ≡ [] }
@@ -248,11 +267,12 @@ fn not_made<S: Store, O: Sink>(alloc: Global, store: S, out: &mut O, why: NotMad
     ensures base { result.base ≡ None }
     ensures generation { result.generation ≡ 0 }
     ensures store { result.store ≡ store }
+    ensures trees { result.trees ≡ trees }
     ensures opened { result.opened ≡ S.moment_of store }
 {
     match why {
-        NotMade::Exists => closed(alloc, store, out, 1, b"REFUSED 11 Exists\n"),
-        NotMade::Refused(refusal) => refused_by(alloc, store, out, refusal),
+        NotMade::Exists => closed(alloc, store, trees, out, 1, b"REFUSED 11 Exists\n"),
+        NotMade::Refused(refusal) => refused_by(alloc, store, trees, out, refusal),
     }
 }
 
@@ -293,62 +313,70 @@ fn make<S: Store>(alloc: Global, store: &mut S) -> Result<(), NotMade>
 }
 
 // Makes a new database, and no more.
-fn format<S: Store, O: Sink>(alloc: Global, store: S, out: &mut O) -> Ended<S>
+fn format<S: Store, T: Tree, O: Sink>(
+    alloc: Global,
+    store: S,
+    trees: Vec<T>,
+    out: &mut O,
+) -> Ended<S, T>
     ensures outcome { (why : Closing) × HasCause (λ command. command ≡ format) why (S.told store) (S.told result.store) (S.moment_of result.store) (RoseBetween (S.faults_of store) (S.faults_of result.store)) × Shuts why (O.contents out.old) (O.contents out.new) (RoseIn (O.fault_count out.old) (O.fault_count out.new)) result.status result.journal.items result.stamps.items result.notes.items result.base result.generation result.opened (S.moment_of result.store) }
+    ensures trees { result.trees ≡ trees }
     ensures later { Later S.moment_of S.faults_of store result.store }
     ensures opened { (S.moment_of store ≤ result.opened) × (result.opened ≤ S.moment_of result.store) }
 {
     let mut store = store;
     match make(alloc, &mut store) {
-        Ok(()) => closed(alloc, store, out, 0, b"FORMATTED\n"),
-        Err(why) => not_made(alloc, store, out, why),
+        Ok(()) => closed(alloc, store, trees, out, 0, b"FORMATTED\n"),
+        Err(why) => not_made(alloc, store, trees, out, why),
     }
 }
 
 // Makes a new database, and runs the script over it.
-fn format_and_run<S: Store, I: Source, O: Sink>(
+fn format_and_run<S: Store, T: Tree, I: Source, O: Sink>(
     alloc: Global,
     store: S,
+    trees: Vec<T>,
     script: &mut I,
     out: &mut O,
     binder: Binder,
-) -> Ended<S>
-    ensures outcome { ((why : Closing) × HasCause (λ command. command ≡ fresh_run) why (S.told store) (S.told result.store) (S.moment_of result.store) (RoseBetween (S.faults_of store) (S.faults_of result.store)) × Shuts why (O.contents out.old) (O.contents out.new) (RoseIn (O.fault_count out.old) (O.fault_count out.new)) result.status result.journal.items result.stamps.items result.notes.items result.base result.generation result.opened (S.moment_of result.store) × (script.new ≡ script.old))
+) -> Ended<S, T>
+    ensures outcome { ((why : Closing) × HasCause (λ command. command ≡ fresh_run) why (S.told store) (S.told result.store) (S.moment_of result.store) (RoseBetween (S.faults_of store) (S.faults_of result.store)) × Shuts why (O.contents out.old) (O.contents out.new) (RoseIn (O.fault_count out.old) (O.fault_count out.new)) result.status result.journal.items result.stamps.items result.notes.items result.base result.generation result.opened (S.moment_of result.store) × (script.new ≡ script.old) × (result.trees ≡ trees))
         ⊎ ((end : End) × (opening : S) × (S.moment_of opening ≡ result.opened) × Later S.moment_of S.faults_of store opening × Later S.moment_of S.faults_of opening result.store × Opens fresh_run (S.told store) (S.told opening) × Told (S.told opening) (S.told result.store) (GoesOn (λ file. Unit {0}))
-        × RanScript fresh_run binder (S.told store) (S.told result.store) (S.faults_of opening) (S.faults_of result.store) result.opened (S.moment_of result.store) end result.status result.journal.items result.stamps.items result.notes.items result.base result.generation (I.left script.old) (I.left script.new) (O.contents out.old) (O.contents out.new)
+        × RanScript fresh_run (client T.files T.fault_count binder trees.items result.trees.items) (S.told store) (S.told result.store) (S.faults_of opening) (S.faults_of result.store) result.opened (S.moment_of result.store) end result.status result.journal.items result.stamps.items result.notes.items result.base result.generation (I.left script.old) (I.left script.new) (O.contents out.old) (O.contents out.new)
         × SourceCause end (I.fault_count script.old) (I.fault_count script.new) × SinkCause end (O.fault_count out.old) (O.fault_count out.new)) }
     ensures later { Later S.moment_of S.faults_of store result.store }
     ensures opened { (S.moment_of store ≤ result.opened) × (result.opened ≤ S.moment_of result.store) }
 {
     let mut store = store;
     match make(alloc, &mut store) {
-        Ok(()) => open(alloc, store, script, out, binder),
-        Err(why) => not_made(alloc, store, out, why),
+        Ok(()) => open(alloc, store, trees, script, out, binder),
+        Err(why) => not_made(alloc, store, trees, out, why),
     }
 }
 
 // Opens the store's database, and runs the script over it.
-fn open<S: Store, I: Source, O: Sink>(
+fn open<S: Store, T: Tree, I: Source, O: Sink>(
     alloc: Global,
     store: S,
+    trees: Vec<T>,
     script: &mut I,
     out: &mut O,
     binder: Binder,
-) -> Ended<S>
-    ensures outcome { ((why : OpenRefused) × OpensNot run (S.told store) (S.moment_of result.store) (RoseBetween (S.faults_of store) (S.faults_of result.store)) why × Spares run (S.told store) (S.told result.store) × Shuts (refused_opening why) (O.contents out.old) (O.contents out.new) (RoseIn (O.fault_count out.old) (O.fault_count out.new)) result.status result.journal.items result.stamps.items result.notes.items result.base result.generation result.opened (S.moment_of result.store) × (script.new ≡ script.old))
+) -> Ended<S, T>
+    ensures outcome { ((why : OpenRefused) × OpensNot run (S.told store) (S.moment_of result.store) (RoseBetween (S.faults_of store) (S.faults_of result.store)) why × Spares run (S.told store) (S.told result.store) × Shuts (refused_opening why) (O.contents out.old) (O.contents out.new) (RoseIn (O.fault_count out.old) (O.fault_count out.new)) result.status result.journal.items result.stamps.items result.notes.items result.base result.generation result.opened (S.moment_of result.store) × (script.new ≡ script.old) × (result.trees ≡ trees))
         ⊎ ((end : End) × (opening : S) × (S.moment_of opening ≡ result.opened) × Later S.moment_of S.faults_of store opening × Later S.moment_of S.faults_of opening result.store × Opens run (S.told store) (S.told opening) × Told (S.told opening) (S.told result.store) (GoesOn (λ file. Unit {0}))
-        × RanScript run binder (S.told store) (S.told result.store) (S.faults_of opening) (S.faults_of result.store) result.opened (S.moment_of result.store) end result.status result.journal.items result.stamps.items result.notes.items result.base result.generation (I.left script.old) (I.left script.new) (O.contents out.old) (O.contents out.new)
+        × RanScript run (client T.files T.fault_count binder trees.items result.trees.items) (S.told store) (S.told result.store) (S.faults_of opening) (S.faults_of result.store) result.opened (S.moment_of result.store) end result.status result.journal.items result.stamps.items result.notes.items result.base result.generation (I.left script.old) (I.left script.new) (O.contents out.old) (O.contents out.new)
         × SourceCause end (I.fault_count script.old) (I.fault_count script.new) × SinkCause end (O.fault_count out.old) (O.fault_count out.new)) }
     ensures later { Later S.moment_of S.faults_of store result.store }
     ensures opened { (S.moment_of store ≤ result.opened) × (result.opened ≤ S.moment_of result.store) }
 {
     let hall = match Hall::open(alloc, store) {
         Ok(hall) => hall,
-        Err((store, refusal)) => return refused_by(alloc, store, out, refusal),
+        Err((store, refusal)) => return refused_by(alloc, store, trees, out, refusal),
     };
     match pieces(alloc) {
-        Ok(buffer) => run_script(alloc, hall, binder, buffer, script, out),
-        Err(refusal) => refused_by(alloc, into_store(hall), out, refusal),
+        Ok(buffer) => run_script(alloc, hall, trees, binder, buffer, script, out),
+        Err(refusal) => refused_by(alloc, into_store(hall), trees, out, refusal),
     }
 }
 
@@ -373,18 +401,19 @@ fn pieces(alloc: Global) -> Result<Vec<u8>, OpenRefused>
 }
 
 // Runs the script on a hall that was just opened.
-fn run_script<S: Store, I: Source, O: Sink>(
+fn run_script<S: Store, T: Tree, I: Source, O: Sink>(
     alloc: Global,
     hall: Hall<S>,
+    trees: Vec<T>,
     binder: Binder,
     buffer: Vec<u8>,
     script: &mut I,
     out: &mut O,
-) -> Ended<S>
+) -> Ended<S, T>
     requires fresh { IsNewHall (S.moment_of hall.store) hall.held }
     requires state { (m : Machine) × Is S.told S.moment_of S.faults_of hall m }
     requires long { length buffer.items ≡ 65536 }
-    ensures { (end : End) × RanFrom S.told S.moment_of S.faults_of hall binder result.store end result.status result.journal.items result.stamps.items result.notes.items result.generation (I.left script.old) (I.left script.new) (O.contents out.old) (O.contents out.new)
+    ensures { (end : End) × RanFrom S.told S.moment_of S.faults_of hall (client T.files T.fault_count binder trees.items result.trees.items) result.store end result.status result.journal.items result.stamps.items result.notes.items result.generation (I.left script.old) (I.left script.new) (O.contents out.old) (O.contents out.new)
         × (result.base ≡ Some hall.held.base) × (result.opened ≡ S.moment_of hall.store)
         × SourceCause end (I.fault_count script.old) (I.fault_count script.new) × SinkCause end (O.fault_count out.old) (O.fault_count out.new) }
 {
@@ -394,14 +423,21 @@ fn run_script<S: Store, I: Source, O: Sink>(
     trusted_halls_are_safe::<S>();
     lines_come_to::<HallPlaces>();
     answered_lines_hold::<HallPlaces>();
+    lines_change_their_tree();
     let mut session = Session {
         hall,
+        trees,
         binder,
         buffer,
         notes: Vec::new(alloc),
     };
     let end = run(alloc, &mut session, script, out);
-    let Session { hall, notes, .. } = session;
+    let Session {
+        hall,
+        trees,
+        notes,
+        ..
+    } = session;
     let generation = hall.generation();
     let Closed {
         store,
@@ -413,6 +449,7 @@ fn run_script<S: Store, I: Source, O: Sink>(
     Ended {
         status: end.status(),
         store,
+        trees,
         journal,
         stamps,
         notes,

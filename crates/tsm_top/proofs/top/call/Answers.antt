@@ -8,17 +8,17 @@ pub returns-then-is_only-clause-outcome : goal.returns-then-is_only-clause-outco
 returns-then-is_only-clause-outcome g c =
     let asks = c.if-is_only.ensures.0 refl in
     let shut = c.format.ensures.outcome in
-    inl (shut.0, asked_one format (Asks c.args.words.now) asks shut.0 _ _ _ _ shut.1, shut.2, refl {a = c.args.script.now})
+    inl (shut.0, asked_one format (Asks c.args.words.now) asks shut.0 _ _ _ _ shut.1, shut.2, refl {a = c.args.script.now}, c.format.ensures.trees)
 
 pub returns-then-is_only-2-clause-outcome : goal.returns-then-is_only-2-clause-outcome
 returns-then-is_only-2-clause-outcome g c =
     let asks = c.if-is_only-2.ensures.0 refl in
-    ⊎_elim (λ shut. inl (refused_opening shut.0, (run, asks, shut.1, shut.2), shut.3, shut.4)) (λ ran. inr (run, asks, ran.0, ran.1, ran.2, ran.3, ran.4, ran.5, ran.6, ran.7, ran.8, ran.9)) c.open.ensures.outcome
+    ⊎_elim (λ shut. inl (refused_opening shut.0, (run, asks, shut.1, shut.2), shut.3, shut.4, shut.5)) (λ ran. inr (run, asks, ran.0, ran.1, ran.2, ran.3, ran.4, ran.5, ran.6, ran.7, ran.8, ran.9)) c.open.ensures.outcome
 
 pub returns-then-is_only-3-clause-outcome : goal.returns-then-is_only-3-clause-outcome
 returns-then-is_only-3-clause-outcome g c =
     let asks = c.if-is_only-3.ensures.0 refl in
-    ⊎_elim (λ shut. inl (shut.0, asked_one fresh_run (Asks c.args.words.now) asks shut.0 _ _ _ _ shut.1, shut.2, shut.3)) (λ ran. inr (fresh_run, asks, ran.0, ran.1, ran.2, ran.3, ran.4, ran.5, ran.6, ran.7, ran.8, ran.9)) c.format_and_run.ensures.outcome
+    ⊎_elim (λ shut. inl (shut.0, asked_one fresh_run (Asks c.args.words.now) asks shut.0 _ _ _ _ shut.1, shut.2, shut.3, shut.4)) (λ ran. inr (fresh_run, asks, ran.0, ran.1, ran.2, ran.3, ran.4, ran.5, ran.6, ran.7, ran.8, ran.9)) c.format_and_run.ensures.outcome
 
 pub returns-then-is_only-2-clause-log_fault : goal.returns-then-is_only-2-clause-log_fault
 returns-then-is_only-2-clause-log_fault g c =

@@ -8,7 +8,7 @@ returns-in-Ok-clause-outcome g c =
     let x = g.S.Store.told c.args.store in
     let y = g.S.Store.told c.make.new.store in
     ⊎_elim
-    (λ shut. inl (refused_opening shut.0, (fresh_run, refl, new_not x y shut.0 (g.S.Store.moment_of c.open.result.store) (g.S.Store.faults_of c.args.store) (g.S.Store.faults_of c.make.new.store) (g.S.Store.faults_of c.open.result.store) c.make.ensures.tells c.in-Ok.ensures.new c.make.ensures.later.counts shut.1, refused_spares x y (g.S.Store.told c.open.result.store) c.make.ensures.tells c.in-Ok.ensures.made shut.2), shut.3, shut.4))
+    (λ shut. inl (refused_opening shut.0, (fresh_run, refl, new_not x y shut.0 (g.S.Store.moment_of c.open.result.store) (g.S.Store.faults_of c.args.store) (g.S.Store.faults_of c.make.new.store) (g.S.Store.faults_of c.open.result.store) c.make.ensures.tells c.in-Ok.ensures.new c.make.ensures.later.counts shut.1, refused_spares x y (g.S.Store.told c.open.result.store) c.make.ensures.tells c.in-Ok.ensures.made shut.2), shut.3, shut.4, shut.5))
     (λ ran. inr (
       ran.0,
       ran.1,

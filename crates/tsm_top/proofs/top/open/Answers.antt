@@ -14,6 +14,7 @@ returns-in-Err-clause-outcome g c =
       subst (λ s. Spares run (g.S.Store.told c.args.store) (g.S.Store.told s)) (sym shut.store) spared,
       record { line = shut.line; journal_is = shut.journal; stamps_are = shut.stamps; notes_are = shut.notes; base_is = shut.base; generation_is = shut.generation; opened_is = shut.opened ∙ sym (ap (λ s. g.S.Store.moment_of s) shut.store) },
       refl {a = c.args.script.now},
+      shut.trees,
     )
 
 pub returns-in-Err-pieces-clause-outcome : goal.returns-in-Err-pieces-clause-outcome
@@ -27,6 +28,7 @@ returns-in-Err-pieces-clause-outcome g c =
       subst (λ s. Spares run (g.S.Store.told c.args.store) (g.S.Store.told s)) (sym last) spared,
       record { line = shut.line; journal_is = shut.journal; stamps_are = shut.stamps; notes_are = shut.notes; base_is = shut.base; generation_is = shut.generation; opened_is = shut.opened ∙ sym (ap (λ s. g.S.Store.moment_of s) shut.store) },
       refl {a = c.args.script.now},
+      shut.trees,
     )
 
 pub returns-in-Err-pieces-clause-later : goal.returns-in-Err-pieces-clause-later
