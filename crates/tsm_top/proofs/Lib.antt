@@ -1,4 +1,5 @@
 pub mod Causes
+pub mod Lent
 pub mod Making
 pub mod Noting
 pub mod Opening
