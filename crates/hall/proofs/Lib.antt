@@ -36,6 +36,7 @@ pub mod Fresh
 pub mod Having
 pub mod Imaged
 pub mod Imaging
+pub mod Indexed
 pub mod JoinAnswers
 pub mod JoinedBytes
 pub mod JoinedCore

@@ -11,6 +11,7 @@ use crate::hall::Hall;
 use crate::parts::Parts;
 use entries::Database;
 use inventory::Inventory;
+use kept_index::KeptIndex;
 use kinds::{OpenRefused, Refusal};
 use run_past::RunPast;
 use space::Space;
@@ -31,6 +32,8 @@ impl Parts {
         let base = vault.database().copy(alloc)?;
         let next_file = base.tables().next_file;
         let next_object = base.tables().next_object;
+        let space = Space::new(alloc, next_file);
+        let index = KeptIndex::of(alloc, &vault.database().tables().pools, &space);
         Ok(Parts {
             alloc,
             base,
@@ -38,7 +41,8 @@ impl Parts {
             vault,
             stamps: Vec::new(alloc),
             seats: BTreeMap::new(alloc),
-            space: Space::new(alloc, next_file),
+            space,
+            index,
             next_object,
             next_ticket: 1,
             image: None,

@@ -1,5 +1,5 @@
 //! A transaction that joins.
-ghost use Rattle.std.specs.Prelude.{◌≡◌, ◌+◌, ◌≤◌, ◌<◌, ◌^◌, ◌++◌, ℕ, List, Option, Some, None, Err, length, IfErr, IfOk, IfSome, OnErr, OnOk};
+ghost use Rattle.std.specs.Prelude.{◌≡◌, ◌+◌, ◌≤◌, ◌<◌, ◌^◌, ◌++◌, ℕ, List, Option, Some, None, Err, true, length, IfErr, IfOk, IfSome, OnErr, OnOk};
 ghost use Rattle.store_api.specs.Cause.{NoneFell};
 ghost use Rattle.store_api.specs.Told.{Told};
 ghost use Rattle.kinds.specs.declared.refusal.Refusal.TheVariants.{Memory};
@@ -12,8 +12,13 @@ ghost use Rattle.inventory_rules.specs.Journal.{no_journal};
 ghost use Rattle.inventory_rules.specs.Transactions.{refused};
 ghost use Rattle.std.specs.List.{flat_map};
 ghost use Rattle.std.specs.Vec.{vec_capacity};
-ghost use Rattle.space.specs.Claims.{noted};
-ghost use Rattle.vault.specs.Vaults.{Waits, with_waiting};
+ghost use Rattle.space.specs.Claims.{Claims, noted};
+ghost use Rattle.entries.specs.declared.entry.Entry.{Entry};
+ghost use Rattle.inventory_rows.specs.pool_rows.PoolRows.{PoolRows};
+ghost use Rattle.kept_index.specs.Steps.{IsLegalOn};
+ghost use Rattle.kept_index.specs.Kept.{IsKeptOf};
+ghost use Rattle.inventory_rows.specs.pool_tables.Rows.{row_at};
+ghost use Rattle.vault.specs.Vaults.{State, Waits, with_waiting};
 ghost use Rattle.hall.specs.Joined.{RefusesJoin, drawn_by, joined_held, left_by_copy, left_by_version, next_behind, placed_of, taken_by, without_seats};
 
 use crate::noting;
@@ -23,6 +28,7 @@ use entries::{Change, Entry};
 use inventory::Inventory;
 use inventory_rows::version_groups::{CopyRow, Version};
 use inventory_rows::{Tables, are_ascending};
+use kept_index::KeptIndex;
 use kinds::{PoolChange, Refusal, Verb};
 use space::{Placed, Places, Space};
 use std::alloc::{AllocError, Global};
@@ -183,18 +189,59 @@ fn make_room(
     alloc: Global,
     vault: &Vault<Inventory>,
     space: &mut Space,
+    index: &mut KeptIndex,
     change: &Change,
 ) -> Result<u64, Refusal>
     ensures noted { OnOk result (space.new ≡ noted (vault.now.database.number + 1) (taken_by change.now vault.now.database) space.old) }
     ensures number { IfOk result (λ number. number ≡ vault.now.database.number + 1) }
     ensures err { OnErr result (space.new ≡ space.old) }
     ensures memory { IfErr result (λ refusal. refusal ≡ Memory) }
+    ensures index { (s : PoolRows) → IsKeptOf index.old s space.old → IsKeptOf index.new s space.new }
+    ensures legal { refused no_journal change.now vault.now.database ≡ None → OnOk result (IsLegalOn change.now vault.now.database) }
 {
     let tables = vault.database().tables();
+    are_ascending(tables);
     let taken = taken_by(alloc, tables, change)?;
     let number = tables.number + 1;
-    space.note(number, taken)?;
+    index.note(space, number, &taken);
+    if let Err(refusal) = space.note(number, taken) {
+        index.lose();
+        return Err(refusal);
+    }
     Ok(number)
+}
+
+/// The index follows the transaction that was made last, the one behind so many, and that took away what is noted under its number; where it is in doubt the index is lost.
+fn follow(
+    index: &mut KeptIndex,
+    vault: &Vault<Inventory>,
+    space: &Space,
+    count: usize,
+    number: u64,
+    joined: bool,
+)
+    ensures { (old : State Inv) (e : Entry) (c : Claims) → count ≡ length old.journal → (joined ≡ true → vault.now ≡ with_waiting meaning old e) → IsLegalOn e.change old.database → row_at number space.now.freed ≡ Some (taken_by e.change old.database) → IsKeptOf index.old old.database.stores c
+        → IsKeptOf index.new vault.now.database.stores c }
+{
+    let taken = match space.freed().get(&number) {
+        Some(taken) => taken,
+        None => {
+            index.lose();
+            return;
+        }
+    };
+    if !joined {
+        index.lose();
+        return;
+    }
+    match vault.journal().get(count) {
+        Some(entry) => index.follow(
+            &entry.change,
+            taken.as_slice(),
+            &vault.database().tables().pools,
+        ),
+        None => index.lose(),
+    }
 }
 
 impl Parts {
@@ -238,7 +285,13 @@ impl Parts {
     {
         let count = self.vault.journal().len();
         let file = drawn_by(&entry.change);
-        let number = match make_room(self.alloc, &self.vault, &mut self.space, &entry.change) {
+        let number = match make_room(
+            self.alloc,
+            &self.vault,
+            &mut self.space,
+            &mut self.index,
+            &entry.change,
+        ) {
             Ok(number) => number,
             Err(refusal) => {
                 drop(entry);
@@ -254,9 +307,18 @@ impl Parts {
             entry,
         );
         if self.vault.journal().len() == count {
+            self.index.forget(&self.space, number);
             self.space.forget(number);
             return result;
         }
+        follow(
+            &mut self.index,
+            &self.vault,
+            &self.space,
+            count,
+            number,
+            result.is_ok(),
+        );
         draw(&mut self.space, file);
         self.drop_seats(numbers);
         result

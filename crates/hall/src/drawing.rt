@@ -36,7 +36,7 @@ use item_refusals::{Past, move_refused};
 use kinds::{Refusal, Segments, bad_value, sooner_of, unless};
 use pool_rows::Pools;
 use sha2::{Digest, Sha256};
-use space::{Aim, Claim, Placed, Places, Request, choose_by_walk, goes_to, may_take, walked};
+use space::{Aim, Claim, Placed, Places, Request, goes_to, may_take, walked};
 use store_api::Store;
 
 /// The greatest number that is drawn of tickets and of objects, and one more.
@@ -139,6 +139,14 @@ impl Parts {
         self.next_ticket < LAST_NUMBER
     }
 
+    /// The index of the free space is made anew, where it was lost.
+    fn make_index(&mut self)
+        ensures { self.new ≡ self.old }
+    {
+        self.index
+            .make(&self.vault.database().tables().pools, &self.space);
+    }
+
     /// The pool of these places, which were chosen for what is asked: the first one's or, where there is none, as of an object without bytes, the first that may take it. Its one
     /// refusal is `Memory`.
     fn pool_of(&self, request: &Request, places: &[Placed]) -> Result<u32, Refusal>
@@ -165,7 +173,7 @@ impl Parts {
         ensures err { IfErr result (λ e. (choose request.now self.now.vault.database.stores self.now.claims ≡ Err e) ⊎ (e ≡ Memory)) }
     {
         let pools = &self.vault.database().tables().pools;
-        let places = choose_by_walk(self.alloc, pools, &self.space, request)?;
+        let places = self.index.choose(pools, &self.space, request)?;
         if places.as_slice().len() > MOST_SEGMENTS {
             return Err(Refusal::Memory);
         }
@@ -190,7 +198,9 @@ impl Parts {
         };
         let last = last_file(seat.places.as_slice());
         self.seats.insert(number, seat)?;
+        self.index.hold(&self.space, number, &claim);
         if let Err(refusal) = self.space.hold(number, claim) {
+            self.index.lose();
             let _ = self.seats.remove(&number);
             return Err(refusal);
         }
@@ -199,14 +209,8 @@ impl Parts {
         Ok(number)
     }
 
-    /// Draws a ticket for a new object, and the object's number. Where it is refused nothing changes.
-    pub(crate) fn open_new(
-        &mut self,
-        actor: u32,
-        pool: u32,
-        size: u64,
-        prefer: u32,
-    ) -> Result<u64, Refusal>
+    /// Draws a ticket for a new object, and the object's number, with the index as it is. Where it is refused nothing changes.
+    fn draw_new(&mut self, actor: u32, pool: u32, size: u64, prefer: u32) -> Result<u64, Refusal>
         requires { AreBelow self.old }
         ensures ok { IfOk result (λ number. IsOpenedNew actor pool size prefer self.old self.new number) }
         ensures same { OnErr result (self.new ≡ self.old) }
@@ -239,6 +243,23 @@ impl Parts {
         })?;
         self.next_object = object + 1;
         Ok(number)
+    }
+
+    /// Draws a ticket for a new object, and the object's number. Where it is refused nothing changes. The index of the free space is made anew first, where it was lost.
+    pub(crate) fn open_new(
+        &mut self,
+        actor: u32,
+        pool: u32,
+        size: u64,
+        prefer: u32,
+    ) -> Result<u64, Refusal>
+        requires { AreBelow self.old }
+        ensures ok { IfOk result (λ number. IsOpenedNew actor pool size prefer self.old self.new number) }
+        ensures same { OnErr result (self.new ≡ self.old) }
+        ensures err { IfErr result (λ e. NotOpenedNew actor pool size prefer self.old e ⊎ (e ≡ Memory)) }
+    {
+        self.make_index();
+        self.draw_new(actor, pool, size, prefer)
     }
 }
 
@@ -330,14 +351,8 @@ impl Parts {
         }
     }
 
-    /// Draws a ticket for a copy. Where it is refused nothing changes.
-    pub(crate) fn open_copy(
-        &mut self,
-        actor: u32,
-        object: u64,
-        aim: Aim,
-        avoid: u32,
-    ) -> Result<u64, Refusal>
+    /// Draws a ticket for a copy, with the index as it is. Where it is refused nothing changes.
+    fn draw_copy(&mut self, actor: u32, object: u64, aim: Aim, avoid: u32) -> Result<u64, Refusal>
         requires below { AreBelow self.old }
         requires running { self.old.vault.fault ≡ None }
         ensures ok { IfOk result (λ number. IsOpenedCopy actor object aim avoid self.old self.new number) }
@@ -373,6 +388,24 @@ impl Parts {
             hashed: Hashed::Unhashed,
             is_sealed: false,
         })
+    }
+
+    /// Draws a ticket for a copy. Where it is refused nothing changes. The index of the free space is made anew first, where it was lost.
+    pub(crate) fn open_copy(
+        &mut self,
+        actor: u32,
+        object: u64,
+        aim: Aim,
+        avoid: u32,
+    ) -> Result<u64, Refusal>
+        requires below { AreBelow self.old }
+        requires running { self.old.vault.fault ≡ None }
+        ensures ok { IfOk result (λ number. IsOpenedCopy actor object aim avoid self.old self.new number) }
+        ensures same { OnErr result (self.new ≡ self.old) }
+        ensures err { IfErr result (λ e. NotOpenedCopy actor object aim avoid self.old e ⊎ (e ≡ Memory)) }
+    {
+        self.make_index();
+        self.draw_copy(actor, object, aim, avoid)
     }
 }
 

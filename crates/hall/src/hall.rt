@@ -204,6 +204,7 @@ impl<S: Store> Hall<S> {
             stamps,
             seats: _,
             space: _,
+            index: _,
             next_object: _,
             next_ticket: _,
             image: _,

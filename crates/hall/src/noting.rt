@@ -116,6 +116,7 @@ impl Parts {
         ensures later { S.moment_of store.old ≤ S.moment_of store.new }
         ensures counts { NoneFell (S.faults_of store.old) (S.faults_of store.new) }
     {
+        self.index.lose();
         join(
             self.alloc,
             &mut self.past,

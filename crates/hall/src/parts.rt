@@ -13,6 +13,7 @@ use crate::seat::Seat;
 use crate::seated::Seated;
 use inventory::Inventory;
 use inventory_answers::{Answer, Query, Rows};
+use kept_index::KeptIndex;
 use kinds::Refusal;
 use run_past::RunPast;
 use space::Space;
@@ -26,8 +27,8 @@ use vault::Vault;
 const LAST_MOMENT: u64 = (1 << 62) - (1 << 24);
 
 /// What a hall holds: the database that it was opened with, and the store's moment then; the vault; the stamps of this run's transactions, oldest first; the live tickets by number;
-/// the space that is held beside the copies; the object and ticket numbers that are drawn next; and the image in progress; and what the run's
-/// transactions tell.
+/// the space that is held beside the copies, and the index of the free space beside both; the object and ticket numbers that are drawn next; and the image in progress; and what the
+/// run's transactions tell.
 #[derive(Drop)]
 pub(crate) struct Parts {
     pub(crate) alloc: Global,
@@ -37,6 +38,7 @@ pub(crate) struct Parts {
     pub(crate) stamps: Vec<u64>,
     pub(crate) seats: BTreeMap<u64, Seat>,
     pub(crate) space: Space,
+    pub(crate) index: KeptIndex,
     pub(crate) next_object: u64,
     pub(crate) next_ticket: u64,
     pub(crate) image: Option<Seated>,
@@ -48,13 +50,15 @@ impl Model for Parts {
     ghost use Rattle.std.specs.Vec.{vec_capacity};
     ghost use Rattle.hall.specs.Held.{Held, image_in};
     ghost use Rattle.hall.specs.Noted.{IsNoted};
+    ghost use Rattle.kept_index.specs.Kept.{IsKeptOf};
 
     ghost Value = { Held };
 
     ghost view = { λ p. record { base = p.base; opened = p.opened; vault = p.vault; stamps = p.stamps.items; seats = p.seats.entries; claims = p.space; next_object = p.next_object; next_ticket = p.next_ticket; image = image_in p.image; job = None } };
 
-    // There is room for the stamp of each transaction, so that forcing takes no memory; and what is told of the run is its journal's.
-    ghost invariant = { λ p. IsNoted p.base p.vault.database p.vault.journal p.vault.fault p.past (vec_capacity p.stamps) };
+    // There is room for the stamp of each transaction, so that forcing takes no memory; what is told of the run is its journal's; and the index is that of the database and of the space
+    // that is held beside its copies.
+    ghost invariant = { λ p. IsNoted p.base p.vault.database p.vault.journal p.vault.fault p.past (vec_capacity p.stamps) × IsKeptOf p.index p.vault.database.stores p.space };
 }
 
 impl Parts {
@@ -92,6 +96,7 @@ impl Parts {
     pub(crate) fn drop_seat(&mut self, number: u64)
         ensures { self.new ≡ without_seat number self.old }
     {
+        self.index.release(&self.space, number);
         self.space.release(number);
         let _ = self.seats.remove(&number);
     }
@@ -103,7 +108,10 @@ impl Parts {
     {
         let count = self.vault.journal().len();
         match self.stamps.resize(count, moment) {
-            Ok(()) => self.space.force(),
+            Ok(()) => {
+                self.index.force(&self.space);
+                self.space.force();
+            }
             Err(_) => unreachable!(),
         }
     }

@@ -50,7 +50,7 @@ none_above pool n (d ∷ cs) same h =
       | false ↦ λ is. none_above pool n cs same t.1
     ] refl
 
-one_there : (pool : ℕ) (cs : List CopyRow) (old : CopyRow) → are_by_pool cs ≡ true → find (λ c. eqb c.pool pool) cs ≡ Some old → in_the_pool pool cs ≡ old ∷ []
+pub one_there : (pool : ℕ) (cs : List CopyRow) (old : CopyRow) → are_by_pool cs ≡ true → find (λ c. eqb c.pool pool) cs ≡ Some old → in_the_pool pool cs ≡ old ∷ []
 one_there pool [] old h k = absurd cc
 one_there pool (c ∷ cs) old h k =
     let t = and_parts (list_all (λ d. nat_lt c.pool d.pool) cs) (are_by_pool cs) h in

@@ -10,6 +10,7 @@ use Rattle.kinds.specs.declared.refusal.Refusal.{Refusal}
 use Rattle.kinds.specs.declared.segment.Segment.{Segment}
 use Rattle.entries.specs.declared.change.Change.{Change}
 use Rattle.entries.specs.change_items.declared.items.DroppedCopy.{DroppedCopy}
+use Rattle.entries.specs.change_items.declared.items.MovedCopy.{MovedCopy}
 use Rattle.entries.specs.change_items.declared.items.NamedVersion.{NamedVersion}
 use Rattle.entries.specs.change_items.declared.items.NewCopy.{NewCopy}
 use Rattle.entries.specs.change_items.declared.items.NewHeldObject.{NewHeldObject}
@@ -22,7 +23,7 @@ use Rattle.inventory_rows.specs.Search.{version}
 use Rattle.inventory_rows.specs.State.{Inv}
 use Rattle.inventory_rules.specs.Clients.{client_changed}
 use Rattle.inventory_rules.specs.Common.{each, or_same, with_stores}
-use Rattle.inventory_rules.specs.Copies.{add_copy, added, change_copy}
+use Rattle.inventory_rules.specs.Copies.{add_copy, added, change_copy, put_moved}
 use Rattle.inventory_rules.specs.Journal.{Journal}
 use Rattle.inventory_rules.specs.Segments.{make_scratch, put}
 use Rattle.inventory_rules.specs.Transactions.{causes, changed, effect, refused, sizes_refused, then_valid}
@@ -69,6 +70,9 @@ pub copy_brings : (xs : List ScratchVolume) (items : List NewCopy) (v : Inv)
     → (each add_copy items (each make_scratch xs v)).stores ≡ puts (flat_map (λ (i : NewCopy). of_object (i.object, i.segments)) items) (scratches xs v.stores)
 copy_brings xs items v = all_bring add_copy (λ (i : NewCopy). (i.object, i.segments)) (λ x u. put_stores x.object x.segments (change_copy x.object (added x u) u)) xs items v
 
+pub moves_bring : (xs : List ScratchVolume) (items : List MovedCopy) (v : Inv) → (each put_moved items (each make_scratch xs v)).stores ≡ puts (flat_map (λ (i : MovedCopy). of_object (i.object, i.segments)) items) (scratches xs v.stores)
+moves_bring xs items v = all_bring put_moved (λ (i : MovedCopy). (i.object, i.segments)) (λ x u. put_stores x.object x.segments u) xs items v
+
 -- ---- what leaves the volumes as they are
 
 pub each_stays : {X : Type 0} (step : X → Inv → Inv) → ((x : X) (v : Inv) → (step x v).stores ≡ v.stores) → (items : List X) (v : Inv) → (each step items v).stores ≡ v.stores
@@ -89,11 +93,11 @@ gone_stays filespace items v = each_stays (mark_gone filespace) (λ x u. refl) i
 
 -- ---- which segments go
 
-map_append : (es others : List (ℕ × Segment)) → map (λ (e : ℕ × Segment). e.1) (es ++ others) ≡ map (λ (e : ℕ × Segment). e.1) es ++ map (λ (e : ℕ × Segment). e.1) others
+pub map_append : (es others : List (ℕ × Segment)) → map (λ (e : ℕ × Segment). e.1) (es ++ others) ≡ map (λ (e : ℕ × Segment). e.1) es ++ map (λ (e : ℕ × Segment). e.1) others
 map_append [] others = refl
 map_append (e ∷ es) others = ap (λ (l : List Segment). e.1 ∷ l) (map_append es others)
 
-segments_back : (object : ℕ) (segments : List Segment) → map (λ (e : ℕ × Segment). e.1) (of_object (object, segments)) ≡ segments
+pub segments_back : (object : ℕ) (segments : List Segment) → map (λ (e : ℕ × Segment). e.1) (of_object (object, segments)) ≡ segments
 segments_back object [] = refl
 segments_back object (x ∷ segments) = ap (λ (l : List Segment). x ∷ l) (segments_back object segments)
 
@@ -117,7 +121,7 @@ items_back object (i ∷ items) v =
     ∙ ap (λ (l : List Segment). left_by None (version (object i) v) ++ l) (items_back object items v)
 
 -- the copies of an object in a pool go
-filtered_back : (pool : ℕ) (cs : List CopyRow) → flat_map (λ (r : CopyRow). r.segments) (in_the_pool pool cs) ≡ flat_map (λ (r : CopyRow). if goes_from (Some pool) r then r.segments else []) cs
+pub filtered_back : (pool : ℕ) (cs : List CopyRow) → flat_map (λ (r : CopyRow). r.segments) (in_the_pool pool cs) ≡ flat_map (λ (r : CopyRow). if goes_from (Some pool) r then r.segments else []) cs
 filtered_back pool [] = refl
 filtered_back pool (r ∷ cs) =
     elim (eqb r.pool pool) as (λ b. flat_map (λ (c : CopyRow). c.segments) (cond {A = List CopyRow} b (r ∷ in_the_pool pool cs) (in_the_pool pool cs))
@@ -153,6 +157,16 @@ no_cause (Some e) valid h = absurd cc
 pub legal_causes : (j : Journal) (c : Change) (v : Inv) → refused j c v ≡ None → causes j c v ≡ []
 unfolding refused
 legal_causes j c v h = front_nil (causes j c v) (sizes_refused c v) (none_held (causes j c v ++ sizes_refused c v) (no_cause (foremost (causes j c v ++ sizes_refused c v)) (is_valid (effect c v)) h))
+
+valid_then : (o : Option Refusal) (valid : Bool) → then_valid o valid ≡ None → valid ≡ true
+valid_then None true h = refl
+valid_then None false h = absurd cc
+valid_then (Some e) valid h = absurd cc
+
+-- and what it leaves is valid
+pub legal_after : (j : Journal) (c : Change) (v : Inv) → refused j c v ≡ None → is_valid (effect c v) ≡ true
+unfolding refused
+legal_after j c v h = valid_then (foremost (causes j c v ++ sizes_refused c v)) (is_valid (effect c v)) h
 
 -- ---- in all
 

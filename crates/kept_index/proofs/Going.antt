@@ -85,7 +85,7 @@ pub away_today : (object : ℕ) (segments : List Segment) (v : Inv) → (take_aw
 away_today object [] v = refl
 away_today object (x ∷ segments) v = away_today object segments (with_stores (or_same v.stores (take_segment object x v.today v.stores)) v)
 
-away_stores : (object : ℕ) (segments : List Segment) (v : Inv) → (take_away object segments v).stores ≡ takes v.today (of_object (object, segments)) v.stores
+pub away_stores : (object : ℕ) (segments : List Segment) (v : Inv) → (take_away object segments v).stores ≡ takes v.today (of_object (object, segments)) v.stores
 away_stores object [] v = refl
 away_stores object (x ∷ segments) v = away_stores object segments (with_stores (or_same v.stores (take_segment object x v.today v.stores)) v)
 
@@ -176,7 +176,7 @@ other_copies n object other old step v found g ne = ap (λ (o : Option Version).
 
 -- ---- items one after the other
 
-turned : (a b : ℕ) → not (eqb a b) ≡ true → eqb b a ≡ false
+pub turned : (a b : ℕ) → not (eqb a b) ≡ true → eqb b a ≡ false
 turned a b h = ne_eqb b a (λ t. eqb-false a b (not-true (eqb a b) h) (sym t))
 
 module _ {X : Type 0} (Between : Inv → Type 0) (Finds : X → Inv → Type 0) (object : X → ℕ) (what : X → Inv → List (ℕ × Segment)) (step : X → Inv → Inv) where

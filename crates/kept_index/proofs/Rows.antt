@@ -27,7 +27,7 @@ use Rattle.space_index.specs.Updates.{ChangesAt}
 use Rattle.space_index.proofs.Listings.{tails_else, tails_same, with_else, with_here, with_site}
 use Rattle.space_index.proofs.Volumes.{inserted_other}
 use Rattle.kept_index.specs.Following.{IsUnderway, Remains}
-use Rattle.kept_index.specs.Steps.{LiesOn, puts, scratched, scratches, with_put, with_take}
+use Rattle.kept_index.specs.Steps.{LiesOn, puts, scratched, scratches, takes, with_put, with_take}
 
 -- ---- a scratch volume
 
@@ -105,6 +105,10 @@ scratches_kind (x ∷ xs) s p = scratches_kind xs (scratched x s) p
 -- a pool is sequential on the way where it is at the end
 pub kind_before : (xs : List ScratchVolume) (es : List (ℕ × Segment)) (s full : PoolRows) (p : ℕ) → puts es (scratches xs s) ≡ full → is_sequential p full ≡ true → is_sequential p s ≡ true
 kind_before xs es s full p rest sequential = sym (scratches_kind xs s p) ∙ sym (puts_kind es (scratches xs s) p) ∙ ap (is_sequential p) rest ∙ sequential
+
+pub takes_kind : (today : ℕ) (es : List (ℕ × Segment)) (s : PoolRows) (p : ℕ) → is_sequential p (takes today es s) ≡ is_sequential p s
+takes_kind today [] s p = refl
+takes_kind today (e ∷ es) s p = takes_kind today es (with_take today e s) p ∙ (take_changes today e s).kinds p
 
 -- ---- the index on the way
 

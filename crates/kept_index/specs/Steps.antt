@@ -2,6 +2,9 @@
 use Rattle.std.specs.Prelude.{◌≡◌, ⊤, ℕ, ◌==◌, Bool, true, false, if◌then◌else◌, Option, None, Some, IfSome, List, [], ◌∷◌, map}
 use Rattle.std.specs.List.{flat_map}
 use Rattle.std.specs.Option.{option_map_or}
+use Rattle.kinds.specs.declared.change.PoolChange.{PoolChange}
+use Rattle.kinds.specs.declared.change.PoolChange.TheVariants as store
+use Rattle.kinds.specs.declared.change.Verb.TheVariants as verb
 use Rattle.kinds.specs.declared.segment.Segment.{Segment}
 use Rattle.entries.specs.change_items.declared.items.ScratchVolume.{ScratchVolume}
 use Rattle.entries.specs.declared.change.Change.{Change}
@@ -14,7 +17,7 @@ use Rattle.inventory_rows.specs.Search.{version}
 use Rattle.inventory_rows.specs.State.{Inv}
 use Rattle.pool_tables.specs.Rows.{row_at, with_row}
 use Rattle.pool_tables.specs.RowChanges.{scratch_volume}
-use Rattle.pool_rows.specs.PoolRows.{PoolRows, pool_capacity}
+use Rattle.pool_rows.specs.PoolRows.{PoolRows, pool_capacity, volume_named}
 use Rattle.pool_rows.specs.Segments.{put_segment, take_segment}
 use Rattle.inventory_rules.specs.Common.{or_same}
 use Rattle.inventory_rules.specs.Held.{IsTied}
@@ -82,6 +85,17 @@ only_takes (change.Expire c) = true
 only_takes (change.Discard c) = true
 only_takes (change.DropCopies c) = true
 only_takes _ = false
+
+-- the volume that a change of the storage names, where it changes one or deletes it
+abbrev pub named_in : PoolChange → PoolRows → Option ℕ
+named_in (store.Volume verb.Update name pool file capacity access) s = volume_named name s
+named_in (store.Volume verb.Delete name pool file capacity access) s = volume_named name s
+named_in _ s = None
+
+-- so does a transaction
+abbrev pub named_by : Change → PoolRows → Option ℕ
+named_by (change.Pool c) s = named_in c s
+named_by _ s = None
 
 -- ---- what a transaction takes away
 

@@ -1,6 +1,8 @@
 //! How the index follows a transaction.
 ghost use Rattle.std.specs.Prelude.{◌≡◌, ℕ, List, [], ◌∷◌, ◌++◌, map, OnOk};
 ghost use Rattle.std.specs.List.{flat_map};
+ghost use Rattle.entries.specs.declared.change.Change.TheVariants.{Pool, Reuse};
+ghost use Rattle.kinds.specs.declared.change.PoolChange.TheVariants.{Volume};
 ghost use Rattle.kinds.specs.declared.segment.Segment.{Segment};
 ghost use Rattle.entries.specs.change_items.declared.items.ScratchVolume.{ScratchVolume};
 ghost use Rattle.inventory_rows.specs.State.{Inv};
@@ -9,14 +11,15 @@ ghost use Rattle.pool_rows.specs.PoolRows.{PoolRows, is_sequential};
 ghost use Rattle.space.specs.Claims.{Claims};
 ghost use Rattle.space_index.specs.Tails.{IsIndexOf};
 ghost use Rattle.kept_index.specs.Following.{AreLeaving, IsUnderway, Remains};
-ghost use Rattle.kept_index.specs.Steps.{IsLegalOn, gone, is_elsewhere, of_object, only_takes, puts, scratches};
+ghost use Rattle.kept_index.specs.Steps.{AllLie, IsLegalOn, gone, is_elsewhere, named_by, named_in, of_object, only_takes, puts, scratches, takes};
 ghost use Rattle.kept_index.specs.Kept.{IsIndexed};
 
+use crate::volumes::{define_volume, delete_volume, set_access};
 use entries::Change;
-use entries::change_items::{NewCopy, NewHeldObject, NewVersion, ScratchVolume};
-use kinds::Segment;
+use entries::change_items::{MovedCopy, NewCopy, NewHeldObject, NewVersion, ScratchVolume};
+use kinds::{Access, PoolChange, Segment, Verb};
 use pool_rows::Pools;
-use space::Placed;
+use space::{Placed, Space};
 use space_index::Index;
 use std::alloc::AllocError;
 
@@ -25,7 +28,7 @@ use std::alloc::AllocError;
 pub enum Lost {
     /// There is too little memory.
     Memory,
-    /// The transaction is of a kind that isn't followed.
+    /// The change isn't one that is followed so, or none that the rules allow.
     Kind,
 }
 
@@ -74,6 +77,18 @@ impl Brings for NewHeldObject {
 }
 
 impl Brings for NewCopy {
+    ghost brought = { λ i. (i.object, i.segments) };
+
+    fn object(&self) -> u64 {
+        self.object
+    }
+
+    fn segments(&self) -> &[Segment] {
+        self.segments.as_slice()
+    }
+}
+
+impl Brings for MovedCopy {
     ghost brought = { λ i. (i.object, i.segments) };
 
     fn object(&self) -> u64 {
@@ -194,7 +209,23 @@ fn only_takes(change: &Change) -> bool
     }
 }
 
-/// The index behind a transaction that brings copies; a change of another kind isn't followed.
+/// Scratch volumes are made, new segments of all copies that move come, and then those that they leave go.
+fn move_all(
+    index: &mut Index,
+    pools: &Pools,
+    scratch: &[ScratchVolume],
+    items: &[MovedCopy],
+    taken: &[Placed],
+) -> Result<(), Lost>
+    ensures { (s full : PoolRows) (c : Claims) (today : ℕ) (es : List (ℕ × Segment)) → IsUnderway index.old c s pools.now → puts (flat_map (λ i. of_object (i.object, i.segments)) items.now) (scratches scratch.now s) ≡ full
+        → map (λ e. e.1) es ≡ map (λ p. p.segment) taken.now → AllLie today es full → takes today es full ≡ pools.now → OnOk result (AreLeaving index.new c today [] pools.now) }
+{
+    bring(index, pools, scratch, items)?;
+    take_all(index, pools, taken)?;
+    Ok(())
+}
+
+/// The index behind a transaction that brings copies.
 fn follow_brought(index: &mut Index, change: &Change, pools: &Pools) -> Result<(), Lost>
     ensures { (v : Inv) (c : Claims) → IsIndexOf index.old v.stores c → pools.now ≡ (effect change.now v).stores → OnOk result (IsIndexOf index.new pools.now c) }
 {
@@ -206,9 +237,87 @@ fn follow_brought(index: &mut Index, change: &Change, pools: &Pools) -> Result<(
     }
 }
 
-/// The index behind a transaction with this change, which took these segments away.
-fn follow(index: &mut Index, change: &Change, taken: &[Placed], pools: &Pools) -> Result<(), Lost>
+/// The index behind a transaction that moves copies.
+fn follow_moved(
+    index: &mut Index,
+    change: &Change,
+    taken: &[Placed],
+    pools: &Pools,
+) -> Result<(), Lost>
     ensures { (v : Inv) (c : Claims) → IsIndexOf index.old v.stores c → IsLegalOn change.now v → map (λ p. p.segment) taken.now ≡ gone change.now v → pools.now ≡ (effect change.now v).stores → OnOk result (IsIndexOf index.new pools.now c) }
+{
+    match change {
+        Change::Move(it) => move_all(
+            index,
+            pools,
+            it.scratch.as_slice(),
+            it.items.as_slice(),
+            taken,
+        ),
+        _ => follow_brought(index, change, pools),
+    }
+}
+
+/// The index behind a change of a volume: one that is defined has this file number, and else it was named.
+fn follow_volume(
+    index: &mut Index,
+    verb: Verb,
+    file: u32,
+    access: &Access,
+    named: Option<u32>,
+    pools: &Pools,
+    space: &Space,
+) -> Result<(), Lost>
+    ensures { (name : List ℕ) (pool capacity : ℕ) (v : Inv) → IsIndexOf index.old v.stores space.now → IsLegalOn (Pool (Volume verb name pool file capacity access.now)) v → named ≡ named_in (Volume verb name pool file capacity access.now) v.stores
+        → pools.now ≡ (effect (Pool (Volume verb name pool file capacity access.now)) v).stores → OnOk result (IsIndexOf index.new pools.now space.now) }
+{
+    match verb {
+        Verb::Define => define_volume(index, pools, space, file),
+        Verb::Update => set_access(index, pools, named, access),
+        Verb::Delete => delete_volume(index, named),
+    }
+}
+
+/// The index behind a change of device classes, storage pools and volumes. Only that of a volume changes what volumes are.
+fn follow_stores(
+    index: &mut Index,
+    change: &PoolChange,
+    named: Option<u32>,
+    pools: &Pools,
+    space: &Space,
+) -> Result<(), Lost>
+    ensures { (v : Inv) → IsIndexOf index.old v.stores space.now → IsLegalOn (Pool change.now) v → named ≡ named_in change.now v.stores → pools.now ≡ (effect (Pool change.now) v).stores → OnOk result (IsIndexOf index.new pools.now space.now) }
+{
+    match change {
+        PoolChange::DevClass { .. } => Ok(()),
+        PoolChange::Pool { .. } => Ok(()),
+        PoolChange::Volume {
+            verb,
+            file,
+            access,
+            ..
+        } => follow_volume(index, *verb, *file, access, named, pools, space),
+    }
+}
+
+/// The index behind the reuse of a sequential volume.
+fn follow_reused(index: &mut Index, file: u32, pools: &Pools) -> Result<(), Lost>
+    ensures { (v : Inv) (c : Claims) → IsIndexOf index.old v.stores c → IsLegalOn (Reuse file) v → pools.now ≡ (effect (Reuse file) v).stores → OnOk result (IsIndexOf index.new pools.now c) }
+{
+    index.set_sequential_volume(pools, file)?;
+    Ok(())
+}
+
+/// The index behind a transaction with this change, which named this volume and took these segments away.
+fn follow(
+    index: &mut Index,
+    change: &Change,
+    named: Option<u32>,
+    taken: &[Placed],
+    pools: &Pools,
+    space: &Space,
+) -> Result<(), Lost>
+    ensures { (v : Inv) → IsIndexOf index.old v.stores space.now → IsLegalOn change.now v → named ≡ named_by change.now v.stores → map (λ p. p.segment) taken.now ≡ gone change.now v → pools.now ≡ (effect change.now v).stores → OnOk result (IsIndexOf index.new pools.now space.now) }
 {
     if is_elsewhere(change) {
         return Ok(());
@@ -216,15 +325,26 @@ fn follow(index: &mut Index, change: &Change, taken: &[Placed], pools: &Pools) -
     if only_takes(change) {
         return take_all(index, pools, taken);
     }
-    follow_brought(index, change, pools)
+    match change {
+        Change::Pool(it) => follow_stores(index, it, named, pools, space),
+        Change::Reuse { file } => follow_reused(index, *file, pools),
+        _ => follow_moved(index, change, taken, pools),
+    }
 }
 
-/// The index of the rows behind a transaction with this change, which took these segments away; or none.
-pub fn followed(index: Index, change: &Change, taken: &[Placed], pools: &Pools) -> Option<Index>
-    ensures { (v : Inv) (c : Claims) → IsIndexOf index v.stores c → IsLegalOn change.now v → map (λ p. p.segment) taken.now ≡ gone change.now v → pools.now ≡ (effect change.now v).stores → IsIndexed result pools.now c }
+/// The index of the rows behind a transaction with this change, which named this volume and took these segments away; or none.
+pub fn followed(
+    index: Index,
+    change: &Change,
+    named: Option<u32>,
+    taken: &[Placed],
+    pools: &Pools,
+    space: &Space,
+) -> Option<Index>
+    ensures { (v : Inv) → IsIndexOf index v.stores space.now → IsLegalOn change.now v → named ≡ named_by change.now v.stores → map (λ p. p.segment) taken.now ≡ gone change.now v → pools.now ≡ (effect change.now v).stores → IsIndexed result pools.now space.now }
 {
     let mut index = index;
-    match follow(&mut index, change, taken, pools) {
+    match follow(&mut index, change, named, taken, pools, space) {
         Ok(()) => Some(index),
         Err(_) => None,
     }

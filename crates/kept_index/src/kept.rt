@@ -1,5 +1,5 @@
 //! The index that is kept, and what is held beside the copies.
-ghost use Rattle.std.specs.Prelude.{◌≡◌, ℕ, map};
+ghost use Rattle.std.specs.Prelude.{◌≡◌, map};
 ghost use Rattle.kinds.specs.Answers.{Answers};
 ghost use Rattle.inventory_rows.specs.State.{Inv};
 ghost use Rattle.inventory_rules.specs.Transactions.{effect};
@@ -7,19 +7,19 @@ ghost use Rattle.pool_rows.specs.PoolRows.{PoolRows};
 ghost use Rattle.space.specs.Claims.{Claims, forced, forgotten, held, noted, released};
 ghost use Rattle.space.specs.Placing.{choose};
 ghost use Rattle.space_index.specs.Tails.{IsIndexOf};
-ghost use Rattle.kept_index.specs.Steps.{IsLegalOn, gone};
+ghost use Rattle.kept_index.specs.Steps.{IsLegalOn, gone, named_by, named_in};
 ghost use Rattle.kept_index.specs.Kept.{IsIndexed, IsKeptOf};
 
 use crate::following::followed;
 use entries::Change;
-use kinds::Refusal;
+use kinds::{PoolChange, Refusal, Verb};
 use pool_rows::Pools;
 use space::{Claim, Placed, Places, Request, Space, choose_by_walk};
 use space_index::{Index, choose};
 use std::alloc::Global;
 
-/// The index of free space, kept beside rows and beside what is held. It is lost where memory is wanted for a change of it, or where the change is of a kind that it doesn't follow; no
-/// call is refused then, and `make` makes it anew. Contracts see of which rows and claims it is the index, where it is there.
+/// The index of free space, kept beside rows and beside what is held. It is lost where memory is wanted for a change of it; no call is refused then, and `make` makes it anew. Contracts
+/// see of which rows and claims it is the index, where it is there.
 #[derive(Drop)]
 pub struct KeptIndex {
     alloc: Global,
@@ -87,6 +87,35 @@ fn forced(index: Index, space: &Space) -> Option<Index>
     match index.force(space) {
         Ok(()) => Some(index),
         Err(_) => None,
+    }
+}
+
+/// The volume that a change of the storage names, where it changes one or deletes it.
+fn named_in(change: &PoolChange, pools: &Pools) -> Option<u32>
+    ensures { result ≡ named_in change.now pools.now }
+{
+    match change {
+        PoolChange::Volume {
+            verb: Verb::Update,
+            volume,
+            ..
+        } => pools.volume_named(volume),
+        PoolChange::Volume {
+            verb: Verb::Delete,
+            volume,
+            ..
+        } => pools.volume_named(volume),
+        _ => None,
+    }
+}
+
+/// The volume that a change of the storage names, where it changes one or deletes it: by its name, in the rows before the transaction.
+pub fn named_by(change: &Change, pools: &Pools) -> Option<u32>
+    ensures { result ≡ named_by change.now pools.now }
+{
+    match change {
+        Change::Pool(it) => named_in(it, pools),
+        _ => None,
     }
 }
 
@@ -171,13 +200,20 @@ impl KeptIndex {
         };
     }
 
-    /// A transaction with this change was made, which took these segments away: these are the rows behind it. It takes time for the segments that came and went. The index is lost where
-    /// copies move, where pools and volumes are defined, changed or deleted, and where a volume is reused.
-    pub fn follow(&mut self, change: &Change, taken: &[Placed], pools: &Pools)
-        ensures { (v : Inv) (c : Claims) → IsKeptOf self.old v.stores c → IsLegalOn change.now v → map (λ p. p.segment) taken.now ≡ gone change.now v → pools.now ≡ (effect change.now v).stores → IsKeptOf self.new pools.now c }
+    /// A transaction with this change was made, which named this volume (`named_by`) and took these segments away: these are the rows behind it. It takes time for the segments that came
+    /// and went, logarithmic in all else; where a volume of random access is defined, for its blocks and for all that is held.
+    pub fn follow(
+        &mut self,
+        change: &Change,
+        named: Option<u32>,
+        taken: &[Placed],
+        pools: &Pools,
+        space: &Space,
+    )
+        ensures { (v : Inv) → IsKeptOf self.old v.stores space.now → IsLegalOn change.now v → named ≡ named_by change.now v.stores → map (λ p. p.segment) taken.now ≡ gone change.now v → pools.now ≡ (effect change.now v).stores → IsKeptOf self.new pools.now space.now }
     {
         self.index = match self.index.take() {
-            Some(index) => followed(index, change, taken, pools),
+            Some(index) => followed(index, change, named, taken, pools, space),
             None => None,
         };
     }

@@ -4,5 +4,6 @@
 
 mod following;
 mod kept;
+mod volumes;
 
-pub use kept::KeptIndex;
+pub use kept::{KeptIndex, named_by};

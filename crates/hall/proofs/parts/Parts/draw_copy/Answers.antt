@@ -2,7 +2,7 @@ use Rattle.std.proofs.Common.{◌∙◌, inl, inr, refl, sym}
 use Rattle.hall.specs.Placed.{request}
 use Rattle.hall.proofs.OpensCopy.{copy_opened, spot_asked}
 use Rattle.hall.proofs.Spots.{files_below}
-use Rattle.hall.proofs.parts.Parts.open_copy.Goals as goal
+use Rattle.hall.proofs.parts.Parts.draw_copy.Goals as goal
 
 pub returns-then-not-ticket_left-clause-err : goal.returns-then-not-ticket_left-clause-err
 returns-then-not-ticket_left-clause-err c =

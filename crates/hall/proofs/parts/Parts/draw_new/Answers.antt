@@ -3,7 +3,7 @@ use Rattle.hall.specs.declared.seat.Hashed.TheVariants.{Taking}
 use Rattle.hall.specs.Drawn.{new_request, object_left, ticket_left}
 use Rattle.hall.proofs.OpensNew.{becomes_opened, both_as}
 use Rattle.hall.proofs.Spots.{files_below}
-use Rattle.hall.proofs.parts.Parts.open_new.Goals as goal
+use Rattle.hall.proofs.parts.Parts.draw_new.Goals as goal
 
 pub returns-then-not-object_left-ticket_left-clause-err : goal.returns-then-not-object_left-ticket_left-clause-err
 returns-then-not-object_left-ticket_left-clause-err c =

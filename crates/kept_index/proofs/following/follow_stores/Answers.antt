@@ -1,0 +1,22 @@
+use Rattle.std.proofs.Common.{subst, ap, ◌∙◌}
+use Rattle.kinds.specs.declared.change.PoolChange.{PoolChange}
+use Rattle.entries.specs.declared.change.Change.TheVariants.{Pool}
+use Rattle.inventory_rules.specs.Transactions.{effect}
+use Rattle.kept_index.specs.Steps.{IsLegalOn, named_in}
+use Rattle.kept_index.proofs.Stores.{classes_index, pools_index}
+use Rattle.kept_index.proofs.following.follow_stores.Goals as goal
+
+pub returns-in-DevClass : goal.returns-in-DevClass
+returns-in-DevClass c = λ v is legal named made.
+    let x = c.in-DevClass in
+    classes_index c.args.index.now c.args.space.now x.verb x.class x.capacity v c.args.pools.now (subst (λ (k : PoolChange). IsLegalOn (Pool k) v) x.is legal) (made ∙ ap (λ (k : PoolChange). (effect (Pool k) v).stores) x.is) is
+
+pub returns-in-Pool : goal.returns-in-Pool
+returns-in-Pool c = λ v is legal named made.
+    let x = c.in-Pool in
+    pools_index c.args.index.now c.args.space.now x.verb x.pool x.class x.kind x.settings v c.args.pools.now (subst (λ (k : PoolChange). IsLegalOn (Pool k) v) x.is legal) (made ∙ ap (λ (k : PoolChange). (effect (Pool k) v).stores) x.is) is
+
+pub returns-in-Volume : goal.returns-in-Volume
+returns-in-Volume c = λ v is legal named made.
+    let x = c.in-Volume in
+    c.follow_volume.ensures x.volume x.pool x.capacity v is (subst (λ (k : PoolChange). IsLegalOn (Pool k) v) x.is legal) (named ∙ ap (λ (k : PoolChange). named_in k v.stores) x.is) (made ∙ ap (λ (k : PoolChange). (effect (Pool k) v).stores) x.is)
