@@ -119,16 +119,16 @@ last_at [] e other = refl
 last_at (x ∷ journal) e other = last_at journal e other
 
 -- the index that followed the last transaction of the journal is that of the rows behind it
-pub followed_last : (old vault : State Inv) (e entry : Entry) (journal : List Entry) (count : ℕ) (taken slice : List Placed) (pools : PoolRows) (claims : Claims) (before after : KeptIndex)
-    → ((v : Inv) (c : Claims) → IsKeptOf before v.stores c → kept.IsLegalOn entry.change v → map (λ (p : Placed). p.segment) slice ≡ kept.gone entry.change v → pools ≡ (effect entry.change v).stores → IsKeptOf after pools c)
+pub followed_last : (old vault : State Inv) (e entry : Entry) (journal : List Entry) (count : ℕ) (taken slice : List Placed) (named : Option ℕ) (pools : PoolRows) (claims : Claims) (before after : KeptIndex)
+    → ((v : Inv) → IsKeptOf before v.stores claims → kept.IsLegalOn entry.change v → named ≡ kept.named_by entry.change v.stores → map (λ (p : Placed). p.segment) slice ≡ kept.gone entry.change v → pools ≡ (effect entry.change v).stores → IsKeptOf after pools claims)
     → vault ≡ with_waiting meaning old e → count ≡ length old.journal → journal ≡ vault.journal → entry ≡ get_or journal count entry → slice ≡ taken → Some taken ≡ Some (taken_by e.change old.database) → pools ≡ vault.database.stores
-    → kept.IsLegalOn e.change old.database → IsKeptOf before old.database.stores claims → IsKeptOf after vault.database.stores claims
-followed_last old vault e entry journal count taken slice pools claims before after follow waits counted listed at sliced noted rows legal held =
+    → kept.IsLegalOn e.change old.database → named ≡ kept.named_by e.change old.database.stores → IsKeptOf before old.database.stores claims → IsKeptOf after vault.database.stores claims
+followed_last old vault e entry journal count taken slice named pools claims before after follow waits counted listed at sliced noted rows legal names held =
     let same : entry ≡ e =
     at ∙ ap (λ (l : List Entry). get_or l count entry) (listed ∙ ap (λ (v : State Inv). v.journal) waits) ∙ ap (λ (n : ℕ). get_or (old.journal ++ e ∷ []) n entry) counted ∙ last_at old.journal e entry in
     let change : e.change ≡ entry.change = ap (λ (x : Entry). x.change) (sym same) in
     subst (λ (s : PoolRows). IsKeptOf after s claims) rows
-    (follow old.database claims held (subst (λ (k : Change). kept.IsLegalOn k old.database) change legal)
+    (follow old.database held (subst (λ (k : Change). kept.IsLegalOn k old.database) change legal) (names ∙ ap (λ (k : Change). kept.named_by k old.database.stores) change)
     (ap (map (λ (p : Placed). p.segment)) (sliced ∙ same_Some taken (taken_by e.change old.database) noted) ∙ taken_gone e.change old.database ∙ ap (λ (k : Change). kept.gone k old.database) change)
     (rows ∙ ap (λ (v : State Inv). v.database.stores) waits ∙ ap (λ (k : Change). (effect k old.database).stores) change))
 

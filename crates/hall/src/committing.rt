@@ -12,10 +12,10 @@ ghost use Rattle.inventory_rules.specs.Journal.{no_journal};
 ghost use Rattle.inventory_rules.specs.Transactions.{refused};
 ghost use Rattle.std.specs.List.{flat_map};
 ghost use Rattle.std.specs.Vec.{vec_capacity};
-ghost use Rattle.space.specs.Claims.{Claims, noted};
+ghost use Rattle.space.specs.Claims.{noted};
 ghost use Rattle.entries.specs.declared.entry.Entry.{Entry};
 ghost use Rattle.inventory_rows.specs.pool_rows.PoolRows.{PoolRows};
-ghost use Rattle.kept_index.specs.Steps.{IsLegalOn};
+ghost use Rattle.kept_index.specs.Steps.{IsLegalOn, named_by};
 ghost use Rattle.kept_index.specs.Kept.{IsKeptOf};
 ghost use Rattle.inventory_rows.specs.pool_tables.Rows.{row_at};
 ghost use Rattle.vault.specs.Vaults.{State, Waits, with_waiting};
@@ -28,7 +28,7 @@ use entries::{Change, Entry};
 use inventory::Inventory;
 use inventory_rows::version_groups::{CopyRow, Version};
 use inventory_rows::{Tables, are_ascending};
-use kept_index::KeptIndex;
+use kept_index::{KeptIndex, named_by};
 use kinds::{PoolChange, Refusal, Verb};
 use space::{Placed, Places, Space};
 use std::alloc::{AllocError, Global};
@@ -211,17 +211,25 @@ fn make_room(
     Ok(number)
 }
 
-/// The index follows the transaction that was made last, the one behind so many, and that took away what is noted under its number; where it is in doubt the index is lost.
+/// The volume that a change of the storage names, where it changes one or deletes it.
+fn named_in(vault: &Vault<Inventory>, change: &Change) -> Option<u32>
+    ensures { result ≡ named_by change.now vault.now.database.stores }
+{
+    named_by(change, &vault.database().tables().pools)
+}
+
+/// The index follows the transaction that was made last, the one behind so many, that named this volume and took away what is noted under its number; where it is in doubt the index is lost.
 fn follow(
     index: &mut KeptIndex,
     vault: &Vault<Inventory>,
     space: &Space,
     count: usize,
     number: u64,
+    named: Option<u32>,
     joined: bool,
 )
-    ensures { (old : State Inv) (e : Entry) (c : Claims) → count ≡ length old.journal → (joined ≡ true → vault.now ≡ with_waiting meaning old e) → IsLegalOn e.change old.database → row_at number space.now.freed ≡ Some (taken_by e.change old.database) → IsKeptOf index.old old.database.stores c
-        → IsKeptOf index.new vault.now.database.stores c }
+    ensures { (old : State Inv) (e : Entry) → count ≡ length old.journal → (joined ≡ true → vault.now ≡ with_waiting meaning old e) → IsLegalOn e.change old.database → named ≡ named_by e.change old.database.stores
+        → row_at number space.now.freed ≡ Some (taken_by e.change old.database) → IsKeptOf index.old old.database.stores space.now → IsKeptOf index.new vault.now.database.stores space.now }
 {
     let taken = match space.freed().get(&number) {
         Some(taken) => taken,
@@ -237,8 +245,10 @@ fn follow(
     match vault.journal().get(count) {
         Some(entry) => index.follow(
             &entry.change,
+            named,
             taken.as_slice(),
             &vault.database().tables().pools,
+            space,
         ),
         None => index.lose(),
     }
@@ -285,6 +295,7 @@ impl Parts {
     {
         let count = self.vault.journal().len();
         let file = drawn_by(&entry.change);
+        let named = named_in(&self.vault, &entry.change);
         let number = match make_room(
             self.alloc,
             &self.vault,
@@ -317,6 +328,7 @@ impl Parts {
             &self.space,
             count,
             number,
+            named,
             result.is_ok(),
         );
         draw(&mut self.space, file);

@@ -36,7 +36,7 @@ pub invariant_of-self-2 : goal.invariant_of-self-2
 invariant_of-self-2 g c = (
   c.join-result.ensures.keeps c.self.inside.base c.self.invariant.0,
   kept_behind c.follow.new.index c.join-result.new.vault.database.stores c.make_room.new.space c.draw.new.space c.drawn_by-file.result c.draw.ensures
-      (c.follow.ensures c.self.inside.vault c.args.entry c.make_room.new.space (ap length c.journal-count.ensures) (λ is. made_of c.join-result.result c.join-result.ensures.ok (sym c.is_ok.ensures.value ∙ is))
-      (c.in-Ok.ensures.legal (subst (λ (h : Held). refused no_journal c.args.entry.change h.vault.database ≡ None) (sym c.self.view_is) c.requires.legal))
+      (c.follow.ensures c.self.inside.vault c.args.entry (ap length c.journal-count.ensures) (λ is. made_of c.join-result.result c.join-result.ensures.ok (sym c.is_ok.ensures.value ∙ is))
+      (c.in-Ok.ensures.legal (subst (λ (h : Held). refused no_journal c.args.entry.change h.vault.database ≡ None) (sym c.self.view_is) c.requires.legal)) c.named_in-named.ensures
       (noted_there c.in-Ok.number _ _ c.self.inside.space c.make_room.new.space c.in-Ok.ensures.number c.in-Ok.ensures.noted) (c.in-Ok.ensures.index c.self.inside.vault.database.stores c.self.invariant.1)),
 )
