@@ -42,11 +42,6 @@ use Rattle.db_chains.proofs.Unique.{one_held}
 pub is_possible : (file : ℕ) → is_backup_file file ≡ true → IsBackupFile file
 is_possible file h = (let parts = and_parts (nat_le 4 file) (nat_le file (2 ^ 32 - 3)) h in (leb-true 4 file parts.0, (let below : file ≤ 2 ^ 32 - 3 = leb-true file (2 ^ 32 - 3) parts.1 in omega (arith, below))))
 
-pub is_impossible : (file : ℕ) → is_backup_file file ≡ false → IsBackupFile file → ⊥
-is_impossible file h possible =
-    let yes : is_backup_file file ≡ true = and_from (nat_le 4 file) (nat_le file (2 ^ 32 - 3)) (le-leb 4 file possible.0) (le-leb file (2 ^ 32 - 3) (omega (arith, possible.1))) in
-    absurd (let both : true ≡ false = sym yes ∙ h in cc)
-
 -- ---- why a file isn't read
 
 pub of_chain : (file : ℕ) (before after : ℕ → ℕ) (moment : ℕ) (why : OpenRefused) (chain : ChainRefused) → IsBackupFile file → MayRefuse file before after moment why → Some chain ≡ lasting why → MayRefuseChain before after moment chain × IsLasting chain
@@ -56,14 +51,6 @@ of_chain file before after moment unread.NotFormatted chain possible may is = ab
 of_chain file before after moment (unread.Damaged which at) chain possible may is = absurd (let whole : Some chain ≡ None = is in cc)
 of_chain file before after moment unread.RunFull chain possible may is = subst (λ (r : ChainRefused). MayRefuseChain before after moment r × IsLasting r) (let e : chain ≡ refused.RunFull = (let whole : Some chain ≡ Some refused.RunFull = is in cc) in sym e) (may, tt)
 of_chain file before after moment unread.Memory chain possible may is = subst (λ (r : ChainRefused). MayRefuseChain before after moment r × IsLasting r) (let e : chain ≡ refused.Memory = (let whole : Some chain ≡ Some refused.Memory = is in cc) in sym e) (tt, tt)
-
--- a refusal that speaks neither of damage nor of a missing format stays one
-never_none : (file : ℕ) (before after : ℕ → ℕ) (moment : ℕ) (why : OpenRefused) → MayRefuse file before after moment why → NoDamage why → None ≡ lasting why → ⊥
-never_none file before after moment (unread.ReadFault which) may no is = absurd (let whole : None ≡ Some (refused.ReadFault which) = is in cc)
-never_none file before after moment unread.NotFormatted may no is = may
-never_none file before after moment (unread.Damaged which at) may no is = no
-never_none file before after moment unread.RunFull may no is = absurd (let whole : None ≡ Some refused.RunFull = is in cc)
-never_none file before after moment unread.Memory may no is = absurd (let whole : None ≡ Some refused.Memory = is in cc)
 
 -- what speaks of damage finds no image
 pub no_image : (file : ℕ) (before after : ℕ → ℕ) (moment : ℕ) (why : OpenRefused) (bytes : List ℕ) → MayRefuse file before after moment why → None ≡ lasting why → SaysDamage file Backup bytes why → FindsImage file bytes None
@@ -118,16 +105,13 @@ module _ {D : Type 0} (m : Meaning D) (file : ℕ) where
   no_backup : (files : ℕ → List ℕ) → FindsImage file (files file) None → NoBackup m files file
   no_backup files none = λ number held is. none number is.payload is.image
 
-  pub impossible : (h : History) → is_backup_file file ≡ false → (let result : Result (Option (Found D)) ChainRefused = Ok None in Looks m file result h h)
-  impossible h no = record { goes = goes_none (λ other. other ≡ file) h; settles = settles_none h; durable = tt; finds = λ number held is. is_impossible file no is.possible }
-
   pub look_none : (old new : History) → (let result : Result (Option (ℕ × Vec ℕ Global)) ChainRefused = Ok None in Reads file result old new) → (let result : Result (Option (Found D)) ChainRefused = Ok None in Looks m file result old new)
   look_none old new r = record { goes = r.goes; settles = r.settles; durable = tt; finds = no_backup (reads old) r.finds }
 
   kind_there : (files : ℕ → List ℕ) (image : ℕ × Vec ℕ Global) (kind : Kind D) → IsBackupFile file → HasImage file Backup (files file) image.0 image.1.items → HoldsKind m image.1.items image.0 kind → IsOfKind m files file image.0 image.1.items kind
   kind_there files image (Whole d) possible has is = record { payload = image.1.items; possible = possible; image = has; holds = is.0; numbered = is.1 }
   kind_there files image (Since after base) possible has is =
-      (is.0, (record { payload = image.1.items; possible = possible; image = has; holds = is.1; numbered = is.2 }, (is.1, (is.3, is.4))))
+      (is.0, record { payload = image.1.items; possible = possible; image = has; holds = is.1; numbered = is.2 }, is.1, is.3, is.4)
 
   -- what the image is found to be
   pub look_of : (image : ℕ × Vec ℕ Global) (result : Result (Option (Found D)) ChainRefused) (old new : History) → IsBackupFile file → FoundOf m image result

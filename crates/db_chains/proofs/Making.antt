@@ -24,8 +24,8 @@ module _ {D : Type 0} (m : Meaning D) where
 
   pub one_less : (base : D) (records : List (List ℕ)) (d next : D) (left rest : List (List ℕ)) (bytes : List ℕ) → IsLeft base records d left → left ≡ bytes ∷ rest → MakesOne m bytes d next true → IsLeft base records next rest
   one_less base records d next left rest bytes is parts made = record {
-    makes = λ other x. is.makes other (subst (λ (l : List (List ℕ)). Makes m d l other) (sym parts) (made.0, (made.1, (made.2, subst (λ (n : D). Makes m n rest other) made.3 x))));
-    fails = λ x. is.fails (subst (Fails m d) (sym parts) (inr (made.0, (made.1, (made.2, subst (λ (n : D). Fails m n rest) made.3 x)))));
+    makes = λ other x. is.makes other (subst (λ (l : List (List ℕ)). Makes m d l other) (sym parts) (made.0, made.1, made.2, subst (λ (n : D). Makes m n rest other) made.3 x));
+    fails = λ x. is.fails (subst (Fails m d) (sym parts) (inr (made.0, made.1, made.2, subst (λ (n : D). Fails m n rest) made.3 x)));
   }
 
   pub fails_here : (base : D) (records : List (List ℕ)) (d : D) (left rest : List (List ℕ)) (bytes : List ℕ) → IsLeft base records d left → left ≡ bytes ∷ rest → IsUnfit m d bytes → Fails m base records

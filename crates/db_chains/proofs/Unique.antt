@@ -29,6 +29,16 @@ same_whole d e same = cc
 not_both : {D : Type 0} (d : D) (i : Increment) → (let a : Payload D = Whole d in a ≡ Since i) → ⊥
 not_both d i e = absurd cc
 
+module _ {D : Type 0} {m : Meaning D} (files : ℕ → List ℕ) where
+  -- the newest backup of a chain that gives a database
+  pub gives_backup : (incs : List Increment) (file n : ℕ) (d : D) → Gives m files file n incs d → (held : Payload D) × IsBackup m files file n held
+  gives_backup [] file n d x = (Whole d, x)
+  gives_backup (i ∷ older) file n d x = (Since i, x.0)
+
+  pub fails_backup : (b : List Increment) (file n at : ℕ) → FailsAt m files file n b at → (held : Payload D) × IsBackup m files file n held
+  fails_backup [] file n at x = absurd x
+  fails_backup (i ∷ b) file n at x = (Since i, x.0)
+
 module _ {D : Type 0} {m : Meaning D} (law : IsMeaning m) where
   -- a payload holds one thing
   pub one_held : (bytes : List ℕ) (a b : Payload D) → IsPayload m bytes a → IsPayload m bytes b → a ≡ b
@@ -56,11 +66,6 @@ module _ {D : Type 0} {m : Meaning D} (law : IsMeaning m) where
       makes_or_fails records (m.after base x.0) d x.3 (subst (λ (t : Entry). Fails m (m.after base t) records) (sym same) y.3)
 
   module _ (files : ℕ → List ℕ) where
-    -- the newest backup of a chain that gives a database
-    pub gives_backup : (incs : List Increment) (file n : ℕ) (d : D) → Gives m files file n incs d → (held : Payload D) × IsBackup m files file n held
-    gives_backup [] file n d x = (Whole d, x)
-    gives_backup (i ∷ older) file n d x = (Since i, x.0)
-
     -- a file with an increment's backup has no other
     same_since : (file n k : ℕ) (i j : Increment) → IsBackup m files file n (Since i) → IsBackup m files file k (Since j) → i ≡ j
     same_since file n k i j x y = same_increment {D = D} i j (one_backup files file n k (Since i) (Since j) x y).1
@@ -105,19 +110,15 @@ module _ {D : Type 0} {m : Meaning D} (law : IsMeaning m) where
         go (inr z) = not_whole file n z.0 d z.1 x z.2
     gives_or_ends [] (j ∷ b) file n at d x y = not_whole file n y.0.number d j x y.0.backup
     gives_or_ends (i ∷ a) [] file n at d x y =
-        let below = gives_backup a i.after i.number x.2.0 x.2.1 in
+        let below = gives_backup {m = m} files a i.after i.number x.2.0 x.2.1 in
         end_or_known file n n i below.0 y.1 x.0 x.1 below.1
     gives_or_ends (i ∷ a) (j ∷ b) file n at d x y =
         let same = same_since file y.0.number n j i y.0.backup x.0 in
         gives_or_ends a b i.after i.number at x.2.0 x.2.1 (subst (λ (t : Increment). EndsAt m files t.after b at) same y.1)
 
-    pub fails_backup : (b : List Increment) (file n at : ℕ) → FailsAt m files file n b at → (held : Payload D) × IsBackup m files file n held
-    fails_backup [] file n at x = absurd x
-    fails_backup (i ∷ b) file n at x = (Since i, x.0)
-
     below_fails : (i : Increment) (b : List Increment) (file at : ℕ) → FailsAt m files i.after i.number b at ⊎ ((at ≡ file) × ((base : D) × Gives m files i.after i.number b base × Fails m base i.records)) → (held : Payload D) × IsBackup m files i.after i.number held
-    below_fails i b file at (inl deeper) = fails_backup b i.after i.number at deeper
-    below_fails i b file at (inr here) = gives_backup b i.after i.number here.1.0 here.1.1
+    below_fails i b file at (inl deeper) = fails_backup {m = m} files b i.after i.number at deeper
+    below_fails i b file at (inr here) = gives_backup {m = m} files b i.after i.number here.1.0 here.1.1
 
     pub gives_or_fails : (a b : List Increment) (file n k at : ℕ) (d : D) → Gives m files file n a d → FailsAt m files file k b at → ⊥
     gives_or_fails a [] file n k at d x y = y

@@ -43,14 +43,14 @@ module _ {D : Type 0} {m : Meaning D} (files : ℕ → List ℕ) where
     pub increment : Increment
     pub payload : IsIncrement l.payload.items increment
     pub follows : Follows m files l.file increment
-    pub at : at ≡ increment.after
+    pub is_at : at ≡ increment.after
     pub leads : Leads m files file rest l.file
 
   pub last_of_leads : (rest : List Link) (file at : ℕ) (l : Link) → Leads m files file (rest ++ l ∷ []) at → Last file at rest l
-  last_of_leads [] file at l leads = record { increment = leads.1.0; payload = leads.1.1; follows = subst (λ (n : ℕ). Follows m files n leads.1.0) (sym leads.0) leads.1.2; at = leads.1.3; leads = leads.0 }
+  last_of_leads [] file at l leads = record { increment = leads.1.0; payload = leads.1.1; follows = subst (λ (n : ℕ). Follows m files n leads.1.0) (sym leads.0) leads.1.2; is_at = leads.1.3; leads = leads.0 }
   last_of_leads (k ∷ rest) file at l leads =
       let below = last_of_leads rest leads.1.0.after at l leads.1.3 in
-      record { increment = below.increment; payload = below.payload; follows = below.follows; at = below.at; leads = (leads.0, (leads.1.0, leads.1.1, leads.1.2, below.leads)) }
+      record { increment = below.increment; payload = below.payload; follows = below.follows; is_at = below.is_at; leads = (leads.0, (leads.1.0, leads.1.1, leads.1.2, below.leads)) }
 
   -- links that lead to an end
   pub leads_to_end : (links : List Link) (file at : ℕ) → Leads m files file links at → IsEnd m files at → (increments : List Increment) × EndsAt m files file increments at
@@ -61,14 +61,14 @@ module _ {D : Type 0} {m : Meaning D} (files : ℕ → List ℕ) where
 
   -- links that lead to a backup of a chain that fails
   pub leads_to_failure : (links : List Link) (file at number which : ℕ) (increments : List Increment) → Leads m files file links at → FailsAt m files at number increments which → (other : ℕ) × (more : List Increment) × FailsAt m files file other more which
-  leads_to_failure [] file at number which increments leads fails = (number, (increments, subst (λ (n : ℕ). FailsAt m files n number increments which) leads fails))
+  leads_to_failure [] file at number which increments leads fails = (number, increments, subst (λ (n : ℕ). FailsAt m files n number increments which) leads fails)
   leads_to_failure (l ∷ links) file at number which increments leads fails =
       let i = leads.1.0 in
       let follows = leads.1.2 in
       let below = leads_to_failure links i.after at number which increments leads.1.3 fails in
-      let backup = fails_backup {m = m} files below.1.0 i.after below.0 which below.1.1 in
+      let backup = fails_backup {m = m} files below.1 i.after below.0 which below.2 in
       let known : below.0 ≡ i.number = follows.known below.0 backup.0 backup.1 in
-      (follows.number, (i ∷ below.1.0, (follows.backup, (follows.before, inl (subst (λ (n : ℕ). FailsAt m files i.after n below.1.0 which) known below.1.1)))))
+      (follows.number, i ∷ below.1, (follows.backup, follows.before, inl (subst (λ (n : ℕ). FailsAt m files i.after n below.1 which) known below.2)))
 
   -- ---- forward
 
@@ -100,18 +100,18 @@ module _ {D : Type 0} {m : Meaning D} where
       let i = last.increment in
       let follows = last.follows in
       let backup = gives_backup {m = m} files ahead.increments ahead.at ahead.number d ahead.gives in
-      let here : Gives m files i.after ahead.number ahead.increments d = subst (λ (n : ℕ). Gives m files n ahead.number ahead.increments d) last.at ahead.gives in
-      let known : ahead.number ≡ i.number = follows.known ahead.number backup.0 (subst (λ (n : ℕ). IsBackup m files n ahead.number backup.0) last.at backup.1) in
+      let here : Gives m files i.after ahead.number ahead.increments d = subst (λ (n : ℕ). Gives m files n ahead.number ahead.increments d) last.is_at ahead.gives in
+      let known : ahead.number ≡ i.number = follows.known ahead.number backup.0 (subst (λ (n : ℕ). IsBackup m files n ahead.number backup.0) last.is_at backup.1) in
       record {
         at = l.file;
         number = follows.number;
         increments = i ∷ ahead.increments;
         leads = last.leads;
-        gives = (follows.backup, (follows.before, (d, (subst (λ (n : ℕ). Gives m files i.after n ahead.increments d) known here, makes i last.payload))));
+        gives = (follows.backup, follows.before, (d, subst (λ (n : ℕ). Gives m files i.after n ahead.increments d) known here, makes i last.payload));
         settled = λ h all there.
             (let before = ahead.settled h all there in
             let split = all_front {P = IsLinkSettled h} rest l before.0 in
-            (split.0, (split.1, subst (λ (n : ℕ). AreSettled n ahead.increments h) last.at before.1)));
+            (split.0, (split.1, subst (λ (n : ℕ). AreSettled n ahead.increments h) last.is_at before.1)));
       }
 
   -- the last link has a record that is no transaction which may be made there
@@ -122,10 +122,10 @@ module _ {D : Type 0} {m : Meaning D} where
       let i = last.increment in
       let follows = last.follows in
       let backup = gives_backup {m = m} files ahead.increments ahead.at ahead.number d ahead.gives in
-      let here : Gives m files i.after ahead.number ahead.increments d = subst (λ (n : ℕ). Gives m files n ahead.number ahead.increments d) last.at ahead.gives in
-      let known : ahead.number ≡ i.number = follows.known ahead.number backup.0 (subst (λ (n : ℕ). IsBackup m files n ahead.number backup.0) last.at backup.1) in
+      let here : Gives m files i.after ahead.number ahead.increments d = subst (λ (n : ℕ). Gives m files n ahead.number ahead.increments d) last.is_at ahead.gives in
+      let known : ahead.number ≡ i.number = follows.known ahead.number backup.0 (subst (λ (n : ℕ). IsBackup m files n ahead.number backup.0) last.is_at backup.1) in
       let there : FailsAt m files l.file follows.number (i ∷ ahead.increments) l.file =
-      (follows.backup, (follows.before, inr (refl, (d, (subst (λ (n : ℕ). Gives m files i.after n ahead.increments d) known here, fails i last.payload))))) in
+      (follows.backup, follows.before, inr (refl, (d, subst (λ (n : ℕ). Gives m files i.after n ahead.increments d) known here, fails i last.payload))) in
       leads_to_failure {m = m} files rest file l.file follows.number l.file (i ∷ ahead.increments) last.leads there
 
 -- ---- back
@@ -166,7 +166,7 @@ module _ {D : Type 0} {m : Meaning D} (law : IsMeaning m) (files : ℕ → List 
   last_breaks : (file : ℕ) (links : List Link) (at which : ℕ) (asked : Option (ℕ × ℕ)) → LeadsOn m files file links at asked → which ≡ at → IsLast m files at asked → IsBrokenAt m files file which
   last_breaks file links at which asked on is (inl none) = broken_by file links at which (vacuous file links at asked on none) is (inl none)
   last_breaks file links at which asked on is (inr x) =
-      broken_by file links at which (confirmed file links at x.0 (Since x.1) asked on x.2 x.3) is (inr (x.0, (x.1, (x.2, inl x.4))))
+      broken_by file links at which (confirmed file links at x.0 (Since x.1) asked on x.2 x.3) is (inr (x.0, x.1, x.2, inl x.4))
 
   other_breaks : (file : ℕ) (links : List Link) (at which : ℕ) (asked : Option (ℕ × ℕ)) → LeadsOn m files file links at asked → IsOther m files at asked which → IsBrokenAt m files file which
   other_breaks file links at which None on other = absurd other
@@ -174,7 +174,7 @@ module _ {D : Type 0} {m : Meaning D} (law : IsMeaning m) (files : ℕ → List 
       let names = on.4 in
       let i = names.increment in
       broken_by file on.0 asked.0 which on.3 other.0
-      (inr (names.number, (i, (names.backup, inr (other.1, (other.2, (subst (λ (n : ℕ). IsBackup m files n other.1 other.2) (sym names.is_after) other.3, λ same. other.4 (same ∙ names.is_base))))))))
+      (inr (names.number, i, names.backup, inr (other.1.0, other.1.1, subst (λ (n : ℕ). IsBackup m files n other.1.0 other.1.1) (sym names.is_after) other.1.2, λ same. other.1.3 (same ∙ names.is_base))))
 
   -- a file that isn't what it has to be, or that isn't the one that is asked for, breaks the chain
   stray : (file : ℕ) (links : List Link) (at which : ℕ) (asked : Option (ℕ × ℕ)) → LeadsOn m files file links at asked → ((which ≡ at) × IsLast m files at asked) ⊎ IsOther m files at asked which → IsBrokenAt m files file which
@@ -199,17 +199,17 @@ not_strayed (Some asked) number is = go (number == asked.1) refl is
 module _ {D : Type 0} (m : Meaning D) (at : ℕ) (asked : Option (ℕ × ℕ)) (links : List Link) where
   steps_to : (files : ℕ → List ℕ) (next : List Link) (number : ℕ) (kind : Kind D) (payload : Vec ℕ Global) (step : Step D) → IsAsked number asked → IsOfKind m files at number payload.items kind
       → (let result : Result (Step D) ChainRefused = Ok step in TakenAs at kind payload links next result) → StepsTo m files at asked links step next
-  steps_to files next number (kinds.Whole d) payload step is of taken = subst (λ (s : Step D). StepsTo m files at asked links s next) (let e : step ≡ Base d = (let whole : (let a : Result (Step D) ChainRefused = Ok step in a ≡ Ok (Base d)) = taken.0 in cc) in sym e) (number, (of, (is, taken.1)))
+  steps_to files next number (kinds.Whole d) payload step is of taken = subst (λ (s : Step D). StepsTo m files at asked links s next) (let e : step ≡ Base d = (let whole : (let a : Result (Step D) ChainRefused = Ok step in a ≡ Ok (Base d)) = taken.0 in cc) in sym e) (number, of, is, taken.1)
   steps_to files next number (kinds.Since after base) payload step is of taken =
       let l : Link = record { file = at; payload = payload } in
       let named : Names m files l at after base = record { increment = of.0; number = number; file = refl; payload = of.2; backup = of.1; before = taken.1; is_after = sym of.3; is_base = sym of.4 } in
-      subst (λ (s : Step D). StepsTo m files at asked links s next) (sym taken.0) (l, (named, (is, taken.2)))
+      subst (λ (s : Step D). StepsTo m files at asked links s next) (sym taken.0) (l, named, is, taken.2)
 
   strays : (files : ℕ → List ℕ) (next : List Link) (number : ℕ) (kind : Kind D) (payload : Vec ℕ Global) (why : ChainRefused) → IsAsked number asked → IsOfKind m files at number payload.items kind
       → (let result : Result (Step D) ChainRefused = Err why in TakenAs at kind payload links next result) → SaysStray m files at asked why
   strays files next number (kinds.Whole d) payload why is of taken = absurd (let whole : (let a : Result (Step D) ChainRefused = Err why in a ≡ Ok (Base d)) = taken.0 in cc)
   strays files next number (kinds.Since after base) payload why is of (inl late) =
-      subst (SaysStray m files at asked) (sym late.0) (inl (refl, inr (number, (of.0, (of.1, (is, subst (λ (n : ℕ). at ≤ n) of.3 late.1))))))
+      subst (SaysStray m files at asked) (sym late.0) (inl (refl, inr (number, of.0, of.1, is, subst (λ (n : ℕ). at ≤ n) of.3 late.1)))
   strays files next number (kinds.Since after base) payload why is of (inr memory) = subst (SaysStray m files at asked) (sym memory) tt
 
   pub step_taken : (next : List Link) (found : Found D) (result : Result (Step D) ChainRefused) (old new : History) → None ≡ strayed asked found.number → TakenAs at found.kind found.payload links next result
@@ -249,7 +249,7 @@ module _ {D : Type 0} {m : Meaning D} (law : IsMeaning m) (file : ℕ) where
       let leads = confirmed {m = m} law (reads old) file links at named.number (Since named.increment) asked on.leads named.backup steps.2 in
       record {
         settles = settles_then old mid new on.settles step.settles;
-        leads = (links, (l, (steps.3, (leads, named))));
+        leads = (links, l, steps.3, leads, named);
         settled = subst (AllByRecursion (IsLinkSettled new)) (sym steps.3)
             (all_more {P = IsLinkSettled new} links l (all_stay at links mid new step.goes (step.settles.same at) step.durable on.settled)
             (subst (λ (n : ℕ). standing new n ≡ settled (reads new n)) (sym named.file) (step.durable ∙ ap settled (sym (step.settles.same at)))));
@@ -303,7 +303,7 @@ module _ {D : Type 0} (m : Meaning D) (file : ℕ) where
 
   says_where : (links : List Link) (base : D) (why : ChainRefused) (old new : History) → LeadsTo m file links base old new → (let result : Result D ChainRefused = Err why in GoesForward m links base result) → SaysBroken m (reads old) file why
   says_where links base (refused.NotABackup which) old new to forward =
-      (let fails = forward (reads old) file to.at to.number to.increments to.leads to.gives in inr (fails.0, (fails.1, fails.2)))
+      (let fails = forward (reads old) file to.at to.number to.increments to.leads to.gives in inr (fails.0, fails.1, fails.2))
   says_where links base (refused.ReadFault which) old new to forward = tt
   says_where links base refused.RunFull old new to forward = tt
   says_where links base refused.Memory old new to forward = tt

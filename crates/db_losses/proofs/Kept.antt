@@ -71,8 +71,8 @@ parted p [] = refl
 parted {X} p (x ∷ xs) = go (p x)
   where
     go : (b : Bool) → IsReordered (x ∷ xs) (cond b (x ∷ filter p xs) (filter p xs) ++ cond (not b) (x ∷ filter (λ y. not (p y)) xs) (filter (λ y. not (p y)) xs))
-    go true = (filter p xs ++ filter (λ y. not (p y)) xs, (record { before = []; after = filter p xs ++ filter (λ y. not (p y)) xs; was = refl; becomes = refl }, parted p xs))
-    go false = (filter p xs ++ filter (λ y. not (p y)) xs, (record { before = filter p xs; after = filter (λ y. not (p y)) xs; was = refl; becomes = refl }, parted p xs))
+    go true = (filter p xs ++ filter (λ y. not (p y)) xs, record { before = []; after = filter p xs ++ filter (λ y. not (p y)) xs; was = refl; becomes = refl }, parted p xs)
+    go false = (filter p xs ++ filter (λ y. not (p y)) xs, record { before = filter p xs; after = filter (λ y. not (p y)) xs; was = refl; becomes = refl }, parted p xs)
 
 pub shorter : {X : Type 0} (p : X → Bool) (xs : List X) → length (filter p xs) ≤ length xs
 shorter p [] = omega arith
