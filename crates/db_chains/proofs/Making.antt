@@ -3,10 +3,11 @@ use Rattle.std.proofs.Common.{◌≡◌, inl, inr, ℕ, Bool, true, false, List,
 use Rattle.kinds.specs.declared.refusal.Refusal.{Refusal}
 use Rattle.entries.specs.declared.entry.Entry.{Entry}
 use Rattle.entries.specs.EntryForm.{Spells}
-use Rattle.entries.specs.Meaning.{Meaning, IsLegal}
+use Rattle.entries.specs.Meaning.{Meaning, IsMeaning, IsLegal}
+use Rattle.backup_payloads.specs.Increments.{Increment, IsIncrement}
 use Rattle.db_chains.specs.Chains.{Makes, Fails, IsUnfit}
 use Rattle.db_chains.specs.Making.{MakesEntry, MakesOne, MakesAll}
-use Rattle.db_chains.proofs.Unique.{one_entry}
+use Rattle.db_chains.proofs.Unique.{one_entry, one_increment}
 
 module _ {D : Type 0} (m : Meaning D) where
   pub made_one : (bytes : List ℕ) (e : Entry) (old new : D) (result : Result Bool Refusal) → Spells bytes e → IfOk result (MakesEntry m e old new) → IfOk result (MakesOne m bytes old new)
@@ -37,3 +38,9 @@ module _ {D : Type 0} (m : Meaning D) where
   -- what holds of the one increment that the bytes are holds of each
   pub of_each : (bytes : List (List ℕ)) (old new : D) (all : Bool) → MakesAll m bytes old new all → (other : List (List ℕ)) → other ≡ bytes → MakesAll m other old new all
   of_each bytes old new all made other same = subst (λ (l : List (List ℕ)). MakesAll m l old new all) (sym same) made
+
+-- what was made of the increment that the bytes spell was made of each that they spell
+pub of_increment : {D : Type 0} {m : Meaning D} (law : IsMeaning m) (bytes : List ℕ) (i : Increment) (old new : D) (result : Result Bool Refusal) → IsIncrement bytes i → IfOk result (MakesAll m i.records old new)
+    → IfOk result (λ all. (j : Increment) → IsIncrement bytes j → MakesAll m j.records old new all)
+of_increment {D} {m} law bytes i old new (Ok all) is made = λ j also. subst (λ (k : Increment). MakesAll m k.records old new all) (sym (one_increment law bytes i j is also)) made
+of_increment law bytes i old new (Err refusal) is made = tt

@@ -7,7 +7,7 @@ use Rattle.db_image.proofs.One.{one as one_image}
 use Rattle.entries.specs.declared.entry.Entry.{Entry}
 use Rattle.entries.specs.EntryForm.{entry, entry_form, Spells}
 use Rattle.entries.specs.Meaning.{Meaning, IsMeaning, IsLegal}
-use Rattle.backup_payloads.specs.Increments.{Increment}
+use Rattle.backup_payloads.specs.Increments.{Increment, IsIncrement}
 use Rattle.backup_payloads.specs.Payloads.{IsPayload}
 use Rattle.backup_payloads.specs.declared.payload.Payload.{Payload}
 use Rattle.backup_payloads.specs.declared.payload.Payload.TheVariants.{Whole, Since}
@@ -28,6 +28,13 @@ same_whole d e same = cc
 
 not_both : {D : Type 0} (d : D) (i : Increment) → (let a : Payload D = Whole d in a ≡ Since i) → ⊥
 not_both d i e = absurd cc
+
+-- bytes are the spelling of one increment
+pub one_increment : {D : Type 0} {m : Meaning D} (law : IsMeaning m) (bytes : List ℕ) (i j : Increment) → IsIncrement bytes i → IsIncrement bytes j → j ≡ i
+one_increment {D} law bytes i j a b = same (only_since law bytes i a (alone bytes i a) (Since j) [] (subst (λ (whole : List ℕ). IsIncrement whole j) (sym (append-nil bytes)) b)).0
+  where
+    same : (let x : Payload D = Since j in let y : Payload D = Since i in x ≡ y) → j ≡ i
+    same e = cc
 
 module _ {D : Type 0} {m : Meaning D} (files : ℕ → List ℕ) where
   -- the newest backup of a chain that gives a database
@@ -125,11 +132,11 @@ module _ {D : Type 0} {m : Meaning D} (law : IsMeaning m) where
     gives_or_fails [] (j ∷ b) file n k at d x y = not_whole file n k d j x y.0
     gives_or_fails (i ∷ a) (j ∷ b) file n k at d x y =
         let same = same_since file k n j i y.0 x.0 in
-        go (subst (λ (t : Increment). FailsAt m files t.after t.number b at ⊎ ((at ≡ file) × ((base : D) × Gives m files t.after t.number b base × Fails m base t.records))) same y.2)
+        go (λ deeper. gives_or_fails a b i.after i.number i.number at x.2.0 x.2.1 deeper) (subst (λ (t : Increment). FailsAt m files t.after t.number b at ⊎ ((at ≡ file) × ((base : D) × Gives m files t.after t.number b base × Fails m base t.records))) same y.2)
       where
-        go : FailsAt m files i.after i.number b at ⊎ ((at ≡ file) × ((base : D) × Gives m files i.after i.number b base × Fails m base i.records)) → ⊥
-        go (inl deeper) = gives_or_fails a b i.after i.number i.number at x.2.0 x.2.1 deeper
-        go (inr here) =
+        go : (FailsAt m files i.after i.number b at → ⊥) → FailsAt m files i.after i.number b at ⊎ ((at ≡ file) × ((base : D) × Gives m files i.after i.number b base × Fails m base i.records)) → ⊥
+        go below (inl deeper) = below deeper
+        go below (inr here) =
             let base = gives_one b a i.after i.number i.number here.1.0 x.2.0 here.1.1 x.2.1 in
             makes_or_fails i.records x.2.0 d x.2.2 (subst (λ (t : D). Fails m t i.records) base here.1.2)
 
@@ -146,25 +153,25 @@ module _ {D : Type 0} {m : Meaning D} (law : IsMeaning m) where
     ends_or_fails [] (j ∷ b) file k x y p q = (let below = below_fails j b file y q.2 in end_or_known file k k j below.0 p.1 q.0 q.1 below.1)
     ends_or_fails (i ∷ a) (j ∷ b) file k x y p q =
         let same = same_since file k p.0.number j i q.0 p.0.backup in
-        go (subst (λ (t : Increment). FailsAt m files t.after t.number b y ⊎ ((y ≡ file) × ((base : D) × Gives m files t.after t.number b base × Fails m base t.records))) same q.2)
+        go (λ deeper. ends_or_fails a b i.after i.number x y p.1 deeper) (subst (λ (t : Increment). FailsAt m files t.after t.number b y ⊎ ((y ≡ file) × ((base : D) × Gives m files t.after t.number b base × Fails m base t.records))) same q.2)
       where
-        go : FailsAt m files i.after i.number b y ⊎ ((y ≡ file) × ((base : D) × Gives m files i.after i.number b base × Fails m base i.records)) → ⊥
-        go (inl deeper) = ends_or_fails a b i.after i.number x y p.1 deeper
-        go (inr here) = gives_or_ends b a i.after i.number x here.1.0 here.1.1 p.1
+        go : (FailsAt m files i.after i.number b y → ⊥) → FailsAt m files i.after i.number b y ⊎ ((y ≡ file) × ((base : D) × Gives m files i.after i.number b base × Fails m base i.records)) → ⊥
+        go below (inl deeper) = below deeper
+        go below (inr here) = gives_or_ends b a i.after i.number x here.1.0 here.1.1 p.1
 
     fails_one : (a b : List Increment) (file n k x y : ℕ) → FailsAt m files file n a x → FailsAt m files file k b y → x ≡ y
     fails_one [] b file n k x y p q = absurd p
     fails_one (i ∷ a) [] file n k x y p q = absurd q
     fails_one (i ∷ a) (j ∷ b) file n k x y p q =
         let same = same_since file k n j i q.0 p.0 in
-        go p.2 (subst (λ (t : Increment). FailsAt m files t.after t.number b y ⊎ ((y ≡ file) × ((base : D) × Gives m files t.after t.number b base × Fails m base t.records))) same q.2)
+        go (λ p q. fails_one a b i.after i.number i.number x y p q) p.2 (subst (λ (t : Increment). FailsAt m files t.after t.number b y ⊎ ((y ≡ file) × ((base : D) × Gives m files t.after t.number b base × Fails m base t.records))) same q.2)
       where
-        go : FailsAt m files i.after i.number a x ⊎ ((x ≡ file) × ((base : D) × Gives m files i.after i.number a base × Fails m base i.records))
+        go : (FailsAt m files i.after i.number a x → FailsAt m files i.after i.number b y → x ≡ y) → FailsAt m files i.after i.number a x ⊎ ((x ≡ file) × ((base : D) × Gives m files i.after i.number a base × Fails m base i.records))
             → FailsAt m files i.after i.number b y ⊎ ((y ≡ file) × ((base : D) × Gives m files i.after i.number b base × Fails m base i.records)) → x ≡ y
-        go (inl p) (inl q) = fails_one a b i.after i.number i.number x y p q
-        go (inl p) (inr q) = absurd (gives_or_fails b a i.after i.number i.number x q.1.0 q.1.1 p)
-        go (inr p) (inl q) = absurd (gives_or_fails a b i.after i.number i.number y p.1.0 p.1.1 q)
-        go (inr p) (inr q) = p.0 ∙ sym q.0
+        go below (inl p) (inl q) = below p q
+        go below (inl p) (inr q) = absurd (gives_or_fails b a i.after i.number i.number x q.1.0 q.1.1 p)
+        go below (inr p) (inl q) = absurd (gives_or_fails a b i.after i.number i.number y p.1.0 p.1.1 q)
+        go below (inr p) (inr q) = p.0 ∙ sym q.0
 
     pub one : (file : ℕ) (d other : D) → IsGiven m files file d → IsGiven m files file other → d ≡ other
     one file d other x y = gives_one x.increments y.increments file x.number y.number d other x.gives y.gives

@@ -30,6 +30,14 @@ use Rattle.db_chains.specs.Walks.{strayed, TakenAs, Leads, LeadsOn, Names, IsAsk
 use Rattle.db_chains.proofs.Settling.{settles_none, settles_then, settles_file, stays_settled, same_all}
 use Rattle.db_chains.proofs.Unique.{one_backup, gives_backup, fails_backup}
 
+-- what the last link is of
+  pub record Last {D : Type 0} (m : Meaning D) (files : ℕ → List ℕ) (file at : ℕ) (rest : List Link) (l : Link) : Type 0 where
+  pub increment : Increment
+  pub payload : IsIncrement l.payload.items increment
+  pub follows : Follows m files l.file increment
+  pub is_at : at ≡ increment.after
+  pub leads : Leads m files file rest l.file
+
 module _ {D : Type 0} {m : Meaning D} (files : ℕ → List ℕ) where
   -- one link more at the end
   leads_more : (front : List Link) (file follower at : ℕ) (l : Link) (i : Increment) → Leads m files file front follower → l.file ≡ follower → IsIncrement l.payload.items i → Follows m files follower i → i.after ≡ at → Leads m files file (front ++ l ∷ []) at
@@ -38,15 +46,7 @@ module _ {D : Type 0} {m : Meaning D} (files : ℕ → List ℕ) where
   leads_more (k ∷ front) file follower at l i leads is payload follows after =
       (leads.0, (leads.1.0, leads.1.1, leads.1.2, leads_more front leads.1.0.after follower at l i leads.1.3 is payload follows after))
 
-  -- what the last link is of
-  record Last (file at : ℕ) (rest : List Link) (l : Link) : Type 0 where
-    pub increment : Increment
-    pub payload : IsIncrement l.payload.items increment
-    pub follows : Follows m files l.file increment
-    pub is_at : at ≡ increment.after
-    pub leads : Leads m files file rest l.file
-
-  pub last_of_leads : (rest : List Link) (file at : ℕ) (l : Link) → Leads m files file (rest ++ l ∷ []) at → Last file at rest l
+  pub last_of_leads : (rest : List Link) (file at : ℕ) (l : Link) → Leads m files file (rest ++ l ∷ []) at → Last m files file at rest l
   last_of_leads [] file at l leads = record { increment = leads.1.0; payload = leads.1.1; follows = subst (λ (n : ℕ). Follows m files n leads.1.0) (sym leads.0) leads.1.2; is_at = leads.1.3; leads = leads.0 }
   last_of_leads (k ∷ rest) file at l leads =
       let below = last_of_leads rest leads.1.0.after at l leads.1.3 in
@@ -76,20 +76,13 @@ module _ {D : Type 0} {m : Meaning D} (files : ℕ → List ℕ) where
   pub none_ahead : (file : ℕ) (links : List Link) (from number : ℕ) (passed : List Increment) (base : D) → Leads m files file links from → Gives m files from number passed base → IsAhead m files file links from passed links base
   none_ahead file links from number passed base leads gives = record { at = from; number = number; increments = passed; leads = leads; gives = gives; settled = λ h all there. (all, there) }
 
-all_front : {P : Link → Type 0} (rest : List Link) (l : Link) → AllByRecursion P (rest ++ l ∷ []) → AllByRecursion P rest × P l
-all_front [] l all = (tt, all.0)
-all_front {P = P} (k ∷ rest) l all = (let below = all_front {P = P} rest l all.1 in ((all.0, below.0), below.1))
+all_front : (P : Link → Type 0) (rest : List Link) (l : Link) → AllByRecursion P (rest ++ l ∷ []) → AllByRecursion P rest × P l
+all_front P [] l all = (tt, all.0)
+all_front P (k ∷ rest) l all = (let below = all_front P rest l all.1 in ((all.0, below.0), below.1))
 
-all_more : {P : Link → Type 0} (rest : List Link) (l : Link) → AllByRecursion P rest → P l → AllByRecursion P (rest ++ l ∷ [])
-all_more [] l all one = (one, tt)
-all_more {P = P} (k ∷ rest) l all one = (all.0, all_more {P = P} rest l all.1 one)
-
--- bytes are the spelling of one increment
-pub one_increment : {D : Type 0} {m : Meaning D} (law : IsMeaning m) (bytes : List ℕ) (i j : Increment) → IsIncrement bytes i → IsIncrement bytes j → j ≡ i
-one_increment law bytes i j a b = same (only_since law bytes i a (alone bytes i a) (Since j) [] (subst (λ (whole : List ℕ). IsIncrement whole j) (sym (append-nil bytes)) b)).0
-  where
-    same : (let x : Payload _ = Since j in let y : Payload _ = Since i in x ≡ y) → j ≡ i
-    same e = cc
+all_more : (P : Link → Type 0) (rest : List Link) (l : Link) → AllByRecursion P rest → P l → AllByRecursion P (rest ++ l ∷ [])
+all_more P [] l all one = (one, tt)
+all_more P (k ∷ rest) l all one = (all.0, all_more P rest l all.1 one)
 
 module _ {D : Type 0} {m : Meaning D} where
   -- the transactions of the last link were made
@@ -110,7 +103,7 @@ module _ {D : Type 0} {m : Meaning D} where
         gives = (follows.backup, follows.before, (d, subst (λ (n : ℕ). Gives m files i.after n ahead.increments d) known here, makes i last.payload));
         settled = λ h all there.
             (let before = ahead.settled h all there in
-            let split = all_front {P = IsLinkSettled h} rest l before.0 in
+            let split = all_front (IsLinkSettled h) rest l before.0 in
             (split.0, (split.1, subst (λ (n : ℕ). AreSettled n ahead.increments h) last.is_at before.1)));
       }
 
@@ -251,7 +244,7 @@ module _ {D : Type 0} {m : Meaning D} (law : IsMeaning m) (file : ℕ) where
         settles = settles_then old mid new on.settles step.settles;
         leads = (links, l, steps.3, leads, named);
         settled = subst (AllByRecursion (IsLinkSettled new)) (sym steps.3)
-            (all_more {P = IsLinkSettled new} links l (all_stay at links mid new step.goes (step.settles.same at) step.durable on.settled)
+            (all_more (IsLinkSettled new) links l (all_stay at links mid new step.goes (step.settles.same at) step.durable on.settled)
             (subst (λ (n : ℕ). standing new n ≡ settled (reads new n)) (sym named.file) (step.durable ∙ ap settled (sym (step.settles.same at)))));
       }
 

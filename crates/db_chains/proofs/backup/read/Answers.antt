@@ -18,4 +18,4 @@ returns-in-Some-lasting-clause-told g c = not_read c.args.file c.requires.possib
 pub returns-in-None-lasting-clause-told : goal.returns-in-None-lasting-clause-told
 returns-in-None-lasting-clause-told g c =
     was_read c.args.file c.requires.possible c.in-Ok.field-0 None _ _ _ c.in-Ok.ensures.told c.in-Err-read.ensures.looked
-    (reads_map _ c.args.file _ _ (λ bytes says. no_image c.args.file _ _ _ c.in-Err-read.unread bytes c.in-Err-read.ensures.refused c.in-None-lasting.ensures says) c.in-Err-read.ensures.finds)
+    (reads_map _ c.args.file _ _ (λ bytes says. no_image c.args.file (g.S.Store.faults_of c.settle.new.store) (g.S.Store.faults_of c.read.new.store) (g.S.Store.moment_of c.read.new.store) c.in-Err-read.unread bytes c.in-Err-read.ensures.refused c.in-None-lasting.ensures says) c.in-Err-read.ensures.finds)
