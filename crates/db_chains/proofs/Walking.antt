@@ -31,7 +31,7 @@ use Rattle.db_chains.proofs.Settling.{settles_none, settles_then, settles_file, 
 use Rattle.db_chains.proofs.Unique.{one_backup, gives_backup, fails_backup}
 
 -- what the last link is of
-  pub record Last {D : Type 0} (m : Meaning D) (files : ℕ → List ℕ) (file at : ℕ) (rest : List Link) (l : Link) : Type 0 where
+pub record Last {D : Type 0} (m : Meaning D) (files : ℕ → List ℕ) (file at : ℕ) (rest : List Link) (l : Link) : Type 0 where
   pub increment : Increment
   pub payload : IsIncrement l.payload.items increment
   pub follows : Follows m files l.file increment
