@@ -7,6 +7,7 @@
 //!   `next`, which takes a step of it; and `install`: the open vault's calendar is installed in its own store.
 //! - `stop CHOICE`: the machine stops and starts again. `fail MOMENT..`: the calls that begin then fail.
 //! - `write FILE OFFSET HEX`: these bytes are written and made durable; `cut FILE LENGTH`; `show FILE`: the bytes; `moment`.
+//! - `chain FILE`: the calendar that the database backup in the file gives.
 //! - `stops CHOICE STEP..`: the steps over an empty store, once for each moment: the call that begins then fails, and there the machine
 //!   stops. One sign for each: the number of the last transaction that is then recovered, or `-` where the store isn't formatted,
 //!   and `!` where the memo is another. The last sign is that of the run in which no call failed.

@@ -3,6 +3,9 @@ use crate::answer::{Fault, text};
 use crate::steps::Desk;
 use crate::sweeps;
 use crate::words::{large, number, numbers, step, steps, words_of};
+use calendar::Calendar;
+use db_chains::read_chain;
+use entries::Database;
 use hex::{decode, encode};
 use mem_store::MemStore;
 use std::alloc::{AllocError, Global};
@@ -14,6 +17,13 @@ pub struct Run {
     alloc: Global,
     desk: Desk,
     trial: Desk,
+}
+
+/// A calendar's number and day.
+fn calendar_text(alloc: Global, calendar: &Calendar) -> Result<String, Fault> {
+    let number = calendar.number();
+    let day = calendar.today().number();
+    Ok(format!(in alloc; "number {number}, day {day}")?)
 }
 
 /// What a command on copies of a store is answered.
@@ -89,6 +99,13 @@ impl Run {
         Ok(encode(self.alloc, self.desk.store.bytes(number(file)?))?)
     }
 
+    fn chain(&mut self, file: &str) -> Result<String, Fault> {
+        match read_chain::<Calendar, MemStore>(self.alloc, &mut self.desk.store, number(file)?) {
+            Ok(calendar) => calendar_text(self.alloc, &calendar),
+            Err(refused) => Ok(format!(in self.alloc; "{refused:?}")?),
+        }
+    }
+
     fn moment(&self) -> Result<String, Fault> {
         let moment = self.desk.store.moment();
         Ok(format!(in self.alloc; "{moment}")?)
@@ -120,6 +137,7 @@ impl Run {
             ["write", file, offset, bytes] => self.write(file, offset, bytes),
             ["cut", file, len] => self.cut(file, len),
             ["show", file] => self.show(file),
+            ["chain", file] => self.chain(file),
             _ => self.sweep(words),
         }
     }

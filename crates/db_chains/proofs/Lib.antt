@@ -1,0 +1,5 @@
+pub mod Looking
+pub mod Making
+pub mod Settling
+pub mod Unique
+pub mod Walking
