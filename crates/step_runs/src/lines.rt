@@ -1,10 +1,10 @@
 //! A line is a step, a process, or a word to the machine.
 use crate::answers;
-use crate::list_hall::Hall;
 use crate::list_machine::{Between, ListMachine, Nobody, Others};
 use crate::trace::Trace;
 use crate::words::{self, Fault, long, number};
 use kinds::{Digest, Refusal, bad_value};
+use plain_hall::Hall;
 use std::alloc::{AllocError, Global};
 use std::mem;
 use steps::{Asked, Stepper};

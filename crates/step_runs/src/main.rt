@@ -21,14 +21,8 @@
 #![tactic(auto)]
 
 mod answers;
-mod committing;
-mod images;
 mod lines;
-mod list_hall;
 mod list_machine;
-mod opening;
-mod pieces;
-mod told;
 mod trace;
 mod words;
 

@@ -71,7 +71,7 @@ pub fn bytes_of(alloc: Global, word: &str) -> Result<Vec<u8>, Fault> {
 /// The SHA-256 of what a word stands for.
 pub fn digest(alloc: Global, word: &str) -> Result<Digest, Fault> {
     let bytes = bytes_of(alloc, word)?;
-    Ok(crate::list_hall::digest_of(bytes.as_slice()))
+    Ok(plain_hall::digest_of(bytes.as_slice()))
 }
 
 /// The numbers of tickets.
