@@ -75,6 +75,7 @@ fn on_ticket(hall: &mut Hall<MemStore>, actor: u32, step: &Step) -> Result<Reply
             let answer = hall.write_piece(actor, *ticket, bytes.as_slice());
             Ok(Reply::WritePiece(answer))
         }
+        Step::CopyPiece(ticket) => Ok(Reply::CopyPiece(hall.copy_piece(actor, *ticket))),
         Step::Seal(ticket) => Ok(Reply::Seal(hall.seal(actor, *ticket))),
         Step::DropTicket(ticket) => Ok(Reply::DropTicket(hall.drop_ticket(actor, *ticket))),
         _ => Err(Fault::NoCommand),
@@ -105,6 +106,7 @@ pub fn make(
         }
         Step::Ask(query) => Ok(Reply::Ask(hall.ask(actor, query))),
         Step::Image(kind) => Ok(Reply::Image(image(hall, actor, *kind)?)),
+        Step::Reuse(file) => Ok(Reply::Reuse(hall.reuse(actor, *file))),
         Step::Force => Ok(Reply::Force(hall.force(actor))),
         _ => on_ticket(hall, actor, step),
     }

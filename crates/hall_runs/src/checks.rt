@@ -69,6 +69,14 @@ impl Databases {
         })
     }
 
+    /// The last of them has these bytes.
+    pub fn is_last(&self, bytes: &[u8]) -> bool {
+        match self.bytes.last() {
+            Some(last) => last.as_slice() == bytes,
+            None => false,
+        }
+    }
+
     /// The number of the hall's database, which is to be one of these, and to have all that was acknowledged.
     pub fn find(
         &self,

@@ -1,8 +1,8 @@
 //! A run over the lines.
 use crate::desk::Desk;
 use crate::fault::Fault;
-use crate::words::{longs, number};
-use crate::{replies, sweeps};
+use crate::words::{long, longs, number};
+use crate::{replies, sweeps, turns};
 use std::alloc::{AllocError, Global};
 use std::mem;
 
@@ -101,6 +101,13 @@ impl Run {
         )
     }
 
+    fn turns(&mut self, seed: &str, count: &str) -> Result<String, Fault> {
+        let seed = long(seed)?;
+        let count = long(count)?;
+        let lines = self.lines.as_slice();
+        turns::play(self.alloc, &mut self.trial, lines, seed, count)
+    }
+
     fn faults(&self, file: &str) -> Result<String, Fault> {
         let count = self.desk.faults(number(file)?);
         Ok(format!(in self.alloc; "{count}")?)
@@ -120,6 +127,7 @@ impl Run {
             ["fail", calls @ ..] => self.fail(calls),
             ["sweep"] => self.sweep(),
             ["fail_each"] => self.fail_each(),
+            ["turns", seed, count] => self.turns(seed, count),
             ["state"] => self.desk.state(),
             ["faults", file] => self.faults(file),
             _ => self.keep(line),
