@@ -1,9 +1,10 @@
 //! Which steps are made, by numbers from a seed: those that go on with what stands on the machine of plain lists, and others.
 use crate::seeds::Seeds;
 use inventory_answers::{Query, Rows};
-use inventory_rows::version_groups::Version;
-use plain_hall::{Hall, Purpose, Ticket};
+use inventory_rows::version_groups::{CopyRow, Version};
+use plain_hall::{Hall, Purpose, Ticket, digest_of};
 use std::alloc::{AllocError, Global};
+use step_words::put_digest;
 
 /// A piece has at most so many bytes.
 const MOST_BYTES: u64 = 65536;
@@ -145,12 +146,16 @@ fn open_new(alloc: Global, seeds: &mut Seeds) -> Result<String, AllocError> {
     format!(in alloc; "open_new {pool} {size} {prefer}")
 }
 
+/// One of a version's copies.
+fn copy_of<'a>(seeds: &mut Seeds, version: &'a Version) -> Option<&'a CopyRow> {
+    let copies = version.copies.as_slice();
+    copies.get(seeds.below(copies.len() as u64) as usize)
+}
+
 /// Space for a copy of a version that moves.
 fn open_move(alloc: Global, seeds: &mut Seeds, version: &Version) -> Result<String, AllocError> {
     let object = version.object;
-    let copies = version.copies.as_slice();
-    let place = seeds.below(copies.len() as u64) as usize;
-    let (from, placed) = match copies.get(place) {
+    let (from, placed) = match copy_of(seeds, version) {
         Some(copy) => (copy.pool, copy.placed),
         None => (0, 0),
     };
@@ -176,13 +181,18 @@ fn open_copy(alloc: Global, seeds: &mut Seeds, hall: &Hall) -> Result<String, Al
     }
 }
 
+/// The bytes of an object; none where nothing is kept of it.
+fn bytes_of(hall: &Hall, object: u64) -> &[u8] {
+    match hall.contents.get(&object) {
+        Some(bytes) => bytes.as_slice(),
+        None => &[],
+    }
+}
+
 /// A piece of an object.
 fn read(alloc: Global, seeds: &mut Seeds, hall: &Hall) -> Result<String, AllocError> {
     let object = object(seeds, hall);
-    let bytes = match hall.contents.get(&object) {
-        Some(bytes) => bytes.as_slice(),
-        None => &[],
-    };
+    let bytes = bytes_of(hall, object);
     let text = text_of(alloc, bytes)?;
     let offset = seeds.below((bytes.len() as u64).saturating_add(2));
     let wanted = seeds.below(MOST_BYTES);
@@ -194,6 +204,54 @@ fn read(alloc: Global, seeds: &mut Seeds, hall: &Hall) -> Result<String, AllocEr
 fn end_version(alloc: Global, object: u64, tag: &str) -> Result<String, AllocError> {
     let path = path_of(object);
     format!(in alloc; "plain 00000000{tag}000000010000000100022f3{path}{object:016x}")
+}
+
+/// An object goes with its copies (`13`), as its filespace is deleted.
+fn discard(alloc: Global, hall: &Hall, object: u64) -> Result<String, AllocError> {
+    let mut out = format!(in alloc; "plain 0000000013030000000100000001{object:016x}")?;
+    put_digest(&mut out, &digest_of(bytes_of(hall, object)))?;
+    Ok(out)
+}
+
+/// A copy goes, and others stay (`11`), as the volume is deleted where the first of its bytes are.
+fn drop_copy(
+    alloc: Global,
+    hall: &Hall,
+    object: u64,
+    copy: &CopyRow,
+) -> Result<String, AllocError> {
+    let file = match copy.segments.as_slice().first() {
+        Some(segment) => segment.file,
+        None => 4,
+    };
+    let pool = copy.pool;
+    let placed = copy.placed;
+    let mut out = format!(in alloc;
+        "plain 000000001102{file:08x}00000001{object:016x}{pool:08x}{placed:016x}"
+    )?;
+    put_digest(&mut out, &digest_of(bytes_of(hall, object)))?;
+    Ok(out)
+}
+
+/// An object goes, or one of its copies.
+fn end_copies(alloc: Global, seeds: &mut Seeds, hall: &Hall) -> Result<String, AllocError> {
+    let object = object(seeds, hall);
+    if seeds.below(3) > 0 {
+        if let Some(version) = hall.inventory.tables().objects.find(object) {
+            if let Some(copy) = copy_of(seeds, version) {
+                return drop_copy(alloc, hall, object, copy);
+            }
+        }
+    }
+    discard(alloc, hall, object)
+}
+
+/// What may be done with the volume DISK1: it is read and written, only read, or neither.
+fn access(alloc: Global, seeds: &mut Seeds) -> Result<String, AllocError> {
+    let access = seeds.below(3).saturating_add(1);
+    format!(in alloc;
+        "plain 000000000b0200054449534b3100000001000000040000000000100000{access:02x}"
+    )
 }
 
 /// The day that comes, or the same one.
@@ -256,7 +314,7 @@ fn reuse(alloc: Global, seeds: &mut Seeds, hall: &Hall) -> Result<String, AllocE
 
 /// A step of another kind.
 fn other(alloc: Global, seeds: &mut Seeds, hall: &Hall) -> Result<String, AllocError> {
-    match seeds.below(14) {
+    match seeds.below(18) {
         0 => format!(in alloc; "force"),
         1 | 2 => read(alloc, seeds, hall),
         3 => ask(alloc, seeds),
@@ -266,6 +324,8 @@ fn other(alloc: Global, seeds: &mut Seeds, hall: &Hall) -> Result<String, AllocE
         8 => format!(in alloc; "image checkpoint"),
         9 => format!(in alloc; "image next"),
         10..=12 => reuse(alloc, seeds, hall),
+        13 => access(alloc, seeds),
+        14 | 15 => end_copies(alloc, seeds, hall),
         _ => stray(alloc, seeds, hall),
     }
 }

@@ -16,8 +16,8 @@
 //! - `fail CALL..`: the calls of the store fail that begin so many calls later, counted from 0. All lines since `new` are made again for that, with the calls that fail.
 //! - `begin`, and `sweep`: the lines between them, which have to be steps, are made again, once for each call of the store and each of the choices 0, 1, 2^63 + 1 and 2^63 - 1: all calls
 //!   fail from that one on, and there the machine stops; and once more for each call of the opening behind that, in which it stops again. Behind each the hall that is opened has the
-//!   database behind some of the first transactions, with all that were acknowledged, the same one behind each stop in the opening, and each copy of each object reads back with the
-//!   SHA-256 that the database has. Printed are the numbers of stops, in the calls of the lines and behind the last one, and in those of the openings; or the first call, counted from
+//!   database behind some of the first transactions, with all that were acknowledged, the same one behind each stop in the opening, and each copy of each object that may be read reads
+//!   back with the SHA-256 that the database has. Printed are the numbers of stops, in the calls of the lines and behind the last one, and in those of the openings; or the first call, counted from
 //!   0, its choice and what is wrong.
 //! - `fail_each`: the same lines are made again, once for each call of the store, which alone fails, and each of the choices; behind them the machine stops. The hall that is opened has the
 //!   database behind some of the first transactions that were made so, with all that were acknowledged, and each copy reads back. Printed is the number of calls, or what a sweep prints.
@@ -30,19 +30,15 @@
 //! The stored output was written by hand, from the rules of steps, space and the vault, and not by this program.
 #![tactic(auto)]
 
-mod calls;
 mod checks;
 mod choices;
 mod desk;
 mod fault;
-mod lines;
 mod plain;
-mod replies;
 mod run;
 mod seeds;
 mod sweeps;
 mod turns;
-mod words;
 
 use run::Run;
 use std::io;

@@ -1,6 +1,5 @@
 //! The steps of lines on the machine of plain lists.
 use crate::fault::Fault;
-use crate::{lines, replies};
 use inventory_work::Listed;
 use kinds::{Digest, Refusal};
 use plain_hall::Hall;
@@ -32,58 +31,41 @@ fn dropped(was_there: bool) -> Result<(), Refusal> {
     }
 }
 
-/// What is answered to a step with a ticket.
-fn on_ticket(hall: &mut Hall, actor: u32, step: &Step) -> Result<Reply, Fault> {
+/// What is answered to a step that an actor makes.
+fn make(alloc: Global, hall: &mut Hall, actor: u32, step: &Step) -> Reply {
     match step {
         Step::OpenNew(pool, size, prefer) => {
-            let answer = hall.open_new(actor, *pool, *size, *prefer);
-            Ok(Reply::OpenNew(answer))
+            Reply::OpenNew(hall.open_new(actor, *pool, *size, *prefer))
         }
         Step::OpenCopy(object, aim, avoid) => {
-            let answer = hall.open_copy(actor, *object, *aim, *avoid);
-            Ok(Reply::OpenCopy(answer))
+            Reply::OpenCopy(hall.open_copy(actor, *object, *aim, *avoid))
         }
         Step::WritePiece(ticket, bytes) => {
-            let answer = hall.write_piece(actor, *ticket, bytes.as_slice());
-            Ok(Reply::WritePiece(answer))
+            Reply::WritePiece(hall.write_piece(actor, *ticket, bytes.as_slice()))
         }
-        Step::CopyPiece(ticket) => Ok(Reply::CopyPiece(hall.copy_piece(actor, *ticket))),
-        Step::Seal(ticket) => Ok(Reply::Seal(hall.seal(actor, *ticket))),
-        Step::DropTicket(ticket) => {
-            let was_there = hall.drop_ticket(actor, *ticket);
-            Ok(Reply::DropTicket(dropped(was_there)))
-        }
-        _ => Err(Fault::NoCommand),
-    }
-}
-
-/// What is answered to a step that an actor makes.
-fn make(alloc: Global, hall: &mut Hall, actor: u32, step: &Step) -> Result<Reply, Fault> {
-    match step {
+        Step::CopyPiece(ticket) => Reply::CopyPiece(hall.copy_piece(actor, *ticket)),
+        Step::Seal(ticket) => Reply::Seal(hall.seal(actor, *ticket)),
         Step::Commit(asked, tickets) => {
-            let answer = hall.commit(actor, asked, tickets.as_slice());
-            Ok(Reply::Commit(answer))
+            Reply::Commit(hall.commit(actor, asked, tickets.as_slice()))
         }
+        Step::DropTicket(ticket) => { Reply::DropTicket(dropped(hall.drop_ticket(actor, *ticket))) }
         Step::ReadPiece(object, kept, from, offset, wanted) => {
             let wanted = u64::from(*wanted);
-            let answer = read(alloc, hall, *object, kept, *from, *offset, wanted);
-            Ok(Reply::ReadPiece(answer))
+            Reply::ReadPiece(read(alloc, hall, *object, kept, *from, *offset, wanted))
         }
-        Step::Ask(query) => Ok(Reply::Ask(hall.ask(query))),
-        Step::Image(kind) => Ok(Reply::Image(hall.image(actor, *kind))),
-        Step::Reuse(file) => Ok(Reply::Reuse(hall.reuse(actor, *file))),
-        Step::Force => Ok(Reply::Force(Ok(hall.force()))),
-        _ => on_ticket(hall, actor, step),
+        Step::Ask(query) => Reply::Ask(hall.ask(query)),
+        Step::Image(kind) => Reply::Image(hall.image(actor, *kind)),
+        Step::Reuse(file) => Reply::Reuse(hall.reuse(actor, *file)),
+        Step::Force => Reply::Force(Ok(hall.force())),
     }
 }
 
 /// What an actor's step is answered, in words.
 pub fn answer(alloc: Global, hall: &mut Hall, actor: u32, line: &[&str]) -> Result<String, Fault> {
-    let step = lines::step(alloc, line)?;
+    let step = step_words::step(alloc, line)?;
     let reply = make(alloc, hall, actor, &step);
     drop(step);
-    let reply = reply?;
-    let text = replies::text(alloc, &reply);
+    let text = step_words::text(alloc, &reply);
     drop(reply);
     Ok(text?)
 }

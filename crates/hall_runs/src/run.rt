@@ -1,10 +1,10 @@
 //! A run over the lines.
 use crate::desk::Desk;
 use crate::fault::Fault;
-use crate::words::{long, longs, number};
-use crate::{replies, sweeps, turns};
+use crate::{sweeps, turns};
 use std::alloc::{AllocError, Global};
 use std::mem;
+use step_words::{long, longs, number};
 
 /// What the lines are about: a store and its hall, the lines since the store was new, and those over which lines are made again.
 #[derive(Drop)]
@@ -25,7 +25,7 @@ fn fault_text(alloc: Global, fault: &Fault) -> Result<String, AllocError> {
     match fault {
         Fault::NoCommand => String::from_str(alloc, "no command"),
         Fault::Closed => String::from_str(alloc, "no hall is open"),
-        Fault::Refused(refusal) => replies::refusal(alloc, refusal),
+        Fault::Refused(refusal) => step_words::refusal(alloc, refusal),
         Fault::NotOpened(refused) => format!(in alloc; "{refused:?}"),
         Fault::Wrong(finding) => format!(in alloc; "{finding:?}"),
         Fault::Found(call, choice, finding) => {

@@ -3,13 +3,13 @@ use crate::desk::Desk;
 use crate::fault::{Fault, Finding};
 use crate::seeds::Seeds;
 use crate::sweeps::{databases, opened};
-use crate::words::number;
 use crate::{choices, plain};
 use entries::Database;
 use plain_hall::Hall;
 use space::Space;
 use std::alloc::Global;
 use std::mem;
+use step_words::number;
 
 /// How many actors there are.
 const ACTORS: u64 = 3;
