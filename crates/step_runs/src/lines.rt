@@ -98,8 +98,14 @@ fn holder(words: &[&str]) -> Result<Holder, Fault> {
 /// A step.
 fn step<P: Stepper>(alloc: Global, p: &mut P, line: &[&str]) -> Result<String, Fault> {
     match line {
-        ["wait", words @ ..] => Ok(step_words::done(alloc, &p.wait(holder(words)?))?),
-        ["refused"] => Ok(step_words::numbered(alloc, "refused", &Ok(p.refused()))?),
+        ["wait", words @ ..] => {
+            let answer = p.wait(holder(words)?);
+            Ok(step_words::done(alloc, &answer)?)
+        }
+        ["refused"] => {
+            let count = p.refused();
+            Ok(format!(in alloc; "refused {count}")?)
+        }
         _ => make_line(alloc, p, line),
     }
 }
