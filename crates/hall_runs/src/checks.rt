@@ -7,6 +7,7 @@ use inventory_rows::Tables;
 use inventory_rows::version_groups::Version;
 use kinds::{Digest, Refusal};
 use mem_store::MemStore;
+use placing::can_read;
 use sha2::{Digest as _, Sha256};
 use std::alloc::Global;
 
@@ -69,6 +70,14 @@ impl Databases {
         })
     }
 
+    /// The last of them has these bytes.
+    pub fn is_last(&self, bytes: &[u8]) -> bool {
+        match self.bytes.last() {
+            Some(last) => last.as_slice() == bytes,
+            None => false,
+        }
+    }
+
     /// The number of the hall's database, which is to be one of these, and to have all that was acknowledged.
     pub fn find(
         &self,
@@ -89,30 +98,32 @@ impl Databases {
     }
 }
 
-fn add_copies(all: &mut Vec<Kept>, version: &Version) -> Result<(), Fault> {
+fn add_copies(all: &mut Vec<Kept>, tables: &Tables, version: &Version) -> Result<(), Fault> {
     for copy in version.copies.as_slice() {
-        all.push(Kept {
-            object: version.object,
-            digest: version.digest,
-            pool: copy.pool,
-            size: version.size.bytes(),
-        })?;
+        if can_read(tables, copy) {
+            all.push(Kept {
+                object: version.object,
+                digest: version.digest,
+                pool: copy.pool,
+                size: version.size.bytes(),
+            })?;
+        }
     }
     Ok(())
 }
 
-/// All copies of all objects.
+/// All copies of all objects that may be read.
 fn copies(alloc: Global, tables: &Tables) -> Result<Vec<Kept>, Fault> {
     let mut all = Vec::new(alloc);
     for (_, filespace) in tables.objects.filespaces() {
         for (_, group) in filespace.groups.as_map() {
             for version in group.versions.as_slice() {
-                add_copies(&mut all, version)?;
+                add_copies(&mut all, tables, version)?;
             }
         }
     }
     for (_, row) in tables.objects.held() {
-        add_copies(&mut all, &row.held.version)?;
+        add_copies(&mut all, tables, &row.held.version)?;
     }
     Ok(all)
 }
@@ -147,7 +158,7 @@ fn reads_back(hall: &mut Hall<MemStore>, kept: &Kept, into: &mut [u8]) -> bool {
     }
 }
 
-/// Reads all copies of all objects back, each with the bytes of its object.
+/// Reads back all copies of all objects that may be read, each with the bytes of its object.
 pub fn read_back(alloc: Global, hall: &mut Hall<MemStore>) -> Result<(), Fault> {
     let all = copies(alloc, hall.base().tables())?;
     let mut into = vec![in alloc; 0u8; MOST_BYTES]?;

@@ -1,7 +1,5 @@
 //! A store in memory, and the hall that is open over it.
 use crate::fault::Fault;
-use crate::words::{long, number};
-use crate::{calls, lines, replies};
 use entries::Database;
 use hall::{Closed, Hall};
 use inventory::Inventory;
@@ -9,6 +7,7 @@ use kinds::OpenRefused;
 use mem_store::MemStore;
 use std::alloc::{AllocError, Global};
 use std::mem;
+use step_words::{long, number};
 use steps::Reply;
 use store_api::{Stop, Store};
 use vault::Vault;
@@ -67,10 +66,10 @@ fn made(
     actor: u32,
     line: &[&str],
 ) -> Result<Reply, Fault> {
-    let step = lines::step(alloc, line)?;
-    let reply = calls::make(alloc, hall, actor, &step);
+    let step = step_words::step(alloc, line)?;
+    let reply = hall_turns::step(alloc, hall, actor, &step);
     drop(step);
-    reply
+    Ok(reply)
 }
 
 impl Desk {
@@ -173,10 +172,10 @@ impl Desk {
             return Err(Fault::Closed);
         };
         let reply = made(self.alloc, hall, actor, line)?;
-        if let Some(number) = replies::acknowledged(&reply) {
+        if let Some(number) = step_words::acknowledged(&reply) {
             self.acknowledged = self.acknowledged.max(number);
         }
-        let text = replies::text(self.alloc, &reply);
+        let text = step_words::text(self.alloc, &reply);
         drop(reply);
         Ok(text?)
     }

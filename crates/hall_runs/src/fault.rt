@@ -1,6 +1,7 @@
 //! Why a line has no answer.
 use kinds::{OpenRefused, Refusal};
 use std::alloc::{AllocError, AllocFailed};
+use step_words::Fault as Unread;
 
 /// What is wrong with a hall that was opened behind a stop.
 #[derive(Clone, Copy, Debug, PartialEq, Eq)]
@@ -34,6 +35,15 @@ pub enum Fault {
     Wrong(Finding),
     /// The same, behind a stop in this call, counted from the first of the lines that were swept, with this choice.
     Found(u64, u64, Finding),
+}
+
+impl From<Unread> for Fault {
+    fn from(fault: Unread) -> Fault {
+        match fault {
+            Unread::NoCommand => Fault::NoCommand,
+            Unread::Refused(refusal) => Fault::Refused(refusal),
+        }
+    }
 }
 
 impl From<Refusal> for Fault {

@@ -1,10 +1,10 @@
 //! A run over the lines.
 use crate::desk::Desk;
 use crate::fault::Fault;
-use crate::words::{longs, number};
-use crate::{replies, sweeps};
+use crate::{sweeps, turns};
 use std::alloc::{AllocError, Global};
 use std::mem;
+use step_words::{long, longs, number};
 
 /// What the lines are about: a store and its hall, the lines since the store was new, and those over which lines are made again.
 #[derive(Drop)]
@@ -25,7 +25,7 @@ fn fault_text(alloc: Global, fault: &Fault) -> Result<String, AllocError> {
     match fault {
         Fault::NoCommand => String::from_str(alloc, "no command"),
         Fault::Closed => String::from_str(alloc, "no hall is open"),
-        Fault::Refused(refusal) => replies::refusal(alloc, refusal),
+        Fault::Refused(refusal) => step_words::refusal(alloc, refusal),
         Fault::NotOpened(refused) => format!(in alloc; "{refused:?}"),
         Fault::Wrong(finding) => format!(in alloc; "{finding:?}"),
         Fault::Found(call, choice, finding) => {
@@ -101,6 +101,13 @@ impl Run {
         )
     }
 
+    fn turns(&mut self, seed: &str, count: &str) -> Result<String, Fault> {
+        let seed = long(seed)?;
+        let count = long(count)?;
+        let lines = self.lines.as_slice();
+        turns::play(self.alloc, &mut self.trial, lines, seed, count)
+    }
+
     fn faults(&self, file: &str) -> Result<String, Fault> {
         let count = self.desk.faults(number(file)?);
         Ok(format!(in self.alloc; "{count}")?)
@@ -120,6 +127,7 @@ impl Run {
             ["fail", calls @ ..] => self.fail(calls),
             ["sweep"] => self.sweep(),
             ["fail_each"] => self.fail_each(),
+            ["turns", seed, count] => self.turns(seed, count),
             ["state"] => self.desk.state(),
             ["faults", file] => self.faults(file),
             _ => self.keep(line),

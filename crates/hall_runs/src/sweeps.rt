@@ -48,7 +48,7 @@ fn from(alloc: Global, moment: u64) -> Result<Vec<u64>, Fault> {
 }
 
 /// The databases of the run that stands on this desk.
-fn databases(alloc: Global, desk: &Desk) -> Result<Databases, Fault> {
+pub fn databases(alloc: Global, desk: &Desk) -> Result<Databases, Fault> {
     match &desk.hall {
         Some(hall) => Databases::of(alloc, hall),
         None => Err(Fault::Closed),
@@ -56,7 +56,7 @@ fn databases(alloc: Global, desk: &Desk) -> Result<Databases, Fault> {
 }
 
 /// The number of the database that is opened behind a stop, of which no call fails, and which is to be as it should.
-fn opened(alloc: Global, desk: &mut Desk, databases: &Databases) -> Result<u64, Fault> {
+pub fn opened(alloc: Global, desk: &mut Desk, databases: &Databases) -> Result<u64, Fault> {
     desk.fail_at(Vec::new(alloc));
     desk.open()?;
     let acknowledged = desk.acknowledged;

@@ -1,13 +1,14 @@
 //! A line is a step, a process, or a word to the machine.
 use crate::answers;
-use crate::list_hall::Hall;
 use crate::list_machine::{Between, ListMachine, Nobody, Others};
 use crate::trace::Trace;
-use crate::words::{self, Fault, long, number};
-use kinds::{Digest, Refusal, bad_value};
+use inventory_work::Listed;
+use kinds::{Digest, Holder, Refusal, bad_value};
+use plain_hall::Hall;
 use std::alloc::{AllocError, Global};
 use std::mem;
-use steps::{Asked, Stepper};
+use step_words::{Fault, long, number};
+use steps::{Asked, Reply, Step, Stepper};
 
 /// A transaction has at most so many tickets.
 const MOST_TICKETS: usize = 256;
@@ -15,156 +16,97 @@ const MOST_TICKETS: usize = 256;
 /// A piece has at most so many bytes.
 const MOST_BYTES: usize = 65536;
 
-fn write<P: Stepper>(alloc: Global, p: &mut P, ticket: &str, text: &str) -> Result<String, Fault> {
-    let bytes = words::bytes_of(alloc, text)?;
-    let ticket = long(ticket)?;
-    let len = bytes.as_slice().len();
-    if len < 1 || len > MOST_BYTES {
-        return Err(Fault::Refused(bad_value()));
+fn write<P: Stepper>(p: &mut P, ticket: u64, bytes: &[u8]) -> Result<u64, Refusal> {
+    if bytes.len() < 1 || bytes.len() > MOST_BYTES {
+        return Err(bad_value());
     }
-    let answer = p.write_piece(ticket, bytes.as_slice());
-    Ok(answers::numbered(alloc, "bytes", answer)?)
+    p.write_piece(ticket, bytes)
 }
 
 /// Commits what is asked, with these tickets.
-fn commit<P: Stepper>(
-    alloc: Global,
-    p: &mut P,
-    asked: &Asked,
-    tickets: &[u64],
-) -> Result<String, Fault> {
+fn commit<P: Stepper>(p: &mut P, asked: &Asked, tickets: &[u64]) -> Result<u64, Refusal> {
     if tickets.len() > MOST_TICKETS {
-        return Err(Fault::NoCommand);
+        return Err(bad_value());
     }
-    let answer = p.commit(asked, tickets);
-    Ok(answers::numbered(alloc, "number", answer)?)
+    p.commit(asked, tickets)
 }
 
-fn commit_asked<P: Stepper>(
+/// The bytes of a piece.
+fn read<P: Stepper>(
     alloc: Global,
     p: &mut P,
-    asked: Asked,
-    tickets: &[&str],
-) -> Result<String, Fault> {
-    let text = match words::tickets(alloc, tickets) {
-        Ok(tickets) => commit(alloc, p, &asked, tickets.as_slice()),
-        Err(fault) => Err(fault),
-    };
-    drop(asked);
-    text
-}
-
-/// Which piece of which object is read.
-#[derive(Clone, Copy)]
-struct Piece {
     object: u64,
-    kept: Digest,
+    kept: &Digest,
     from: u32,
     offset: u64,
     wanted: usize,
-}
-
-fn piece_of(alloc: Global, words: &[&str]) -> Result<Piece, Fault> {
-    let [object, text, from, offset, wanted] = words else {
-        return Err(Fault::NoCommand);
-    };
-    Ok(Piece {
-        object: long(object)?,
-        from: number(from)?,
-        offset: long(offset)?,
-        wanted: number(wanted)? as usize,
-        kept: words::digest(alloc, text)?,
-    })
-}
-
-fn read<P: Stepper>(alloc: Global, p: &mut P, piece: &Piece) -> Result<String, Fault> {
-    if piece.wanted > MOST_BYTES {
-        return Err(Fault::Refused(bad_value()));
+) -> Result<Listed<u8>, Refusal> {
+    if wanted > MOST_BYTES {
+        return Err(bad_value());
     }
-    let mut into = vec![in alloc; 0u8; piece.wanted]?;
-    let answer = p.read_piece(
-        piece.object,
-        &piece.kept,
-        piece.from,
-        piece.offset,
-        into.as_mut_slice(),
-    );
-    Ok(answers::read(alloc, answer, into.as_slice())?)
-}
-
-fn ask<P: Stepper>(alloc: Global, p: &mut P, words: &[&str]) -> Result<String, Fault> {
-    let query = words::query(words)?;
-    let answer = p.ask(&query);
-    drop(query);
-    Ok(answers::asked(alloc, answer)?)
-}
-
-fn open_copy<P: Stepper>(
-    alloc: Global,
-    p: &mut P,
-    object: &str,
-    avoid: &str,
-    words: &[&str],
-) -> Result<String, Fault> {
-    let answer = p.open_copy(long(object)?, words::aim(words)?, number(avoid)?);
-    Ok(answers::numbered(alloc, "ticket", answer)?)
-}
-
-/// Steps with tickets.
-fn ticket_step<P: Stepper>(alloc: Global, p: &mut P, line: &[&str]) -> Result<String, Fault> {
-    match line {
-        ["open_new", pool, size, prefer] => {
-            let answer = p.open_new(number(pool)?, long(size)?, number(prefer)?);
-            Ok(answers::numbered(alloc, "ticket", answer)?)
+    let mut into = vec![in alloc; 0u8; wanted]?;
+    match p.read_piece(object, kept, from, offset, into.as_mut_slice()) {
+        Ok(count) => {
+            into.truncate(count);
+            Ok(Listed::from_vec(into))
         }
-        ["open_copy", object, avoid, aim @ ..] => open_copy(alloc, p, object, avoid, aim),
-        ["write", ticket, text] => write(alloc, p, ticket, text),
-        ["copy_piece", ticket] => {
-            let answer = p.copy_piece(long(ticket)?);
-            Ok(answers::numbered(alloc, "bytes", answer)?)
+        Err(refusal) => Err(refusal),
+    }
+}
+
+/// What is answered to a step.
+fn make<P: Stepper>(alloc: Global, p: &mut P, step: &Step) -> Reply {
+    match step {
+        Step::OpenNew(pool, size, prefer) => Reply::OpenNew(p.open_new(*pool, *size, *prefer)),
+        Step::OpenCopy(object, aim, avoid) => Reply::OpenCopy(p.open_copy(*object, *aim, *avoid)),
+        Step::WritePiece(ticket, bytes) => Reply::WritePiece(write(p, *ticket, bytes.as_slice())),
+        Step::CopyPiece(ticket) => Reply::CopyPiece(p.copy_piece(*ticket)),
+        Step::Seal(ticket) => Reply::Seal(p.seal(*ticket)),
+        Step::Commit(asked, tickets) => Reply::Commit(commit(p, asked, tickets.as_slice())),
+        Step::DropTicket(ticket) => Reply::DropTicket(p.drop_ticket(*ticket)),
+        Step::ReadPiece(object, kept, from, offset, wanted) => {
+            let wanted = *wanted as usize;
+            Reply::ReadPiece(read(alloc, p, *object, kept, *from, *offset, wanted))
         }
-        ["seal", ticket] => Ok(answers::done(alloc, p.seal(long(ticket)?))?),
-        ["drop", ticket] => Ok(answers::done(alloc, p.drop_ticket(long(ticket)?))?),
+        Step::Ask(query) => Reply::Ask(p.ask(query)),
+        Step::Image(kind) => Reply::Image(p.image(*kind)),
+        Step::Reuse(file) => Reply::Reuse(p.reuse(*file)),
+        Step::Force => Reply::Force(p.force()),
+    }
+}
+
+/// A step of those that may be made by anyone.
+fn make_line<P: Stepper>(alloc: Global, p: &mut P, line: &[&str]) -> Result<String, Fault> {
+    let step = step_words::step(alloc, line)?;
+    let reply = make(alloc, p, &step);
+    drop(step);
+    let text = step_words::text(alloc, &reply);
+    drop(reply);
+    Ok(text?)
+}
+
+/// What is waited for.
+fn holder(words: &[&str]) -> Result<Holder, Fault> {
+    match words {
+        ["ticket", number] => Ok(Holder::Ticket(long(number)?)),
+        ["image", actor] => Ok(Holder::Image(number(actor)?)),
+        ["unforced", number] => Ok(Holder::Unforced(long(number)?)),
         _ => Err(Fault::NoCommand),
-    }
-}
-
-/// Steps that make transactions.
-fn commit_step<P: Stepper>(alloc: Global, p: &mut P, line: &[&str]) -> Result<String, Fault> {
-    match line {
-        ["plain", digits, tickets @ ..] => {
-            commit_asked(alloc, p, words::plain(alloc, digits)?, tickets)
-        }
-        ["backup", filespace, path, mtime, text, tickets @ ..] => {
-            let asked = words::backup(alloc, &[*filespace, *path, *mtime, *text])?;
-            commit_asked(alloc, p, asked, tickets)
-        }
-        ["hold", filespace, path, until, text, tickets @ ..] => {
-            let asked = words::hold(alloc, &[*filespace, *path, *until, *text])?;
-            commit_asked(alloc, p, asked, tickets)
-        }
-        ["placed", tickets @ ..] => commit_asked(alloc, p, Asked::Placed, tickets),
-        _ => ticket_step(alloc, p, line),
     }
 }
 
 /// A step.
 fn step<P: Stepper>(alloc: Global, p: &mut P, line: &[&str]) -> Result<String, Fault> {
     match line {
-        ["read", words @ ..] => read(alloc, p, &piece_of(alloc, words)?),
-        ["ask", words @ ..] => ask(alloc, p, words),
-        ["image", words @ ..] => {
-            let answer = p.image(words::image(words)?);
-            Ok(answers::image(alloc, answer)?)
+        ["wait", words @ ..] => {
+            let answer = p.wait(holder(words)?);
+            Ok(step_words::done(alloc, &answer)?)
         }
-        ["reuse", file] => {
-            let answer = p.reuse(number(file)?);
-            Ok(answers::numbered(alloc, "number", answer)?)
+        ["refused"] => {
+            let count = p.refused();
+            Ok(format!(in alloc; "refused {count}")?)
         }
-        ["force"] => Ok(answers::numbered(alloc, "number", p.force())?),
-        ["wait", words @ ..] => Ok(answers::done(alloc, p.wait(words::holder(words)?))?),
-        ["refused"] => Ok(answers::numbered(alloc, "refused", Ok(p.refused()))?),
-        _ => commit_step(alloc, p, line),
+        _ => make_line(alloc, p, line),
     }
 }
 
@@ -211,7 +153,7 @@ fn begin<B: Between>(alloc: Global, machine: &mut ListMachine<B>) -> Result<Stri
 /// Another actor's transaction comes before one of the next steps.
 fn queue(alloc: Global, others: &mut Others, actor: &str, digits: &str) -> Result<String, Fault> {
     let actor = number(actor)?;
-    others.queue(actor, words::entry(alloc, digits)?)?;
+    others.queue(actor, step_words::entry(alloc, digits)?)?;
     Ok(String::from_str(alloc, "queued")?)
 }
 
@@ -260,7 +202,7 @@ impl Desk<'_> {
         match self.answer(words.as_slice()) {
             Ok(text) => Ok(text),
             Err(Fault::NoCommand) => String::from_str(self.alloc, "no command"),
-            Err(Fault::Refused(refusal)) => answers::refusal(self.alloc, refusal),
+            Err(Fault::Refused(refusal)) => step_words::refusal(self.alloc, &refusal),
         }
     }
 }

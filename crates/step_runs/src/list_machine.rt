@@ -4,11 +4,11 @@ ghost use Rattle.kinds.specs.declared.refusal.Refusal.TheVariants as refusal;
 ghost use Rattle.steps.specs.Calls.{forced};
 ghost use Rattle.step_runs.specs.Traces.{Same};
 
-use crate::list_hall::Hall;
 use crate::trace::{Kind, Trace};
 use entries::Entry;
 use inventory_answers::{Answer, Query};
 use kinds::{Digest, Holder, Refusal};
+use plain_hall::Hall;
 use space::Aim;
 use std::alloc::Global;
 use std::collections::VecDeque;

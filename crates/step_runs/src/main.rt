@@ -14,23 +14,16 @@
 //!   `ACTOR refused`: how many of its steps were refused as such of an object that can't be moved or stored, since its turn began.
 //! - `ACTOR EXPIRE`: expiration; its answer, and then a line for each step that it made: the number of the last transaction before it, its kind, and why it was
 //!   refused, where it was.
-//! - A text is the word's bytes, `COUNT*BYTE` for so many bytes with this number, or `-` for none.
+//! - A text is the word's bytes, `COUNT*BYTE` for so many bytes with this number, several of these with `+` between them, or `-` for none.
 //! - A comment, which begins with `#`, and an empty line are printed as they stand.
 //!
 //! The stored output was written by hand, from the rules of steps, space and retention, and not by this program.
 #![tactic(auto)]
 
 mod answers;
-mod committing;
-mod images;
 mod lines;
-mod list_hall;
 mod list_machine;
-mod opening;
-mod pieces;
-mod told;
 mod trace;
-mod words;
 
 use lines::Desk;
 use list_machine::{ListMachine, Nobody, Others};

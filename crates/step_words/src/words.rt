@@ -74,6 +74,17 @@ impl<'a> Words<'a> {
         longs(alloc, self.rest)
     }
 
+    /// The next word as a day until which something is kept; `-` is none.
+    fn until(&mut self) -> Option<u32> {
+        match self.rest {
+            ["-", rest @ ..] => {
+                self.rest = rest;
+                None
+            }
+            _ => Some(self.number()),
+        }
+    }
+
     /// All words that were read were there, and were what they were read as.
     fn fine(&self) -> Result<(), Fault> {
         if self.is_fine {
@@ -147,7 +158,7 @@ pub fn digest(alloc: Global, word: &str) -> Result<Digest, Fault> {
 }
 
 /// The transaction that hexadecimal digits stand for.
-fn entry(alloc: Global, digits: &str) -> Result<Entry, Fault> {
+pub fn entry(alloc: Global, digits: &str) -> Result<Entry, Fault> {
     let bytes = hex::decode(alloc, digits.as_bytes())
         .ok()
         .ok_or(Fault::NoCommand)?;
@@ -194,7 +205,7 @@ pub fn backup(alloc: Global, words: &mut Words<'_>) -> Result<Asked, Fault> {
 
 fn held_item(alloc: Global, words: &mut Words<'_>) -> Result<HeldItem, Fault> {
     let path = words.word();
-    let until = words.number();
+    let until = words.until();
     let text = words.word();
     words.fine()?;
     let digest = digest(alloc, text)?;
@@ -204,11 +215,11 @@ fn held_item(alloc: Global, words: &mut Words<'_>) -> Result<HeldItem, Fault> {
         description,
         mtime: 0,
         digest,
-        until: Some(until),
+        until,
     })
 }
 
-/// A file that is archived until a day, without a description.
+/// A file that is archived, until a day or for ever, without a description.
 pub fn hold(alloc: Global, words: &mut Words<'_>) -> Result<Asked, Fault> {
     let filespace = words.number();
     let items = only(alloc, held_item(alloc, words)?)?;
@@ -247,6 +258,10 @@ pub fn aim(words: &mut Words<'_>) -> Aim {
 pub fn image(words: &mut Words<'_>) -> ImageKind {
     match words.word() {
         "checkpoint" => ImageKind::Checkpoint,
+        "backup" => ImageKind::Backup,
+        "since" => ImageKind::Since {
+            after: words.number(),
+        },
         "next" => ImageKind::Next,
         _ => {
             words.fail();

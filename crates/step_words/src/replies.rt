@@ -5,7 +5,8 @@ use kinds::{Digest, Refusal};
 use std::alloc::{AllocError, Global};
 use steps::{ImageReply, Reply};
 
-fn put_digest(out: &mut String, digest: &Digest) -> Result<(), AllocError> {
+/// Adds the hexadecimal digits of a digest.
+pub fn put_digest(out: &mut String, digest: &Digest) -> Result<(), AllocError> {
     for byte in digest.0 {
         write!(out, "{byte:02x}")?;
     }
@@ -32,8 +33,8 @@ pub fn refusal(alloc: Global, refusal: &Refusal) -> Result<String, AllocError> {
     }
 }
 
-/// A word and a number.
-fn numbered(
+/// A word and a number, or why there is none.
+pub fn numbered(
     alloc: Global,
     word: &str,
     answer: &Result<u64, Refusal>,
@@ -45,7 +46,7 @@ fn numbered(
 }
 
 /// What a step answered that answers nothing more.
-fn done(alloc: Global, answer: &Result<(), Refusal>) -> Result<String, AllocError> {
+pub fn done(alloc: Global, answer: &Result<(), Refusal>) -> Result<String, AllocError> {
     match answer {
         Ok(()) => String::from_str(alloc, "done"),
         Err(e) => refusal(alloc, e),

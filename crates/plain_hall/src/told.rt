@@ -1,6 +1,6 @@
 //! What the journal of a run tells, told from the database before and after each transaction.
 ghost use Rattle.std.specs.Prelude.{◌≡◌};
-ghost use Rattle.step_runs.specs.Marks.{of_object, of_copy, of_path};
+ghost use Rattle.plain_hall.specs.Marks.{of_object, of_copy, of_path};
 
 use inventory_rows::Tables;
 use inventory_rows::version_groups::{CopyRow, Filespace, Group, Version};

@@ -3,9 +3,9 @@ use Rattle.std.specs.Prelude.{ℕ, ◌==◌, ◌&&◌, List, Option}
 use Rattle.std.specs.List.{find}
 use Rattle.std.specs.Option.{option_map}
 use Rattle.kinds.specs.Names.{is_same_name}
-use Rattle.step_runs.specs.declared.told.CopyMark.{CopyMark}
-use Rattle.step_runs.specs.declared.told.ObjectMark.{ObjectMark}
-use Rattle.step_runs.specs.declared.told.PathMark.{PathMark}
+use Rattle.plain_hall.specs.declared.told.CopyMark.{CopyMark}
+use Rattle.plain_hall.specs.declared.told.ObjectMark.{ObjectMark}
+use Rattle.plain_hall.specs.declared.told.PathMark.{PathMark}
 
 -- the newest transaction with a mark of the object
 abbrev pub of_object : ℕ → List ObjectMark → Option ℕ

@@ -25,6 +25,11 @@ fn write(alloc: Global, words: &mut Words<'_>) -> Result<Step, Fault> {
     words.make(Step::WritePiece(ticket, Listed::from_vec(bytes)))
 }
 
+fn copy_piece(words: &mut Words<'_>) -> Result<Step, Fault> {
+    let ticket = words.long();
+    words.make(Step::CopyPiece(ticket))
+}
+
 fn seal(words: &mut Words<'_>) -> Result<Step, Fault> {
     let ticket = words.long();
     words.make(Step::Seal(ticket))
@@ -42,6 +47,11 @@ fn read(alloc: Global, words: &mut Words<'_>) -> Result<Step, Fault> {
     let offset = words.long();
     let wanted = words.number();
     words.make(Step::ReadPiece(object, digest, from, offset, wanted))
+}
+
+fn reuse(words: &mut Words<'_>) -> Result<Step, Fault> {
+    let file = words.number();
+    words.make(Step::Reuse(file))
 }
 
 fn ask(words: &mut Words<'_>) -> Result<Step, Fault> {
@@ -89,6 +99,7 @@ fn ticket_step(alloc: Global, word: &str, words: &mut Words<'_>) -> Result<Step,
         "open_new" => open_new(words),
         "open_copy" => open_copy(words),
         "write" => write(alloc, words),
+        "copy_piece" => copy_piece(words),
         "seal" => seal(words),
         "drop" => drop_ticket(words),
         _ => commit_step(alloc, word, words),
@@ -102,6 +113,7 @@ pub fn step(alloc: Global, line: &[&str]) -> Result<Step, Fault> {
         "read" => read(alloc, &mut words),
         "ask" => ask(&mut words),
         "image" => image(&mut words),
+        "reuse" => reuse(&mut words),
         "force" => words.make(Step::Force),
         word => ticket_step(alloc, word, &mut words),
     }
