@@ -96,8 +96,7 @@ impl Hall {
         let mut start: u64 = 0;
         for segment in segments {
             let end = start.saturating_add(segment.len);
-            if count > 0
-                && start < offset.saturating_add(count)
+            if start < offset.saturating_add(count)
                 && offset < end
                 && !is_readable(tables, segment.file)
             {
