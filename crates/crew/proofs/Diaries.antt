@@ -7,13 +7,13 @@ use Rattle.steps.specs.Events.{Deed, Event, event, is_listed, refusal, refusal_i
 use Rattle.crew.specs.Passes.{Diary, Did}
 
 -- one step was made, and the refused ones counted
-pub made_by : (old mid after : Diary) (count count_mid count_after : ℕ) (deed : Deed) (why : Option Refusal) → mid ≡ old → count_mid ≡ count → ((n : ℕ) × (after ≡ (mid.0, mid.1 ++ event n deed ∷ [])))
-    → refusal deed ≡ why → count_after ≡ raised count_mid why → is_listed deed ≡ true → (n : ℕ) × Did old count (event n deed ∷ []) after count_after × (is_listed deed ≡ true)
-made_by old mid after count count_mid count_after deed why same same_count told answered counted listed = (
+pub made_by : (old mid after last : Diary) (count count_mid count_after : ℕ) (deed : Deed) (why : Option Refusal) → mid ≡ old → count_mid ≡ count → ((n : ℕ) × (after ≡ (mid.0, mid.1 ++ event n deed ∷ [])))
+    → refusal deed ≡ why → last ≡ after → count_after ≡ raised count_mid why → is_listed deed ≡ true → (n : ℕ) × Did old count (event n deed ∷ []) last count_after × (is_listed deed ≡ true)
+made_by old mid after last count count_mid count_after deed why same same_count told answered noted counted listed = (
   told.0,
   (
-    ap (λ (d : Diary). d.0) told.1 ∙ ap (λ (d : Diary). d.0) same,
-    ap (λ (d : Diary). d.1) told.1 ∙ ap (λ (d : Diary). d.1 ++ event told.0 deed ∷ []) same,
+    ap (λ (d : Diary). d.0) noted ∙ ap (λ (d : Diary). d.0) told.1 ∙ ap (λ (d : Diary). d.0) same,
+    ap (λ (d : Diary). d.1) noted ∙ ap (λ (d : Diary). d.1) told.1 ∙ ap (λ (d : Diary). d.1 ++ event told.0 deed ∷ []) same,
     counted ∙ ap (λ (n : ℕ). raised n why) same_count ∙ ap (λ (o : Option Refusal). raised count o) (sym answered),
   ),
   listed,

@@ -18,6 +18,7 @@ pub(crate) struct Board<S: Store, B: Origin> {
     hall: Hall<S>,
     keeper: Keeper<B>,
     changes: u64,
+    working: u64,
     is_stopped: bool,
     of: PhantomData<B>,
 }
@@ -52,10 +53,10 @@ pub(crate) struct Read<'a> {
     pub(crate) into: &'a [u8],
 }
 
-/// Whether a step with this answer may have changed what others wait for.
-fn is_change<A>(answer: &Result<A, Refusal>) -> bool {
+/// Whether a step with this answer may have changed what others wait for, where it may free that if it is answered.
+fn is_change<A>(frees: bool, answer: &Result<A, Refusal>) -> bool {
     match answer {
-        Ok(_) => true,
+        Ok(_) => frees,
         Err(refusal) => matches!(refusal.number(), 25 | 31 | 40 | 41 | 50),
     }
 }
@@ -74,6 +75,7 @@ impl<S: Store, B: Origin> Board<S, B> {
             hall,
             keeper,
             changes: 0,
+            working: 0,
             is_stopped: false,
             of: PhantomData,
         }
@@ -94,7 +96,7 @@ impl<S: Store, B: Origin> Board<S, B> {
         let answer = order.make(&mut self.hall, own.actor());
         self.keeper
             .tell::<Brand, O, Result<A, Refusal>>(named, own, n, order, &answer);
-        self.note(is_change(&answer), is_memory(&answer));
+        self.note(is_change(order.frees(), &answer), is_memory(&answer));
         answer
     }
 
@@ -130,6 +132,7 @@ impl<S: Store, B: Origin> Board<S, B> {
         };
         self.keeper
             .tell::<Brand, Reading<'_>, Read<'_>>(named, own, n, &asked, &read);
+        self.note(false, is_memory(&answer));
         answer
     }
 
@@ -145,6 +148,30 @@ impl<S: Store, B: Origin> Board<S, B> {
         self.changes
     }
 
+    /// One more actor makes steps: it begins, or has waited.
+    pub(crate) fn join(&mut self)
+        ensures { self.new ≡ self.old }
+    {
+        self.working = self.working.saturating_add(1);
+    }
+
+    /// An actor makes no steps for now: it waits, or has ended.
+    pub(crate) fn leave(&mut self)
+        ensures { self.new ≡ self.old }
+    {
+        self.working = self.working.saturating_sub(1);
+    }
+
+    /// Others may have changed the hall behind so many changes, or the block is to end.
+    pub(crate) fn is_changed(&self, seen: u64) -> bool {
+        self.changes != seen || self.is_stopped
+    }
+
+    /// Nothing has changed behind so many changes, and some actor makes steps that may change it.
+    pub(crate) fn is_awaited(&self, seen: u64) -> bool {
+        !self.is_changed(seen) && self.working > 0
+    }
+
     /// A step wanted memory: the block is to end.
     pub(crate) fn is_stopped(&self) -> bool {
         self.is_stopped
@@ -158,6 +185,7 @@ impl<S: Store, B: Origin> Board<S, B> {
             hall,
             keeper,
             changes: _,
+            working: _,
             is_stopped: _,
             of: _,
         } = self;

@@ -38,7 +38,9 @@ pub(crate) fn run_job<J: Job, S: Store, B: Origin, R: Wait, G: Gate>(
         return;
     };
     let mut pass = Pass::new(shared, rt, gate, own);
+    pass.begin();
     seat.0.run(&mut pass);
+    pass.end();
     pass.pass_gate();
     seat.1 = Some(pass.into_own());
 }

@@ -30,6 +30,11 @@ pub(crate) trait Order<A> {
         ensures listed { is_listed (deed self.now result) ≡ true }
         ensures goes { Goes S.told hall.old hall.new };
 
+    /// Whether it may free what others wait for, where it is answered.
+    fn frees(&self) -> bool {
+        true
+    }
+
     /// Why it was refused is what its reply says.
     ghost answers: { (order : Self) (answer : Result A Refusal) → refusal (deed order answer) ≡ refusal_in answer };
 }
@@ -52,6 +57,10 @@ impl Order<u64> for OpensNew {
 
     fn make<S: Store>(&self, hall: &mut Hall<S>, actor: u32) -> Result<u64, Refusal> {
         hall.open_new(actor, self.pool, self.size, self.prefer)
+    }
+
+    fn frees(&self) -> bool {
+        false
     }
 
     ghost answers = { λ o answer. refl };
@@ -77,6 +86,10 @@ impl Order<u64> for OpensCopy {
         hall.open_copy(actor, self.object, self.aim, self.avoid)
     }
 
+    fn frees(&self) -> bool {
+        false
+    }
+
     ghost answers = { λ o answer. refl };
 }
 
@@ -97,6 +110,10 @@ impl Order<u64> for Writes<'_> {
 
     fn make<S: Store>(&self, hall: &mut Hall<S>, actor: u32) -> Result<u64, Refusal> {
         hall.write_piece(actor, self.ticket, self.bytes)
+    }
+
+    fn frees(&self) -> bool {
+        false
     }
 
     ghost answers = { λ o answer. refl };
@@ -120,6 +137,10 @@ impl Order<u64> for Copies {
         hall.copy_piece(actor, self.ticket)
     }
 
+    fn frees(&self) -> bool {
+        false
+    }
+
     ghost answers = { λ o answer. refl };
 }
 
@@ -139,6 +160,10 @@ impl Order<()> for Seals {
 
     fn make<S: Store>(&self, hall: &mut Hall<S>, actor: u32) -> Result<(), Refusal> {
         hall.seal(actor, self.ticket)
+    }
+
+    fn frees(&self) -> bool {
+        false
     }
 
     ghost answers = { λ o answer. refl };
@@ -203,6 +228,10 @@ impl Order<Answer> for Asks<'_> {
 
     fn make<S: Store>(&self, hall: &mut Hall<S>, actor: u32) -> Result<Answer, Refusal> {
         hall.ask(actor, self.query)
+    }
+
+    fn frees(&self) -> bool {
+        false
     }
 
     ghost answers = { λ o answer. refl };

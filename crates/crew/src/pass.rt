@@ -1,7 +1,10 @@
 //! One actor of a block.
 ghost use Rattle.std.specs.Prelude.{◌≡◌, ◌≤◌, ◌^◌, ◌⊎◌, [], length, Ok, Err, IfOk, MatchBool};
+ghost use Rattle.kinds.specs.declared.refusal.Refusal.TheVariants.{Busy, Memory};
 ghost use Rattle.steps.specs.Calls.{Does, MakesStep, piece_of};
+ghost use Rattle.steps.specs.Events.{refusal_in};
 ghost use Rattle.steps.specs.Events.Deed.{ReadPiece};
+ghost use Rattle.hall.specs.Alone.{raised};
 ghost use Rattle.crew.specs.Passes.{Did};
 
 use crate::board::Board;
@@ -93,7 +96,25 @@ impl<'a, S: Store, B: Origin, R, G: Gate> Pass<'a, S, B, R, G> {
     }
 }
 
+/// How often the hall had changed when an actor was last refused for what another holds, behind a step with this answer, when it had changed so often.
+fn seen_behind<A>(seen: u64, changes: u64, answer: &Result<A, Refusal>) -> u64 {
+    match answer {
+        Err(Refusal::Busy(_)) => changes,
+        _ => seen,
+    }
+}
+
 impl<S: Store, B: Origin, R: Wait, G: Gate> Pass<'_, S, B, R, G> {
+    /// Notes what a step was answered behind which the hall had changed so often, and wakes those that wait.
+    fn note<A>(&mut self, changes: u64, answer: &Result<A, Refusal>)
+        ensures own { self.new.own ≡ self.old.own }
+        ensures refused { self.new.refused ≡ raised self.old.refused (refusal_in answer.now) }
+    {
+        self.shared.changed.notify_all();
+        self.seen = seen_behind(self.seen, changes, answer);
+        self.refused = counted(self.refused, answer);
+    }
+
     /// Makes a step, whatever else was answered in the block.
     fn make_always<A, O: Order<A>>(&mut self, order: &O) -> Result<A, Refusal>
         requires { O.fits order.now }
@@ -102,10 +123,9 @@ impl<S: Store, B: Origin, R: Wait, G: Gate> Pass<'_, S, B, R, G> {
         self.pass_gate();
         let mut board = self.shared.board.lock(self.rt);
         let answer = board.make(&self.shared.named, &mut self.own, order);
-        self.seen = board.changes();
+        let changes = board.changes();
         drop(board);
-        self.shared.changed.notify_all();
-        self.refused = counted(self.refused, &answer);
+        self.note(changes, &answer);
         answer
     }
 
@@ -125,16 +145,40 @@ impl<S: Store, B: Origin, R: Wait, G: Gate> Pass<'_, S, B, R, G> {
         self.make_always(order)
     }
 
-    /// Waits until the hall changed since the actor's last step, or the block is to end.
-    fn wait_for_change(&self) {
+    /// Waits until the hall changed since the actor was last refused for what another holds, or the block is to end. Where all others that are under way wait, too, it waits for none of them, and answers false.
+    fn wait_for_change(&self) -> bool {
         let seen = self.seen;
-        let board = self.shared.board.lock(self.rt);
-        let board = self.shared.changed.wait_while(
-            self.rt,
-            board,
-            |it| it.changes() == seen && !it.is_stopped(),
-        );
+        let mut board = self.shared.board.lock(self.rt);
+        board.leave();
+        let mut board = self
+            .shared
+            .changed
+            .wait_while(self.rt, board, |it| it.is_awaited(seen));
+        board.join();
+        let is_changed = board.is_changed(seen);
         drop(board);
+        is_changed
+    }
+
+    /// Waits for what another holds.
+    fn wait_for(&self, holder: Holder) -> Result<(), Refusal>
+        ensures { (result ≡ Ok tt) ⊎ (result ≡ Err (Busy holder)) ⊎ (result ≡ Err Memory) }
+    {
+        if self.wait_for_change() {
+            return Ok(());
+        }
+        Err(Refusal::Busy(holder))
+    }
+
+    /// The actor is under way.
+    pub(crate) fn begin(&self) {
+        self.shared.board.lock(self.rt).join();
+    }
+
+    /// The actor has ended: those that wait don't wait for it.
+    pub(crate) fn end(&self) {
+        self.shared.board.lock(self.rt).leave();
+        self.shared.changed.notify_all();
     }
 }
 
@@ -210,9 +254,9 @@ impl<S: Store, B: Origin, R: Wait, G: Gate> Stepper for Pass<'_, S, B, R, G> {
             offset,
             into,
         );
-        self.seen = board.changes();
+        let changes = board.changes();
         drop(board);
-        self.refused = counted(self.refused, &answer);
+        self.note(changes, &answer);
         answer
     }
 
@@ -244,10 +288,8 @@ impl<S: Store, B: Origin, R: Wait, G: Gate> Stepper for Pass<'_, S, B, R, G> {
     fn wait(&mut self, holder: Holder) -> Result<(), Refusal> {
         match holder {
             Holder::Unforced(_) => without_number(self.force()),
-            _ => {
-                self.wait_for_change();
-                Ok(())
-            }
+            Holder::Ticket(number) => self.wait_for(Holder::Ticket(number)),
+            Holder::Image(actor) => self.wait_for(Holder::Image(actor)),
         }
     }
 
