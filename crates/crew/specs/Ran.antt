@@ -1,6 +1,8 @@
 -- What several actors did on a hall, one step after the other.
-use Rattle.std.specs.Prelude.{◌≡◌, ℕ, List, [], ◌∷◌, Option, Some}
+use Rattle.std.specs.Prelude.{◌≡◌, ◌⊎◌, ℕ, false, List, [], ◌∷◌, Option, Some}
+use Rattle.std.specs.List.{AllByRecursion}
 use Rattle.store_api.specs.Disk.{History}
+use Rattle.hall.specs.Alone.{is_read}
 use Rattle.hall.specs.Held.{Hall, Held}
 use Rattle.hall.specs.Steps.{Goes, Steps}
 use Rattle.machine.specs.Turns.{Turn}
@@ -24,3 +26,7 @@ began told moment faults hall = record { held = hall.held; told = told hall.stor
 -- from such a hall these turns led here
 abbrev pub RanFrom : {S : Type 0} → (told : S → Option History) → (moment : S → ℕ) → (faults : S → ℕ → ℕ) → Option Began → List Turn → Hall S → Type 0
 RanFrom {S} told moment faults first turns new = (old : Hall S) × (first ≡ Some (began told moment faults old)) × Ran told moment faults turns old new
+
+-- What was read are the machine's bytes: the store tells its bytes and was sound when the hall was opened, or nobody read.
+abbrev pub ReadExactly : (trusted : Type 0) → List Turn → Type 0
+ReadExactly trusted turns = trusted ⊎ AllByRecursion (λ t. is_read t.did.deed ≡ false) turns
