@@ -1,0 +1,5 @@
+pub mod Diaries
+pub mod Fitting
+pub mod Keeping
+pub mod Runs
+pub mod Seating

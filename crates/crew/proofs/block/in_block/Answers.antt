@@ -1,0 +1,14 @@
+use Rattle.std.proofs.Common.{arith}
+use Rattle.crew.proofs.Seating.{each_did}
+use Rattle.crew.proofs.block.in_block.Goals as goal
+
+pub end_all-jobs-requires-clause-room : goal.end_all-jobs-requires-clause-room
+end_all-jobs-requires-clause-room g c = omega (arith, c.begin_all-seats.ensures.len, c.run_all-seats.ensures.room, c.len.ensures, c.in-Ok.ensures.capacity)
+
+pub returns-clause-ran : goal.returns-clause-ran
+returns-clause-ran g c = (
+  c.into_parts-hall.result.1.0,
+  c.into_parts-hall.ensures,
+  each_did g.J.Job.did c.args.first c.into_parts-hall.result.1.0 c.args.jobs.items c.end_all-jobs.result.items c.begin_all-seats.result.items c.run_all-seats.result.items c.begin_all-seats.ensures.seats
+      c.run_all-seats.ensures.len c.run_all-seats.ensures.worked c.end_all-jobs.ensures.told c.end_all-jobs.ensures.jobs,
+)

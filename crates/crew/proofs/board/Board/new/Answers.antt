@@ -1,0 +1,5 @@
+use Rattle.crew.proofs.Runs.{from_none}
+use Rattle.crew.proofs.board.Board.new.Goals as goal
+
+pub invariant_of-result : goal.invariant_of-result
+invariant_of-result g c = from_none g.S.Store.told g.S.Store.moment_of g.S.Store.faults_of g.B.Origin.first c.args.keeper.0 c.args.hall c.requires.none c.requires.first
