@@ -1,5 +1,5 @@
 -- What is gathered line by line is the block that the lines are.
-use Rattle.std.proofs.Common.{◌≡◌, ℕ, Bool, true, false, List, [], ◌∷◌, ◌++◌, refl, sym, ap, subst, ◌∙◌, append_assoc, if◌then◌else◌}
+use Rattle.std.proofs.Common.{◌≡◌, ℕ, ◌+◌, ◌-◌, Bool, true, false, List, [], ◌∷◌, ◌++◌, refl, sym, ap, subst, ◌∙◌, append_assoc, if◌then◌else◌}
 use Rattle.std.proofs.lemmas.List.{append-nil}
 use Rattle.blocks.specs.Parts.{part}
 use Rattle.blocks.specs.Shapes.{Gathered, Placed, Shape, comes_to, in_front, is_end, opens, placed, shape, with_line}

@@ -9,7 +9,7 @@ use Rattle.blocks.specs.Trees.{IsNamedBefore, behind, first_job, in_use, in_use_
 
 -- ---- lines stand job by job
 
-Ascends : ℕ → List Placed → Type 0
+abbrev Ascends : ℕ → List Placed → Type 0
 Ascends low [] = Unit {0}
 Ascends low (x ∷ lines) = (low ≤ x.job) × Ascends x.job lines
 

@@ -5,4 +5,4 @@ use Rattle.blocks.proofs.Refused.{refused_as}
 use Rattle.blocks.proofs.part.begins_block.Goals as goal
 
 pub returns-in-Err : goal.returns-in-Err
-returns-in-Err g c = refused_as (λ r. is_parallel r) false (λ e. refl) c.in-Err.refusal (command c.args.line.now false) c.refused.result c.in-Err.ensures.value c.refused.ensures
+returns-in-Err c = refused_as (λ r. is_parallel r) false (λ e. refl) c.in-Err.refusal (command c.args.line.now false) c.refused.result c.in-Err.ensures.value c.refused.ensures

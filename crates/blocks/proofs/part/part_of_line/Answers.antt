@@ -6,4 +6,4 @@ use Rattle.blocks.proofs.Refused.{refused_as}
 use Rattle.blocks.proofs.part.part_of_line.Goals as goal
 
 pub returns-in-Err : goal.returns-in-Err
-returns-in-Err g c = refused_as (λ r. part_of r) (Other None) (λ e. refl) c.in-Err.refusal (command c.args.line.now true) c.refused.result c.in-Err.ensures.value c.refused.ensures
+returns-in-Err c = refused_as (λ r. part_of r) (Other None) (λ e. refl) c.in-Err.refusal (command c.args.line.now true) c.refused.result c.in-Err.ensures.value c.refused.ensures
