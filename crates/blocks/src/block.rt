@@ -29,18 +29,21 @@ pub struct Line {
     pub job: u32,
     /// Its number in the script.
     pub number: u32,
-    /// Its text, without its LF and the CR before it. A line that is one too many is kept without it.
+    /// Its text, without its LF and the CR before it, of fewer than 2^32 - 1 bytes. A line that is one too many is kept without it.
     pub text: Vec<u8>,
     /// What becomes of it.
     pub fate: Fate,
 }
 
 impl Model for Line {
+    ghost use Rattle.std.specs.Prelude.{◌<◌, ◌-◌, ◌^◌, length};
     ghost use Rattle.blocks.specs.Shapes.{Placed};
 
     ghost Value = { Placed };
 
     ghost view = { λ l. record { job = l.job; number = l.number; text = l.text.items; fate = l.fate } };
+
+    ghost invariant = { λ l. length l.text.items < 2 ^ 32 - 1 };
 }
 
 /// The lines of a block so far. Contracts see them, how many more it may have, and the place of the job in which the next one stands.
@@ -135,6 +138,7 @@ impl Block {
         line: &[u8],
         tree: Option<u64>,
     ) -> Result<(), AllocError>
+        requires { length line.now < 2 ^ 32 - 1 }
         ensures taken { OnOk result (self.new ≡ with_part self.old number line.now (Other tree)) }
         ensures kept { OnErr result (self.new ≡ self.old) }
     {
@@ -147,6 +151,7 @@ impl Block {
 
     // One line more in the present job.
     fn add(&mut self, number: u32, text: Vec<u8>, fate: Fate) -> Result<(), AllocError>
+        requires { length text.items < 2 ^ 32 - 1 }
         ensures added { OnOk result (self.new ≡ with_placed self.old (record { job = self.old.job; number = number; text = text.items; fate = fate })) }
         ensures kept { OnErr result (self.new ≡ self.old) }
     {
