@@ -23,13 +23,13 @@ use Rattle.hall.proofs.Exact.{exact, still_trusted}
 use Rattle.hall.proofs.Remaining.{bytes_stay, had_before, had_now}
 use Rattle.crew.specs.Ran.{Began, Ran, RanFrom, ReadExactly, began}
 
-some_from : (b c : Began) → Some b ≡ Some c → b ≡ c
+pub some_from : (b c : Began) → Some b ≡ Some c → b ≡ c
 some_from b c is = cc is
 
 module _ {S : Type 0} (told : S → Option History) (moment : S → ℕ) (faults : S → ℕ → ℕ) where
   -- ---- a hall with the same in it over a store that tells the same
 
-  alike : (hall other : Hall S) (m : Machine) → began told moment faults hall ≡ began told moment faults other → Is told moment faults hall m → Is told moment faults other m
+  pub alike : (hall other : Hall S) (m : Machine) → began told moment faults hall ≡ began told moment faults other → Is told moment faults hall m → Is told moment faults other m
   alike hall other m same is = record {
     core = subst (λ (b : Began). IsCore b.held m.core) same is.core;
     clock = is.clock ∙ ap (λ (b : Began). b.moment) same;

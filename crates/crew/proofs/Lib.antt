@@ -3,3 +3,4 @@ pub mod Fitting
 pub mod Keeping
 pub mod Runs
 pub mod Seating
+pub mod Turning

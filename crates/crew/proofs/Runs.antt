@@ -1,11 +1,13 @@
 -- A run on a hall goes on.
-use Rattle.std.proofs.Common.{◌≡◌, ℕ, List, [], ◌∷◌, ◌++◌, Option, Some, refl, sym, subst}
+use Rattle.std.proofs.Common.{◌≡◌, ℕ, ◌≤◌, ◌<◌, List, [], ◌∷◌, ◌++◌, Option, Some, refl, sym, subst}
+use Rattle.std.specs.List.{AllByRecursion}
 use Rattle.store_api.specs.Disk.{History}
 use Rattle.hall.specs.Held.{Hall}
 use Rattle.hall.specs.Steps.{Goes, Steps}
 use Rattle.crew.specs.Ran.{Began, Ran, RanFrom, began}
-use Rattle.steps.specs.Events.{Deed, event}
-use Rattle.crew.specs.Knowing.{turn}
+use Rattle.steps.specs.Events.{Deed, Event, event}
+use Rattle.crew.specs.Knowing.{IsWithin, turn}
+use Rattle.crew.proofs.Seating.{all_more}
 use Rattle.machine.specs.Turns.{Turn}
 
 module _ {S : Type 0} (told : S → Option History) (moment : S → ℕ) (faults : S → ℕ → ℕ) where
@@ -30,3 +32,10 @@ module _ {S : Type 0} (told : S → Option History) (moment : S → ℕ) (faults
   -- none
   pub from_none : (first : Option Began) (turns : List Turn) (hall : Hall S) → turns ≡ [] → first ≡ Some (began told moment faults hall) → RanFrom told moment faults first turns hall
   from_none first turns hall none is = subst (λ (l : List Turn). RanFrom told moment faults first l hall) (sym none) (hall, is, refl)
+
+-- a step of one of the block's actors joins those that were told
+pub still_within : (least most asked actor : ℕ) (e : Event) (turns after : List Turn) → AllByRecursion (IsWithin least most) turns → after ≡ turns ++ turn actor e ∷ [] → asked ≡ actor → (least ≤ asked) × (asked < most)
+    → AllByRecursion (IsWithin least most) after
+still_within least most asked actor e turns after all is same within =
+    subst (λ (l : List Turn). AllByRecursion (IsWithin least most) l) (sym is)
+    (all_more (IsWithin least most) turns (turn actor e) all (subst (λ (a : ℕ). (least ≤ a) × (a < most)) same within))

@@ -69,6 +69,10 @@ Compared v before after w = (w ≡ keeping v.all v.next) × (v.mine ≡ events_o
 abbrev pub no_table : TableId
 no_table = record { words = 0; slots = 0; views_name = 0; atom = 0; block = 0; offset = 0; slot_names = [] }
 
+-- a step of an actor with a number from the one up to the other
+abbrev pub IsWithin : (least most : ℕ) → Turn → Type 0
+IsWithin least most t = (least ≤ t.actor) × (t.actor < most)
+
 -- no step in particular
 abbrev pub no_event : Event
 no_event = event 0 (Force (Ok 0))

@@ -5,6 +5,9 @@ use Rattle.store_api.specs.Disk.{History}
 use Rattle.hall.specs.Alone.{is_read}
 use Rattle.hall.specs.Held.{Hall, Held}
 use Rattle.hall.specs.Steps.{Goes, Steps}
+use Rattle.machine.specs.Alone.{Moves}
+use Rattle.machine.specs.Machine.{Places}
+use Rattle.machine.specs.State.{Machine}
 use Rattle.machine.specs.Turns.{Turn}
 
 -- Each of these turns is a step of its actor on the hall that the one before it left, behind the transaction that was the last by then.
@@ -26,6 +29,12 @@ began told moment faults hall = record { held = hall.held; told = told hall.stor
 -- from such a hall these turns led here
 abbrev pub RanFrom : {S : Type 0} → (told : S → Option History) → (moment : S → ℕ) → (faults : S → ℕ → ℕ) → Option Began → List Turn → Hall S → Type 0
 RanFrom {S} told moment faults first turns new = (old : Hall S) × (first ≡ Some (began told moment faults old)) × Ran told moment faults turns old new
+
+-- These turns of several actors led from the one state of the machine to the other, one after the other, each by the machine's case. `trusted` says that the store has the very bytes of the machine's objects;
+-- of another store what is read is whatever was read, and each read by itself.
+abbrev pub Turned : (trusted : Type 0) → Places → List Turn → Machine → Machine → Type 0
+Turned trusted places [] old new = new ≡ old
+Turned trusted places (t ∷ turns) old new = (next : Machine) × Moves trusted places t.actor t.did old next × Turned trusted places turns next new
 
 -- What was read are the machine's bytes: the store tells its bytes and was sound when the hall was opened, or nobody read.
 abbrev pub ReadExactly : (trusted : Type 0) → List Turn → Type 0

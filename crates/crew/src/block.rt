@@ -3,7 +3,7 @@ ghost use Rattle.std.specs.Prelude.{◌≡◌, ◌+◌, ◌≤◌, ◌<◌, ◌^
 ghost use Rattle.std.specs.List.{AllByRecursion};
 ghost use Rattle.crossbeam_utils.specs.Seq.{cell_view};
 ghost use Rattle.crew.specs.Blocks.{CameTo};
-ghost use Rattle.crew.specs.Knowing.{keeping};
+ghost use Rattle.crew.specs.Knowing.{IsWithin, keeping};
 ghost use Rattle.crew.specs.Passes.{EachDid, IsTold, Worked, seats_of};
 ghost use Rattle.crew.specs.Ran.{RanFrom, began};
 ghost use Rattle.machine.specs.Turns.{Turn as Told, events_of};
@@ -41,6 +41,7 @@ fn begin_all<J: Job + Drop, B: Origin>(
     requires room { vec_len jobs ≤ vec_capacity seats }
     requires keeper { keeper.old.1 ≤ first }
     requires few { first + vec_len jobs < 2 ^ 32 }
+    requires within { (B.least ≤ first) × (first + vec_len jobs ≤ B.most) }
     ensures keeper { keeper.new.0 ≡ keeper.old.0 }
     ensures seats { result.items ≡ seats_of first jobs.items }
     ensures len { vec_len result ≡ vec_len jobs }
@@ -137,8 +138,9 @@ fn in_block<
     requires table { (cell.table.shared.table_id ≡ B.table) × (keeper.table_id ≡ B.table) }
     requires keeper { cell_view keeper ≡ keeping [] 0 }
     requires first { B.first ≡ Some (began S.told S.moment_of S.faults_of hall) }
+    requires actors { (B.least ≡ first) × (B.most ≡ first + vec_len jobs) }
     requires few { first + vec_len jobs < 2 ^ 32 }
-    ensures ran { OnOk result.ended ((turns : List Told) × RanFrom S.told S.moment_of S.faults_of B.first turns result.hall × EachDid J.did first turns jobs.items result.jobs.items) }
+    ensures ran { OnOk result.ended ((turns : List Told) × RanFrom S.told S.moment_of S.faults_of B.first turns result.hall × AllByRecursion (IsWithin first (first + length jobs.items)) turns × EachDid J.did first turns jobs.items result.jobs.items) }
     ensures none { OnErr result.ended ((result.hall ≡ hall) × (result.jobs.items ≡ jobs.items)) }
 {
     let Ok(room) = Vec::with_capacity(alloc, jobs.len()) else {
@@ -188,8 +190,8 @@ fn unrun<S: Store, J: Job + Drop>(hall: Hall<S>, jobs: Vec<J>) -> Block<S, J>
 }
 
 /// Runs the jobs over a hall, each as an actor of its own, numbered from `first` on, on threads over one lock. They are joined before it returns. Where memory is wanted before the first job no
-/// job is run. The steps of all jobs, in the order in which they had the lock, led from the hall to the one that is given back; and what each job did are exactly the steps of its actor among
-/// these.
+/// job is run. The steps of all jobs, in the order in which they had the lock, led from the hall to the one that is given back, and nobody else made one; and what each job did are exactly the steps of its actor
+/// among these.
 pub fn run_block<S: Store + Send, J: Job + Drop + Send, R: Threads + Wait + Sync, G: Gate + Sync>(
     rt: &R,
     alloc: Global,

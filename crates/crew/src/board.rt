@@ -1,8 +1,10 @@
 //! What lies behind the lock of a block.
 ghost use Rattle.std.specs.Prelude.{◌≡◌, ◌≤◌, ◌++◌, ◌∷◌, [], ℕ, Some, true, length, IfOk};
+ghost use Rattle.std.specs.List.{AllByRecursion};
 ghost use Rattle.steps.specs.Calls.{piece_of};
 ghost use Rattle.steps.specs.Events.{event, is_listed};
 ghost use Rattle.steps.specs.Events.Deed.{ReadPiece};
+ghost use Rattle.crew.specs.Knowing.{IsWithin};
 ghost use Rattle.crew.specs.Ran.{RanFrom, began};
 
 use crate::known::{Keeper, Named, Origin, Own};
@@ -12,7 +14,8 @@ use kinds::{Digest, Refusal};
 use std::marker::{Brand, Model, PhantomData};
 use store_api::Store;
 
-/// The hall of a block, with the keeper's pass, which knows each step that was made on it. Every value is one to which these steps led from the hall that the block began with.
+/// The hall of a block, with the keeper's pass, which knows each step that was made on it. Every value is one to which these steps led from the hall that the block began with, each of them a step of one of the
+/// block's actors.
 #[derive(Drop)]
 pub(crate) struct Board<S: Store, B: Origin> {
     hall: Hall<S>,
@@ -25,7 +28,9 @@ pub(crate) struct Board<S: Store, B: Origin> {
 
 impl<S: Store, B: Origin> Model for Board<S, B> {
     ghost use Rattle.std.specs.Prelude.{List, ℕ};
+    ghost use Rattle.std.specs.List.{AllByRecursion};
     ghost use Rattle.hall.specs.Held.{Hall as Whole};
+    ghost use Rattle.crew.specs.Knowing.{IsWithin};
     ghost use Rattle.crew.specs.Ran.{RanFrom};
     ghost use Rattle.machine.specs.Turns.{Turn};
 
@@ -33,7 +38,7 @@ impl<S: Store, B: Origin> Model for Board<S, B> {
 
     ghost view = { λ b. (b.hall, b.keeper) };
 
-    ghost invariant = { λ b. RanFrom S.told S.moment_of S.faults_of B.first b.keeper.0 b.hall };
+    ghost invariant = { λ b. RanFrom S.told S.moment_of S.faults_of B.first b.keeper.0 b.hall × AllByRecursion (IsWithin B.least B.most) b.keeper.0 };
 }
 
 /// What is asked in a read.
@@ -179,7 +184,8 @@ impl<S: Store, B: Origin> Board<S, B> {
 
     /// The hall, with what the keeper knows.
     pub(crate) fn into_parts(self) -> (Hall<S>, Keeper<B>)
-        ensures { RanFrom S.told S.moment_of S.faults_of B.first result.1.0 result.0 }
+        ensures ran { RanFrom S.told S.moment_of S.faults_of B.first result.1.0 result.0 }
+        ensures within { AllByRecursion (IsWithin B.least B.most) result.1.0 }
     {
         let Board {
             hall,

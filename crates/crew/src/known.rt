@@ -1,5 +1,5 @@
 //! What the steps of a block are, as its passes know them: the keeper of a block's hall all of them, each actor its own. A pass has no bytes; the steps that it knows exist in proofs alone.
-ghost use Rattle.std.specs.Prelude.{◌≡◌, ◌+◌, ◌≤◌, ◌++◌, ◌∷◌, [], true, IfOk};
+ghost use Rattle.std.specs.Prelude.{◌≡◌, ◌+◌, ◌≤◌, ◌<◌, ◌++◌, ◌∷◌, [], true, IfOk};
 ghost use Rattle.crossbeam_utils.specs.Seq.{cell_view};
 ghost use Rattle.machine.specs.Turns.{events_of};
 ghost use Rattle.crew.specs.Knowing.{keeping, acting, turn};
@@ -132,15 +132,19 @@ pub fn open_cell(alloc: Global) -> Result<(Cell, Known), AllocError>
     Cell::ruled(alloc, [0])
 }
 
-/// Which cell it is, and which hall its block began with. Each block picks it.
+/// Which cell it is, which hall its block began with, and which numbers its actors have: from the least one up to the most, which none has. Each block picks it.
 pub trait Origin {
-    ghost use Rattle.std.specs.Prelude.{Option};
+    ghost use Rattle.std.specs.Prelude.{ℕ, Option};
     ghost use Rattle.atomic_table.specs.Seated.{TableId};
     ghost use Rattle.crew.specs.Ran.{Began};
 
     ghost table: { TableId };
 
     ghost first: { Option Began };
+
+    ghost least: { ℕ };
+
+    ghost most: { ℕ };
 }
 
 impl Origin for Brand {
@@ -150,6 +154,10 @@ impl Origin for Brand {
     ghost table = { no_table };
 
     ghost first = { None };
+
+    ghost least = { 0 };
+
+    ghost most = { 0 };
 }
 
 /// The cell of a block.
@@ -192,7 +200,7 @@ impl<B: Origin> Model for Keeper<B> {
     ghost invariant = { λ k. (k.pass.table_id ≡ B.table) × (cell_view k.pass ≡ keeping (cell_view k.pass).all (cell_view k.pass).next) };
 }
 
-/// An actor's pass. Contracts see the actor's number and its steps so far.
+/// An actor's pass. Contracts see the actor's number, which is one of the block's, and its steps so far.
 #[derive(Drop)]
 pub struct Own<B: Origin> {
     pass: Known,
@@ -201,7 +209,7 @@ pub struct Own<B: Origin> {
 }
 
 impl<B: Origin> Model for Own<B> {
-    ghost use Rattle.std.specs.Prelude.{◌≡◌};
+    ghost use Rattle.std.specs.Prelude.{◌≡◌, ◌≤◌, ◌<◌};
     ghost use Rattle.crossbeam_utils.specs.Seq.{cell_view};
     ghost use Rattle.crew.specs.Passes.{Diary};
     ghost use Rattle.crew.specs.Knowing.{acting};
@@ -210,7 +218,7 @@ impl<B: Origin> Model for Own<B> {
 
     ghost view = { λ o. (o.actor, (cell_view o.pass).mine) };
 
-    ghost invariant = { λ o. (o.pass.table_id ≡ B.table) × (cell_view o.pass ≡ acting o.actor (cell_view o.pass).mine) };
+    ghost invariant = { λ o. (o.pass.table_id ≡ B.table) × (cell_view o.pass ≡ acting o.actor (cell_view o.pass).mine) × (B.least ≤ o.actor) × (o.actor < B.most) };
 }
 
 fn begin_actor<A: Beginning>(cell: &Cell, keeper: &mut Known, actor: u32) -> Known
@@ -266,7 +274,8 @@ impl<B: Origin> Keeper<B> {
 
     /// An actor begins, whose number is above those of all that began before.
     pub fn begin(&mut self, named: &Named<B>, actor: u32) -> Own<B>
-        requires { self.old.1 ≤ actor }
+        requires next { self.old.1 ≤ actor }
+        requires within { (B.least ≤ actor) × (actor < B.most) }
         ensures keeper { self.new ≡ (self.old.0, actor + 1) }
         ensures own { result ≡ (actor, []) }
     {
@@ -313,7 +322,8 @@ impl<B: Origin> Keeper<B> {
 impl<B: Origin> Own<B> {
     /// The actor's number.
     pub fn actor(&self) -> u32
-        ensures { result ≡ self.now.0 }
+        ensures number { result ≡ self.now.0 }
+        ensures within { (B.least ≤ result) × (result < B.most) }
     {
         self.actor
     }
