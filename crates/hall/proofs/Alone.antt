@@ -39,7 +39,7 @@ all_own actor (e ∷ events) =
 
 module _ {S : Type 0} (told : S → Option History) (moment : S → ℕ) (faults : S → ℕ → ℕ) where
   -- the machine's step, with its own bytes
-  abbrev pub Exact : (actor : ℕ) → Hall S → Machine → Deed → Type 0
+  abbrev Exact : (actor : ℕ) → Hall S → Machine → Deed → Type 0
   Exact actor new m deed = (next : Machine) × Made hall_places actor (event (inventory m.core).number deed) m next × Is told moment faults new next
 
   module _ (actor : ℕ) (old new : Hall S) (m : Machine) (is : Is told moment faults old m) where
@@ -48,7 +48,7 @@ module _ {S : Type 0} (told : S → Option History) (moment : S → ℕ) (faults
     as_made deed seen next same made = subst (λ c. Made hall_places actor (event (inventory m.core).number deed) (with_contents c m) next) same made
 
     -- of a step that reads nothing, whatever the store tells
-    pub unread : (deed : Deed) → is_read deed ≡ false → Steps told moment faults actor deed old new → Exact actor new m deed
+    unread : (deed : Deed) → is_read deed ≡ false → Steps told moment faults actor deed old new → Exact actor new m deed
     unread (OpenNew pool size prefer answer) none s = let r = s m is in (r.1, as_made (OpenNew pool size prefer answer) r.0 r.1 r.2 r.3, r.4)
     unread (OpenCopy object aim avoid answer) none s = let r = s m is in (r.1, as_made (OpenCopy object aim avoid answer) r.0 r.1 r.2 r.3, r.4)
     unread (WritePiece ticket bytes answer) none s = let r = s m is in (r.1, as_made (WritePiece ticket bytes answer) r.0 r.1 r.2 r.3, r.4)
