@@ -11,7 +11,7 @@ struct Alike {
 }
 
 /// What is said of a line.
-fn alike(lines: &[Line], line: &Line) -> Alike {
+fn of_line(lines: &[Line], line: &Line) -> Alike {
     Alike {
         job: line.job,
         fate: line.fate,
@@ -53,7 +53,7 @@ pub fn block(alloc: Global, block: &Block) -> Result<String, AllocError> {
     let mut text = String::new(alloc);
     let mut open: Option<(u32, u32, Alike)> = None;
     for line in lines {
-        let it = alike(lines, line);
+        let it = of_line(lines, line);
         open = match open {
             Some((first, last, before))
                 if before == it && last.checked_add(1) == Some(line.number) => {
