@@ -41,7 +41,7 @@ impl<'a, S: Store> Direct<'a, S> {
 }
 
 /// A count of refused steps, behind one more step with this answer.
-fn counted<T>(count: u64, answer: &Result<T, Refusal>) -> u64
+pub fn counted<T>(count: u64, answer: &Result<T, Refusal>) -> u64
     ensures { result ≡ raised count (refusal_in answer.now) }
 {
     match answer {
@@ -57,7 +57,7 @@ fn counted<T>(count: u64, answer: &Result<T, Refusal>) -> u64
 }
 
 /// What a force answered, without its number.
-fn without_number(answer: Result<u64, Refusal>) -> Result<(), Refusal>
+pub fn without_number(answer: Result<u64, Refusal>) -> Result<(), Refusal>
     ensures { result ≡ forced answer }
 {
     match answer {

@@ -8,6 +8,6 @@ mod played;
 mod stepping;
 
 pub use alone::{backup_pool_alone, expire_alone};
-pub use direct::Direct;
+pub use direct::{Direct, counted, without_number};
 pub use played::{Played, play};
-pub use stepping::step;
+pub use stepping::{image, step};

@@ -17,7 +17,7 @@ const MOST_BYTES: u32 = 1 << 16;
 
 /// Begins a checkpoint, or goes on with the actor's image, as `checkpoint` and `next_image` of the hall. The hall makes no images of database backups: to `Backup` and `Since` the answer is
 /// `Memory`, and nothing is done.
-pub(crate) fn image<S: Store>(
+pub fn image<S: Store>(
     hall: &mut Hall<S>,
     actor: u32,
     kind: ImageKind,

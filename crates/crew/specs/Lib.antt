@@ -1,0 +1,5 @@
+pub mod Blocks
+pub mod Doings
+pub mod Knowing
+pub mod Passes
+pub mod Ran
