@@ -47,7 +47,7 @@ changes-not did p q c e a = so_call did (λ events. Joins (Plain c) events (Err 
 
 -- ---- no others
 
-joins-only : (c : Change) (events : List Event) (result : Result ℕ Refusal) → Joins (Plain c) events result → AllByRecursion (λ e. IsOf c e.deed) events
+pub joins-only : (c : Change) (events : List Event) (result : Result ℕ Refusal) → Joins (Plain c) events result → AllByRecursion (λ e. IsOf c e.deed) events
 joins-only c events result j =
     obtains-all (λ e. IsOf c e.deed) (λ n answer. tt) (Commits (Plain c)) (λ answer xs h. made-all (λ e. IsOf c e.deed) (Commit (Plain c) [] answer) xs h (λ n. (refl, refl))) events result j
 
@@ -68,7 +68,7 @@ each-caused c (Err e) xs h = made-caused (Commit (Plain c) [] (Err e)) e numbers
 numbers-end : HasEnds numbers
 numbers-end = has-ends numbers refl refl
 
-joins-caused : (c : Change) (events : List Event) (result : Result ℕ Refusal) → Joins (Plain c) events result → HasCause numbers events result
+pub joins-caused : (c : Change) (events : List Event) (result : Result ℕ Refusal) → Joins (Plain c) events result → HasCause numbers events result
 joins-caused c events result j = obtains-caused numbers numbers-end (Commits (Plain c)) (each-caused c) events result j
 
 changes-caused : (c : Change) (events : List Event) (result : Result ℕ Refusal) → Changes c events result → HasCause numbers events result
@@ -79,26 +79,26 @@ changes-caused c events (Err e) (inr (number, (xs, ys, cut, j, f))) =
 
 -- ---- what is acknowledged
 
-made-none : (d : Deed) (events : List Event) → Made d events → is_made d ≡ false → made events ≡ []
+pub made-none : (d : Deed) (events : List Event) → Made d events → is_made d ≡ false → made events ≡ []
 made-none d events (inl h) none = ap made h.1 ∙ cond-false (is_made d) (event h.0 d ∷ []) [] none
 made-none d events (inr h) none = ap made h.1
 
-awaits-none : (h : Holder) (events : List Event) (answer : Result (Unit {0}) Refusal) → Awaits h events answer → made events ≡ []
+pub awaits-none : (h : Holder) (events : List Event) (answer : Result (Unit {0}) Refusal) → Awaits h events answer → made events ≡ []
 awaits-none (holder.Unforced number) events answer (a, same, f) = made-none (Force a) events f refl
 awaits-none (holder.Ticket number) events answer h = ap made h.0
 awaits-none (holder.Image actor) events answer h = ap made h.0
 
-two-none : (events xs ys : List Event) → events ≡ xs ++ ys → made xs ≡ [] → made ys ≡ [] → made events ≡ []
+pub two-none : (events xs ys : List Event) → events ≡ xs ++ ys → made xs ≡ [] → made ys ≡ [] → made events ≡ []
 two-none events xs ys cut a b = ap made cut ∙ made-append xs ys ∙ ap (λ (l : List Event). l ++ made ys) a ∙ b
 
-waited-none : (c : Change) (number : ℕ) (events : List Event) → Waited (Commits (Plain c)) number events → made events ≡ []
+pub waited-none : (c : Change) (number : ℕ) (events : List Event) → Waited (Commits (Plain c)) number events → made events ≡ []
 waited-none c zero events h = ap made h
 waited-none c (suc number) events (xs, ys, cut, waited, (h, (zs, ws, apart, tried, awaited))) =
     two-none events xs ys cut (waited-none c number xs waited)
     (two-none ys zs ws apart (made-none (Commit (Plain c) [] (Err (refused.Busy h))) zs tried refl) (awaits-none h ws (Ok tt) awaited))
 
 -- the one transaction that joins
-joins-made : (c : Change) (number : ℕ) (events : List Event) → Joins (Plain c) events (Ok number) → (n : ℕ) × (made events ≡ event n (Commit (Plain c) [] (Ok number)) ∷ [])
+pub joins-made : (c : Change) (number : ℕ) (events : List Event) → Joins (Plain c) events (Ok number) → (n : ℕ) × (made events ≡ event n (Commit (Plain c) [] (Ok number)) ∷ [])
 joins-made c number events (waited, (xs, ys, cut, some, inl (none, inl it))) =
     (it.0, ap made cut ∙ made-append xs ys ∙ ap (λ (l : List Event). l ++ made ys) (waited-none c waited xs some) ∙ ap made it.1)
 joins-made c number events (waited, (xs, ys, cut, some, inl (none, inr m))) = absurd cc
@@ -138,14 +138,14 @@ journaled-as w actor n number next_file c a (Some d) low is made at =
     let same : d ≡ filled next_file (inv w n) c = cc in
     (n, next_file, low, is, subst (λ (it : Change). slice_get w.journal (n - w.base.number) ≡ Some (record { actor = actor; change = it })) same at)
 
-committed : (w : History) (actor : ℕ) (a b : Own) (n number : ℕ) (c : Change) → Step w actor a (event n (Commit (Plain c) [] (Ok number))) b → IsJournaled w actor c number
+pub committed : (w : History) (actor : ℕ) (a b : Own) (n number : ℕ) (c : Change) → Step w actor a (event n (Commit (Plain c) [] (Ok number))) b → IsJournaled w actor c number
 unfolding Says
 committed w actor a b n number c s =
     let next : number ≡ (inv w n).number + 1 = s.says.1 in
     let this : (inv w n).number ≡ n = inv-number w n s.begun s.within in
     journaled-as w actor n number s.next_file c a s.joined s.begun (omega (arith, next, this)) s.joins s.joins_at
 
-joined-in : (w : History) (actor : ℕ) (old new : Own) (c : Change) (number : ℕ) (events : List Event) → Fits w actor old events new → Joins (Plain c) events (Ok number) → IsJournaled w actor c number
+pub joined-in : (w : History) (actor : ℕ) (old new : Own) (c : Change) (number : ℕ) (events : List Event) → Fits w actor old events new → Joins (Plain c) events (Ok number) → IsJournaled w actor c number
 joined-in w actor old new c number events f (waited, (xs, ys, cut, some, inl (none, inl it))) =
     let parts = fits-cut w actor old new xs ys (subst (λ (es : List Event). Fits w actor old es new) cut f) in
     committed w actor parts.0 new it.0 number c (fits-one w actor parts.0 new (event it.0 (Commit (Plain c) [] (Ok number))) (subst (λ (es : List Event). Fits w actor parts.0 es new) it.1 parts.2))

@@ -11,8 +11,9 @@ use inventory_answers::{Answer, Query};
 use kinds::Refusal;
 use steps::{Asked, Stepper};
 
-/// Commits what takes no ticket, and where others hold what it takes away waits and tries again.
-fn join<P: Stepper>(p: &mut P, asked: &Asked) -> Result<u64, Refusal>
+/// Commits what takes no ticket, and where others hold what it takes away waits and tries again. It answers the number of the transaction, which the next force makes
+/// durable. It is refused as that is, with `Busy` where a step of its own and then `wait` answer so, and with `LogFault`, `RunFull` or `Memory`.
+pub fn join<P: Stepper>(p: &mut P, asked: &Asked) -> Result<u64, Refusal>
     ensures { Call P.did p.old p.new (λ events. Joins asked.now events result) }
 {
     let mut tries = 0;

@@ -14,7 +14,7 @@ mod sending;
 mod validating;
 mod waiting;
 
-pub use changing::{commit_change, show};
+pub use changing::{commit_change, join, show};
 pub use checkpoints::checkpoint;
 pub use getting::{FileRead, read_file};
 pub use homes::Home;

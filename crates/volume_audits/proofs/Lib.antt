@@ -1,0 +1,5 @@
+pub mod Audited
+pub mod Clean
+pub mod Listed
+pub mod Looked
+pub mod Mended
