@@ -1,4 +1,4 @@
--- Files are sent, one after the other.
+-- Files are written, one after the other.
 use Rattle.std.proofs.Common.{◌≡◌, inl, inr, ℕ, ◌+◌, ◌<◌, ◌≤◌, nat_le, true, false, true≢false, List, [], ◌∷◌, ◌++◌, length, take, drop, get_or, Option, Ok, Err, refl, sym, ap, subst, ◌∙◌, append-nil, append_assoc, length-append, arith}
 use Rattle.std.proofs.lemmas.Bool.{leb-true}
 use Rattle.std.proofs.lemmas.Bool.Decides.{leb_tells}
@@ -16,33 +16,33 @@ use Rattle.steps.proofs.Joining.{GoesOn, call_then, so_call, then_call}
 use Rattle.steps.specs.Calls.{Call, Then}
 use Rattle.steps.specs.Events.{Event}
 use Rattle.client_batches.proofs.Dropping.{parted_at, taken_with}
-use Rattle.client_batches.specs.Sends.{Fills, NonePauses, Sends, SendsEach, SendsOne, Stops, pauses, sealed_in, sealed_of}
+use Rattle.client_batches.specs.Sends.{Fills, NonePauses, Sends, SendsEach, SendsOne, Stops, pauses, tickets_in, ticket_of}
 use Rattle.client_batches.specs.Tickets.{GivesBack}
 
 -- ---- what came of them
 
-pub sealed_more : (all : List Came) (c : Came) → sealed_in (all ++ c ∷ []) ≡ sealed_in all ++ sealed_in (c ∷ [])
-sealed_more all c = flat_map-append (λ d. option_map_or (λ ticket. ticket ∷ []) (sealed_of d) []) all (c ∷ [])
+pub tickets_more : (all : List Came) (c : Came) → tickets_in (all ++ c ∷ []) ≡ tickets_in all ++ tickets_in (c ∷ [])
+tickets_more all c = flat_map-append (λ d. option_map_or (λ ticket. ticket ∷ []) (ticket_of d) []) all (c ∷ [])
 
-pub one_ticket : (c : Came) → length (sealed_in (c ∷ [])) ≤ 1
-one_ticket (came.Sealed ticket digest) = let one : 1 ≤ 1 = omega arith in one
+pub one_ticket : (c : Came) → length (tickets_in (c ∷ [])) ≤ 1
+one_ticket (came.Written ticket digest) = let one : 1 ≤ 1 = omega arith in one
 one_ticket (came.Failed e) = let none : 0 ≤ 1 = omega arith in none
 one_ticket (came.Held holder) = let none : 0 ≤ 1 = omega arith in none
 
-pub sealed_long : (c : Came) (all : List Came) → length (sealed_in (c ∷ all)) ≡ length (sealed_in (c ∷ [])) + length (sealed_in all)
-sealed_long c all = ap length (flat_map-append (λ d. option_map_or (λ ticket. ticket ∷ []) (sealed_of d) []) (c ∷ []) all) ∙ length-append (sealed_in (c ∷ [])) (sealed_in all)
+pub tickets_long : (c : Came) (all : List Came) → length (tickets_in (c ∷ all)) ≡ length (tickets_in (c ∷ [])) + length (tickets_in all)
+tickets_long c all = ap length (flat_map-append (λ d. option_map_or (λ ticket. ticket ∷ []) (ticket_of d) []) (c ∷ []) all) ∙ length-append (tickets_in (c ∷ [])) (tickets_in all)
 
-none_more : (held : ℕ) (all : List Came) (c : Came) → NonePauses held all → pauses (held + length (sealed_in all)) c ≡ false → NonePauses held (all ++ c ∷ [])
+none_more : (held : ℕ) (all : List Came) (c : Came) → NonePauses held all → pauses (held + length (tickets_in all)) c ≡ false → NonePauses held (all ++ c ∷ [])
 none_more held [] c h q = let same : held + 0 ≡ held = omega arith in (subst (λ k. pauses k c ≡ false) same q, tt)
 none_more held (d ∷ all) c h q =
-    let long = sealed_long d all in
-    let same : held + length (sealed_in (d ∷ all)) ≡ held + length (sealed_in (d ∷ [])) + length (sealed_in all) = omega (arith, long) in
-    (h.0, none_more (held + length (sealed_in (d ∷ []))) all c h.1 (subst (λ k. pauses k c ≡ false) same q))
+    let long = tickets_long d all in
+    let same : held + length (tickets_in (d ∷ all)) ≡ held + length (tickets_in (d ∷ [])) + length (tickets_in all) = omega (arith, long) in
+    (h.0, none_more (held + length (tickets_in (d ∷ []))) all c h.1 (subst (λ k. pauses k c ≡ false) same q))
 
-pub none_then : (all : List Came) (held : List ℕ) (c : Came) → NonePauses 0 all → held ≡ sealed_in all → pauses (length held) c ≡ false → NonePauses 0 (all ++ c ∷ [])
+pub none_then : (all : List Came) (held : List ℕ) (c : Came) → NonePauses 0 all → held ≡ tickets_in all → pauses (length held) c ≡ false → NonePauses 0 (all ++ c ∷ [])
 none_then all held c h is q =
-    let alike : length held ≡ length (sealed_in all) = ap length is in
-    let same : length held ≡ 0 + length (sealed_in all) = omega (arith, alike) in
+    let alike : length held ≡ length (tickets_in all) = ap length is in
+    let same : length held ≡ 0 + length (tickets_in all) = omega (arith, alike) in
     none_more 0 all c h (subst (λ k. pauses k c ≡ false) same q)
 
 -- ---- one more
@@ -78,12 +78,12 @@ sends-next did goes p q r rules told now lines place x all got c first before af
 -- ---- ends
 
 -- the tickets that are held behind one more, and where none came
-pub held_more : (all got : List Came) (held kept new : List ℕ) (c : Came) → got ≡ all ++ c ∷ [] → held ≡ sealed_in all → kept ≡ held → new ≡ kept ++ sealed_in (c ∷ []) → new ≡ sealed_in got
+pub held_more : (all got : List Came) (held kept new : List ℕ) (c : Came) → got ≡ all ++ c ∷ [] → held ≡ tickets_in all → kept ≡ held → new ≡ kept ++ tickets_in (c ∷ []) → new ≡ tickets_in got
 held_more all got held kept new c more is same put =
-    put ∙ ap (λ (ts : List ℕ). ts ++ sealed_in (c ∷ [])) (same ∙ is) ∙ sym (sealed_more all c) ∙ ap sealed_in (sym more)
+    put ∙ ap (λ (ts : List ℕ). ts ++ tickets_in (c ∷ [])) (same ∙ is) ∙ sym (tickets_more all c) ∙ ap tickets_in (sym more)
 
-pub held_same : (all got : List Came) (held kept : List ℕ) → got ≡ all → held ≡ sealed_in all → kept ≡ held → kept ≡ sealed_in got
-held_same all got held kept more is same = same ∙ is ∙ ap sealed_in (sym more)
+pub held_same : (all got : List Came) (held kept : List ℕ) → got ≡ all → held ≡ tickets_in all → kept ≡ held → kept ≡ tickets_in got
+held_same all got held kept more is same = same ∙ is ∙ ap tickets_in (sym more)
 
 pub most_same : (held kept : List ℕ) → kept ≡ held → length held ≤ 32 → length kept ≤ 32
 most_same held kept same few = subst (λ (ts : List ℕ). length ts ≤ 32) (sym same) few
@@ -92,22 +92,22 @@ most_same held kept same few = subst (λ (ts : List ℕ). length ts ≤ 32) (sym
 below : (count : ℕ) → nat_le 32 count ≡ false → count < 32
 below count h = elim (leb_tells 32 count) [ inl y ↦ absurd (true≢false (sym y.0 ∙ h)) | inr n ↦ n.1 ]
 
-pub most_more : (held kept new : List ℕ) (c : Came) → kept ≡ held → nat_le 32 (length held) ≡ false → new ≡ kept ++ sealed_in (c ∷ []) → length new ≤ 32
+pub most_more : (held kept new : List ℕ) (c : Came) → kept ≡ held → nat_le 32 (length held) ≡ false → new ≡ kept ++ tickets_in (c ∷ []) → length new ≤ 32
 most_more held kept new c same free put =
-    let long : length new ≡ length kept + length (sealed_in (c ∷ [])) = ap length put ∙ length-append kept (sealed_in (c ∷ [])) in
+    let long : length new ≡ length kept + length (tickets_in (c ∷ [])) = ap length put ∙ length-append kept (tickets_in (c ∷ [])) in
     let one = one_ticket c in
     let alike : length kept ≡ length held = ap length same in
     let fewer : length held < 32 = below (length held) free in
     omega (arith, long, one, alike, fewer)
 
-pub none_next : (all got : List Came) (held kept : List ℕ) (c : Came) → NonePauses 0 all → held ≡ sealed_in all → kept ≡ held → got ≡ all ++ c ∷ [] → pauses (length kept) c ≡ false → NonePauses 0 got
+pub none_next : (all got : List Came) (held kept : List ℕ) (c : Came) → NonePauses 0 all → held ≡ tickets_in all → kept ≡ held → got ≡ all ++ c ∷ [] → pauses (length kept) c ≡ false → NonePauses 0 got
 none_next all got held kept c free is same more go = subst (λ (cs : List Came). NonePauses 0 cs) (sym more) (none_then all kept c free (same ∙ is) go)
 
 pub full_of : (held : List ℕ) → nat_le 32 (length held) ≡ true → 32 ≤ length held
 full_of held h = leb-true 32 (length held) h
 
 pub sends-full : {S : Type 0} (did : S → List Event → S → Type 0) (p q : S) (rules : Rules) (told : Option Files) (lines : List SendLine) (place : ℕ) (all : List Came) (held : List ℕ) (before after : ℕ)
-    → NonePauses 0 all → held ≡ sealed_in all → 32 ≤ length held → Call did p q (λ events. SendsEach rules told (take place lines) all before after events)
+    → NonePauses 0 all → held ≡ tickets_in all → 32 ≤ length held → Call did p q (λ events. SendsEach rules told (take place lines) all before after events)
     → Call did p q (λ events. Sends rules told lines before after all events (Ok tt))
 sends-full did p q rules told lines place all held before after free is full a =
     so_call did (λ events. SendsEach rules told (take place lines) all before after events) (λ events. Sends rules told lines before after all events (Ok tt)) p q a
@@ -133,7 +133,7 @@ sends-last did p q rules told lines all before after free a =
     })
 
 pub sends-paused : {S : Type 0} (did : S → List Event → S → Type 0) (p q : S) (rules : Rules) (told : Option Files) (lines : List SendLine) (place : ℕ) (all got : List Came) (c : Came) (held : List ℕ) (before after : ℕ)
-    → NonePauses 0 all → held ≡ sealed_in all → pauses (length held) c ≡ true → got ≡ all ++ c ∷ []
+    → NonePauses 0 all → held ≡ tickets_in all → pauses (length held) c ≡ true → got ≡ all ++ c ∷ []
     → Call did p q (λ events. SendsEach rules told (take place lines) (all ++ c ∷ []) before after events) → Call did p q (λ events. Sends rules told lines before after got events (Ok tt))
 sends-paused did p q rules told lines place all got c held before after free is stop more a =
     so_call did (λ events. SendsEach rules told (take place lines) (all ++ c ∷ []) before after events) (λ events. Sends rules told lines before after got events (Ok tt)) p q a
@@ -181,7 +181,7 @@ sends-ended did goes p q r rules told now lines place x all got e first before a
     })
 
 pub fills-ended : {S : Type 0} (did : S → List Event → S → Type 0) → GoesOn did → (p q r : S) (rules : Rules) (told : Option Files) (lines : List SendLine) (all : List Came) (held : List ℕ) (why e : Refusal) (before after : ℕ)
-    → held ≡ sealed_in all → Call did p q (λ events. Sends rules told lines before after all events (Err why)) → Call did q r (λ events. GivesBack held why events e)
+    → held ≡ tickets_in all → Call did p q (λ events. Sends rules told lines before after all events (Err why)) → Call did q r (λ events. GivesBack held why events e)
     → Call did p r (λ events. Fills rules told lines before after all events (Err e))
 fills-ended did goes p q r rules told lines all held why e before after is a b =
     so_call did (λ events. Then (λ xs. Stops rules told lines before after all why xs) (λ ys. GivesBack held why ys e) events) (λ events. Fills rules told lines before after all events (Err e)) p r

@@ -9,5 +9,6 @@ pub mod Lengths
 pub mod Ordering
 pub mod Quiet
 pub mod Rounding
+pub mod Sealed
 pub mod Settled
 pub mod Spending

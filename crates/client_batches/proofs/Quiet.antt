@@ -6,7 +6,9 @@ use Rattle.kinds.specs.declared.refusal.Holder.TheVariants as holder
 use Rattle.kinds.specs.declared.refusal.Refusal.{Refusal}
 use Rattle.kinds.specs.declared.segment.Digest.{Digest}
 use Rattle.client_files.specs.declared.outcome.Came.{Came}
-use Rattle.client_files.specs.Sending.{Breaks, Copies, Fills, GivesUp, Sends as SendsFile, Spends, Writes, Wrote}
+use Rattle.client_files.specs.declared.outcome.Came.TheVariants as came
+use Rattle.client_files.specs.Sending.{Breaks, Copies, GivesUp, Writes, Wrote}
+use Rattle.client_files.specs.Writing.{Keeps, Loads, Puts}
 use Rattle.client_plan.specs.declared.lines.SendLine.{SendLine}
 use Rattle.client_trees.specs.Files.{ClientFile, Files}
 use Rattle.inventory_work.specs.declared.lines.Rules.{Rules}
@@ -15,6 +17,7 @@ use Rattle.steps.specs.Events.{Deed, Event}
 use Rattle.steps.specs.Events.Deed.{OpenNew, OpenCopy, WritePiece, CopyPiece, Seal, Commit, DropTicket, ReadPiece, Ask, Image, Reuse, Force}
 use Rattle.client_batches.specs.Quiet.{AreQuiet, IsQuiet}
 use Rattle.client_batches.specs.Rounds.{Awaits, AwaitsOne}
+use Rattle.client_batches.specs.Seals.{SealsEach, SealsOne, StopsSealing}
 use Rattle.client_batches.specs.Sends.{SendsEach, SendsOne}
 use Rattle.client_batches.specs.Tickets.{DropsAll, DropsEach, GivesBack}
 
@@ -66,30 +69,27 @@ breaks_quiet file ticket size before after e events h =
 copies_quiet : (file : Option ClientFile) (ticket size before after : ℕ) (events : List Event) (digest : Digest) → Copies file ticket size before after events (Ok digest) → AreQuiet events
 copies_quiet file ticket size before after events digest h = wrote_quiet file ticket h.0 events h.1
 
-fills_quiet : (file : Option ClientFile) (ticket size before after : ℕ) (events : List Event) (result : Result Digest Refusal) → Fills file ticket size before after events result → AreQuiet events
-fills_quiet file ticket size before after events (Ok digest) h =
-    then_quiet _ _ events h.1 (λ xs c. copies_quiet file ticket size before after xs digest c) (λ ys s. step_quiet (Seal ticket (Ok tt)) ys tt s)
-fills_quiet file ticket size before after events (Err e) (inl h) = breaks_quiet file ticket size before after e events h
-fills_quiet file ticket size before after events (Err e) (inr (inl h)) = copies_quiet file ticket size before after events h.0 h.1
-fills_quiet file ticket size before after events (Err e) (inr (inr h)) =
-    then_quiet _ _ events h.3 (λ xs c. copies_quiet file ticket size before after xs h.0 c) (λ ys s. made_quiet (Seal ticket (Err h.1)) ys tt s)
+loads_quiet : (file : Option ClientFile) (ticket size before after : ℕ) (events : List Event) (result : Result Digest Refusal) → Loads file ticket size before after events result → AreQuiet events
+loads_quiet file ticket size before after events (Ok digest) h = copies_quiet file ticket size before after events digest h.1
+loads_quiet file ticket size before after events (Err e) (inl h) = breaks_quiet file ticket size before after e events h
+loads_quiet file ticket size before after events (Err e) (inr h) = copies_quiet file ticket size before after events h.0 h.1
 
 gives_up_quiet : (ticket : ℕ) (e : Refusal) (events : List Event) (result : Result Came Refusal) → GivesUp ticket e events result → AreQuiet events
 gives_up_quiet ticket e events result (inl h) = none_quiet events h.1
 gives_up_quiet ticket e events result (inr h) = step_quiet (DropTicket ticket h.1) events tt h.2
 
-spends_quiet : (file : Option ClientFile) (ticket size before after : ℕ) (events : List Event) (result : Result Came Refusal) → Spends file ticket size before after events result → AreQuiet events
-spends_quiet file ticket size before after events result (inl h) = fills_quiet file ticket size before after events (Ok h.0) h.1
-spends_quiet file ticket size before after events result (inr h) =
-    then_quiet _ _ events h.1 (λ xs f. fills_quiet file ticket size before after xs (Err h.0) f) (λ ys g. gives_up_quiet ticket h.0 ys result g)
+keeps_quiet : (file : Option ClientFile) (ticket size before after : ℕ) (events : List Event) (result : Result Came Refusal) → Keeps file ticket size before after events result → AreQuiet events
+keeps_quiet file ticket size before after events result (inl h) = loads_quiet file ticket size before after events (Ok h.0) h.1
+keeps_quiet file ticket size before after events result (inr h) =
+    then_quiet _ _ events h.1 (λ xs f. loads_quiet file ticket size before after xs (Err h.0) f) (λ ys g. gives_up_quiet ticket h.0 ys result g)
 
-sends_quiet : (file : Option ClientFile) (pool size before after : ℕ) (events : List Event) (result : Result Came Refusal) → SendsFile file pool size before after events result → AreQuiet events
-sends_quiet file pool size before after events result (inl h) = made_quiet (OpenNew pool size 0 (Err h.0)) events tt h.1
-sends_quiet file pool size before after events result (inr h) =
-    then_quiet _ _ events h.1 (λ xs m. made_quiet (OpenNew pool size 0 (Ok h.0)) xs tt m) (λ ys s. spends_quiet file h.0 size before after ys result s)
+puts_quiet : (file : Option ClientFile) (pool size before after : ℕ) (events : List Event) (result : Result Came Refusal) → Puts file pool size before after events result → AreQuiet events
+puts_quiet file pool size before after events result (inl h) = made_quiet (OpenNew pool size 0 (Err h.0)) events tt h.1
+puts_quiet file pool size before after events result (inr h) =
+    then_quiet _ _ events h.1 (λ xs m. made_quiet (OpenNew pool size 0 (Ok h.0)) xs tt m) (λ ys s. keeps_quiet file h.0 size before after ys result s)
 
 pub one_quiet : (rules : Rules) (told : Option Files) (line : SendLine) (before after : ℕ) (events : List Event) (result : Result Came Refusal) → SendsOne rules told line before after events result → AreQuiet events
-one_quiet rules told line before after events result (inl h) = sends_quiet _ h.0 line.file.size before after events result h.2.order
+one_quiet rules told line before after events result (inl h) = puts_quiet _ h.0 line.file.size before after events result h.2.order
 one_quiet rules told line before after events result (inr h) = none_quiet events h.1
 
 pub each_quiet : (rules : Rules) (told : Option Files) (lines : List SendLine) (all : List Came) (before after : ℕ) (events : List Event) → SendsEach rules told lines all before after events → AreQuiet events
@@ -98,6 +98,24 @@ each_quiet rules told [] (c ∷ all) before after events h = absurd h
 each_quiet rules told (l ∷ lines) [] before after events h = absurd h
 each_quiet rules told (l ∷ lines) (c ∷ all) before after events h =
     then_quiet _ _ events h.1 (λ xs o. one_quiet rules told l before h.0 xs (Ok c) o) (λ ys r. each_quiet rules told lines all h.0 after ys r)
+
+-- ---- seals
+
+pub seal_quiet : (c : Came) (events : List Event) (result : Result Came Refusal) → SealsOne c events result → AreQuiet events
+seal_quiet (came.Written ticket digest) events result h = made_quiet (Seal ticket h.0) events tt h.1
+seal_quiet (came.Failed e) events result h = none_quiet events h.0
+seal_quiet (came.Held holder) events result h = none_quiet events h.0
+
+pub seals_quiet : (all sealed : List Came) (events : List Event) → SealsEach all sealed events → AreQuiet events
+seals_quiet [] [] events h = none_quiet events h
+seals_quiet [] (s ∷ sealed) events h = absurd h
+seals_quiet (c ∷ all) [] events h = absurd h
+seals_quiet (c ∷ all) (s ∷ sealed) events h = then_quiet _ _ events h (λ xs o. seal_quiet c xs (Ok s) o) (λ ys r. seals_quiet all sealed ys r)
+
+pub unsealed_quiet : (all : List Came) (e : Refusal) (events : List Event) → StopsSealing all e events → AreQuiet events
+unsealed_quiet all e events h =
+    subst AreQuiet (sym h.made) (all_append (λ d. IsQuiet d.deed) h.xs h.ys (seals_quiet h.front h.sealed h.xs h.seals)
+    (elim h.ends as (λ _. AreQuiet h.ys) [ inl m ↦ none_quiet h.ys m.1 | inr o ↦ seal_quiet o.0 h.ys (Err e) o.3 ]))
 
 -- ---- tickets
 

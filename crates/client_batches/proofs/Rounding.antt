@@ -50,14 +50,14 @@ on-wanting did p q rules told filespace lines old new before after b e is a =
     so_call did (λ events. Batches rules told filespace lines before after events (Ok b)) (λ events. SendsOn rules told filespace lines old new before after events (Err e)) p q a (λ xs f. inr (inl (b, f, is)))
 
 pub on-waited : {S : Type 0} (did : S → List Event → S → Type 0) → GoesOn did → (p q r : S) (rules : Rules) (told : Option Files) (filespace : ℕ) (lines : List SendLine) (old new : List (Option Refusal)) (before after : ℕ) (b : Batch)
-    (h : Option Holder) (result : Result (Unit {0}) Refusal) → new ≡ old ++ verdicts false b.came b.outs → h ≡ waiting false b.came
+    (h : Option Holder) (result : Result (Unit {0}) Refusal) → new ≡ old ++ verdicts false b.came b.sealed b.outs → h ≡ waiting false b.came
     → Call did p q (λ events. Batches rules told filespace lines before after events (Ok b)) → Call did q r (λ events. AwaitsOne h events result)
     → Call did p r (λ events. SendsOn rules told filespace lines old new before after events result)
 on-waited did goes p q r rules told filespace lines old new before after b h (Ok done) put is a w =
     so_call did (λ events. Then (λ xs. Batches rules told filespace lines before after xs (Ok b)) (λ ys. AwaitsOne (waiting false b.came) ys (Ok tt)) events)
     (λ events. SendsOn rules told filespace lines old new before after events (Ok tt)) p r
     (then_call did goes (λ events. Batches rules told filespace lines before after events (Ok b)) (λ events. AwaitsOne (waiting false b.came) events (Ok tt)) p q r a
-    (subst (λ (o : Option Holder). Call did q r (λ events. AwaitsOne o events (Ok tt))) is w)) (λ xs f. (verdicts false b.came b.outs, put, (b, refl, refl, f)))
+    (subst (λ (o : Option Holder). Call did q r (λ events. AwaitsOne o events (Ok tt))) is w)) (λ xs f. (verdicts false b.came b.sealed b.outs, put, (b, refl, refl, f)))
 on-waited did goes p q r rules told filespace lines old new before after b h (Err e) put is a w =
     so_call did (λ events. Then (λ xs. Batches rules told filespace lines before after xs (Ok b)) (λ ys. AwaitsOne (waiting false b.came) ys (Err e)) events)
     (λ events. SendsOn rules told filespace lines old new before after events (Err e)) p r

@@ -7,6 +7,7 @@ use Rattle.std.specs.List.{AllByRecursion, list_any}
 use Rattle.kinds.specs.Refusals.{number_of}
 use Rattle.kinds.specs.declared.refusal.Refusal.{Refusal}
 use Rattle.kinds.specs.declared.refusal.Refusal.TheVariants as refused
+use Rattle.kinds.specs.declared.segment.Digest.{Digest}
 use Rattle.client_files.specs.declared.outcome.Came.{Came}
 use Rattle.client_files.specs.declared.outcome.Came.TheVariants as came
 use Rattle.client_files.specs.Sending.{stopping}
@@ -19,18 +20,20 @@ use Rattle.inventory_work.specs.declared.lines.Rules.{Rules}
 use Rattle.steps.specs.declared.asked.Asked.{Asked}
 use Rattle.steps.specs.Calls.{IsStep, Made, Then}
 use Rattle.steps.specs.Events.{Deed, Event, is_listed}
-use Rattle.steps.specs.Events.Deed.{Commit, DropTicket, Force}
+use Rattle.steps.specs.Events.Deed.{Commit, DropTicket, Force, Seal}
 use Rattle.steps.specs.Spent.{is_spent, spends}
-use Rattle.steps.proofs.Spending.{AreClosed, AreHeld, closed-held, closed-none, held-both, held-join, held-more, is_in, opens_one, spent-before, spent-behind, step-spends}
+use Rattle.steps.proofs.Spending.{AreClosed, AreHeld, closed-both, closed-held, closed-made, closed-none, held-both, held-join, held-more, is_in, made-spends, opens_one, spent-before, spent-behind, step-spends}
 use Rattle.client_batches.specs.declared.batch.Batch.{Batch}
 use Rattle.client_batches.specs.declared.listing.SealedLine.{SealedLine}
-use Rattle.client_batches.specs.Batches.{Batches, Stores, sealed_lines}
+use Rattle.client_batches.specs.Batches.{Batches, SealsAndStores, Stores, sealed_lines}
 use Rattle.client_batches.specs.Commits.{Alone, Commits, CommitsAll, EachAlone, Singles, Tries, is_in_the_way, outcome, refused_as, taken_out}
 use Rattle.client_batches.specs.Listings.{storing}
 use Rattle.client_batches.specs.Rounds.{AwaitsOne, InRuns, Round, Rounds, SendsAll, SendsNone, SendsSome}
-use Rattle.client_batches.specs.Sends.{Fills, SendsEach, SendsOne, Sent, Stops, sealed_in}
+use Rattle.client_batches.specs.Seals.{SealsEach, SealsOne, StopsSealing}
+use Rattle.client_batches.specs.Sends.{Fills, SendsEach, SendsOne, Sent, Stops, tickets_in}
 use Rattle.client_batches.specs.Tickets.{DropsAll, DropsEach, GivesBack, lasting_in}
 use Rattle.client_batches.specs.Verdicts.{waiting}
+use Rattle.client_batches.proofs.Sealed.{behind-each, behind-long}
 use Rattle.client_batches.proofs.Ordering.{each-commits, each-given, each-runs, each-waits}
 
 -- ---- tickets that are spent
@@ -148,11 +151,11 @@ module _ {L : Type 0} (asking : List L → Asked) where
 
 -- ---- how many
 
--- as many files are committed as are sealed
-rows-long : (lines : List SendLine) (all : List Came) → length all ≤ length lines → length (sealed_in all) ≤ length (sealed_lines lines all)
+-- as many files are committed as have tickets
+rows-long : (lines : List SendLine) (all : List Came) → length all ≤ length lines → length (tickets_in all) ≤ length (sealed_lines lines all)
 rows-long lines [] few = omega (arith)
 rows-long [] (c ∷ all) few = absurd (omega (arith, few))
-rows-long (l ∷ lines) (came.Sealed ticket digest ∷ all) few = (let rest = rows-long lines all (omega (arith, few)) in omega (arith, rest))
+rows-long (l ∷ lines) (came.Written ticket digest ∷ all) few = (let rest = rows-long lines all (omega (arith, few)) in omega (arith, rest))
 rows-long (l ∷ lines) (came.Failed e ∷ all) few = rows-long lines all (omega (arith, few))
 rows-long (l ∷ lines) (came.Held holder ∷ all) few = rows-long lines all (omega (arith, few))
 
@@ -177,9 +180,9 @@ module _ (rules : Rules) (told : Option Files) where
   one-held line before after events result (inl (pool, is, sent)) mild = file-held _ line.file.size before after pool events result sent.order mild
   one-held line before after events result (inr (none, empty, same, is)) mild = closed-held (kept_of result) events (closed-none events empty)
 
-  first-in : (c : Came) (all : List Came) (t : ℕ) → is_in t (Keeps c) ≡ true → is_in t (sealed_in (c ∷ all)) ≡ true
-  first-in (came.Sealed ticket digest) all t h = first-of (ticket == t) h where
-    first-of : (b : Bool) → (b || false) ≡ true → (b || is_in t (sealed_in all)) ≡ true
+  first-in : (c : Came) (all : List Came) (t : ℕ) → is_in t (Keeps c) ≡ true → is_in t (tickets_in (c ∷ all)) ≡ true
+  first-in (came.Written ticket digest) all t h = first-of (ticket == t) h where
+    first-of : (b : Bool) → (b || false) ≡ true → (b || is_in t (tickets_in all)) ≡ true
     first-of true k = refl
     first-of false k = absurd (false≢true k)
   first-in (came.Failed e) all t h = absurd (false≢true h)
@@ -189,32 +192,32 @@ module _ (rules : Rules) (told : Option Files) where
   or-second true b h = refl
   or-second false b h = h
 
-  others-in : (c : Came) (all : List Came) (t : ℕ) → is_in t (sealed_in all) ≡ true → is_in t (sealed_in (c ∷ all)) ≡ true
-  others-in (came.Sealed ticket digest) all t h = or-second (ticket == t) (is_in t (sealed_in all)) h
+  others-in : (c : Came) (all : List Came) (t : ℕ) → is_in t (tickets_in all) ≡ true → is_in t (tickets_in (c ∷ all)) ≡ true
+  others-in (came.Written ticket digest) all t h = or-second (ticket == t) (is_in t (tickets_in all)) h
   others-in (came.Failed e) all t h = h
   others-in (came.Held holder) all t h = h
 
-  sends-held : (lines : List SendLine) (all : List Came) (before after : ℕ) (events : List Event) → SendsEach rules told lines all before after events → AreHeld (sealed_in all) events
+  sends-held : (lines : List SendLine) (all : List Came) (before after : ℕ) (events : List Event) → SendsEach rules told lines all before after events → AreHeld (tickets_in all) events
   sends-held [] [] before after events h = closed-held [] events (closed-none events h.0)
   sends-held [] (c ∷ all) before after events h = absurd h
   sends-held (l ∷ lines) [] before after events h = absurd h
   sends-held (l ∷ lines) (c ∷ all) before after events (count, (xs, ys, cut, one, rest)) =
-      held-both (sealed_in (c ∷ all)) events xs ys cut
-      (held-more (Keeps c) (sealed_in (c ∷ all)) xs (first-in c all) (one-held l before count xs (Ok c) one refl))
-      (held-more (sealed_in all) (sealed_in (c ∷ all)) ys (others-in c all) (sends-held lines all count after ys rest))
+      held-both (tickets_in (c ∷ all)) events xs ys cut
+      (held-more (Keeps c) (tickets_in (c ∷ all)) xs (first-in c all) (one-held l before count xs (Ok c) one refl))
+      (held-more (tickets_in all) (tickets_in (c ∷ all)) ys (others-in c all) (sends-held lines all count after ys rest))
 
-  sent-held : (lines : List SendLine) (before after : ℕ) (all : List Came) (events : List Event) → Sent rules told lines before after all events → AreHeld (sealed_in all) events
+  sent-held : (lines : List SendLine) (before after : ℕ) (all : List Came) (events : List Event) → Sent rules told lines before after all events → AreHeld (tickets_in all) events
   sent-held lines before after all events h = sends-held h.front all before after events h.sends
 
-  sent-few : (lines : List SendLine) (before after : ℕ) (all : List Came) (events : List Event) → Sent rules told lines before after all events → length (sealed_in all) ≤ length (sealed_lines lines all)
-  sent-few lines before after all events h = rows-long lines all (few-of lines h.front h.back all h.lined (each-long rules told h.front all before after events h.sends))
+  sent-few : (lines : List SendLine) (before after : ℕ) (all : List Came) (events : List Event) → Sent rules told lines before after all events → length all ≤ length lines
+  sent-few lines before after all events h = few-of lines h.front h.back all h.lined (each-long rules told h.front all before after events h.sends)
 
-  stops-held : (lines : List SendLine) (before after : ℕ) (all : List Came) (e : Refusal) (events : List Event) → Stops rules told lines before after all e events → is_lasting e ≡ false → AreHeld (sealed_in all) events
+  stops-held : (lines : List SendLine) (before after : ℕ) (all : List Came) (e : Refusal) (events : List Event) → Stops rules told lines before after all e events → is_lasting e ≡ false → AreHeld (tickets_in all) events
   stops-held lines before after all e events h mild =
-      held-both (sealed_in all) events h.xs h.ys h.made (sends-held h.front all before h.count h.xs h.sends)
-      (elim h.ends as (λ _. AreHeld (sealed_in all) h.ys) [
-        | inl m ↦ closed-held (sealed_in all) h.ys (closed-none h.ys m.1)
-        | inr s ↦ held-more [] (sealed_in all) h.ys (λ t odd. absurd (false≢true odd)) (one-held s.0 h.count after h.ys (Err e) s.3 mild)
+      held-both (tickets_in all) events h.xs h.ys h.made (sends-held h.front all before h.count h.xs h.sends)
+      (elim h.ends as (λ _. AreHeld (tickets_in all) h.ys) [
+        | inl m ↦ closed-held (tickets_in all) h.ys (closed-none h.ys m.1)
+        | inr s ↦ held-more [] (tickets_in all) h.ys (λ t odd. absurd (false≢true odd)) (one-held s.0 h.count after h.ys (Err e) s.3 mild)
       ])
 
 -- ---- batches
@@ -239,22 +242,114 @@ module _ (filespace : ℕ) (lines : List SendLine) (all : List Came) (held : Lis
   stores-spent events result few (inr (inl (e, gives, is))) mild = given-spent held refused.Memory events e gives (ap (λ (r : Result (List (Option Refusal)) Refusal). lasts r) (sym is) ∙ mild)
   stores-spent events result few (inr (inr h)) mild = commits-spent (storing filespace) (sealed_lines lines all) held events result few h mild
 
+-- ---- seals
+
+-- each ticket is left, or a fault of its seal spent it
+sealed-in : (ticket t : ℕ) (digest : Digest) (s : Came) (sealed : List Came) → s ≡ came.Written ticket digest → (ticket == t) ≡ true → is_in t (tickets_in (s ∷ sealed)) ≡ true
+sealed-in ticket t digest s sealed is same = subst (λ (x : Came). is_in t (tickets_in (x ∷ sealed)) ≡ true) (sym is) (ap (λ b. b || is_in t (tickets_in sealed)) same)
+
+not-sealed : (e : Refusal) (s : Came) (b : Bool) → (number_of e == 25) ≡ b → ◌≡◌ {A = Result Came Refusal} (Ok s) (if b then Ok (came.Failed e) else Err (stopping e)) → (number_of e == 25) ≡ true
+not-sealed e s true is same = is
+not-sealed e s false is same = absurd cc
+
+fault-memory : (e : Refusal) → (number_of e == 25) ≡ true → Some e ≡ Some refused.Memory → ⊥
+fault-memory e fault is = false≢true (subst (λ (x : Refusal). (number_of x == 25) ≡ true) (same_Some e refused.Memory is) fault)
+
+seal-spent : (ticket t : ℕ) (digest : Digest) (s : Came) (sealed : List Came) (xs : List Event) → SealsOne (came.Written ticket digest) xs (Ok s) → (ticket == t) ≡ true
+    → (is_spent t xs ≡ true) ⊎ (is_in t (tickets_in (s ∷ sealed)) ≡ true)
+seal-spent ticket t digest s sealed xs (Ok done, made, is) same = inr (sealed-in ticket t digest s sealed (came_of is) same) where
+  came_of : ◌≡◌ {A = Result Came Refusal} (Ok s) (Ok (came.Written ticket digest)) → s ≡ came.Written ticket digest
+  came_of h = cc
+seal-spent ticket t digest s sealed xs (Err e, made, is) same =
+    let fault = not-sealed e s (number_of e == 25) refl is in
+    inl (made-spends t (Seal ticket (Err e)) xs made (fault-memory e fault) (ap (λ b. b && number_of e == 25) same ∙ fault))
+
+later-in : (s : Came) (sealed : List Came) (t : ℕ) → is_in t (tickets_in sealed) ≡ true → is_in t (tickets_in (s ∷ sealed)) ≡ true
+later-in (came.Written ticket digest) sealed t h = or-true (ticket == t) (is_in t (tickets_in sealed)) h where
+  or-true : (a b : Bool) → b ≡ true → (a || b) ≡ true
+  or-true true b h = refl
+  or-true false b h = h
+later-in (came.Failed e) sealed t h = h
+later-in (came.Held holder) sealed t h = h
+
+abbrev Passes : (held kept : List ℕ) → List Event → Type 0
+Passes held kept events = (t : ℕ) → is_in t held ≡ true → (is_spent t events ≡ true) ⊎ (is_in t kept ≡ true)
+
+passes-later : (s : Came) (all sealed : List Came) (xs ys : List Event) → Passes (tickets_in all) (tickets_in sealed) ys → Passes (tickets_in all) (tickets_in (s ∷ sealed)) (xs ++ ys)
+passes-later s all sealed xs ys so t h = elim (so t h) as (λ _. (is_spent t (xs ++ ys) ≡ true) ⊎ (is_in t (tickets_in (s ∷ sealed)) ≡ true)) [
+  | inl spent ↦ inl (spent-behind t xs ys spent)
+  | inr left ↦ inr (later-in s sealed t left)
+]
+
+passes-written : (ticket : ℕ) (digest : Digest) (s : Came) (all sealed : List Came) (xs ys : List Event) → SealsOne (came.Written ticket digest) xs (Ok s) → Passes (tickets_in all) (tickets_in sealed) ys
+    → (t : ℕ) (b : Bool) → (ticket == t) ≡ b → (b || is_in t (tickets_in all)) ≡ true → (is_spent t (xs ++ ys) ≡ true) ⊎ (is_in t (tickets_in (s ∷ sealed)) ≡ true)
+passes-written ticket digest s all sealed xs ys one rest t true same h = elim (seal-spent ticket t digest s sealed xs one same) as (λ _. (is_spent t (xs ++ ys) ≡ true) ⊎ (is_in t (tickets_in (s ∷ sealed)) ≡ true)) [
+  | inl spent ↦ inl (spent-before t xs ys spent)
+  | inr left ↦ inr left
+]
+passes-written ticket digest s all sealed xs ys one rest t false same h = passes-later s all sealed xs ys rest t h
+
+seals-pass : (all sealed : List Came) (events : List Event) → SealsEach all sealed events → Passes (tickets_in all) (tickets_in sealed) events
+seals-pass [] [] events h = λ t odd. absurd (false≢true odd)
+seals-pass [] (s ∷ sealed) events h = absurd h
+seals-pass (c ∷ all) [] events h = absurd h
+seals-pass (came.Written ticket digest ∷ all) (s ∷ sealed) events (xs, ys, cut, one, rest) =
+    subst (λ (es : List Event). Passes (ticket ∷ tickets_in all) (tickets_in (s ∷ sealed)) es) (sym cut)
+    (λ t h. passes-written ticket digest s all sealed xs ys one (seals-pass all sealed ys rest) t (ticket == t) refl h)
+seals-pass (came.Failed e ∷ all) (s ∷ sealed) events (xs, ys, cut, one, rest) =
+    subst (λ (es : List Event). Passes (tickets_in all) (tickets_in (s ∷ sealed)) es) (sym cut) (passes-later s all sealed xs ys (seals-pass all sealed ys rest))
+seals-pass (came.Held holder ∷ all) (s ∷ sealed) events (xs, ys, cut, one, rest) =
+    subst (λ (es : List Event). Passes (tickets_in all) (tickets_in (s ∷ sealed)) es) (sym cut) (passes-later s all sealed xs ys (seals-pass all sealed ys rest))
+
+-- their steps open none
+closed-seal : (c : Came) (events : List Event) (result : Result Came Refusal) → SealsOne c events result → AreClosed events
+closed-seal (came.Written ticket digest) events result h = closed-made (Seal ticket h.0) events refl h.1
+closed-seal (came.Failed e) events result h = closed-none events h.0
+closed-seal (came.Held holder) events result h = closed-none events h.0
+
+closed-seals : (all sealed : List Came) (events : List Event) → SealsEach all sealed events → AreClosed events
+closed-seals [] [] events h = closed-none events h
+closed-seals [] (s ∷ sealed) events h = absurd h
+closed-seals (c ∷ all) [] events h = absurd h
+closed-seals (c ∷ all) (s ∷ sealed) events (xs, ys, cut, one, rest) = closed-both events xs ys cut (closed-seal c xs (Ok s) one) (closed-seals all sealed ys rest)
+
+closed-unsealed : (all : List Came) (e : Refusal) (events : List Event) → StopsSealing all e events → AreClosed events
+closed-unsealed all e events h =
+    closed-both events h.xs h.ys h.made (closed-seals h.front h.sealed h.xs h.seals)
+    (elim h.ends as (λ _. AreClosed h.ys) [ inl m ↦ closed-none h.ys m.1 | inr o ↦ closed-seal o.0 h.ys (Err e) o.3 ])
+
+module _ (filespace : ℕ) (lines : List SendLine) (all sealed : List Came) where
+  closed-sealed : (events : List Event) (result : Result (List (Option Refusal)) Refusal) → SealsAndStores filespace lines all sealed events result → AreClosed events
+  closed-sealed events result (inl (e, (why, (xs, ys, cut, stops, gives)), is)) = closed-both events xs ys cut (closed-unsealed all why xs stops) (closed-given (tickets_in all) why ys e gives)
+  closed-sealed events result (inr (xs, ys, cut, seals, stores)) = closed-both events xs ys cut (closed-seals all sealed xs seals) (closed-stores filespace lines sealed (tickets_in sealed) ys result stores)
+
+  sealed-spent : (events : List Event) (result : Result (List (Option Refusal)) Refusal) → length all ≤ length lines → SealsAndStores filespace lines all sealed events result → lasts result ≡ false → AreSpent (tickets_in all) events
+  sealed-spent events result few (inl (e, (why, (xs, ys, cut, stops, gives)), is)) mild =
+      spent-later (tickets_in all) events xs ys cut (given-spent (tickets_in all) why ys e gives (ap (λ (r : Result (List (Option Refusal)) Refusal). lasts r) (sym is) ∙ mild))
+  sealed-spent events result few (inr (xs, ys, cut, seals, stores)) mild =
+      let long = behind-long all sealed (behind-each all sealed xs seals) in
+      let enough : length (tickets_in sealed) ≤ length (sealed_lines lines sealed) = rows-long lines sealed (omega (arith, long, few)) in
+      λ t h. subst (λ (es : List Event). is_spent t es ≡ true) (sym cut) (elim (seals-pass all sealed xs seals t h) as (λ _. is_spent t (xs ++ ys) ≡ true) [
+        | inl spent ↦ spent-before t xs ys spent
+        | inr left ↦ spent-behind t xs ys (stores-spent filespace lines sealed (tickets_in sealed) ys result enough stores mild t left)
+      ])
+
 module _ (rules : Rules) (told : Option Files) (filespace : ℕ) where
-  -- what was sent is committed, and no ticket is left
-  stored-held : (lines : List SendLine) (before after : ℕ) (all : List Came) (events xs ys : List Event) (result : Result (List (Option Refusal)) Refusal) → events ≡ xs ++ ys → Sent rules told lines before after all xs
-      → Stores filespace lines all (sealed_in all) ys result → lasts result ≡ false → AreHeld [] events
-  stored-held lines before after all events xs ys result cut sent stores mild =
+  -- what was written is sealed and committed, and no ticket is left
+  stored-held : (lines : List SendLine) (before after : ℕ) (all sealed : List Came) (events xs ys : List Event) (result : Result (List (Option Refusal)) Refusal) → events ≡ xs ++ ys → Sent rules told lines before after all xs
+      → SealsAndStores filespace lines all sealed ys result → lasts result ≡ false → AreHeld [] events
+  stored-held lines before after all sealed events xs ys result cut sent stores mild =
       subst (λ (es : List Event). AreHeld [] es) (sym cut)
-      (held-join (sealed_in all) [] xs ys (λ t h. inl (stores-spent filespace lines all (sealed_in all) ys result (sent-few rules told lines before after all xs sent) stores mild t h))
-      (sent-held rules told lines before after all xs sent) (closed-held [] ys (closed-stores filespace lines all (sealed_in all) ys result stores)))
+      (held-join (tickets_in all) [] xs ys (λ t h. inl (sealed-spent filespace lines all sealed ys result (sent-few rules told lines before after all xs sent) stores mild t h))
+      (sent-held rules told lines before after all xs sent) (closed-held [] ys (closed-sealed filespace lines all sealed ys result stores)))
 
   pub batch-held : (lines : List SendLine) (before after : ℕ) (events : List Event) (result : Result Batch Refusal) → Batches rules told filespace lines before after events result → lasts result ≡ false → AreHeld [] events
-  batch-held lines before after events (Ok b) (xs, ys, cut, sent, stores) mild = stored-held lines before after b.came events xs ys (Ok b.outs) cut sent stores refl
+  batch-held lines before after events (Ok b) (xs, ys, cut, sent, stores) mild = stored-held lines before after b.came b.sealed events xs ys (Ok b.outs) cut sent stores refl
   batch-held lines before after events (Err e) (inl (all, (why, (xs, ys, cut, stops, gives)))) mild =
       subst (λ (es : List Event). AreHeld [] es) (sym cut)
-      (held-join (sealed_in all) [] xs ys (λ t h. inl (given-spent (sealed_in all) why ys e gives mild t h))
-      (stops-held rules told lines before after all why xs stops (given-mild (sealed_in all) why ys e gives mild)) (closed-held [] ys (closed-given (sealed_in all) why ys e gives)))
-  batch-held lines before after events (Err e) (inr (all, (xs, ys, cut, sent, stores))) mild = stored-held lines before after all events xs ys (Err e) cut sent stores mild
+      (held-join (tickets_in all) [] xs ys (λ t h. inl (given-spent (tickets_in all) why ys e gives mild t h))
+      (stops-held rules told lines before after all why xs stops (given-mild (tickets_in all) why ys e gives mild)) (closed-held [] ys (closed-given (tickets_in all) why ys e gives)))
+  batch-held lines before after events (Err e) (inr (all, sealed, (xs, ys, cut, sent, stores))) mild = stored-held lines before after all sealed events xs ys (Err e) cut sent stores mild
 
   closed-waits : (events : List Event) (b : Batch) (result : Result (Unit {0}) Refusal) → AwaitsOne (waiting false b.came) events result → AreClosed events
   closed-waits events b result h = each-waits (λ d. opens_one d ≡ false) (λ answer. refl) (waiting false b.came) events result h

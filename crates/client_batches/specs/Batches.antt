@@ -1,4 +1,4 @@
--- A batch: files are sent, and those that are sealed are committed.
+-- A batch: files are written, their tickets are sealed, and those that are sealed are committed.
 use Rattle.std.specs.Prelude.{◌≡◌, ◌⊎◌, ℕ, List, [], ◌∷◌, ◌++◌, Option, Result, Ok, Err}
 use Rattle.kinds.specs.declared.refusal.Refusal.{Refusal}
 use Rattle.kinds.specs.declared.refusal.Refusal.TheVariants as refused
@@ -14,7 +14,8 @@ use Rattle.client_batches.specs.declared.batch.Batch.{Batch}
 use Rattle.client_batches.specs.declared.listing.SealedLine.{SealedLine}
 use Rattle.client_batches.specs.Commits.{Commits}
 use Rattle.client_batches.specs.Listings.{storing}
-use Rattle.client_batches.specs.Sends.{Fills, Sent, sealed_in}
+use Rattle.client_batches.specs.Seals.{Seals}
+use Rattle.client_batches.specs.Sends.{Fills, Sent, tickets_in}
 use Rattle.client_batches.specs.Tickets.{GivesBack}
 
 abbrev pub sealed_line : SendLine → Digest → SealedLine
@@ -22,7 +23,7 @@ sealed_line line digest = record { path = line.file.path; class = line.class; mt
 
 -- a file as it is committed, where it is sealed
 abbrev pub sealed_row : SendLine → Came → List SealedLine
-sealed_row line (came.Sealed ticket digest) = sealed_line line digest ∷ []
+sealed_row line (came.Written ticket digest) = sealed_line line digest ∷ []
 sealed_row line (came.Failed e) = []
 sealed_row line (came.Held holder) = []
 
@@ -39,10 +40,16 @@ Stores filespace lines all held events result =
     ⊎ ((e : Refusal) × GivesBack held refused.Memory events e × (result ≡ Err e))
     ⊎ Commits (storing filespace) (sealed_lines lines all) held events result
 
--- A batch was sent and committed, or the call ended and its tickets are given back.
+-- The tickets are sealed, and the files of those that are become versions; or the call ends at a seal, and the tickets are given back.
+abbrev pub SealsAndStores : (filespace : ℕ) → List SendLine → (all sealed : List Came) → List Event → Result (List (Option Refusal)) Refusal → Type 0
+SealsAndStores filespace lines all sealed events result =
+    ((e : Refusal) × Seals all sealed events (Err e) × (result ≡ Err e))
+    ⊎ Then (λ xs. Seals all sealed xs (Ok tt)) (λ ys. Stores filespace lines sealed (tickets_in sealed) ys result) events
+
+-- A batch was written, sealed and committed, or the call ended and its tickets are given back.
 abbrev pub Batches : Rules → Option Files → (filespace : ℕ) → List SendLine → (before after : ℕ) → List Event → Result Batch Refusal → Type 0
 Batches rules told filespace lines before after events (Ok b) =
-    Then (λ xs. Sent rules told lines before after b.came xs) (λ ys. Stores filespace lines b.came (sealed_in b.came) ys (Ok b.outs)) events
+    Then (λ xs. Sent rules told lines before after b.came xs) (λ ys. SealsAndStores filespace lines b.came b.sealed ys (Ok b.outs)) events
 Batches rules told filespace lines before after events (Err e) =
     ((all : List Came) × Fills rules told lines before after all events (Err e))
-    ⊎ ((all : List Came) × Then (λ xs. Sent rules told lines before after all xs) (λ ys. Stores filespace lines all (sealed_in all) ys (Err e)) events)
+    ⊎ ((all : List Came) × (sealed : List Came) × Then (λ xs. Sent rules told lines before after all xs) (λ ys. SealsAndStores filespace lines all sealed ys (Err e)) events)

@@ -5,6 +5,7 @@ pub mod Items
 pub mod Listings
 pub mod Quiet
 pub mod Rounds
+pub mod Seals
 pub mod Sends
 pub mod Tickets
 pub mod Verdicts

@@ -52,7 +52,7 @@ Rounds {L} One (suc number) lines rest outs before after events =
 -- A batch of the first files that are left; what came of those that needn't be sent again; and the wait for who holds the room of the next one.
 abbrev pub SendsSome : Rules → Option Files → (filespace : ℕ) → Round SendLine
 SendsSome rules told filespace lines rest outs before after events =
-    (b : Batch) × (outs ≡ verdicts false b.came b.outs) × (rest ≡ drop (length outs) lines)
+    (b : Batch) × (outs ≡ verdicts false b.came b.sealed b.outs) × (rest ≡ drop (length outs) lines)
     × Then (λ xs. Batches rules told filespace lines before after xs (Ok b)) (λ ys. AwaitsOne (waiting false b.came) ys (Ok tt)) events
 
 -- The call ended in a round: with its batch; for want of memory behind it; or with the wait.

@@ -1,13 +1,14 @@
-//! A batch of files: sent, and committed together.
+//! A batch of files: written, sealed, and committed together.
 ghost use Rattle.std.specs.Prelude.{◌≡◌, ◌≤◌, ◌^◌, ◌++◌, [], length, IfErr, OnOk};
 ghost use Rattle.kinds.specs.declared.refusal.Refusal.TheVariants.{Memory};
 ghost use Rattle.kinds.specs.Answers.{AnswersBy};
 ghost use Rattle.steps.specs.Calls.{Call};
-ghost use Rattle.client_batches.specs.Batches.{Batches, Stores, sealed_line, sealed_lines, sealed_row};
-ghost use Rattle.client_batches.specs.Sends.{sealed_in};
+ghost use Rattle.client_batches.specs.Batches.{Batches, SealsAndStores, Stores, sealed_line, sealed_lines, sealed_row};
+ghost use Rattle.client_batches.specs.Sends.{tickets_in};
 
 use crate::committing::commit_lines;
 use crate::listing::SealedLine;
+use crate::sealing::seal_batch;
 use crate::sending::fill_batch;
 use crate::tickets::give_back;
 use client_files::Came;
@@ -21,8 +22,10 @@ use steps::Stepper;
 /// What came of the first files of a list that were to be sent.
 #[derive(Drop)]
 pub struct Batch {
-    /// What came of each. Where others held the room, or there was none for it while others of the batch were sealed, the last one is to be sent again.
+    /// What came of each when it was written. Where others held the room, or there was none for it while others of the batch had tickets, the last one is to be sent again.
     pub came: Listed<Came>,
+    /// What came of each behind its seal, in the same order: one whose volume can't be written has failed.
+    pub sealed: Listed<Came>,
     /// Of each that was sealed why it isn't committed, or none where it is, in the same order.
     pub outs: Listed<Option<Refusal>>,
 }
@@ -46,7 +49,7 @@ fn add_row(rows: &mut Vec<SealedLine>, line: &SendLine, came: Came) -> Result<()
     ensures memory { IfErr result (λ e. e ≡ Memory) }
 {
     match came {
-        Came::Sealed(_, digest) => {
+        Came::Written(_, digest) => {
             rows.push(sealed_line(line, digest)?)?;
             Ok(())
         }
@@ -88,7 +91,7 @@ fn store_sealed<P: Stepper>(
     came: &[Came],
     held: &[u64],
 ) -> Result<Listed<Option<Refusal>>, Refusal>
-    requires of { held.now ≡ sealed_in came.now }
+    requires of { held.now ≡ tickets_in came.now }
     requires few { length held.now ≤ 32 }
     ensures { Call P.did p.old p.new (λ events. Stores filespace lines.now came.now held.now events result) }
 {
@@ -104,9 +107,40 @@ fn store_sealed<P: Stepper>(
     outs
 }
 
-/// Sends the first of these files, in their order, and commits those that are sealed. A batch ends with the last file, with the 32nd that is sealed, and where a file has to wait: others hold
-/// the room, or there is none for it while others of the batch are sealed. The buffer has 1 to 65,536 bytes. No ticket is left at the end, unless that is with `LogFault` or `RunFull`. It ends
-/// with these two and `Memory` where a step of its own answers so, and with `Memory` for want of its own; what it committed until then stays.
+/// Seals the tickets of these files, all of which are written, and commits those that are sealed; and answers what came of each behind its seal, and of each that is sealed why it isn't
+/// committed, or none where it is.
+fn seal_and_store<P: Stepper>(
+    alloc: Global,
+    p: &mut P,
+    filespace: u32,
+    lines: &[SendLine],
+    came: &[Came],
+    tickets: &[u64],
+    sealed: &mut Vec<Came>,
+) -> Result<Listed<Option<Refusal>>, Refusal>
+    requires of { tickets.now ≡ tickets_in came.now }
+    requires few { length tickets.now ≤ 32 }
+    requires none { sealed.old.items ≡ [] }
+    ensures { Call P.did p.old p.new (λ events. SealsAndStores filespace lines.now came.now sealed.new.items events result) }
+{
+    let mut held = Vec::new(alloc);
+    match seal_batch(p, came, tickets, sealed, &mut held) {
+        Ok(()) => {}
+        Err(refusal) => return Err(refusal),
+    }
+    store_sealed(
+        alloc,
+        p,
+        filespace,
+        lines,
+        sealed.as_slice(),
+        held.as_slice(),
+    )
+}
+
+/// Writes the first of these files, in their order, then seals their tickets, and commits those that are sealed. A batch ends with the last file, with the 32nd that has a ticket, and where a file
+/// has to wait: others hold the room, or there is none for it while others of the batch have tickets. The buffer has 1 to 65,536 bytes. No ticket is left at the end, unless that is with
+/// `LogFault` or `RunFull`. It ends with these two and `Memory` where a step of its own answers so, and with `Memory` for want of its own; what it committed until then stays.
 pub fn send_batch<P: Stepper, T: Tree>(
     alloc: Global,
     p: &mut P,
@@ -129,11 +163,13 @@ pub fn send_batch<P: Stepper, T: Tree>(
         Ok(()) => {}
         Err(refusal) => return Err(refusal),
     }
+    let mut sealed = Vec::new(alloc);
     let all = came.as_slice();
     let tickets = held.as_slice();
-    match store_sealed(alloc, p, filespace, lines, all, tickets) {
+    match seal_and_store(alloc, p, filespace, lines, all, tickets, &mut sealed) {
         Ok(outs) => Ok(Batch {
             came: Listed::from_vec(came),
+            sealed: Listed::from_vec(sealed),
             outs,
         }),
         Err(refusal) => Err(refusal),

@@ -1,4 +1,4 @@
-//! The lists of a client's plan, carried out: files are sent in batches whose tickets are committed together, or one by one where that is refused; paths that are bound anew and versions that are
+//! The lists of a client's plan, carried out: files are sent in batches, whose tickets are sealed when all are written and then committed together, or one by one where that is refused; paths that are bound anew and versions that are
 //! ended are committed so, without tickets.
 #![tactic(auto)]
 
@@ -7,6 +7,7 @@ mod committing;
 mod listing;
 mod lists;
 mod rounds;
+mod sealing;
 mod sending;
 mod settling;
 mod tickets;

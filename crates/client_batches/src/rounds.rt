@@ -64,8 +64,9 @@ fn send_some<P: Stepper, T: Tree>(
         Err(refusal) => return Err(refusal),
     };
     let came = batch.came.as_slice();
+    let sealed = batch.sealed.as_slice();
     let outs = batch.outs.as_slice();
-    match settle(settled, came, outs) {
+    match settle(settled, came, sealed, outs) {
         Ok(holder) => wait_for(p, holder),
         Err(refusal) => Err(refusal),
     }

@@ -1,12 +1,12 @@
-//! Files that are sent, as many as one transaction takes.
+//! Files that are written into tickets, as many as one transaction takes.
 ghost use Rattle.std.specs.Prelude.{◌≡◌, ◌<◌, ◌≤◌, ◌^◌, nat_le, [], ◌∷◌, ◌++◌, length, IfErr, OnOk};
 ghost use Rattle.std.specs.Vec.{vec_capacity};
 ghost use Rattle.kinds.specs.declared.refusal.Refusal.TheVariants.{Memory};
 ghost use Rattle.steps.specs.Calls.{Call};
-ghost use Rattle.client_batches.specs.Sends.{Fills, Sends, SendsOne, pauses, sealed_in};
+ghost use Rattle.client_batches.specs.Sends.{Fills, Sends, SendsOne, pauses, tickets_in};
 
 use crate::tickets::give_back;
-use client_files::{Came, send_file};
+use client_files::{Came, write_file};
 use client_plan::{ActiveClasses, SendLine};
 use client_trees::Tree;
 use kinds::Refusal;
@@ -15,7 +15,7 @@ use steps::Stepper;
 /// How many files' tickets are committed together at most.
 const MOST: usize = 32;
 
-/// Sends one file to the destination of its class.
+/// Writes one file to the destination of its class, into a ticket that isn't sealed yet.
 fn send_one<P: Stepper, T: Tree>(
     p: &mut P,
     tree: &mut T,
@@ -31,7 +31,7 @@ fn send_one<P: Stepper, T: Tree>(
     ensures long { length buffer.new ≡ length buffer.old }
 {
     match classes.destination(&line.class) {
-        Some(pool) => send_file(p, tree, &line.file, pool, buffer),
+        Some(pool) => write_file(p, tree, &line.file, pool, buffer),
         None => Ok(Came::Failed(Refusal::NoBackupGroup)),
     }
 }
@@ -41,7 +41,7 @@ fn pauses(held: &[u64], came: Came) -> bool
     ensures { result ≡ pauses (length held.now) came }
 {
     match came {
-        Came::Sealed(_, _) => false,
+        Came::Written(_, _) => false,
         Came::Failed(refusal) => refusal.number() == 20 && held.len() > 0,
         Came::Held(_) => true,
     }
@@ -55,7 +55,7 @@ fn is_full(held: &[u64]) -> bool
 }
 
 /// Takes the memory for what comes of one more file.
-fn make_room(came: &mut Vec<Came>, held: &mut Vec<u64>) -> Result<(), Refusal>
+pub(crate) fn make_room(came: &mut Vec<Came>, held: &mut Vec<u64>) -> Result<(), Refusal>
     ensures came { came.new.items ≡ came.old.items }
     ensures held { held.new.items ≡ held.old.items }
     ensures room { OnOk result (length came.new.items < vec_capacity came.new) }
@@ -67,24 +67,24 @@ fn make_room(came: &mut Vec<Came>, held: &mut Vec<u64>) -> Result<(), Refusal>
     Ok(())
 }
 
-/// Adds the ticket in which a file was sealed, where it was.
-fn hold(held: &mut Vec<u64>, came: Came)
+/// Adds the ticket in which a file stands, where it has one.
+pub(crate) fn hold(held: &mut Vec<u64>, came: Came)
     requires { length held.old.items < vec_capacity held.old }
-    ensures { held.new.items ≡ held.old.items ++ sealed_in (came ∷ []) }
+    ensures { held.new.items ≡ held.old.items ++ tickets_in (came ∷ []) }
 {
     match came {
-        Came::Sealed(ticket, _) => held.push_reserved(ticket),
+        Came::Written(ticket, _) => held.push_reserved(ticket),
         Came::Failed(_) => {}
         Came::Held(_) => {}
     }
 }
 
-/// Adds what came of one more file, and its ticket where it is sealed; and answers whether it pauses.
+/// Adds what came of one more file, and its ticket where it has one; and answers whether it pauses.
 fn keep(came: &mut Vec<Came>, held: &mut Vec<u64>, it: Came) -> bool
     requires room { length came.old.items < vec_capacity came.old }
     requires free { length held.old.items < vec_capacity held.old }
     ensures came { came.new.items ≡ came.old.items ++ it ∷ [] }
-    ensures held { held.new.items ≡ held.old.items ++ sealed_in (it ∷ []) }
+    ensures held { held.new.items ≡ held.old.items ++ tickets_in (it ∷ []) }
     ensures stop { result ≡ pauses (length held.old.items) it }
 {
     let stop = pauses(held.as_slice(), it);
@@ -93,7 +93,7 @@ fn keep(came: &mut Vec<Came>, held: &mut Vec<u64>, it: Came) -> bool
     stop
 }
 
-/// Sends these files, one after the other, until 32 are sealed or one pauses; and adds what came of each, and the tickets of those that are sealed.
+/// Writes these files, one after the other, until 32 have tickets or one pauses; and adds what came of each, and the tickets of those that have one.
 fn send_each<P: Stepper, T: Tree>(
     p: &mut P,
     tree: &mut T,
@@ -108,7 +108,7 @@ fn send_each<P: Stepper, T: Tree>(
     requires some { 1 ≤ length buffer.old }
     requires few { length buffer.old ≤ 2 ^ 16 }
     ensures sends { Call P.did p.old p.new (λ events. Sends classes.now (T.files tree.old) lines.now (T.fault_count tree.old) (T.fault_count tree.new) came.new.items events result) }
-    ensures held { held.new.items ≡ sealed_in came.new.items }
+    ensures held { held.new.items ≡ tickets_in came.new.items }
     ensures most { length held.new.items ≤ 32 }
     ensures kept { T.files tree.new ≡ T.files tree.old }
     ensures rises { T.fault_count tree.old ≤ T.fault_count tree.new }
@@ -135,7 +135,7 @@ fn send_each<P: Stepper, T: Tree>(
     Ok(())
 }
 
-/// Sends files as `send_each` does, and gives the tickets back where that ends with a refusal.
+/// Writes files as `send_each` does, and gives the tickets back where that ends with a refusal.
 pub(crate) fn fill_batch<P: Stepper, T: Tree>(
     p: &mut P,
     tree: &mut T,
@@ -150,7 +150,7 @@ pub(crate) fn fill_batch<P: Stepper, T: Tree>(
     requires some { 1 ≤ length buffer.old }
     requires few { length buffer.old ≤ 2 ^ 16 }
     ensures fills { Call P.did p.old p.new (λ events. Fills classes.now (T.files tree.old) lines.now (T.fault_count tree.old) (T.fault_count tree.new) came.new.items events result) }
-    ensures held { held.new.items ≡ sealed_in came.new.items }
+    ensures held { held.new.items ≡ tickets_in came.new.items }
     ensures most { length held.new.items ≤ 32 }
     ensures kept { T.files tree.new ≡ T.files tree.old }
     ensures rises { T.fault_count tree.old ≤ T.fault_count tree.new }

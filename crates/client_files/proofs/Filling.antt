@@ -9,7 +9,7 @@ use Rattle.kinds.specs.ValueForms.{digest_with}
 use Rattle.kinds.specs.declared.refusal.Refusal.{Refusal}
 use Rattle.kinds.specs.declared.segment.Digest.{Digest}
 use Rattle.client_trees.specs.Files.{ClientFile}
-use Rattle.steps.proofs.Joining.{GoesOn, does_made, makes_step, so_call, then_call, then_does}
+use Rattle.steps.proofs.Joining.{GoesOn, does_alone, does_made, makes_step, so_call, then_call, then_does}
 use Rattle.steps.specs.Calls.{Call, Does, IsStep, Made, MakesStep, Then}
 use Rattle.steps.specs.Events.{Event, event}
 use Rattle.steps.specs.Events.Deed.{OpenNew, WritePiece, Seal, DropTicket}
@@ -17,7 +17,8 @@ use Rattle.tree_api.specs.Cause.{Rose}
 use Rattle.client_files.specs.declared.outcome.Came.{Came}
 use Rattle.client_files.specs.declared.outcome.Came.TheVariants as came
 use Rattle.client_files.specs.Reading.{EndsEarly, GoesOn as Longer, TreeFails}
-use Rattle.client_files.specs.Sending.{Copies, Fills, GivesUp, Sends, Spends, Writes, Wrote, behind_drop, bytes_by, is_spent_by, unopened, unwritten, written}
+use Rattle.client_files.specs.Sending.{Copies, GivesUp, Writes, Wrote, behind_drop, bytes_by, is_spent_by, unopened, unwritten, written}
+use Rattle.client_files.specs.Writing.{Closes, Keeps, Loads, Puts}
 
 -- ---- pieces
 
@@ -106,37 +107,26 @@ copies-whole did p q file ticket size done hasher before after hash a all ends =
 
 -- ---- a ticket
 
-pub fills-broken : {S : Type 0} (did : S → List Event → S → Type 0) (p q : S) (file : Option ClientFile) (ticket size before after : ℕ) (e : Refusal)
-    → Call did p q (λ events. Copies file ticket size before after events (Err e)) → Call did p q (λ events. Fills file ticket size before after events (Err e))
-fills-broken did p q file ticket size before after e a =
-    so_call did (λ events. Copies file ticket size before after events (Err e)) (λ events. Fills file ticket size before after events (Err e)) p q a (λ xs f. inl f)
+pub loads-broken : {S : Type 0} (did : S → List Event → S → Type 0) (p q : S) (file : Option ClientFile) (ticket size before after : ℕ) (e : Refusal)
+    → Call did p q (λ events. Copies file ticket size before after events (Err e)) → Call did p q (λ events. Loads file ticket size before after events (Err e))
+loads-broken did p q file ticket size before after e a =
+    so_call did (λ events. Copies file ticket size before after events (Err e)) (λ events. Loads file ticket size before after events (Err e)) p q a (λ xs f. inl f)
 
-pub fills-longer : {S : Type 0} (did : S → List Event → S → Type 0) (p q : S) (file : Option ClientFile) (ticket size first before after : ℕ) (digest : Digest) (e : Refusal)
+pub loads-longer : {S : Type 0} (did : S → List Event → S → Type 0) (p q : S) (file : Option ClientFile) (ticket size first before after : ℕ) (digest : Digest) (e : Refusal)
     → Call did p q (λ events. Copies file ticket size first before events (Ok digest)) → first ≤ before → (TreeFails before after e ⊎ Longer file size e)
-    → Call did p q (λ events. Fills file ticket size first after events (Err e))
-fills-longer did p q file ticket size first before after digest e a low (inl h) =
-    so_call did (λ events. Copies file ticket size first before events (Ok digest)) (λ events. Fills file ticket size first after events (Err e)) p q a
-    (λ xs f. inr (inl (digest, f, inl (tree_fails first before after e low h))))
-fills-longer did p q file ticket size first before after digest e a low (inr h) =
-    so_call did (λ events. Copies file ticket size first before events (Ok digest)) (λ events. Fills file ticket size first after events (Err e)) p q a
-    (λ xs f. inr (inl (digest, f, inr h)))
+    → Call did p q (λ events. Loads file ticket size first after events (Err e))
+loads-longer did p q file ticket size first before after digest e a low (inl h) =
+    so_call did (λ events. Copies file ticket size first before events (Ok digest)) (λ events. Loads file ticket size first after events (Err e)) p q a
+    (λ xs f. inr (digest, f, inl (tree_fails first before after e low h)))
+loads-longer did p q file ticket size first before after digest e a low (inr h) =
+    so_call did (λ events. Copies file ticket size first before events (Ok digest)) (λ events. Loads file ticket size first after events (Err e)) p q a
+    (λ xs f. inr (digest, f, inr h))
 
-pub fills-unsealed : {S : Type 0} (did : S → List Event → S → Type 0) → GoesOn did → (p q r : S) (file : Option ClientFile) (ticket size first before after : ℕ) (digest : Digest) (why e : Refusal)
-    → Call did p q (λ events. Copies file ticket size first before events (Ok digest)) → Does did q r (Seal ticket (Err why)) → e ≡ unwritten why
-    → Call did p r (λ events. Fills file ticket size first after events (Err e))
-fills-unsealed did goes p q r file ticket size first before after digest why e a d same =
-    so_call did (λ events. Then (λ xs. Copies file ticket size first after xs (Ok digest)) (λ ys. Made (Seal ticket (Err why)) ys) events) (λ events. Fills file ticket size first after events
-    (Err e)) p r
-    (then_call did goes (λ events. Copies file ticket size first after events (Ok digest)) (λ events. Made (Seal ticket (Err why)) events) p q r a (does_made did q r (Seal ticket (Err why)) d))
-    (λ xs f. inr (inr (digest, why, same, f)))
-
-pub fills-sealed : {S : Type 0} (did : S → List Event → S → Type 0) → GoesOn did → (p q r : S) (file : Option ClientFile) (ticket size first before after : ℕ) (digest : Digest)
-    → Call did p q (λ events. Copies file ticket size first before events (Ok digest)) → IfSome file (λ f. length f.bytes ≤ size) → Does did q r (Seal ticket (Ok tt))
-    → Call did p r (λ events. Fills file ticket size first after events (Ok digest))
-fills-sealed did goes p q r file ticket size first before after digest a ended d =
-    then_does did goes (λ events. Copies file ticket size first after events (Ok digest)) (λ events. Fills file ticket size first after events (Ok digest)) p q r (Seal ticket (Ok tt)) a d
-    (λ xs f n listed. (ended, (xs, event n (Seal ticket (Ok tt)) ∷ [], refl, f, (n, refl, listed))))
-    (λ xs f m. absurd cc)
+pub loads-whole : {S : Type 0} (did : S → List Event → S → Type 0) (p q : S) (file : Option ClientFile) (ticket size first before after : ℕ) (digest : Digest)
+    → Call did p q (λ events. Copies file ticket size first before events (Ok digest)) → IfSome file (λ f. length f.bytes ≤ size)
+    → Call did p q (λ events. Loads file ticket size first after events (Ok digest))
+loads-whole did p q file ticket size first before after digest a ended =
+    so_call did (λ events. Copies file ticket size first before events (Ok digest)) (λ events. Loads file ticket size first after events (Ok digest)) p q a (λ xs f. (ended, f))
 
 pub gives-back : {S : Type 0} (did : S → List Event → S → Type 0) (p q : S) (ticket : ℕ) (e : Refusal) (result : Result Came Refusal) → is_spent_by e ≡ false
     → (answer : Result (Unit {0}) Refusal) × MakesStep did p q (DropTicket ticket answer) × (result ≡ behind_drop e answer) → Call did p q (λ events. GivesUp ticket e events result)
@@ -144,37 +134,53 @@ gives-back did p q ticket e result spent d =
     so_call did (λ events. IsStep (DropTicket ticket d.0) events) (λ events. GivesUp ticket e events result) p q (makes_step did p q (DropTicket ticket d.0) d.1)
     (λ xs f. inr (spent, d.0, f, d.2))
 
-pub spends-sealed : {S : Type 0} (did : S → List Event → S → Type 0) (p q : S) (file : Option ClientFile) (ticket size before after : ℕ) (digest : Digest)
-    → Call did p q (λ events. Fills file ticket size before after events (Ok digest)) → Call did p q (λ events. Spends file ticket size before after events (Ok (came.Sealed ticket digest)))
-spends-sealed did p q file ticket size before after digest a =
-    so_call did (λ events. Fills file ticket size before after events (Ok digest)) (λ events. Spends file ticket size before after events (Ok (came.Sealed ticket digest))) p q a
+pub keeps-written : {S : Type 0} (did : S → List Event → S → Type 0) (p q : S) (file : Option ClientFile) (ticket size before after : ℕ) (digest : Digest)
+    → Call did p q (λ events. Loads file ticket size before after events (Ok digest)) → Call did p q (λ events. Keeps file ticket size before after events (Ok (came.Written ticket digest)))
+keeps-written did p q file ticket size before after digest a =
+    so_call did (λ events. Loads file ticket size before after events (Ok digest)) (λ events. Keeps file ticket size before after events (Ok (came.Written ticket digest))) p q a
     (λ xs f. inl (digest, f, refl))
 
-pub spends-given : {S : Type 0} (did : S → List Event → S → Type 0) → GoesOn did → (p q r : S) (file : Option ClientFile) (ticket size before after : ℕ) (e : Refusal) (result : Result Came Refusal)
-    → Call did p q (λ events. Fills file ticket size before after events (Err e)) → Call did q r (λ events. GivesUp ticket e events result)
-    → Call did p r (λ events. Spends file ticket size before after events result)
-spends-given did goes p q r file ticket size before after e result a b =
-    so_call did (λ events. Then (λ xs. Fills file ticket size before after xs (Err e)) (λ ys. GivesUp ticket e ys result) events) (λ events. Spends file ticket size before after events result) p r
-    (then_call did goes (λ events. Fills file ticket size before after events (Err e)) (λ events. GivesUp ticket e events result) p q r a b)
+pub keeps-given : {S : Type 0} (did : S → List Event → S → Type 0) → GoesOn did → (p q r : S) (file : Option ClientFile) (ticket size before after : ℕ) (e : Refusal) (result : Result Came Refusal)
+    → Call did p q (λ events. Loads file ticket size before after events (Err e)) → Call did q r (λ events. GivesUp ticket e events result)
+    → Call did p r (λ events. Keeps file ticket size before after events result)
+keeps-given did goes p q r file ticket size before after e result a b =
+    so_call did (λ events. Then (λ xs. Loads file ticket size before after xs (Err e)) (λ ys. GivesUp ticket e ys result) events) (λ events. Keeps file ticket size before after events result) p r
+    (then_call did goes (λ events. Loads file ticket size before after events (Err e)) (λ events. GivesUp ticket e events result) p q r a b)
     (λ xs f. inr (e, f))
 
 -- ---- a file
 
-pub sends-unopened : {S : Type 0} (did : S → List Event → S → Type 0) (p q : S) (file : Option ClientFile) (pool size before after : ℕ) (e : Refusal) (result : Result Came Refusal)
-    → Does did p q (OpenNew pool size 0 (Err e)) → result ≡ unopened e → Call did p q (λ events. Sends file pool size before after events result)
-sends-unopened did p q file pool size before after e result d same =
-    so_call did (λ events. Made (OpenNew pool size 0 (Err e)) events) (λ events. Sends file pool size before after events result) p q (does_made did p q (OpenNew pool size 0 (Err e)) d)
+pub puts-unopened : {S : Type 0} (did : S → List Event → S → Type 0) (p q : S) (file : Option ClientFile) (pool size before after : ℕ) (e : Refusal) (result : Result Came Refusal)
+    → Does did p q (OpenNew pool size 0 (Err e)) → result ≡ unopened e → Call did p q (λ events. Puts file pool size before after events result)
+puts-unopened did p q file pool size before after e result d same =
+    so_call did (λ events. Made (OpenNew pool size 0 (Err e)) events) (λ events. Puts file pool size before after events result) p q (does_made did p q (OpenNew pool size 0 (Err e)) d)
     (λ xs f. inl (e, f, same))
 
-pub sends-opened : {S : Type 0} (did : S → List Event → S → Type 0) → GoesOn did → (p q r : S) (file : Option ClientFile) (pool size before after ticket : ℕ) (result : Result Came Refusal)
-    → Does did p q (OpenNew pool size 0 (Ok ticket)) → Call did q r (λ events. Spends file ticket size before after events result)
-    → Call did p r (λ events. Sends file pool size before after events result)
-sends-opened did goes p q r file pool size before after ticket result d b =
-    so_call did (λ events. Then (λ xs. Made (OpenNew pool size 0 (Ok ticket)) xs) (λ ys. Spends file ticket size before after ys result) events) (λ events. Sends file pool size before after
+pub puts-opened : {S : Type 0} (did : S → List Event → S → Type 0) → GoesOn did → (p q r : S) (file : Option ClientFile) (pool size before after ticket : ℕ) (result : Result Came Refusal)
+    → Does did p q (OpenNew pool size 0 (Ok ticket)) → Call did q r (λ events. Keeps file ticket size before after events result)
+    → Call did p r (λ events. Puts file pool size before after events result)
+puts-opened did goes p q r file pool size before after ticket result d b =
+    so_call did (λ events. Then (λ xs. Made (OpenNew pool size 0 (Ok ticket)) xs) (λ ys. Keeps file ticket size before after ys result) events) (λ events. Puts file pool size before after
     events result) p r
-    (then_call did goes (λ events. Made (OpenNew pool size 0 (Ok ticket)) events) (λ events. Spends file ticket size before after events result) p q r
+    (then_call did goes (λ events. Made (OpenNew pool size 0 (Ok ticket)) events) (λ events. Keeps file ticket size before after events result) p q r
     (does_made did p q (OpenNew pool size 0 (Ok ticket)) d) b)
     (λ xs f. inr (ticket, f))
+
+-- ---- its ticket is sealed
+
+pub closes-sealed : {S : Type 0} (did : S → List Event → S → Type 0) (p q : S) (c : Came) (ticket : ℕ) (digest : Digest) → c ≡ came.Written ticket digest → Does did p q (Seal ticket (Ok tt))
+    → Call did p q (λ events. Closes c events (Ok (came.Written ticket digest)))
+closes-sealed did p q c ticket digest is d =
+    subst (λ (x : Came). Call did p q (λ events. Closes x events (Ok (came.Written ticket digest)))) (sym is)
+    (does_alone did (λ events. Closes (came.Written ticket digest) events (Ok (came.Written ticket digest))) p q (Seal ticket (Ok tt)) d (λ n listed. inl ((n, refl, listed), refl)) (λ m. absurd cc))
+
+pub closes-given : {S : Type 0} (did : S → List Event → S → Type 0) → GoesOn did → (p q r : S) (c : Came) (ticket : ℕ) (digest : Digest) (why e : Refusal) (result : Result Came Refusal) → c ≡ came.Written ticket digest
+    → Does did p q (Seal ticket (Err why)) → e ≡ unwritten why → Call did q r (λ events. GivesUp ticket e events result) → Call did p r (λ events. Closes c events result)
+closes-given did goes p q r c ticket digest why e result is d same b =
+    subst (λ (x : Came). Call did p r (λ events. Closes x events result)) (sym is)
+    (so_call did (λ events. Then (λ xs. Made (Seal ticket (Err why)) xs) (λ ys. GivesUp ticket e ys result) events) (λ events. Closes (came.Written ticket digest) events result) p r
+    (then_call did goes (λ events. Made (Seal ticket (Err why)) events) (λ events. GivesUp ticket e events result) p q r (does_made did p q (Seal ticket (Err why)) d) b)
+    (λ xs f. inr (why, subst (λ (x : Refusal). Then (λ xs. Made (Seal ticket (Err why)) xs) (λ ys. GivesUp ticket x ys result) xs) same f)))
 
 -- the bytes at the front of the buffer, as a piece
 pub next_of : (file : Option ClientFile) (buffer : List ℕ) (done count : ℕ) → count ≤ length buffer → IfSome file (λ f. take count buffer ≡ take count (drop done f.bytes))

@@ -1,4 +1,4 @@
--- Which ticket is left behind a file that was sent, by its steps alone.
+-- Which ticket is left behind a file that was written, by its steps alone.
 use Rattle.std.proofs.Common.{◌≡◌, ◌⊎◌, inl, inr, ℕ, ◌==◌, ◌&&◌, Bool, true, false, if◌then◌else◌, List, [], ◌∷◌, ◌++◌, length, Option, Some, Result, Ok, Err, refl, sym, ap, subst, ◌∙◌}
 use Rattle.std.proofs.lemmas.Bool.{eq-eqb, false≢true}
 use Rattle.std.proofs.lemmas.Option.{same_Some}
@@ -15,7 +15,8 @@ use Rattle.steps.specs.Spent.{is_spent}
 use Rattle.steps.proofs.Spending.{AreClosed, AreHeld, closed-both, closed-held, closed-made, closed-none, closed-step, held-join, is_in, is-one, made-spends, one-is, opens_one, spent-before, spent-behind, step-spends}
 use Rattle.client_files.specs.declared.outcome.Came.{Came}
 use Rattle.client_files.specs.declared.outcome.Came.TheVariants as came
-use Rattle.client_files.specs.Sending.{Breaks, Copies, Fills, GivesUp, Sends, Spends, Writes, Wrote, behind_drop, failing, is_unfilled, stopping, unwritten}
+use Rattle.client_files.specs.Sending.{Breaks, Copies, GivesUp, Writes, Wrote, behind_drop, failing, is_unfilled, stopping, unwritten}
+use Rattle.client_files.specs.Writing.{Keeps, Loads, Puts}
 use Rattle.client_files.specs.Tickets.{is_lasting}
 use Rattle.client_files.proofs.Ticketed.{early-other, longer-other, numbered, one-of-dropped, spent-by, stopping-lasting, tree-other, unwritten-other}
 
@@ -50,19 +51,18 @@ module _ (file : Option ClientFile) (ticket size before after : ℕ) where
   copies-closed : (digest : Digest) (events : List Event) → Copies file ticket size before after events (Ok digest) → AreClosed events
   copies-closed digest events h = wrote-closed h.0 events h.1
 
-  fills-closed : (result : Result Digest Refusal) (events : List Event) → Fills file ticket size before after events result → AreClosed events
-  fills-closed (Ok digest) events (ends, (xs, ys, cut, copies, step)) = closed-both events xs ys cut (copies-closed digest xs copies) (closed-step (Seal ticket (Ok tt)) ys refl step)
-  fills-closed (Err e) events (inl h) = breaks-closed e events h
-  fills-closed (Err e) events (inr (inl h)) = copies-closed h.0 events h.1
-  fills-closed (Err e) events (inr (inr (digest, why, is, (xs, ys, cut, copies, made)))) = closed-both events xs ys cut (copies-closed digest xs copies) (closed-made (Seal ticket (Err why)) ys refl made)
+  loads-closed : (result : Result Digest Refusal) (events : List Event) → Loads file ticket size before after events result → AreClosed events
+  loads-closed (Ok digest) events h = copies-closed digest events h.1
+  loads-closed (Err e) events (inl h) = breaks-closed e events h
+  loads-closed (Err e) events (inr h) = copies-closed h.0 events h.1
 
   gives-closed : (e : Refusal) (events : List Event) (result : Result Came Refusal) → GivesUp ticket e events result → AreClosed events
   gives-closed e events result (inl h) = closed-none events h.1
   gives-closed e events result (inr h) = closed-step (DropTicket ticket h.1) events refl h.2
 
-  spends-closed : (events : List Event) (result : Result Came Refusal) → Spends file ticket size before after events result → AreClosed events
-  spends-closed events result (inl h) = fills-closed (Ok h.0) events h.1
-  spends-closed events result (inr (e, (xs, ys, cut, fills, gives))) = closed-both events xs ys cut (fills-closed (Err e) xs fills) (gives-closed e ys result gives)
+  keeps-closed : (events : List Event) (result : Result Came Refusal) → Keeps file ticket size before after events result → AreClosed events
+  keeps-closed events result (inl h) = loads-closed (Ok h.0) events h.1
+  keeps-closed events result (inr (e, (xs, ys, cut, loads, gives))) = closed-both events xs ys cut (loads-closed (Err e) xs loads) (gives-closed e ys result gives)
 
 -- ---- a fault of writing spends the ticket
 
@@ -90,13 +90,10 @@ module _ (file : Option ClientFile) (ticket size before after : ℕ) (e : Refusa
         subst (λ (es : List Event). is_spent ticket es ≡ true) (sym cut) (spent-behind ticket xs ys (made-spends ticket (WritePiece ticket h.0 (Err h.1)) ys h.3 (not-memory h.1 so) (one-spends ticket h.1 so))))
   ]
 
-  fills-spent : (events : List Event) → Fills file ticket size before after events (Err e) → is_spent ticket events ≡ true
-  fills-spent events (inl h) = breaks-spent events h
-  fills-spent events (inr (inl (digest, copies, fails))) =
+  loads-spent : (events : List Event) → Loads file ticket size before after events (Err e) → is_spent ticket events ≡ true
+  loads-spent events (inl h) = breaks-spent events h
+  loads-spent events (inr (digest, copies, fails)) =
       absurd (not-fault e (elim fails as (λ _. (number_of e == 25) ≡ false) [ inl t ↦ tree-other before after e t | inr t ↦ longer-other file size e t ]) fault)
-  fills-spent events (inr (inr (digest, why, is, (xs, ys, cut, copies, made)))) =
-      let so = fault-of why e is fault in
-      subst (λ (es : List Event). is_spent ticket es ≡ true) (sym cut) (spent-behind ticket xs ys (made-spends ticket (Seal ticket (Err why)) ys made (not-memory why so) (one-spends ticket why so)))
 
 -- ---- what is answered
 
@@ -105,9 +102,9 @@ abbrev pub lasts : {A : Type 0} → Result A Refusal → Bool
 lasts (Ok x) = false
 lasts (Err e) = is_lasting e
 
--- the ticket that is left, where the file is sealed
+-- the ticket that is left, where the file is written
 abbrev pub kept_of : Result Came Refusal → List ℕ
-kept_of (Ok (came.Sealed ticket digest)) = ticket ∷ []
+kept_of (Ok (came.Written ticket digest)) = ticket ∷ []
 kept_of (Ok (came.Failed e)) = []
 kept_of (Ok (came.Held holder)) = []
 kept_of (Err e) = []
@@ -140,12 +137,12 @@ given-up ticket e events result (inr (kept, Err other, step, is)) mild =
 -- ---- all of it
 
 module _ (file : Option ClientFile) (size before after : ℕ) where
-  spent-or-kept : (ticket : ℕ) (events : List Event) (result : Result Came Refusal) → Spends file ticket size before after events result → lasts result ≡ false
+  spent-or-kept : (ticket : ℕ) (events : List Event) (result : Result Came Refusal) → Keeps file ticket size before after events result → lasts result ≡ false
       → (is_spent ticket events ≡ true) ⊎ (is_in ticket (kept_of result) ≡ true)
-  spent-or-kept ticket events result (inl (digest, fills, is)) mild = inr (subst (λ (r : Result Came Refusal). is_in ticket (kept_of r) ≡ true) (sym is) (is-one ticket))
-  spent-or-kept ticket events result (inr (e, (xs, ys, cut, fills, gives))) mild =
+  spent-or-kept ticket events result (inl (digest, loads, is)) mild = inr (subst (λ (r : Result Came Refusal). is_in ticket (kept_of r) ≡ true) (sym is) (is-one ticket))
+  spent-or-kept ticket events result (inr (e, (xs, ys, cut, loads, gives))) mild =
       inl (subst (λ (es : List Event). is_spent ticket es ≡ true) (sym cut) (elim (given-up ticket e ys result gives mild) as (λ _. is_spent ticket (xs ++ ys) ≡ true) [
-        | inl fault ↦ spent-before ticket xs ys (fills-spent file ticket size before after e fault xs fills)
+        | inl fault ↦ spent-before ticket xs ys (loads-spent file ticket size before after e fault xs loads)
         | inr s ↦ spent-behind ticket xs ys s
       ]))
 
@@ -153,11 +150,11 @@ module _ (file : Option ClientFile) (size before after : ℕ) where
   opened-held pool ticket events (inl h) = subst (λ (es : List Event). AreHeld (ticket ∷ []) es) (sym h.1) (inr (is-one ticket), tt)
   opened-held pool ticket events (inr h) = absurd cc
 
-  -- Of the tickets that its steps opened that of a sealed file is left, and no other, unless the hall is halted or the run is full.
-  pub file-held : (pool : ℕ) (events : List Event) (result : Result Came Refusal) → Sends file pool size before after events result → lasts result ≡ false → AreHeld (kept_of result) events
+  -- Of the tickets that its steps opened that of a file that is written is left, and no other, unless the hall is halted or the run is full.
+  pub file-held : (pool : ℕ) (events : List Event) (result : Result Came Refusal) → Puts file pool size before after events result → lasts result ≡ false → AreHeld (kept_of result) events
   file-held pool events result (inl (e, made, is)) mild = closed-held (kept_of result) events (closed-made (OpenNew pool size 0 (Err e)) events refl made)
   file-held pool events result (inr (ticket, (xs, ys, cut, made, s))) mild =
       subst (λ (es : List Event). AreHeld (kept_of result) es) (sym cut)
       (held-join (ticket ∷ []) (kept_of result) xs ys
       (λ t h. subst (λ (x : ℕ). (is_spent x ys ≡ true) ⊎ (is_in x (kept_of result) ≡ true)) (one-is ticket t h) (spent-or-kept ticket ys result s mild))
-      (opened-held pool ticket xs made) (closed-held (kept_of result) ys (spends-closed file ticket size before after ys result s)))
+      (opened-held pool ticket xs made) (closed-held (kept_of result) ys (keeps-closed file ticket size before after ys result s)))

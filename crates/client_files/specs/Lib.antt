@@ -3,3 +3,4 @@ pub mod Reading
 pub mod Restoring
 pub mod Sending
 pub mod Tickets
+pub mod Writing

@@ -109,7 +109,7 @@ GivesUp ticket e events result =
 -- it is filled, or given back
 abbrev pub Spends : Option ClientFile → (ticket size : ℕ) → (before after : ℕ) → List Event → Result Came Refusal → Type 0
 Spends file ticket size before after events result =
-    ((digest : Digest) × Fills file ticket size before after events (Ok digest) × (result ≡ Ok (came.Sealed ticket digest)))
+    ((digest : Digest) × Fills file ticket size before after events (Ok digest) × (result ≡ Ok (came.Written ticket digest)))
     ⊎ ((e : Refusal) × Then (λ xs. Fills file ticket size before after xs (Err e)) (λ ys. GivesUp ticket e ys result) events)
 
 -- A ticket is opened, and then it is spent.

@@ -28,7 +28,7 @@ is_lasting e = has_number (40 ∷ 41 ∷ []) e
 
 -- The one ticket that was sealed; else none, unless the hall is halted or the run is full.
 abbrev pub LeavesTickets : (actor : ℕ) → Option ClientFile → (size : ℕ) → Result Came Refusal → List Ticket → Type 0
-LeavesTickets actor file size (Ok (came.Sealed number digest)) tickets = (t : Ticket) × (tickets ≡ t ∷ []) × HasFile actor number file size digest t
+LeavesTickets actor file size (Ok (came.Written number digest)) tickets = (t : Ticket) × (tickets ≡ t ∷ []) × HasFile actor number file size digest t
 LeavesTickets actor file size (Ok (came.Failed e)) tickets = tickets ≡ []
 LeavesTickets actor file size (Ok (came.Held holder)) tickets = tickets ≡ []
 LeavesTickets actor file size (Err e) tickets = is_lasting e ≡ false → tickets ≡ []

@@ -9,4 +9,4 @@ mod sending;
 
 pub use outcome::{Came, Gave, stopping};
 pub use restoring::{Stored, restore_file};
-pub use sending::send_file;
+pub use sending::{send_file, write_file};

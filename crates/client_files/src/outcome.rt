@@ -8,8 +8,8 @@ use kinds::{Digest, Holder, Refusal};
 /// What came of a file that was to be sent.
 #[derive(Clone, Copy)]
 pub enum Came {
-    /// Its bytes stand in the ticket with this number, which is sealed, and this is their SHA-256.
-    Sealed(u64, Digest),
+    /// Its bytes stand in the ticket with this number, and this is their SHA-256.
+    Written(u64, Digest),
     /// It isn't stored: the pool went, no pool has room for it, a volume or the tree failed, its length isn't the listed one,
     /// it is too large, or a number or a count is at its bound.
     Failed(Refusal),

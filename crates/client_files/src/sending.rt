@@ -1,9 +1,10 @@
 // A client's file into a ticket.
 ghost use Rattle.std.specs.Prelude.{◌≡◌, ◌≤◌, ◌^◌, length};
 ghost use Rattle.steps.specs.Calls.{Call};
-ghost use Rattle.client_files.specs.Outcomes.{Sending};
+ghost use Rattle.client_files.specs.Outcomes.{Sending, Writing};
 ghost use Rattle.client_files.specs.Reading.{file_of};
-ghost use Rattle.client_files.specs.Sending.{Copies, Fills, GivesUp, Sends, Spends};
+ghost use Rattle.client_files.specs.Sending.{Copies, GivesUp};
+ghost use Rattle.client_files.specs.Writing.{Closes, Keeps, Loads, Puts};
 
 use crate::outcome::{Came, behind_drop, failing, is_spent_by, unopened, unwritten};
 use crate::reading::{next_piece, see_end};
@@ -45,8 +46,8 @@ fn copy_bytes<P: Stepper, T: Tree>(
     Ok(Digest(hasher.finalize()))
 }
 
-/// Writes a client's file into the ticket, sees that it has no other bytes, and makes it durable.
-fn fill<P: Stepper, T: Tree>(
+/// Writes a client's file into the ticket, and sees that it has no other bytes.
+fn load<P: Stepper, T: Tree>(
     p: &mut P,
     tree: &mut T,
     path: &Path,
@@ -56,7 +57,7 @@ fn fill<P: Stepper, T: Tree>(
 ) -> Result<Digest, Refusal>
     requires some { 1 ≤ length buffer.old }
     requires few { length buffer.old ≤ 2 ^ 16 }
-    ensures fills { Call P.did p.old p.new (λ events. Fills (file_of (T.files tree.old) path.now) ticket size (T.fault_count tree.old) (T.fault_count tree.new) events result) }
+    ensures loads { Call P.did p.old p.new (λ events. Loads (file_of (T.files tree.old) path.now) ticket size (T.fault_count tree.old) (T.fault_count tree.new) events result) }
     ensures kept { T.files tree.new ≡ T.files tree.old }
     ensures rises { T.fault_count tree.old ≤ T.fault_count tree.new }
     ensures long { length buffer.new ≡ length buffer.old }
@@ -66,12 +67,8 @@ fn fill<P: Stepper, T: Tree>(
         Err(refusal) => return Err(refusal),
     };
     match see_end(tree, path, size) {
-        Ok(()) => {}
-        Err(refusal) => return Err(refusal),
-    }
-    match p.seal(ticket) {
         Ok(()) => Ok(digest),
-        Err(refusal) => Err(unwritten(refusal)),
+        Err(refusal) => Err(refusal),
     }
 }
 
@@ -86,8 +83,8 @@ fn give_up<P: Stepper>(p: &mut P, ticket: u64, refusal: Refusal) -> Result<Came,
     }
 }
 
-/// Fills the ticket with a client's file, or gives it back.
-fn spend<P: Stepper, T: Tree>(
+/// Writes a client's file into the ticket, or gives it back.
+fn keep<P: Stepper, T: Tree>(
     p: &mut P,
     tree: &mut T,
     path: &Path,
@@ -97,19 +94,19 @@ fn spend<P: Stepper, T: Tree>(
 ) -> Result<Came, Refusal>
     requires some { 1 ≤ length buffer.old }
     requires few { length buffer.old ≤ 2 ^ 16 }
-    ensures spends { Call P.did p.old p.new (λ events. Spends (file_of (T.files tree.old) path.now) ticket size (T.fault_count tree.old) (T.fault_count tree.new) events result) }
+    ensures keeps { Call P.did p.old p.new (λ events. Keeps (file_of (T.files tree.old) path.now) ticket size (T.fault_count tree.old) (T.fault_count tree.new) events result) }
     ensures kept { T.files tree.new ≡ T.files tree.old }
     ensures rises { T.fault_count tree.old ≤ T.fault_count tree.new }
     ensures long { length buffer.new ≡ length buffer.old }
 {
-    match fill(p, tree, path, size, ticket, buffer) {
-        Ok(digest) => Ok(Came::Sealed(ticket, digest)),
+    match load(p, tree, path, size, ticket, buffer) {
+        Ok(digest) => Ok(Came::Written(ticket, digest)),
         Err(refusal) => give_up(p, ticket, refusal),
     }
 }
 
-/// Opens a ticket for a client's file, and fills it or gives it back.
-fn open_and_spend<P: Stepper, T: Tree>(
+/// Opens a ticket for a client's file, and writes the file into it or gives it back.
+fn open_and_keep<P: Stepper, T: Tree>(
     p: &mut P,
     tree: &mut T,
     file: &FileRow,
@@ -118,14 +115,48 @@ fn open_and_spend<P: Stepper, T: Tree>(
 ) -> Result<Came, Refusal>
     requires some { 1 ≤ length buffer.old }
     requires few { length buffer.old ≤ 2 ^ 16 }
-    ensures sends { Call P.did p.old p.new (λ events. Sends (file_of (T.files tree.old) file.now.path) pool file.now.size (T.fault_count tree.old) (T.fault_count tree.new) events result) }
+    ensures puts { Call P.did p.old p.new (λ events. Puts (file_of (T.files tree.old) file.now.path) pool file.now.size (T.fault_count tree.old) (T.fault_count tree.new) events result) }
     ensures kept { T.files tree.new ≡ T.files tree.old }
     ensures rises { T.fault_count tree.old ≤ T.fault_count tree.new }
     ensures long { length buffer.new ≡ length buffer.old }
 {
     match p.open_new(pool, file.size, 0) {
-        Ok(ticket) => spend(p, tree, &file.path, file.size, ticket, buffer),
+        Ok(ticket) => keep(p, tree, &file.path, file.size, ticket, buffer),
         Err(refusal) => unopened(refusal),
+    }
+}
+
+/// Writes one file of a client, as it was listed, into the hierarchy that begins at this pool, by a ticket of its own, which is
+/// neither sealed nor committed. The buffer has 1 to 65,536 bytes. No ticket is left where the file isn't written, unless that is
+/// with `LogFault` or `RunFull`. It ends with these two and `Memory` where a step of its own answers so.
+pub fn write_file<P: Stepper, T: Tree>(
+    p: &mut P,
+    tree: &mut T,
+    file: &FileRow,
+    pool: u32,
+    buffer: &mut [u8],
+) -> Result<Came, Refusal>
+    requires some { 1 ≤ length buffer.old }
+    requires few { length buffer.old ≤ 2 ^ 16 }
+    ensures writes { Call P.did p.old p.new (λ events. Writing (file_of (T.files tree.old) file.now.path) pool file.now.size (T.fault_count tree.old) (T.fault_count tree.new) events result) }
+    ensures kept { T.files tree.new ≡ T.files tree.old }
+    ensures rises { T.fault_count tree.old ≤ T.fault_count tree.new }
+    ensures long { length buffer.new ≡ length buffer.old }
+{
+    open_and_keep(p, tree, file, pool, buffer)
+}
+
+/// Seals the ticket of a file that is written, or gives it back.
+fn close<P: Stepper>(p: &mut P, came: Came) -> Result<Came, Refusal>
+    ensures { Call P.did p.old p.new (λ events. Closes came events result) }
+{
+    match came {
+        Came::Written(ticket, digest) => match p.seal(ticket) {
+            Ok(()) => Ok(Came::Written(ticket, digest)),
+            Err(refusal) => give_up(p, ticket, unwritten(refusal)),
+        },
+        Came::Failed(_) => Ok(came),
+        Came::Held(_) => Ok(came),
     }
 }
 
@@ -146,5 +177,8 @@ pub fn send_file<P: Stepper, T: Tree>(
     ensures rises { T.fault_count tree.old ≤ T.fault_count tree.new }
     ensures long { length buffer.new ≡ length buffer.old }
 {
-    open_and_spend(p, tree, file, pool, buffer)
+    match open_and_keep(p, tree, file, pool, buffer) {
+        Ok(came) => close(p, came),
+        Err(refusal) => Err(refusal),
+    }
 }

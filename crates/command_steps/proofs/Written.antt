@@ -93,9 +93,9 @@ put-unfinished path bytes mtime first second third last made low (rises, has) ro
     (unfinished path mtime third last rose left)
 
 pub takes-away : {E : Type 0} (path bytes : List ℕ) (mtime : ℕ) (first before after : Known) (e : Refusal) (removing : Result (Unit {0}) E) → Fails path first before e → Leaves removing before.files after.files (removed path)
-    → OnOk removing (IsGone path after.files) → OnErr removing (Rose before.faults after.faults) → Writes path bytes mtime first after (Err e)
-takes-away path bytes mtime first before after e removing (is, rose, others) leaves gone faulty =
-    (is, before.faults, rose, cleared path first.files before.files after.files before.faults before.faults after.faults removing others leaves gone faulty (omega arith))
+    → OnOk removing (IsGone path after.files) → OnErr removing (Rose before.faults after.faults) → before.faults ≤ after.faults → Writes path bytes mtime first after (Err e)
+takes-away path bytes mtime first before after e removing (is, rose, others) leaves gone faulty low =
+    (is, before.faults, rose, low, cleared path first.files before.files after.files before.faults before.faults after.faults removing others leaves gone faulty (omega arith))
 
 -- ---- a file that is taken away
 

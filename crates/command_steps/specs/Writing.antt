@@ -36,7 +36,7 @@ Fails path before after e = (e ≡ TreeFault) × Rose before.faults after.faults
 -- others are as they were.
 abbrev pub Writes : (path bytes : List ℕ) → (mtime : ℕ) → (before after : Known) → Result (Unit {0}) Refusal → Type 0
 Writes path bytes mtime before after (Ok done) = Leads (HasFile path bytes mtime) before.files after.files
-Writes path bytes mtime before after (Err e) = (e ≡ TreeFault) × (count : ℕ) × Rose before.faults count × Leads (HasNone path count after.faults) before.files after.files
+Writes path bytes mtime before after (Err e) = (e ≡ TreeFault) × (count : ℕ) × Rose before.faults count × (count ≤ after.faults) × Leads (HasNone path count after.faults) before.files after.files
 
 -- No file stands at the path, and all others are as they were. Or the call on the tree failed.
 abbrev pub Erases : (path : List ℕ) → (before after : Known) → Result (Unit {0}) Refusal → Type 0

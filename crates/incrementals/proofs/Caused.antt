@@ -9,7 +9,8 @@ use Rattle.kinds.specs.declared.refusal.Refusal.TheVariants as refused
 use Rattle.choosers.specs.declared.rule.Rule.{Rule}
 use Rattle.client_files.specs.declared.outcome.Came.{Came}
 use Rattle.client_files.specs.declared.outcome.Came.TheVariants as came
-use Rattle.client_files.specs.Sending.{GivesUp, Sends as SendsFile, Spends, behind_drop, is_unfilled, stopping, unopened}
+use Rattle.client_files.specs.Sending.{GivesUp, behind_drop, is_unfilled, stopping, unopened}
+use Rattle.client_files.specs.Writing.{Keeps, Puts}
 use Rattle.client_plan.specs.declared.lines.SendLine.{SendLine}
 use Rattle.client_trees.specs.Files.{ClientFile, Files}
 use Rattle.inventory_answers.specs.declared.query.Query.{Query}
@@ -25,7 +26,7 @@ use Rattle.incrementals.specs.declared.answering.Sent.{Sent}
 use Rattle.client_batches.specs.declared.batch.Batch.{Batch}
 use Rattle.incrementals.specs.declared.planning.Begun.{Begun}
 use Rattle.incrementals.specs.Asking.{AsksAll, AsksNodeRules, Unanswered}
-use Rattle.client_batches.specs.Batches.{Batches, Stores}
+use Rattle.client_batches.specs.Batches.{Batches, SealsAndStores, Stores}
 use Rattle.copy_attempts.specs.Outcomes.{Met, MetBy}
 use Rattle.incrementals.specs.Causes.{IsCaused, IsMissing, is_ending}
 use Rattle.incrementals.specs.Filespaces.{DefinesAndFinds, DefinesOne, FindsOne, HasFilespace, defined, defining, there, undefined}
@@ -34,13 +35,13 @@ use Rattle.incrementals.specs.Process.{CarriesOut, CommitsLists, Finishes, Incre
 use Rattle.client_batches.specs.Rounds.{Awaits, AwaitsOne, InRuns, SendsAll, SendsNone}
 use Rattle.client_batches.specs.Sends.{SendsEach, SendsOne}
 use Rattle.client_batches.specs.Verdicts.{waiting, waits}
-use Rattle.incrementals.proofs.Causing.{Ended, Near, commits_ended, ended_behind, err_of, fills_all_ended, gives_ended, made_near, mapped_ended, met_behind, met_front, near_behind, step_met, stopped}
+use Rattle.incrementals.proofs.Causing.{Ended, Near, commits_ended, ended_behind, err_of, fills_all_ended, gives_ended, made_near, mapped_ended, met_behind, met_front, near_behind, seals_ended, step_met, stopped}
 use Rattle.client_batches.proofs.Exact.{ok_err}
 
 -- ---- who is waited for
 
 abbrev held_of : Result Came Refusal → Option Holder
-held_of (Ok (came.Sealed ticket digest)) = None
+held_of (Ok (came.Written ticket digest)) = None
 held_of (Ok (came.Failed e)) = None
 held_of (Ok (came.Held h)) = Some h
 held_of (Err e) = None
@@ -72,9 +73,9 @@ never_given : (h : Holder) (ticket : ℕ) (e : Refusal) (events : List Event) �
 never_given h ticket e events (inl g) = never_held h e (is_unfilled e) (ap held_of g.2)
 never_given h ticket e events (inr g) = never_dropped h e g.1 (ap held_of g.3)
 
-never_spent : (h : Holder) (file : Option ClientFile) (ticket size before after : ℕ) (events : List Event) → Spends file ticket size before after events (Ok (came.Held h)) → ⊥
-never_spent h file ticket size before after events (inl s) = nobody h (ap held_of s.2)
-never_spent h file ticket size before after events (inr s) = never_given h ticket s.0 s.1.1 s.1.4
+never_kept : (h : Holder) (file : Option ClientFile) (ticket size before after : ℕ) (events : List Event) → Keeps file ticket size before after events (Ok (came.Held h)) → ⊥
+never_kept h file ticket size before after events (inl s) = nobody h (ap held_of s.2)
+never_kept h file ticket size before after events (inr s) = never_given h ticket s.0 s.1.1 s.1.4
 
 not_memory : (h : Holder) → Some (refused.Busy h) ≡ Some refused.Memory → ⊥
 not_memory h is = true≢false (sym (ap (λ (o : Option Refusal). is_memory o) is))
@@ -83,9 +84,9 @@ busy_met : (h : Holder) (deed : Deed) (events : List Event) → refusal deed ≡
 busy_met h deed events is (inl m) = step_met deed events (refused.Busy h) is m
 busy_met h deed events is (inr m) = absurd (not_memory h (sym is ∙ m.0))
 
-held_met : (h : Holder) (file : Option ClientFile) (pool size before after : ℕ) (events : List Event) → SendsFile file pool size before after events (Ok (came.Held h)) → Met (refused.Busy h) events
+held_met : (h : Holder) (file : Option ClientFile) (pool size before after : ℕ) (events : List Event) → Puts file pool size before after events (Ok (came.Held h)) → Met (refused.Busy h) events
 held_met h file pool size before after events (inl s) = busy_met h (OpenNew pool size 0 (Err s.0)) events (ap Some (busy_is h s.0 (ap held_of s.2))) s.1
-held_met h file pool size before after events (inr s) = absurd (never_spent h file s.0 size before after s.1.1 s.1.4)
+held_met h file pool size before after events (inr s) = absurd (never_kept h file s.0 size before after s.1.1 s.1.4)
 
 one_held : (h : Holder) (rules : Rules) (told : Option Files) (line : SendLine) (before after : ℕ) (events : List Event) → SendsOne rules told line before after events (Ok (came.Held h)) → Met (refused.Busy h) events
 one_held h rules told line before after events (inl s) = held_met h _ s.0 line.file.size before after events s.2.order
@@ -103,7 +104,7 @@ waiting_met : (h : Holder) (rules : Rules) (told : Option Files) (lines : List S
 waiting_met h rules told [] [] some before after events s is = absurd (nobody h (sym is))
 waiting_met h rules told [] (c ∷ all) some before after events s is = absurd s
 waiting_met h rules told (l ∷ lines) [] some before after events s is = absurd s
-waiting_met h rules told (l ∷ lines) (came.Sealed ticket digest ∷ all) some before after events s is =
+waiting_met h rules told (l ∷ lines) (came.Written ticket digest ∷ all) some before after events s is =
     met_in (refused.Busy h) events s.1.0 s.1.1 s.1.2 (waiting_met h rules told lines all (some || true) s.0 after s.1.1 s.1.4 is)
 waiting_met h rules told (l ∷ lines) (came.Failed e ∷ all) some before after events s is =
     met_in (refused.Busy h) events s.1.0 s.1.1 s.1.2 (waiting_met h rules told lines all (some || false) s.0 after s.1.1 s.1.4 (failed_on h all (some || false) (waits some (came.Failed e)) is))
@@ -152,10 +153,15 @@ stores_ended filespace lines all held events e (inr (inl h)) =
     subst (λ (x : Refusal). Ended events x) (sym (ap (λ (r : Result (List (Option Refusal)) Refusal). err_of r e) h.2)) (gives_ended held refused.Memory h.0 [] events (inl refl) h.1)
 stores_ended filespace lines all held events e (inr (inr h)) = commits_ended _ _ held e events h
 
+sealed_ended : (filespace : ℕ) (lines : List SendLine) (all sealed : List Came) (events : List Event) (e : Refusal) → SealsAndStores filespace lines all sealed events (Err e) → Ended events e
+sealed_ended filespace lines all sealed events e (inl h) =
+    subst (λ (x : Refusal). Ended events x) (sym (ap (λ (r : Result (List (Option Refusal)) Refusal). err_of r e) h.2)) (seals_ended all sealed events h.0 h.1)
+sealed_ended filespace lines all sealed events e (inr h) = subst (λ (es : List Event). Ended es e) (sym h.2) (ended_behind e h.0 h.1 (stores_ended filespace lines sealed _ h.1 e h.4))
+
 batch_ended : (rules : Rules) (told : Option Files) (filespace : ℕ) (lines : List SendLine) (before after : ℕ) (events : List Event) (e : Refusal) → Batches rules told filespace lines before after events (Err e) → Ended events e
 batch_ended rules told filespace lines before after events e (inl h) = fills_all_ended rules told lines before after h.0 e events h.1
 batch_ended rules told filespace lines before after events e (inr h) =
-    subst (λ (es : List Event). Ended es e) (sym h.1.2) (ended_behind e h.1.0 h.1.1 (stores_ended filespace lines h.0 _ h.1.1 e h.1.4))
+    subst (λ (es : List Event). Ended es e) (sym h.2.2) (ended_behind e h.2.0 h.2.1 (sealed_ended filespace lines h.0 h.1 h.2.1 e h.2.4))
 
 batch_held : (rules : Rules) (told : Option Files) (filespace : ℕ) (lines : List SendLine) (before after : ℕ) (events : List Event) (b : Batch) → Batches rules told filespace lines before after events (Ok b) → (h : Holder)
     → waiting false b.came ≡ Some h → Met (refused.Busy h) events

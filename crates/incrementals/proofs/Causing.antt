@@ -3,10 +3,12 @@ use Rattle.std.proofs.Common.{◌≡◌, ◌⊎◌, inl, inr, ℕ, ◌==◌, ◌
 use Rattle.kinds.specs.Refusals.{number_of}
 use Rattle.kinds.specs.declared.refusal.Refusal.{Refusal}
 use Rattle.kinds.specs.declared.refusal.Refusal.TheVariants as refused
+use Rattle.kinds.specs.declared.segment.Digest.{Digest}
 use Rattle.client_files.specs.declared.outcome.Came.{Came}
 use Rattle.client_files.specs.declared.outcome.Came.TheVariants as came
 use Rattle.client_files.specs.Reading.{EndsEarly, GoesOn as GoesFurther, TreeFails}
-use Rattle.client_files.specs.Sending.{Breaks, Fills as FillsOne, GivesUp, Sends as SendsFile, Spends, behind_drop, failing, is_stopping, is_unfilled, stopping, unopened, unwritten}
+use Rattle.client_files.specs.Sending.{Breaks, GivesUp, behind_drop, failing, is_stopping, is_unfilled, stopping, unopened, unwritten}
+use Rattle.client_files.specs.Writing.{Keeps, Loads, Puts}
 use Rattle.client_plan.specs.declared.lines.SendLine.{SendLine}
 use Rattle.client_trees.specs.Files.{ClientFile, Files}
 use Rattle.inventory_work.specs.declared.lines.Rules.{Rules}
@@ -17,6 +19,7 @@ use Rattle.steps.specs.Events.Deed.{Commit, DropTicket, OpenNew, Seal, WritePiec
 use Rattle.copy_attempts.specs.Outcomes.{Met, MetBy}
 use Rattle.incrementals.specs.Causes.{is_ending}
 use Rattle.client_batches.specs.Commits.{Alone, Commits, CommitsAll, Stops as StopsAlone, Tries, is_in_the_way, outcome}
+use Rattle.client_batches.specs.Seals.{Seals, SealsOne, StopsSealing}
 use Rattle.client_batches.specs.Sends.{Fills, SendsOne, Stops}
 use Rattle.client_batches.specs.Tickets.{DropsEach, GivesBack, is_lasting, lasting_in}
 use Rattle.client_batches.proofs.Exact.{ok_err}
@@ -168,12 +171,9 @@ breaks_ended file ticket size before after e events h =
       | inr w ↦ subst (λ (x : Refusal). Ended h.2.1 (stopping x)) (sym w.2) (stopped h.2.1 (unwritten w.1) (near_unwritten h.2.1 w.1 (made_near (WritePiece ticket w.0 (Err w.1)) h.2.1 w.1 refl w.3)))
     ]))
 
-fills_ended : (file : Option ClientFile) (ticket size before after : ℕ) (e : Refusal) (events : List Event) → FillsOne file ticket size before after events (Err e) → Ended events (stopping e)
-fills_ended file ticket size before after e events (inl h) = breaks_ended file ticket size before after e events h
-fills_ended file ticket size before after e events (inr (inl h)) = unended file before after size e events h.2
-fills_ended file ticket size before after e events (inr (inr h)) =
-    subst (λ (es : List Event). Ended es (stopping e)) (sym h.3.2) (ended_behind (stopping e) h.3.0 h.3.1
-    (subst (λ (x : Refusal). Ended h.3.1 (stopping x)) (sym h.2) (stopped h.3.1 (unwritten h.1) (near_unwritten h.3.1 h.1 (made_near (Seal ticket (Err h.1)) h.3.1 h.1 refl h.3.4)))))
+loads_ended : (file : Option ClientFile) (ticket size before after : ℕ) (e : Refusal) (events : List Event) → Loads file ticket size before after events (Err e) → Ended events (stopping e)
+loads_ended file ticket size before after e events (inl h) = breaks_ended file ticket size before after e events h
+loads_ended file ticket size before after e events (inr h) = unended file before after size e events h.2
 
 dropped_err : (e why : Refusal) (answer : Result (Unit {0}) Refusal) (ticket : ℕ) (xs ys : List Event) → Ended xs (stopping why) → IsStep (DropTicket ticket answer) ys → Err e ≡ behind_drop why answer → Ended (xs ++ ys) e
 dropped_err e why (Ok done) ticket xs ys h step is = subst (λ (x : Refusal). Ended (xs ++ ys) x) (sym (failing_err e why is)) (ended_front (stopping why) xs ys h)
@@ -188,19 +188,19 @@ gives_up_ended ticket why e xs ys h (inr g) = dropped_err e why g.1 ticket xs ys
 err_ok : {A : Type 0} (e : Refusal) (x : A) → Err e ≡ Ok x → ⊥
 err_ok e x h = ok_err x e (sym h)
 
-spends_ended : (file : Option ClientFile) (ticket size before after : ℕ) (events : List Event) (e : Refusal) → Spends file ticket size before after events (Err e) → Ended events e
-spends_ended file ticket size before after events e (inl h) = absurd (err_ok e _ h.2)
-spends_ended file ticket size before after events e (inr h) =
-    subst (λ (es : List Event). Ended es e) (sym h.1.2) (gives_up_ended ticket h.0 e h.1.0 h.1.1 (fills_ended file ticket size before after h.0 h.1.0 h.1.3) h.1.4)
+keeps_ended : (file : Option ClientFile) (ticket size before after : ℕ) (events : List Event) (e : Refusal) → Keeps file ticket size before after events (Err e) → Ended events e
+keeps_ended file ticket size before after events e (inl h) = absurd (err_ok e _ h.2)
+keeps_ended file ticket size before after events e (inr h) =
+    subst (λ (es : List Event). Ended es e) (sym h.1.2) (gives_up_ended ticket h.0 e h.1.0 h.1.1 (loads_ended file ticket size before after h.0 h.1.0 h.1.3) h.1.4)
 
-sends_ended : (file : Option ClientFile) (pool size before after : ℕ) (events : List Event) (e : Refusal) → SendsFile file pool size before after events (Err e) → Ended events e
-sends_ended file pool size before after events e (inl h) =
+puts_ended : (file : Option ClientFile) (pool size before after : ℕ) (events : List Event) (e : Refusal) → Puts file pool size before after events (Err e) → Ended events e
+puts_ended file pool size before after events e (inl h) =
     subst (λ (x : Refusal). Ended events x) (sym (unopened_err e h.0 h.2)) (stopped events h.0 (made_near (OpenNew pool size 0 (Err h.0)) events h.0 refl h.1))
-sends_ended file pool size before after events e (inr h) =
-    subst (λ (es : List Event). Ended es e) (sym h.1.2) (ended_behind e h.1.0 h.1.1 (spends_ended file h.0 size before after h.1.1 e h.1.4))
+puts_ended file pool size before after events e (inr h) =
+    subst (λ (es : List Event). Ended es e) (sym h.1.2) (ended_behind e h.1.0 h.1.1 (keeps_ended file h.0 size before after h.1.1 e h.1.4))
 
 one_ended : (rules : Rules) (told : Option Files) (line : SendLine) (before after : ℕ) (events : List Event) (e : Refusal) → SendsOne rules told line before after events (Err e) → Ended events e
-one_ended rules told line before after events e (inl h) = sends_ended _ h.0 line.file.size before after events e h.2.order
+one_ended rules told line before after events e (inl h) = puts_ended _ h.0 line.file.size before after events e h.2.order
 one_ended rules told line before after events e (inr h) = absurd (err_ok e _ h.3)
 
 stops_ended : (rules : Rules) (told : Option Files) (lines : List SendLine) (before after : ℕ) (all : List Came) (e : Refusal) (events : List Event) → Stops rules told lines before after all e events → Ended events e
@@ -210,6 +210,25 @@ stops_ended rules told lines before after all e events h =
 pub fills_all_ended : (rules : Rules) (told : Option Files) (lines : List SendLine) (before after : ℕ) (all : List Came) (e : Refusal) (events : List Event) → Fills rules told lines before after all events (Err e) → Ended events e
 fills_all_ended rules told lines before after all e events h =
     subst (λ (es : List Event). Ended es e) (sym h.1.2) (gives_ended _ h.0 e h.1.0 h.1.1 (stops_ended rules told lines before after all h.0 h.1.0 h.1.3) h.1.4)
+
+-- ---- seals
+
+sealed_err : (ticket : ℕ) (digest : Digest) (e why : Refusal) (b : Bool) → Err e ≡ (if b then Ok (came.Failed why) else Err (stopping why)) → e ≡ stopping why
+sealed_err ticket digest e why true is = absurd (err_ok e (came.Failed why) is)
+sealed_err ticket digest e why false is = ap (λ (r : Result Came Refusal). err_of r (stopping why)) is
+
+seal_ended : (c : Came) (events : List Event) (e : Refusal) → SealsOne c events (Err e) → Ended events e
+seal_ended (came.Written ticket digest) events e (Ok done, made, is) = absurd (err_ok e (came.Written ticket digest) is)
+seal_ended (came.Written ticket digest) events e (Err why, made, is) =
+    subst (λ (x : Refusal). Ended events x) (sym (sealed_err ticket digest e why (number_of why == 25) is)) (stopped events why (made_near (Seal ticket (Err why)) events why refl made))
+seal_ended (came.Failed why) events e h = absurd (err_ok e (came.Failed why) h.1)
+seal_ended (came.Held holder) events e h = absurd (err_ok e (came.Held holder) h.1)
+
+unsealed_ended : (all : List Came) (e : Refusal) (events : List Event) → StopsSealing all e events → Ended events e
+unsealed_ended all e events h = subst (λ (es : List Event). Ended es e) (sym h.made) (ended_behind e h.xs h.ys (elim h.ends [ inl m ↦ inl m.0 | inr s ↦ seal_ended s.0 h.ys e s.3 ]))
+
+pub seals_ended : (all sealed : List Came) (events : List Event) (e : Refusal) → Seals all sealed events (Err e) → Ended events e
+seals_ended all sealed events e h = subst (λ (es : List Event). Ended es e) (sym h.1.2) (gives_ended _ h.0 e h.1.0 h.1.1 (unsealed_ended all h.0 h.1.0 h.1.3) h.1.4)
 
 -- ---- transactions
 

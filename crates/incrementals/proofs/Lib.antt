@@ -4,5 +4,6 @@ pub mod Causing
 pub mod Exactly
 pub mod Ordering
 pub mod Questions
+pub mod Sized
 pub mod Spending
 pub mod Working

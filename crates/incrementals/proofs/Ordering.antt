@@ -6,14 +6,15 @@ use Rattle.kinds.specs.declared.refusal.Refusal.{Refusal}
 use Rattle.choosers.specs.declared.rule.Rule.{Rule}
 use Rattle.client_batches.specs.declared.batch.Batch.{Batch}
 use Rattle.client_batches.specs.declared.listing.SealedLine.{SealedLine}
-use Rattle.client_batches.specs.Batches.{Batches, Stores, sealed_lines}
+use Rattle.client_batches.specs.Batches.{Batches, SealsAndStores, Stores, sealed_lines}
 use Rattle.client_batches.specs.Handling.{BindsPaths, EndsVersions, SendsFiles}
 use Rattle.client_batches.specs.Listings.{ending, rebinding, storing}
 use Rattle.client_batches.specs.Rounds.{AwaitsOne, InRuns, Rounds, SendsAll, SendsNone, SendsSome}
-use Rattle.client_batches.specs.Sends.{Sent, Stops, sealed_in}
+use Rattle.client_batches.specs.Sends.{Sent, Stops, tickets_in}
 use Rattle.client_batches.specs.Verdicts.{waiting}
 use Rattle.client_batches.proofs.Ordering.{Each, each-as, each-both, each-commits, each-given, each-made, each-none, each-runs, each-then, each-waits}
-use Rattle.client_batches.proofs.Quiet.{each_quiet, one_quiet}
+use Rattle.client_batches.proofs.Sealed.{behind-each}
+use Rattle.client_batches.proofs.Quiet.{each_quiet, one_quiet, seals_quiet, unsealed_quiet}
 use Rattle.client_batches.specs.Quiet.{AreQuiet, IsQuiet}
 use Rattle.client_files.specs.declared.outcome.Came.{Came}
 use Rattle.client_files.specs.declared.outcome.Came.TheVariants as came
@@ -42,6 +43,7 @@ use Rattle.incrementals.specs.Asking.{AsksAll, AsksFor, AsksNode, AsksNodeRules,
 use Rattle.incrementals.specs.Filespaces.{DefinesAndFinds, DefinesOne, FindsOne, HasFilespace, defining}
 use Rattle.incrementals.specs.Orders.{AreOfBackup, AreQuestions, IsOfBackup, IsOfPlan, IsOrdered, IsQuestion}
 use Rattle.incrementals.specs.Planning.{Begins}
+use Rattle.incrementals.proofs.Sized.{AreRead, seals-read, sends-read}
 use Rattle.incrementals.specs.Process.{CarriesOut, CommitsLists, Finishes, Forces, Increments, Only, Works, is_sending}
 
 -- ---- questions
@@ -87,37 +89,37 @@ module _ (K : Deed → Type 0) (asks : (q : Query) (answer : Result Answer Refus
 
   -- ---- the filespace
 
-  module _ (defines : (node : ℕ) (filespace : List ℕ) (answer : Result ℕ Refusal) → K (Commit (defining node filespace) [] answer)) where
-    each-defines : (node : ℕ) (filespace : List ℕ) (events : List Event) (result : Result (Unit {0}) Refusal) → DefinesOne node filespace events result → Each K events
-    each-defines node filespace events result (inl h) = each-none K events h.0
-    each-defines node filespace events result (inr h) = each-made K (Commit (defining node filespace) [] h.0) events (defines node filespace h.0) h.1
+  module _ (node : List ℕ) (number : ℕ) (filespace : List ℕ) (defines : (answer : Result ℕ Refusal) → K (Commit (defining number filespace) [] answer)) where
+    each-defines : (events : List Event) (result : Result (Unit {0}) Refusal) → DefinesOne number filespace events result → Each K events
+    each-defines events result (inl h) = each-none K events h.0
+    each-defines events result (inr h) = each-made K (Commit (defining number filespace) [] h.0) events (defines h.0) h.1
 
-    each-found : (node : List ℕ) (number : ℕ) (filespace : List ℕ) (events : List Event) (result : Result ℕ Refusal) → DefinesAndFinds node number filespace events result → Each K events
-    each-found node number filespace events result (inl (found, (xs, ys, cut, d, f), is)) = each-both K events xs ys cut (each-defines number filespace xs (Ok tt) d) (each-finds node filespace ys (Ok found) f)
-    each-found node number filespace events result (inr (inl (e, (xs, ys, cut, d, f), is))) = each-both K events xs ys cut (each-defines number filespace xs (Ok tt) d) (each-finds node filespace ys (Err e) f)
-    each-found node number filespace events result (inr (inr (e, d, is))) = each-defines number filespace events (Err e) d
+    each-found : (events : List Event) (result : Result ℕ Refusal) → DefinesAndFinds node number filespace events result → Each K events
+    each-found events result (inl (found, (xs, ys, cut, d, f), is)) = each-both K events xs ys cut (each-defines xs (Ok tt) d) (each-finds node filespace ys (Ok found) f)
+    each-found events result (inr (inl (e, (xs, ys, cut, d, f), is))) = each-both K events xs ys cut (each-defines xs (Ok tt) d) (each-finds node filespace ys (Err e) f)
+    each-found events result (inr (inr (e, d, is))) = each-defines events (Err e) d
 
-    pub each-filespace : (node : List ℕ) (number : ℕ) (filespace : List ℕ) (sends : Bool) (events : List Event) (result : Result ℕ Refusal) → HasFilespace node number filespace sends events result → Each K events
-    each-filespace node number filespace sends events result (inl h) = each-finds node filespace events (Ok (Some h.0)) h.1
-    each-filespace node number filespace sends events result (inr (inl h)) = each-finds node filespace events (Err h.0) h.1
-    each-filespace node number filespace sends events result (inr (inr (inl h))) = each-finds node filespace events (Ok None) h.1
-    each-filespace node number filespace sends events result (inr (inr (inr (is, (xs, ys, cut, f, d))))) = each-both K events xs ys cut (each-finds node filespace xs (Ok None) f) (each-found node number filespace ys result d)
+    pub each-filespace : (sends : Bool) (events : List Event) (result : Result ℕ Refusal) → HasFilespace node number filespace sends events result → Each K events
+    each-filespace sends events result (inl h) = each-finds node filespace events (Ok (Some h.0)) h.1
+    each-filespace sends events result (inr (inl h)) = each-finds node filespace events (Err h.0) h.1
+    each-filespace sends events result (inr (inr (inl h))) = each-finds node filespace events (Ok None) h.1
+    each-filespace sends events result (inr (inr (inr (is, (xs, ys, cut, f, d))))) = each-both K events xs ys cut (each-finds node filespace xs (Ok None) f) (each-found ys result d)
 
 -- ---- all its steps
 
-quiet-own : (plan : Lists) (d : Deed) → IsQuiet d → IsOfBackup plan d
-quiet-own plan (OpenNew pool size prefer answer) h = tt
-quiet-own plan (OpenCopy object aim avoid answer) h = absurd h
-quiet-own plan (WritePiece ticket bytes answer) h = tt
-quiet-own plan (CopyPiece ticket answer) h = absurd h
-quiet-own plan (Seal ticket answer) h = tt
-quiet-own plan (Commit asked tickets answer) h = absurd h
-quiet-own plan (DropTicket ticket answer) h = tt
-quiet-own plan (ReadPiece object digest from offset wanted answer) h = absurd h
-quiet-own plan (Ask query answer) h = tt
-quiet-own plan (Image kind answer) h = absurd h
-quiet-own plan (Reuse file answer) h = absurd h
-quiet-own plan (Force answer) h = tt
+quiet-own : (told : Option Files) (name : List ℕ) (b : Begun) (d : Deed) → IsQuiet d → IsOfBackup told name b d
+quiet-own told name b (OpenNew pool size prefer answer) h = tt
+quiet-own told name b (OpenCopy object aim avoid answer) h = absurd h
+quiet-own told name b (WritePiece ticket bytes answer) h = tt
+quiet-own told name b (CopyPiece ticket answer) h = absurd h
+quiet-own told name b (Seal ticket answer) h = tt
+quiet-own told name b (Commit asked tickets answer) h = absurd h
+quiet-own told name b (DropTicket ticket answer) h = tt
+quiet-own told name b (ReadPiece object digest from offset wanted answer) h = absurd h
+quiet-own told name b (Ask query answer) h = tt
+quiet-own told name b (Image kind answer) h = absurd h
+quiet-own told name b (Reuse file answer) h = absurd h
+quiet-own told name b (Force answer) h = tt
 
 all-drop : {L : Type 0} (P : L → Type 0) (count : ℕ) (xs : List L) → AllByRecursion P xs → AllByRecursion P (drop count xs)
 all-drop P zero xs h = h
@@ -127,44 +129,53 @@ all-drop P (suc count) (x ∷ xs) h = all-drop P count xs h.1
 all-in : {A : Type 0} (xs : List A) → AllByRecursion (λ x. Contains xs x) xs
 all-in xs = recursion_from_All (λ x. Contains xs x) xs (All-contains_itself xs)
 
-module _ (plan : Lists) where
+module _ (told : Option Files) (name : List ℕ) (begun : Begun) where
   abbrev Own : Deed → Type 0
-  Own d = IsOfBackup plan d
+  Own d = IsOfBackup told name begun d
 
   abbrev Sending : SendLine → Type 0
-  Sending l = Contains plan.send l
+  Sending l = Contains begun.plan.send l
 
   own-quiet : (events : List Event) → AreQuiet events → Each Own events
-  own-quiet events h = each-as (λ d. IsQuiet d) Own (quiet-own plan) events h
+  own-quiet events h = each-as (λ d. IsQuiet d) Own (quiet-own told name begun) events h
 
   -- the files of a batch that are sealed are the plan's
-  own-rows : (lines : List SendLine) (all : List Came) → AllByRecursion Sending lines → AllByRecursion (IsOfPlan plan) (sealed_lines lines all)
-  own-rows [] all h = tt
-  own-rows (l ∷ lines) [] h = tt
-  own-rows (l ∷ lines) (came.Sealed ticket digest ∷ all) h = ((l, digest, h.0, refl), own-rows lines all h.1)
-  own-rows (l ∷ lines) (came.Failed e ∷ all) h = own-rows lines all h.1
-  own-rows (l ∷ lines) (came.Held holder ∷ all) h = own-rows lines all h.1
+  own-rows : (lines : List SendLine) (all : List Came) → AllByRecursion Sending lines → AreRead told lines all → AllByRecursion (IsOfPlan told begun.plan) (sealed_lines lines all)
+  own-rows [] all h read = tt
+  own-rows (l ∷ lines) [] h read = tt
+  own-rows (l ∷ lines) (came.Written ticket digest ∷ all) h read = ((l, digest, h.0, refl, read.0), own-rows lines all h.1 read.1)
+  own-rows (l ∷ lines) (came.Failed e ∷ all) h read = own-rows lines all h.1 read.1
+  own-rows (l ∷ lines) (came.Held holder ∷ all) h read = own-rows lines all h.1 read.1
 
-  module _ (rules : Rules) (told : Option Files) (filespace : ℕ) where
-    own-stores : (lines : List SendLine) → AllByRecursion Sending lines → (all : List Came) (held : List ℕ) (events : List Event) (result : Result (List (Option Refusal)) Refusal) → Stores filespace lines all held events result → Each Own events
-    own-stores lines is all held events result (inl h) = each-none Own events h.1
-    own-stores lines is all held events result (inr (inl h)) = each-given Own (λ ticket answer. tt) held _ events h.0 h.1
-    own-stores lines is all held events result (inr (inr h)) =
-        each-commits Own (λ ticket answer. tt) (IsOfPlan plan) (storing filespace) (λ rows tickets answer are. inl (filespace, rows, refl, are)) (sealed_lines lines all) (own-rows lines all is) held events result h
+  module _ (rules : Rules) (filespace : ℕ) where
+    own-stores : (lines : List SendLine) → AllByRecursion Sending lines → (all : List Came) → AreRead told lines all → (held : List ℕ) (events : List Event) (result : Result (List (Option Refusal)) Refusal) → Stores filespace lines all held events result → Each Own events
+    own-stores lines is all read held events result (inl h) = each-none Own events h.1
+    own-stores lines is all read held events result (inr (inl h)) = each-given Own (λ ticket answer. tt) held _ events h.0 h.1
+    own-stores lines is all read held events result (inr (inr h)) =
+        each-commits Own (λ ticket answer. tt) (IsOfPlan told begun.plan) (storing filespace) (λ rows tickets answer are. inl (filespace, rows, refl, are)) (sealed_lines lines all) (own-rows lines all is read) held events result h
 
     own-sent : (lines : List SendLine) (before after : ℕ) (all : List Came) (events : List Event) → Sent rules told lines before after all events → Each Own events
     own-sent lines before after all events h = own-quiet events (each_quiet rules told h.front all before after events h.sends)
+
+    sent-read : (lines : List SendLine) (before after : ℕ) (all : List Came) (events : List Event) → Sent rules told lines before after all events → AreRead told lines all
+    sent-read lines before after all events h = subst (λ (ls : List SendLine). AreRead told ls all) (sym h.lined) (sends-read rules told h.front h.back all before after events h.sends)
 
     own-stops : (lines : List SendLine) (before after : ℕ) (all : List Came) (e : Refusal) (events : List Event) → Stops rules told lines before after all e events → Each Own events
     own-stops lines before after all e events h =
         each-both Own events h.xs h.ys h.made (own-quiet h.xs (each_quiet rules told h.front all before h.count h.xs h.sends))
         (elim h.ends as (λ _. Each Own h.ys) [ inl m ↦ each-none Own h.ys m.1 | inr s ↦ own-quiet h.ys (one_quiet rules told s.0 h.count after h.ys (Err e) s.3) ])
 
+    own-sealed : (lines : List SendLine) → AllByRecursion Sending lines → (all sealed : List Came) → AreRead told lines all → (events : List Event) (result : Result (List (Option Refusal)) Refusal) → SealsAndStores filespace lines all sealed events result → Each Own events
+    own-sealed lines is all sealed read events result (inl (e, (why, (xs, ys, cut, stops, gives)), same)) =
+        each-both Own events xs ys cut (own-quiet xs (unsealed_quiet all why xs stops)) (each-given Own (λ ticket answer. tt) (tickets_in all) why ys e gives)
+    own-sealed lines is all sealed read events result (inr (xs, ys, cut, seals, stores)) =
+        each-both Own events xs ys cut (own-quiet xs (seals_quiet all sealed xs seals)) (own-stores lines is sealed (seals-read told lines all sealed (behind-each all sealed xs seals) read) (tickets_in sealed) ys result stores)
+
     own-batch : (lines : List SendLine) → AllByRecursion Sending lines → (before after : ℕ) (events : List Event) (result : Result Batch Refusal) → Batches rules told filespace lines before after events result → Each Own events
-    own-batch lines is before after events (Ok b) (xs, ys, cut, sent, stores) = each-both Own events xs ys cut (own-sent lines before after b.came xs sent) (own-stores lines is b.came (sealed_in b.came) ys (Ok b.outs) stores)
+    own-batch lines is before after events (Ok b) (xs, ys, cut, sent, stores) = each-both Own events xs ys cut (own-sent lines before after b.came xs sent) (own-sealed lines is b.came b.sealed (sent-read lines before after b.came xs sent) ys (Ok b.outs) stores)
     own-batch lines is before after events (Err e) (inl (all, (why, (xs, ys, cut, stops, gives)))) =
-        each-both Own events xs ys cut (own-stops lines before after all why xs stops) (each-given Own (λ ticket answer. tt) (sealed_in all) why ys e gives)
-    own-batch lines is before after events (Err e) (inr (all, (xs, ys, cut, sent, stores))) = each-both Own events xs ys cut (own-sent lines before after all xs sent) (own-stores lines is all (sealed_in all) ys (Err e) stores)
+        each-both Own events xs ys cut (own-stops lines before after all why xs stops) (each-given Own (λ ticket answer. tt) (tickets_in all) why ys e gives)
+    own-batch lines is before after events (Err e) (inr (all, sealed, (xs, ys, cut, sent, stores))) = each-both Own events xs ys cut (own-sent lines before after all xs sent) (own-sealed lines is all sealed (sent-read lines before after all xs sent) ys (Err e) stores)
 
     own-none-sent : (lines : List SendLine) → AllByRecursion Sending lines → (before after : ℕ) (events : List Event) (e : Refusal) → SendsNone rules told filespace lines before after events e → Each Own events
     own-none-sent lines is before after events e (inl h) = own-batch lines is before after events (Err e) h
@@ -188,44 +199,44 @@ module _ (plan : Lists) where
 
   -- ---- lists without tickets
 
-  own-bound : (filespace : ℕ) (events : List Event) (result : Result (List (Option Refusal)) Refusal) → BindsPaths filespace plan.rebind events result → Each Own events
+  own-bound : (filespace : ℕ) (events : List Event) (result : Result (List (Option Refusal)) Refusal) → BindsPaths filespace begun.plan.rebind events result → Each Own events
   own-bound filespace events result h =
-      each-runs Own (λ ticket answer. tt) (λ (l : RebindLine). Contains plan.rebind l) (rebinding filespace) (λ lines tickets answer is. inr (inl (filespace, lines, refl, is))) plan.rebind (all-in plan.rebind) events result h.order
+      each-runs Own (λ ticket answer. tt) (λ (l : RebindLine). Contains begun.plan.rebind l) (rebinding filespace) (λ lines tickets answer is. inr (inl (filespace, lines, refl, is))) begun.plan.rebind (all-in begun.plan.rebind) events result h.order
 
-  own-ended : (filespace : ℕ) (events : List Event) (result : Result (List (Option Refusal)) Refusal) → EndsVersions filespace plan.gone events result → Each Own events
+  own-ended : (filespace : ℕ) (events : List Event) (result : Result (List (Option Refusal)) Refusal) → EndsVersions filespace begun.plan.gone events result → Each Own events
   own-ended filespace events result h =
-      each-runs Own (λ ticket answer. tt) (λ (l : GoneLine). Contains plan.gone l) (ending filespace) (λ lines tickets answer is. inr (inr (inl (filespace, lines, refl, is)))) plan.gone (all-in plan.gone) events result h.order
+      each-runs Own (λ ticket answer. tt) (λ (l : GoneLine). Contains begun.plan.gone l) (ending filespace) (λ lines tickets answer is. inr (inr (inl (filespace, lines, refl, is)))) begun.plan.gone (all-in begun.plan.gone) events result h.order
 
-  own-lists : (filespace : ℕ) (sent : List (Option Refusal)) (events : List Event) (result : Result Outs Refusal) → CommitsLists filespace plan sent events result → Each Own events
+  own-lists : (filespace : ℕ) (sent : List (Option Refusal)) (events : List Event) (result : Result Outs Refusal) → CommitsLists filespace begun.plan sent events result → Each Own events
   own-lists filespace sent events (Ok o) (same, (xs, ys, cut, binds, ends)) = each-both Own events xs ys cut (own-bound filespace xs (Ok o.rebound) binds) (own-ended filespace ys (Ok o.gone) ends)
   own-lists filespace sent events (Err e) (inl h) = own-bound filespace events (Err e) h
   own-lists filespace sent events (Err e) (inr (outs, (xs, ys, cut, binds, ends))) = each-both Own events xs ys cut (own-bound filespace xs (Ok outs) binds) (own-ended filespace ys (Err e) ends)
 
 -- ---- all of it
 
-own-carries : (filespace : ℕ) (b : Begun) (told : Option Files) (before after : ℕ) (events : List Event) (result : Result Outs Refusal) → CarriesOut filespace b told before after events result → AreOfBackup b.plan events
-own-carries filespace b told before after events result (inl (sent, (xs, ys, cut, sends, lists))) =
-    each-both (Own b.plan) events xs ys cut (own-sends b.plan b.classes told filespace b.plan.send (all-in b.plan.send) before after xs (Ok sent) sends.order) (own-lists b.plan filespace sent ys result lists)
-own-carries filespace b told before after events result (inr (e, sends, is)) = own-sends b.plan b.classes told filespace b.plan.send (all-in b.plan.send) before after events (Err e) sends.order
+own-carries : (filespace : ℕ) (b : Begun) (told : Option Files) (before after : ℕ) (events : List Event) (result : Result Outs Refusal) → CarriesOut filespace b told before after events result → (name : List ℕ) → AreOfBackup told name b events
+own-carries filespace b told before after events result (inl (sent, (xs, ys, cut, sends, lists))) name =
+    each-both (Own told name b) events xs ys cut (own-sends told name b b.classes filespace b.plan.send (all-in b.plan.send) before after xs (Ok sent) sends.order) (own-lists told name b filespace sent ys result lists)
+own-carries filespace b told before after events result (inr (e, sends, is)) name = own-sends told name b b.classes filespace b.plan.send (all-in b.plan.send) before after events (Err e) sends.order
 
-own-filespace : (plan : Lists) (node : List ℕ) (number : ℕ) (filespace : List ℕ) (sends : Bool) (events : List Event) (result : Result ℕ Refusal) → HasFilespace node number filespace sends events result → AreOfBackup plan events
-own-filespace plan node number filespace sends events result h =
-    each-filespace (Own plan) (λ q answer. tt) (λ whose name answer. inr (inr (inr (whose, name, refl)))) node number filespace sends events result h
+own-filespace : (told : Option Files) (b : Begun) (node filespace : List ℕ) (sends : Bool) (events : List Event) (result : Result ℕ Refusal) → HasFilespace node b.node filespace sends events result → AreOfBackup told filespace b events
+own-filespace told b node filespace sends events result h =
+    each-filespace (Own told filespace b) (λ q answer. tt) node b.node filespace (λ answer. inr (inr (inr refl))) sends events result h
 
-own-works : (node filespace : List ℕ) (b : Begun) (told : Option Files) (before after : ℕ) (events : List Event) (result : Result Outs Refusal) → Works node filespace b told before after events result → AreOfBackup b.plan events
-own-works node filespace b told before after events result (inl h) = each-none (Own b.plan) events h.1
+own-works : (node filespace : List ℕ) (b : Begun) (told : Option Files) (before after : ℕ) (events : List Event) (result : Result Outs Refusal) → Works node filespace b told before after events result → AreOfBackup told filespace b events
+own-works node filespace b told before after events result (inl h) = each-none (Own told filespace b) events h.1
 own-works node filespace b told before after events result (inr (inl (busy, number, (xs, ys, cut, has, carries)))) =
-    each-both (Own b.plan) events xs ys cut (own-filespace b.plan node b.node filespace (is_sending b.plan) xs (Ok number) has) (own-carries number b told before after ys result carries)
-own-works node filespace b told before after events result (inr (inr (busy, e, has, same, is))) = own-filespace b.plan node b.node filespace (is_sending b.plan) events (Err e) has
+    each-both (Own told filespace b) events xs ys cut (own-filespace told b node filespace (is_sending b.plan) xs (Ok number) has) (own-carries number b told before after ys result carries filespace)
+own-works node filespace b told before after events result (inr (inr (busy, e, has, same, is))) = own-filespace told b node filespace (is_sending b.plan) events (Err e) has
 
-own-forces : (plan : Lists) (events : List Event) (result : Result (Unit {0}) Refusal) → Forces events result → AreOfBackup plan events
-own-forces plan events result h = each-made (Own plan) (Force h.0) events tt h.1
+own-forces : (told : Option Files) (name : List ℕ) (b : Begun) (events : List Event) (result : Result (Unit {0}) Refusal) → Forces events result → AreOfBackup told name b events
+own-forces told name b events result h = each-made (Own told name b) (Force h.0) events tt h.1
 
-own-finishes : (node filespace : List ℕ) (b : Begun) (told : Option Files) (before after : ℕ) (events : List Event) (result : Result Outs Refusal) → Finishes node filespace b told before after events result → AreOfBackup b.plan events
-own-finishes node filespace b told before after events (Ok o) (xs, ys, cut, works, forces) = each-both (Own b.plan) events xs ys cut (own-works node filespace b told before after xs (Ok o) works) (own-forces b.plan ys (Ok tt) forces)
+own-finishes : (node filespace : List ℕ) (b : Begun) (told : Option Files) (before after : ℕ) (events : List Event) (result : Result Outs Refusal) → Finishes node filespace b told before after events result → AreOfBackup told filespace b events
+own-finishes node filespace b told before after events (Ok o) (xs, ys, cut, works, forces) = each-both (Own told filespace b) events xs ys cut (own-works node filespace b told before after xs (Ok o) works) (own-forces told filespace b ys (Ok tt) forces)
 own-finishes node filespace b told before after events (Err e) (inl h) = own-works node filespace b told before after events (Err e) h
 own-finishes node filespace b told before after events (Err e) (inr (o, (xs, ys, cut, works, forces))) =
-    each-both (Own b.plan) events xs ys cut (own-works node filespace b told before after xs (Ok o) works) (own-forces b.plan ys (Err e) forces)
+    each-both (Own told filespace b) events xs ys cut (own-works node filespace b told before after xs (Ok o) works) (own-forces told filespace b ys (Err e) forces)
 
 asked-only : (node filespace : List ℕ) (choice : List Rule) (told : Option Files) (before after : ℕ) (events : List Event) (result : Result Begun Refusal) → Begins node filespace choice told before after events result → AreQuestions events
 asked-only node filespace choice told before after events result h = each-begins (λ d. IsQuestion d) (λ q answer. tt) node filespace choice told before after events result h

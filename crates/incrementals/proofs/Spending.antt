@@ -20,7 +20,7 @@ use Rattle.incrementals.specs.Process.{CarriesOut, CommitsLists, Finishes, Force
 use Rattle.incrementals.proofs.Ordering.{each-begins, each-filespace}
 
 closed-filespace : (node : List ℕ) (number : ℕ) (filespace : List ℕ) (sends : Bool) (events : List Event) (result : Result ℕ Refusal) → HasFilespace node number filespace sends events result → AreClosed events
-closed-filespace node number filespace sends events result h = each-filespace (λ d. opens_one d ≡ false) (λ q answer. refl) (λ whose name answer. refl) node number filespace sends events result h
+closed-filespace node number filespace sends events result h = each-filespace (λ d. opens_one d ≡ false) (λ q answer. refl) node number filespace (λ answer. refl) sends events result h
 
 closed-begins : (node filespace : List ℕ) (choice : List Rule) (told : Option Files) (before after : ℕ) (events : List Event) (result : Result Begun Refusal) → Begins node filespace choice told before after events result → AreClosed events
 closed-begins node filespace choice told before after events result h = each-begins (λ d. opens_one d ≡ false) (λ q answer. refl) node filespace choice told before after events result h

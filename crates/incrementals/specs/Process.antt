@@ -102,7 +102,7 @@ pub record Done (node filespace : List ℕ) (choice : List Rule) (told : Option 
 -- It only asked; or it began with a plan, and behind that made the steps of a backup alone, and no transaction but what the plan orders.
 abbrev pub Only : (node filespace : List ℕ) → List Rule → Option Files → (before : ℕ) → List Event → Type 0
 Only node filespace choice told before events =
-    AreQuestions events ⊎ ((b : Begun) × (count : ℕ) × Then (λ xs. Begins node filespace choice told before count xs (Ok b) × AreQuestions xs) (λ ys. AreOfBackup b.plan ys) events)
+    AreQuestions events ⊎ ((b : Begun) × (count : ℕ) × Then (λ xs. Begins node filespace choice told before count xs (Ok b) × AreQuestions xs) (λ ys. AreOfBackup told filespace b ys) events)
 
 -- the hall is halted, or the run is full: nobody can give a ticket back any more
 abbrev pub may_leave : Result Sent Refusal → Bool

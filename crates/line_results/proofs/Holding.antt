@@ -1,5 +1,5 @@
 -- What holds of a line that was answered.
-use Rattle.std.proofs.Common.{◌≡◌, ◌⊎◌, inl, inr, ℕ, zero, suc, ◌+◌, ◌^◌, ◌<◌, ◌≤◌, ◌&&◌, nat_lt, true, false, if◌then◌else◌, Contains, slice_index_or, is_none, find, option_and_then, List, [], ◌∷◌, ◌++◌, length, Option, None, Some, Result, Ok, Err, refl, sym, ap, subst, ◌∙◌, arith}
+use Rattle.std.proofs.Common.{◌≡◌, ◌⊎◌, inl, inr, ℕ, zero, suc, ◌+◌, ◌^◌, ◌<◌, ◌≤◌, ◌&&◌, nat_lt, true, false, if◌then◌else◌, Contains, slice_index_or, is_none, find, option_and_then, List, [], ◌∷◌, ◌++◌, length, Option, None, Some, Result, Ok, Err, refl, sym, ap, subst, ◌∙◌, true≢false, arith}
 use Rattle.std.proofs.lemmas.Bool.{and_parts, false≢true}
 use Rattle.std.proofs.lemmas.Option.{same_Some}
 use Rattle.std.specs.List.{AllByRecursion, list_all}
@@ -41,21 +41,31 @@ use Rattle.machine.specs.Pieces.{IsCopyLost, IsUnavailable}
 use Rattle.machine.specs.State.{Machine}
 use Rattle.sessions.specs.declared.getting.FileRead.{FileRead}
 use Rattle.command_steps.specs.Answers.{Ends, answer_of, counting, done, failed_in, halt_by, outcome_lines, refusal, row_lines}
+use Rattle.tree_api.specs.Cause.{Rose}
 use Rattle.command_steps.specs.Clients.{Client, IsKept, Known, Turns}
 use Rattle.command_steps.specs.Lines.{Line, asks, comment, refused as refused_line}
 use Rattle.command_steps.specs.Behind.{Behind, behind, forces, no_more, reuses}
 use Rattle.command_steps.specs.Doing.{Forcing, Reusing, within_run}
+use Rattle.command_steps.specs.Writing.{Erases, Writes, bytes_of}
 use Rattle.command_steps.specs.Owns.{OnTree, Own, back_up, back_up_pool, checkpoint, empty_filespace, empty_volume, erase, expire, get, last_of, moves, none_but_reuse, none_yet, on_tree, own_of, put, restore, validate, write}
 use Rattle.command_steps.specs.declared.outcome.Outcome.{Outcome}
 use Rattle.command_steps.specs.declared.outcome.Outcome.TheVariants.{Read, Rows, Said}
-use Rattle.line_results.specs.Clauses.{BytesBy, BytesOwn, CauseBy, CauseOwn, CauseWith, DidBy, DidWith, Holds, IsRefusedBehind, IsRows, ItemsBy, ItemsOf, ItemsOwn, MayBy, MayGet, MayOwn, OrderedBy, OrderedWith, RowsBy, orders}
+use Rattle.line_results.specs.Clauses.{BytesBy, BytesOwn, CauseBy, CauseOwn, CauseWith, DidBy, DidWith, Holds, IsRefusedBehind, IsRows, ItemsBy, ItemsOf, ItemsOwn, MayBy, MayGet, MayGive, MayOn, MayOwn, OrderedBy, OrderedWith, RowsBy, orders}
 use Rattle.line_results.specs.Commands.{Comes, Does, DoesOwn, DoesThere, EndsWith, IsReuse, Tells, Works, WorksWith, drawn, validated, work_over}
 use Rattle.line_results.specs.Files.{Checkpoints, Gets, GetsOf, GetsUnder, Puts, ShowsFound, active_at}
 use Rattle.line_results.specs.Lines.{Replies, Says}
 use Rattle.line_results.specs.Resting.{Commits, EndsRun, RoseFrom, database, why_not}
-use Rattle.line_results.specs.Trees.{IsOfBackup, IsOfTree}
+use Rattle.admin_words.specs.declared.files.FilesRestore.{FilesRestore}
+use Rattle.command_steps.specs.Trees.{is_absent, which_of}
+use Rattle.inventory_answers.specs.Clients.{versions_of}
+use Rattle.inventory_answers.specs.declared.lines.VersionLine.{VersionLine}
+use Rattle.restores.specs.Chosen.{chosen}
+use Rattle.restores.specs.declared.choosing.RestoreLine.{RestoreLine}
+use Rattle.restores.specs.declared.choosing.Which.{Which}
+use Rattle.script_loop.specs.declared.ends.Halt.{Halt}
+use Rattle.line_results.specs.Trees.{GivesNothing, IsChosen, IsOfBackup, IsOfTree}
 use Rattle.line_results.proofs.Changing.{comes-trees}
-use Rattle.line_results.proofs.Processing.{IsPlainOwn, IsPlainTree, IsProcess, IsProcessOwn, IsRowless, kind, over-rowless}
+use Rattle.line_results.proofs.Processing.{IsPlainOwn, IsPlainTree, IsProcess, IsProcessOwn, IsProcessTree, IsRowless, kind, over-rowless}
 use Rattle.line_results.proofs.PutHeld.{IsMild, PutHeld, no-end, no-put, put-held}
 
 -- ---- answers
@@ -292,6 +302,9 @@ told-as n old mid answer told said shown (inr (e, is, ends)) =
     let by : IsShown n (Err e) answer = subst (λ (r : Result Outcome Refusal). IsShown n r answer) is shown in
     absurd (no-end e old mid ends by.0)
 
+abbrev no_said : Refusal → Result Outcome Refusal
+no_said e = Err e
+
 module _ (trusted : Type 0) (places : Places) (k : Client) (n : ℕ) (old mid : Machine) (answer : Answer) (added : List Entry) where
   -- work on a tree, behind which nothing comes, makes no transaction
   tree-quiet : (work : OnTree) (said : Result Outcome Refusal) → IsPlainTree work → DoesThere trusted places k work old mid said added → added ≡ []
@@ -300,6 +313,49 @@ module _ (trusted : Type 0) (places : Places) (k : Client) (n : ℕ) (old mid : 
   tree-quiet (back_up i) said so h = absurd so
   tree-quiet (restore r) said so (inl (before, after, turns, (ran, gives, ends, still, none))) = none
   tree-quiet work said so (inr (missing, kept, is, still, none)) = none
+
+  -- where its tree is there and no call on it fails a file is written, and erased
+  write-legal : (before after : Known) (path bytes : List ℕ) (mtime : ℕ) (r : Result (Unit {0}) Refusal) (e : Refusal) → Writes path bytes mtime before after r → no_said e ≡ on_ok (λ done. Said Done) r → Rose before.faults after.faults
+  write-legal before after path bytes mtime (Ok done) e h is = absurd cc
+  write-legal before after path bytes mtime (Err f) e (same, count, rose, low, left) is = omega (arith, rose, low)
+
+  erase-legal : (before after : Known) (path : List ℕ) (r : Result (Unit {0}) Refusal) (e : Refusal) → Erases path before after r → no_said e ≡ on_ok (λ done. Said Done) r → Rose before.faults after.faults
+  erase-legal before after path (Ok done) e h is = absurd cc
+  erase-legal before after path (Err f) e h is = h.1
+
+  -- where it is known what is wanted, and it is there, a restore isn't refused, unless the run ends
+  chosen-same : (r : FilesRestore) (v : Inv) (xs ys : List RestoreLine) → IsChosen r v xs → IsChosen r v ys → xs ≡ ys
+  chosen-same r v xs ys (which, of, versions, are, is) (other, also, others, too, this) =
+      let one : which ≡ other = cc in
+      let all : versions ≡ others = cc in
+      is ∙ ap (λ (w : Which). chosen w versions) one ∙ ap (λ (ls : List VersionLine). chosen other ls) all ∙ sym this
+
+  absent-not : (r : FilesRestore) (v : Inv) (xs ys : List RestoreLine) → IsChosen r v xs → IsChosen r v ys → is_absent r.wanted xs ≡ true → is_absent r.wanted ys ≡ false → ⊥
+  absent-not r v xs ys a b none some = true≢false (sym none ∙ ap (is_absent r.wanted) (chosen-same r v xs ys a b) ∙ some)
+
+  which-not : (r : FilesRestore) (v : Inv) (e : Refusal) (xs : List RestoreLine) → IsChosen r v xs → which_of r.wanted ≡ Err e → ⊥
+  which-not r v e xs (which, of, versions, are, is) refused = absurd cc
+
+  versions-not : (r : FilesRestore) (v : Inv) (e : Refusal) (xs : List RestoreLine) → IsChosen r v xs → versions_of r.node r.filespace v ≡ Err e → ⊥
+  versions-not r v e xs (which, of, versions, are, is) refused = absurd cc
+
+  halts-not : (e : Refusal) (how : Halt) → halt_by e ≡ None → halt_by e ≡ Some how → ⊥
+  halts-not e how mild halts = (let odd : None ≡ Some how = sym mild ∙ halts in cc)
+
+  give-legal : (r : FilesRestore) (v : Inv) (e : Refusal) → halt_by e ≡ None → GivesNothing r v e → MayGive r v → ⊥
+  give-legal r v e mild (inl h) may = which-not r v e may.0 may.1 h
+  give-legal r v e mild (inr (inl h)) may = versions-not r v e may.0 may.1 h
+  give-legal r v e mild (inr (inr (inl h))) may = absent-not r v h.1 may.0 h.2 may.1 h.3 may.2
+  give-legal r v e mild (inr (inr (inr h))) may = halts-not e h.0 mild h.1
+
+  tree-legal : (work : OnTree) (e : Refusal) → halt_by e ≡ None → DoesThere trusted places k work old mid (Err e) added → MayOn k work old → ⊥
+  tree-legal (write w) e mild (inl (before, after, turns, ((r, writes, is), still, none))) may = may.1 before after turns (write-legal before after w.path (bytes_of w.contents) w.mtime r e writes is)
+  tree-legal (erase x) e mild (inl (before, after, turns, ((r, erases, is), still, none))) may = may.1 before after turns (erase-legal before after x.path r e erases is)
+  tree-legal (restore r) e mild (inl (before, after, turns, (ran, gives, ends, still, none))) may = give-legal r (database old) e mild gives may.0
+  tree-legal (back_up i) e mild h may = may
+  tree-legal (write w) e mild (inr (missing, kept, is, still, none)) may = (let there = may.0 in omega (arith, missing, there))
+  tree-legal (erase x) e mild (inr (missing, kept, is, still, none)) may = (let there = may.0 in omega (arith, missing, there))
+  tree-legal (restore r) e mild (inr (missing, kept, is, still, none)) may = (let there = may.1 in omega (arith, missing, there))
 
   tree-held : (work : OnTree) (numbers : List ℕ) (said : Result Outcome Refusal) → IsPlainTree work → DoesThere trusted places k work old mid said added → IsShown n said answer
       → HeldBy trusted places k n (on_tree work) (Ok (Run numbers)) old mid answer added
@@ -317,7 +373,7 @@ module _ (trusted : Type 0) (places : Places) (k : Client) (n : ℕ) (old mid : 
   tree-held work numbers (Err e) so h shown =
       as-refused trusted places k n old mid answer added (on_tree work) (Ok (Run numbers)) e shown.1
       (no-entries (λ x. (x.actor ≡ 0) × OrderedBy k (on_tree work) (Ok (Run numbers)) old x.change) added (tree-quiet work (Err e) so h)) tt tt
-      (no-entries (λ x. ItemsBy (on_tree work) (Ok (Run numbers)) mid x.change) added (tree-quiet work (Err e) so h)) h (λ rose may. may)
+      (no-entries (λ x. ItemsBy (on_tree work) (Ok (Run numbers)) mid x.change) added (tree-quiet work (Err e) so h)) h (λ rose may. tree-legal work e shown.0 h may)
 
   own-held : (own : Own) (numbers : List ℕ) (said : Result Outcome Refusal) → IsPlainOwn own → DoesOwn trusted places k numbers own old mid said added → IsShown n said answer
       → HeldBy trusted places k n own (Ok (Run numbers)) old mid answer added
@@ -486,9 +542,6 @@ force-ends : (e : Refusal) (events : List Event) → Made (Force (Err e)) events
 force-ends e events (inl (number, is, listed)) = force-listed e (listed-force e listed)
 force-ends e events (inr (memory, none)) = λ mild. (let is : e ≡ refused.Memory = same_Some e refused.Memory memory in let odd : None ≡ halt_by refused.Memory = sym mild ∙ ap (λ (x : Refusal). halt_by x) is in absurd cc)
 
-abbrev no_said : Refusal → Result Outcome Refusal
-no_said e = Err e
-
 abbrev said_error : Result Outcome Refusal → Refusal
 said_error (Ok it) = refused.Memory
 said_error (Err e) = e
@@ -524,11 +577,18 @@ answer-legal : (what : Change) (f : Refusal) (r : Result ℕ Refusal) (old mid :
 answer-legal what f (Ok number) old mid added may mild is h = absurd cc
 answer-legal what f (Err x) old mid added may mild is h = commit-legal ℕ what x old mid added may (subst (λ (y : Refusal). halt_by y ≡ None) (said-same f x is) mild) h
 
+never-on : (k : Client) (work : OnTree) (old : Machine) → IsProcessTree work → MayOn k work old → ⊥
+never-on k (write w) old so may = so
+never-on k (erase e) old so may = so
+never-on k (restore r) old so may = so
+never-on k (back_up i) old so may = may
+
 never-own : (places : Places) (k : Client) (own : Own) (old : Machine) → IsProcessOwn own → MayOwn places k own old → ⊥
 never-own places k (validate set) old so may = so
 never-own places k (put p) old so may = so
 never-own places k (get g) old so may = so
 never-own places k checkpoint old so may = so
+never-own places k (on_tree work) old so may = never-on k work old so may
 never-own places k own old so may = may
 
 module _ (trusted : Type 0) (places : Places) (k : Client) (c : Command) (old : Machine) where

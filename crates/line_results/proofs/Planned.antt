@@ -8,6 +8,7 @@ use Rattle.kinds.specs.declared.change.DefineOrDelete.TheVariants as two
 use Rattle.kinds.specs.declared.change.ObjectChange.TheVariants as client
 use Rattle.kinds.specs.declared.refusal.Refusal.{Refusal}
 use Rattle.kinds.specs.declared.refusal.Refusal.TheVariants as refused
+use Rattle.kinds.specs.declared.segment.Digest.{Digest}
 use Rattle.choosers.specs.declared.rule.Rule.{Rule}
 use Rattle.entries.specs.declared.change.Change.{Change}
 use Rattle.entries.specs.declared.change.Change.TheVariants as change
@@ -31,7 +32,7 @@ use Rattle.client_plan.specs.Plans.{Lists, actives, plan_of, scheme}
 use Rattle.client_batches.specs.Listings.{named, rebound, stored, storing}
 use Rattle.client_batches.specs.declared.listing.SealedLine.{SealedLine}
 use Rattle.incrementals.specs.Asking.{AsksNode, AsksNodeRules, AsksRules, AsksVersions, number_found}
-use Rattle.incrementals.specs.Orders.{AreOfBackup, AreQuestions, IsOfBackup as IsStepOf, IsOfPlan, IsOrdered as IsAsked, IsQuestion}
+use Rattle.incrementals.specs.Orders.{AreOfBackup, AreQuestions, IsOfBackup as IsStepOf, IsOfPlan, IsOrdered as IsAsked, IsQuestion, IsReadAs}
 use Rattle.incrementals.specs.Planning.{Begins}
 use Rattle.incrementals.specs.Process.{Only}
 use Rattle.incrementals.specs.declared.asking.Ruled.{Ruled}
@@ -137,38 +138,50 @@ module _ (trusted : Type 0) (places : Places) where
 
   -- it was asked and listed, and this is the plan
   begun-plan : (choice : List Rule) (i : IncrementalBackup) (told : Option Files) (before count : ℕ) (b : Begun) (events : List Event) (old new : Machine) → IsAtRest old.core
-      → Begins i.node i.filespace choice told before count events (Ok b) → Alone trusted places 0 events old new → IsPlan choice i told (database old) b.plan
+      → Begins i.node i.filespace choice told before count events (Ok b) → Alone trusted places 0 events old new → (p : IsPlan choice i told (database old) b.plan) × (p.node ≡ b.node)
   begun-plan choice i told before count b events old new rest (basis, (xs, ys, cut, first, next), (files, listing, planned)) a =
       let parts = alone-parts trusted places 0 events xs ys old new cut a in
       let n = asked-versions i.node i.filespace basis.versions xs old parts.0 rest first parts.1 in
       let k = asked-node-rules i.node basis.ruled ys parts.0 new (rest-as parts.0.core old.core n.0.core rest) next parts.2 in
-      let r : AreRules i.node basis.ruled (database old) = subst (λ (c : Core). AreRules i.node basis.ruled (inventory c)) n.0.core k.1 in
-      record {
-        node = basis.ruled.node;
-        rules = basis.ruled.rules;
-        files = files;
-        versions = basis.versions;
-        found = r.has_node;
-        ruled = r.ruled;
-        listed = listing;
-        kept = n.1;
-        value = λ active. planned.value active ∙ ap (λ (today : ℕ). plan_of (scheme basis.ruled.rules choice today) files (actives basis.versions)) r.today;
-      }
+      let r : AreRules i.node basis.ruled (database old) = subst (λ (c : Core). AreRules i.node basis.ruled (inventory c)) n.0.core k.1 in (
+        record {
+          node = b.node;
+          rules = basis.ruled.rules;
+          files = files;
+          versions = basis.versions;
+          found = r.has_node ∙ ap (λ (x : ℕ). Some x) (sym planned.node);
+          ruled = ap (λ (x : ℕ). rules_of x (database old)) planned.node ∙ r.ruled;
+          listed = listing;
+          kept = n.1;
+          value = λ active. planned.value active ∙ ap (λ (today : ℕ). plan_of (scheme basis.ruled.rules choice today) files (actives basis.versions)) r.today;
+        },
+        refl,
+      )
 
 -- ---- transactions
 
-sent-all : (plan : Lists) (lines : List SealedLine) (tickets : List Ticket) → AllByRecursion (IsOfPlan plan) lines → AllByRecursion (IsSent plan) (paired version_from (map stored lines) tickets)
-sent-all plan [] tickets h = tt
-sent-all plan (line ∷ lines) [] h = tt
-sent-all plan (line ∷ lines) (t ∷ tickets) ((l, digest, among, is), later) =
-    ((l, among, ap (λ (x : SealedLine). x.path) is, ap (λ (x : SealedLine). x.class) is, ap (λ (x : SealedLine). x.mtime) is), sent-all plan lines tickets later)
+sent-all : (told : Option Files) (plan : Lists) (lines : List SealedLine) (tickets : List Ticket) → AllByRecursion (IsOfPlan told plan) lines → AllByRecursion (IsSent told plan) (paired version_from (map stored lines) tickets)
+sent-all told plan [] tickets h = tt
+sent-all told plan (line ∷ lines) [] h = tt
+sent-all told plan (line ∷ lines) (t ∷ tickets) ((l, digest, among, is, read), later) = (
+  (
+    l,
+    among,
+    ap (λ (x : SealedLine). x.path) is,
+    ap (λ (x : SealedLine). x.class) is,
+    ap (λ (x : SealedLine). x.mtime) is,
+    subst (λ (d : Digest). IsReadAs told l d) (sym (ap (λ (x : SealedLine). x.digest) is)) read,
+  ),
+  sent-all told plan lines tickets later,
+)
 
-storing-ordered : (plan : Lists) (filespace : ℕ) (lines : List SealedLine) (tickets : List ℕ) (c : Change) (core : Core) → AllByRecursion (IsOfPlan plan) lines → asked_change 0 (storing filespace lines) tickets core ≡ Some c → IsOrdered plan c
-storing-ordered plan filespace lines tickets c core h is =
+storing-ordered : (node : ℕ) (name : List ℕ) (told : Option Files) (plan : Lists) (filespace : ℕ) (lines : List SealedLine) (tickets : List ℕ) (c : Change) (core : Core) → AllByRecursion (IsOfPlan told plan) lines
+    → asked_change 0 (storing filespace lines) tickets core ≡ Some c → IsOrdered node name told plan c
+storing-ordered node name told plan filespace lines tickets c core h is =
     let all = all_tickets tickets (sight 0 core) in
     let new = change.Backup (record { filespace = filespace; scratch = scratch_of (inventory core) all; items = paired version_from (map stored lines) all }) in
-    elim (are_so_many (length (map stored lines)) tickets (sight 0 core)) as (λ b. (if b then Some new else None) ≡ Some c → IsOrdered plan c) [
-      | true ↦ λ same. inl (filespace, scratch_of (inventory core) all, paired version_from (map stored lines) all, sym (same_Some new c same), sent-all plan lines all h)
+    elim (are_so_many (length (map stored lines)) tickets (sight 0 core)) as (λ b. (if b then Some new else None) ≡ Some c → IsOrdered node name told plan c) [
+      | true ↦ λ same. inl (filespace, scratch_of (inventory core) all, paired version_from (map stored lines) all, sym (same_Some new c same), sent-all told plan lines all h)
       | false ↦ λ odd. absurd cc
     ] is
 
@@ -176,18 +189,18 @@ abbrev plain_change : Change → (tickets : List ℕ) → Core → Option Change
 plain_change w tickets core = asked_change 0 (asked.Plain w) tickets core
 
 -- what joins by what the plan orders is of the plan
-ordered : (plan : Lists) (given : Asked) (tickets : List ℕ) (c : Change) (core : Core) → IsAsked plan given → asked_change 0 given tickets core ≡ Some c → IsOrdered plan c
-ordered plan given tickets c core (inl (filespace, lines, is, of)) joins =
-    storing-ordered plan filespace lines tickets c core of (subst (λ (x : Asked). asked_change 0 x tickets core ≡ Some c) is joins)
-ordered plan given tickets c core (inr (inl (filespace, lines, is, of))) joins =
+ordered : (told : Option Files) (name : List ℕ) (b : Begun) (given : Asked) (tickets : List ℕ) (c : Change) (core : Core) → IsAsked told name b given → asked_change 0 given tickets core ≡ Some c → IsOrdered b.node name told b.plan c
+ordered told name b given tickets c core (inl (filespace, lines, is, of)) joins =
+    storing-ordered b.node name told b.plan filespace lines tickets c core of (subst (λ (x : Asked). asked_change 0 x tickets core ≡ Some c) is joins)
+ordered told name b given tickets c core (inr (inl (filespace, lines, is, of))) joins =
     let same : change.Rebind (record { filespace = filespace; items = map rebound lines }) ≡ c = same_Some _ c (subst (λ (x : Asked). asked_change 0 x tickets core ≡ Some c) is joins) in
     inr (inl (filespace, lines, sym same, of))
-ordered plan given tickets c core (inr (inr (inl (filespace, lines, is, of)))) joins =
+ordered told name b given tickets c core (inr (inr (inl (filespace, lines, is, of)))) joins =
     let same : change.Gone (record { filespace = filespace; items = map named lines }) ≡ c = same_Some _ c (subst (λ (x : Asked). asked_change 0 x tickets core ≡ Some c) is joins) in
     inr (inr (inl (filespace, lines, sym same, of)))
-ordered plan given tickets c core (inr (inr (inr (node, name, is)))) joins =
-    let same : change.Object (client.Filespace two.Define node name (inventory core).next_filespace) ≡ c = same_Some _ c (subst (λ (x : Asked). asked_change 0 x tickets core ≡ Some c) is joins) in
-    inr (inr (inr (node, name, (inventory core).next_filespace, sym same)))
+ordered told name b given tickets c core (inr (inr (inr is))) joins =
+    let same : change.Object (client.Filespace two.Define b.node name (inventory core).next_filespace) ≡ c = same_Some _ c (subst (λ (x : Asked). asked_change 0 x tickets core ≡ Some c) is joins) in
+    inr (inr (inr ((inventory core).next_filespace, sym same)))
 
 -- ---- steps
 
@@ -195,23 +208,23 @@ question-sends : (P : Change → Type 0) (d : Deed) → IsQuestion d → Sends P
 question-sends P (Ask query answer) h = tt
 question-sends P d h = absurd h
 
-step-sends : (P : Change → Type 0) (plan : Lists) → ((c : Change) → IsOrdered plan c → P c) → (d : Deed) → IsStepOf plan d → Sends P d
-step-sends P plan may (OpenNew pool size prefer answer) h = tt
-step-sends P plan may (WritePiece ticket bytes answer) h = tt
-step-sends P plan may (Seal ticket answer) h = tt
-step-sends P plan may (DropTicket ticket answer) h = tt
-step-sends P plan may (Ask query answer) h = tt
-step-sends P plan may (Force answer) h = tt
-step-sends P plan may (Commit given tickets answer) h = λ c core joins. may c (ordered plan given tickets c core h joins)
-step-sends P plan may d h = absurd h
+step-sends : (P : Change → Type 0) (told : Option Files) (name : List ℕ) (b : Begun) → ((c : Change) → IsOrdered b.node name told b.plan c → P c) → (d : Deed) → IsStepOf told name b d → Sends P d
+step-sends P told name b may (OpenNew pool size prefer answer) h = tt
+step-sends P told name b may (WritePiece ticket bytes answer) h = tt
+step-sends P told name b may (Seal ticket answer) h = tt
+step-sends P told name b may (DropTicket ticket answer) h = tt
+step-sends P told name b may (Ask query answer) h = tt
+step-sends P told name b may (Force answer) h = tt
+step-sends P told name b may (Commit given tickets answer) h = λ c core joins. may c (ordered told name b given tickets c core h joins)
+step-sends P told name b may d h = absurd h
 
 questions-send : (P : Change → Type 0) (events : List Event) → AreQuestions events → AllSend P events
 questions-send P [] h = tt
 questions-send P (e ∷ events) h = (question-sends P e.deed h.0, questions-send P events h.1)
 
-steps-send : (P : Change → Type 0) (plan : Lists) → ((c : Change) → IsOrdered plan c → P c) → (events : List Event) → AreOfBackup plan events → AllSend P events
-steps-send P plan may [] h = tt
-steps-send P plan may (e ∷ events) h = (step-sends P plan may e.deed h.0, steps-send P plan may events h.1)
+steps-send : (P : Change → Type 0) (told : Option Files) (name : List ℕ) (b : Begun) → ((c : Change) → IsOrdered b.node name told b.plan c → P c) → (events : List Event) → AreOfBackup told name b events → AllSend P events
+steps-send P told name b may [] h = tt
+steps-send P told name b may (e ∷ events) h = (step-sends P told name b may e.deed h.0, steps-send P told name b may events h.1)
 
 both-send : (P : Change → Type 0) (xs ys : List Event) → AllSend P xs → AllSend P ys → AllSend P (xs ++ ys)
 both-send P [] ys h k = k
@@ -226,4 +239,4 @@ backup-sends trusted places choice i told before events old new rest (inr (b, co
     let plan = begun-plan trusted places choice i told before count b xs old parts.0 rest begins parts.1 in
     subst (λ (l : List Event). AllSend (IsOfBackup choice i told (database old)) l) (sym cut)
     (both-send (IsOfBackup choice i told (database old)) xs ys (questions-send (IsOfBackup choice i told (database old)) xs questions)
-    (steps-send (IsOfBackup choice i told (database old)) b.plan (λ c is. (b.plan, plan, is)) ys of))
+    (steps-send (IsOfBackup choice i told (database old)) told i.filespace b (λ c is. (b.plan, plan.0, subst (λ (n : ℕ). IsOrdered n i.filespace told b.plan c) (sym plan.1) is)) ys of))

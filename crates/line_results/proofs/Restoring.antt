@@ -1,5 +1,6 @@
 -- Steps that only ask and read, where one actor has the machine alone: nothing changes by them, and where they end the run, that has its cause. So it is with a restore.
 use Rattle.std.proofs.Common.{◌≡◌, ◌⊎◌, inl, inr, ℕ, nat_le, Bool, true, false, if◌then◌else◌, List, [], ◌∷◌, ◌++◌, Option, None, Some, IfErr, Result, Ok, Err, refl, sym, ap, subst, ◌∙◌}
+use Rattle.std.proofs.lemmas.Bool.{false≢true}
 use Rattle.std.proofs.lemmas.Option.{same_Some}
 use Rattle.std.specs.List.{AllByRecursion}
 use Rattle.kinds.specs.Names.{is_same_name}
@@ -14,19 +15,25 @@ use Rattle.inventory_rows.specs.Search.{version}
 use Rattle.inventory_rows.specs.State.{Inv}
 use Rattle.inventory_rules.specs.Journal.{Journal}
 use Rattle.inventory_rules.specs.Versions.{gone_or_unknown, of_version}
-use Rattle.inventory_answers.specs.Answered.{answered}
+use Rattle.inventory_answers.specs.Answered.{answered, rows_of}
 use Rattle.inventory_answers.specs.Clients.{versions_of}
 use Rattle.inventory_answers.specs.declared.query.Query.{Query}
 use Rattle.inventory_answers.specs.declared.query.Query.TheVariants as query
 use Rattle.inventory_answers.specs.declared.reply.Answer.{Answer}
+use Rattle.inventory_answers.specs.declared.reply.Rows.{Rows}
 use Rattle.inventory_answers.specs.declared.reply.Rows.TheVariants as rows
 use Rattle.admin_words.specs.declared.files.FilesRestore.{FilesRestore}
 use Rattle.admin_words.specs.declared.files.Wanted.{Wanted}
 use Rattle.admin_words.specs.declared.files.Wanted.TheVariants.{Active, Like, Object, On}
+use Rattle.client_files.specs.Restoring.{Restores as RestoresOne, is_unrestored}
+use Rattle.client_files.specs.Sending.{is_stopping, stopping}
+use Rattle.client_files.specs.declared.outcome.Gave.{Gave}
+use Rattle.client_files.specs.declared.outcome.Gave.TheVariants as gave
 use Rattle.client_trees.specs.Files.{Files}
 use Rattle.restores.specs.Causes.{AreReading, IsCaused, IsReading}
-use Rattle.restores.specs.Given.{Gives}
-use Rattle.restores.specs.Restores.{Restores}
+use Rattle.restores.specs.Given.{Ends as EndsAt, Gives, Stops}
+use Rattle.restores.specs.Restores.{Restores, unasked}
+use Rattle.restores.specs.declared.choosing.RestoreLine.{RestoreLine}
 use Rattle.restores.specs.declared.choosing.Which.{Which}
 use Rattle.restores.specs.declared.choosing.Which.TheVariants as which
 use Rattle.restores.specs.declared.process.Restored.{Restored}
@@ -34,7 +41,8 @@ use Rattle.restores.proofs.Caused.{restores-caused, restores-reading}
 use Rattle.restores.proofs.Standing.{each-stands}
 use Rattle.copy_attempts.specs.Outcomes.{Met}
 use Rattle.script_loop.specs.declared.ends.Halt.{Halt}
-use Rattle.steps.specs.Events.{Deed, Event, event, refusal}
+use Rattle.script_loop.specs.declared.ends.Halt.TheVariants as halt
+use Rattle.steps.specs.Events.{Deed, Event, event, has_number, refusal}
 use Rattle.steps.specs.Events.Deed.{Ask, ReadPiece}
 use Rattle.machine.proofs.Elsewhere.{append-all, foremost-all, unless-all}
 use Rattle.machine.specs.Alone.{Alone, Moves, with_contents}
@@ -49,11 +57,11 @@ use Rattle.command_steps.specs.declared.outcome.Outcome.{Outcome}
 use Rattle.command_steps.specs.declared.outcome.Outcome.TheVariants as came
 use Rattle.line_results.specs.Commands.{EndsSo, IsStill, Ran}
 use Rattle.line_results.specs.Resting.{EndsRun, IsAtRest, Onward, database}
-use Rattle.line_results.specs.Trees.{GivesChosen, IsChosen, Stand}
-use Rattle.line_results.proofs.Asked.{refused-of}
+use Rattle.line_results.specs.Trees.{GivesChosen, GivesNothing, IsChosen, Stand}
+use Rattle.line_results.proofs.Asked.{EndsBy, asked-step, refused-of}
 use Rattle.line_results.proofs.Ending.{m-answered}
 use Rattle.line_results.proofs.Mild.{mild-err}
-use Rattle.line_results.proofs.PutHomes.{asks-to, ok-of}
+use Rattle.line_results.proofs.PutHomes.{asks-to, err-of, ok-of}
 use Rattle.line_results.proofs.Planned.{versions_in}
 use Rattle.line_results.proofs.Runs.{Became, Refuses, alone-none, alone-parts, became-same, became-still, ends-err, ends-since, late-on, onward-none, rose-on, stays-became, stepped, stops-run}
 
@@ -228,6 +236,11 @@ answer-ends wanted (Ok r) events old new w caused = back-ends (is_absent wanted 
 answer-ends wanted (Err e) events old new w (inl memory) = refused-ends old new (Err e) e refl (λ how halts. subst (λ (x : Refusal). EndsRun old new x) (sym memory) tt)
 answer-ends wanted (Err e) events old new w (inr (ending, met)) = refused-ends old new (Err e) e refl (λ how halts. w.ends e how met halts)
 
+-- it wasn't known what is wanted, or memory was wanted
+unknown-given : (r : FilesRestore) (v : Inv) (e : Refusal) → (e ≡ refused.Memory) ⊎ (which_of r.wanted ≡ Err e) → GivesNothing r v e
+unknown-given r v e (inl is) = inr (inr (inr (halt.Memory, ap halt_by is)))
+unknown-given r v e (inr h) = inl h
+
 -- what was restored stands in a tree that tells its files
 stand : (x : Restored) (before after : ℕ) (old new : Option Files) (events : List Event) → Gives x.lines x.gave before after old new events → Stand x old new
 stand x before after (Some old) (Some new) events h = λ apart. each-stands x.lines x.gave before after old new events apart h
@@ -235,19 +248,82 @@ stand x before after (Some old) None events h = tt
 stand x before after None (Some new) events h = tt
 stand x before after None None events h = tt
 
-back-given : (b : Bool) (r : FilesRestore) (v : Inv) (before after : Known) (x : Restored) → IsChosen r v x.lines → Stand x before.files after.files → GivesChosen r v before after (if b then Err refused.NotFound else Ok (came.Restored x))
-back-given true r v before after x chosen stands = tt
-back-given false r v before after x chosen stands = (chosen, stands)
+-- ---- why nothing was restored
+
+-- what ends the run
+stopping-halts : (e : Refusal) → is_stopping e ≡ true → (how : Halt) × (halt_by e ≡ Some how)
+stopping-halts (refused.LogFault file count) h = (halt.LogFault file, refl)
+stopping-halts refused.RunFull h = (halt.RunFull, refl)
+stopping-halts refused.Memory h = (halt.Memory, refl)
+stopping-halts e h = absurd (false≢true h)
+
+memory-halts : (e : Refusal) → e ≡ refused.Memory → (how : Halt) × (halt_by e ≡ Some how)
+memory-halts e is = (halt.Memory, ap halt_by is)
+
+as-stopping : (e : Refusal) (b : Bool) → is_stopping e ≡ b → (how : Halt) × (halt_by (if b then e else refused.Memory) ≡ Some how)
+as-stopping e true is = stopping-halts e is
+as-stopping e false is = (halt.Memory, refl)
+
+given-halts : (e f : Refusal) (b : Bool) → ◌≡◌ {A = Result Gave Refusal} (Err e) (if b then Ok (gave.Failed f) else Err (stopping f)) → (how : Halt) × (halt_by e ≡ Some how)
+given-halts e f true is = absurd cc
+given-halts e f false is =
+    let h = as-stopping f (is_stopping f) refl in
+    let same : e ≡ stopping f = cc in
+    (h.0, ap halt_by same ∙ h.1)
+
+one-halts : (l : RestoreLine) (before after : ℕ) (e : Refusal) (events : List Event) → RestoresOne l.stored before after events (Err e) → (how : Halt) × (halt_by e ≡ Some how)
+one-halts l before after e events (inl (reads, is)) = absurd cc
+one-halts l before after e events (inr (f, breaks, is)) = given-halts e f (is_unrestored f) is
+
+last-halts : (lines : List RestoreLine) (before after : ℕ) (old new : Option Files) (e : Refusal) (events : List Event) → EndsAt lines before after old new e events → (how : Halt) × (halt_by e ≡ Some how)
+last-halts [] before after old new e events h = absurd h
+last-halts (l ∷ lines) before after old new e events h = one-halts l before after e events h.order
+
+stops-halts : (lines : List RestoreLine) (before after : ℕ) (old new : Option Files) (e : Refusal) (events : List Event) → Stops lines before after old new e events → (how : Halt) × (halt_by e ≡ Some how)
+stops-halts lines before after old new e events h = elim h.ends as (λ _. (how : Halt) × (halt_by e ≡ Some how)) [
+  | inl m ↦ memory-halts e m.0
+  | inr s ↦ last-halts h.back h.count after h.between new e h.ys s
+]
+
+-- the refusal of the question, as it is answered
+ends-halts : (old new : Machine) (why : Refusal) → EndsRun old new why → (how : Halt) × (halt_by (unasked why) ≡ Some how)
+ends-halts old new (refused.LogFault file count) h = (halt.LogFault file, refl)
+ends-halts old new refused.RunFull h = (halt.RunFull, refl)
+ends-halts old new refused.Memory h = (halt.Memory, refl)
+ends-halts old new e h = absurd h
+
+not-told : (r : FilesRestore) (old new : Machine) (e why : Refusal) (b : Bool) → e ≡ (if b then why else refused.Memory) → versions_of r.node r.filespace (database old) ≡ Err why → GivesNothing r (database old) e
+not-told r old new e why true is h = inr (inl (h ∙ ap (λ (x : Refusal). Err x) (sym is)))
+not-told r old new e why false is h = inr (inr (inr (memory-halts e is)))
+
+no-versions-told : (r : FilesRestore) (old new : Machine) (e why : Refusal) → e ≡ unasked why → (Err why ≡ answered (query.Versions r.node r.filespace) (database old)) ⊎ EndsBy {A = Answer} old new (Err why) → GivesNothing r (database old) e
+no-versions-told r old new e why is (inl h) =
+    not-told r old new e why (has_number (10 ∷ 40 ∷ 41 ∷ []) why) is
+    (err-of rows.Versions (versions_of r.node r.filespace (database old)) why
+    (err-of (λ (x : Rows). record { n = (database old).number; today = (database old).today; rows = x }) (rows_of (query.Versions r.node r.filespace) (database old)) why (sym h)))
+no-versions-told r old new e why is (inr (f, same, ends)) =
+    let one : why ≡ f = cc in
+    let h = ends-halts old new why (subst (λ (x : Refusal). EndsRun old new x) (sym one) ends) in
+    inr (inr (inr (h.0, ap halt_by is ∙ h.1)))
+
+back-given : (b : Bool) (r : FilesRestore) (v : Inv) (before after : Known) (x : Restored) → is_absent r.wanted x.lines ≡ b → IsChosen r v x.lines → Stand x before.files after.files
+    → GivesChosen r v before after (if b then Err refused.NotFound else Ok (came.Restored x))
+back-given true r v before after x absent chosen stands = inr (inr (inl (refl, x.lines, chosen, absent)))
+back-given false r v before after x absent chosen stands = (chosen, stands)
 
 module _ (trusted : Type 0) (places : Places) (r : FilesRestore) (before after : Known) where
   answer-given : (versions : Which) (answer : Result Restored Refusal) (events : List Event) (old new : Machine) → IsAtRest old.core → which_of r.wanted ≡ Ok versions
       → Restores r.node r.filespace versions before.faults after.faults before.files after.files events answer → Alone trusted places 0 events old new
       → GivesChosen r (database old) before after (given_by r.wanted answer)
-  answer-given versions (Err e) events old new rest of h f = tt
+  answer-given versions (Err e) events old new rest of (inl (inl (inl (why, is, made)), same, kept)) f =
+      no-versions-told r old new e why is (asked-step trusted places (query.Versions r.node r.filespace) (Err why) events old new refl rest made f).told
+  answer-given versions (Err e) events old new rest of (inl (inl (inr (answer, is, made)), same, kept)) f = inr (inr (inr (memory-halts e is)))
+  answer-given versions (Err e) events old new rest of (inl (inr (lines, asked, is), same, kept)) f = inr (inr (inr (memory-halts e is)))
+  answer-given versions (Err e) events old new rest of (inr (lines, (xs, ys, cut, begins, stops))) f = inr (inr (inr (stops-halts lines before.faults after.faults before.files after.files e ys stops)))
   answer-given versions (Ok x) events old new rest of (xs, ys, cut, (lines, asked, chosen), gives) f =
       let parts = alone-parts trusted places 0 events xs ys old new cut f in
       let k = asks-to trusted places (query.Versions r.node r.filespace) rows.Versions (Ok lines) xs old parts.0 refl rest asked parts.1 in
-      back-given (is_absent r.wanted x.lines) r (database old) before after x
+      back-given (is_absent r.wanted x.lines) r (database old) before after x refl
       (versions, of, lines, ok-of rows.Versions versions_in (λ l. refl) (versions_of r.node r.filespace (database old)) lines k.1, chosen) (stand x before.faults after.faults before.files after.files ys gives)
 
   -- what a restore comes to, and that nothing changed but counts and the moment
@@ -263,7 +339,7 @@ module _ (trusted : Type 0) (places : Places) (r : FilesRestore) (before after :
       )
   restore-did events result old new rest (inr (e, why, none, same, is)) f = (
     (old, events, record { core = refl; contents = refl; onward = onward-none old }, f, inr (e, why, none, same, is)),
-    subst (λ (x : Result Outcome Refusal). GivesChosen r (database old) before after x) (sym is) tt,
+    subst (λ (x : Result Outcome Refusal). GivesChosen r (database old) before after x) (sym is) (unknown-given r (database old) e why),
     refused-ends old new result e is (wanted-ends old new r.wanted e why),
     became-same old new (alone-none trusted places 0 events old new none f),
   )

@@ -1,6 +1,6 @@
 -- What holds of each line of a script beside how it may be answered: which transactions it makes, which rows and bytes it shows, what it says of stored bytes, why it is refused, what it did that
 -- wasn't refused, and when it isn't. A line stands between two states; `mid` is the one behind its command, before the checkpoint that may follow it, and `added` the transactions that it made, oldest first.
-use Rattle.std.specs.Prelude.{◌≡◌, ◌⊎◌, ℕ, ◌+◌, ◌^◌, ◌<◌, ◌≤◌, true, Contains, List, [], ◌∷◌, ◌++◌, length, Option, None, Some, Result, Ok, Err}
+use Rattle.std.specs.Prelude.{◌≡◌, ◌⊎◌, ℕ, ◌+◌, ◌^◌, ◌<◌, ◌≤◌, true, false, Contains, List, [], ◌∷◌, ◌++◌, length, Option, None, Some, Result, Ok, Err}
 use Rattle.std.specs.List.{AllByRecursion}
 use Rattle.sha2.specs.Sha256.{sha256}
 use Rattle.kinds.specs.ValueForms.{digest_with}
@@ -25,11 +25,14 @@ use Rattle.inventory_answers.specs.declared.reply.Answer as rows
 use Rattle.placing.specs.Placing.{active_version, can_read}
 use Rattle.admin_words.specs.declared.files.FileGet.{FileGet}
 use Rattle.admin_words.specs.declared.files.FilePut.{FilePut}
+use Rattle.admin_words.specs.declared.files.FilesRestore.{FilesRestore}
 use Rattle.admin_commands.specs.declared.work.Work.{Work}
 use Rattle.admin_commands.specs.declared.work.Work.TheVariants.{Commit, Show, Run}
+use Rattle.restores.specs.declared.choosing.RestoreLine.{RestoreLine}
 use Rattle.reports.specs.Lines.{shown_line}
 use Rattle.reports.specs.declared.shown.Shown.TheVariants.{Stored}
 use Rattle.script_loop.specs.Reply.{Answer}
+use Rattle.tree_api.specs.Cause.{Rose}
 use Rattle.machine.specs.Machine.{Places}
 use Rattle.machine.specs.State.{Core, Machine, Place}
 use Rattle.sessions.specs.Homes.{home_of}
@@ -37,16 +40,17 @@ use Rattle.sessions.specs.declared.getting.FileRead.{FileRead}
 use Rattle.sessions.specs.declared.homes.Home.{Home}
 use Rattle.command_steps.specs.Answers.{answer_of, done, file_lines, refusal, row_lines}
 use Rattle.command_steps.specs.Behind.{Behind, behind, no_more}
-use Rattle.command_steps.specs.Clients.{Client}
+use Rattle.command_steps.specs.Clients.{Client, Known, Turns}
 use Rattle.command_steps.specs.Leaving.{ChangesOnly, tree_named}
+use Rattle.command_steps.specs.Trees.{is_absent}
 use Rattle.command_steps.specs.Lines.{Line, asks, comment, refused}
-use Rattle.command_steps.specs.Owns.{OnTree, Own, back_up, checkpoint, get, last_of, on_tree, own_of, put, validate}
+use Rattle.command_steps.specs.Owns.{OnTree, Own, back_up, checkpoint, erase, get, last_of, on_tree, own_of, put, restore, validate, write}
 use Rattle.command_steps.specs.declared.outcome.Outcome.{Outcome}
 use Rattle.admin_words.specs.declared.command.Command.{Command}
 use Rattle.line_results.specs.Commands.{Does, DoesThere, EndsWith, IsReuse, MayMake, Works, drawn, validated, work_over}
 use Rattle.line_results.specs.Files.{Gets, IsPlacedIn, Puts, backed_up, filespace_defined, why_no_place}
 use Rattle.line_results.specs.Resting.{Makes, RoseFrom, database, entry, why_not}
-use Rattle.line_results.specs.Trees.{IsOfTree}
+use Rattle.line_results.specs.Trees.{IsChosen, IsOfTree}
 
 -- ---- journal: which transactions a line may make
 
@@ -248,11 +252,27 @@ MayGet g v =
     (node : ℕ) × (node_named g.node v.clients.nodes ≡ Some node) × (filespace : ℕ) × (filespace_named node g.filespace v.clients.filespaces ≡ Some filespace)
     × (w : Version) × (active_version filespace g.path v ≡ Some w) × (version w.object v ≡ Some w) × (copy : CopyRow) × Contains w.copies copy × (can_read copy v ≡ true)
 
+-- a tree has this number, and its count of faults doesn't rise by the line
+abbrev pub IsSound : (tree : ℕ) → Client → Type 0
+IsSound tree k = (tree < length k.old) × ((before : Known) → (after : Known) → Turns tree before after k → Rose before.faults after.faults → ⊥)
+
+-- it is known which versions of the filespace are wanted; and where one object is, it is among them
+abbrev pub MayGive : FilesRestore → Inv → Type 0
+MayGive r v = (lines : List RestoreLine) × IsChosen r v lines × (is_absent r.wanted lines ≡ false)
+
+-- a file may be written or erased where no call on its tree fails, and files may be restored into a tree that is there
+abbrev pub MayOn : Client → OnTree → (old : Machine) → Type 0
+MayOn k (write w) old = IsSound w.tree k
+MayOn k (erase e) old = IsSound e.tree k
+MayOn k (restore r) old = MayGive r (database old) × (r.tree < length k.old)
+MayOn k (back_up i) old = ⊥
+
 abbrev pub MayOwn : Places → Client → Own → (old : Machine) → Type 0
 MayOwn places k (validate set) old = validated set (database old) ≡ Ok tt
 MayOwn places k (put p) old = MayPut places k.choice p old
 MayOwn places k (get g) old = MayGet g (database old)
 MayOwn places k checkpoint old = old.core.generation + 1 < 2 ^ 62
+MayOwn places k (on_tree work) old = MayOn k work old
 MayOwn places k own old = ⊥
 
 -- what the command names is there; and the database has no reason against its change, or shows its rows

@@ -1,5 +1,5 @@
 -- What DSMC INCREMENTAL and DSMC RESTORE go by where one actor has the machine alone: the plan over the tree and the database, the transactions that it orders, and the versions that are restored.
-use Rattle.std.specs.Prelude.{◌≡◌, ◌⊎◌, ℕ, ◌<◌, Contains, List, [], map, Option, Some, Result, Ok, Err}
+use Rattle.std.specs.Prelude.{◌≡◌, ◌⊎◌, ℕ, ◌<◌, true, Contains, List, [], map, Option, Some, Result, Ok, Err}
 use Rattle.std.specs.List.{AllByRecursion}
 use Rattle.kinds.specs.declared.change.DefineOrDelete.TheVariants as two
 use Rattle.kinds.specs.declared.change.ObjectChange.TheVariants as client
@@ -25,15 +25,18 @@ use Rattle.client_plan.specs.declared.lines.GoneLine.{GoneLine}
 use Rattle.client_plan.specs.declared.lines.RebindLine.{RebindLine}
 use Rattle.client_plan.specs.declared.lines.SendLine.{SendLine}
 use Rattle.client_batches.specs.Listings.{named, rebound}
+use Rattle.incrementals.specs.Orders.{IsReadAs}
 use Rattle.incrementals.specs.Planning.{IsListing}
 use Rattle.restores.specs.Chosen.{chosen}
 use Rattle.restores.specs.Standing.{AreApart, HaveFiles}
 use Rattle.restores.specs.declared.choosing.RestoreLine.{RestoreLine}
 use Rattle.restores.specs.declared.choosing.Which.{Which}
 use Rattle.restores.specs.declared.process.Restored.{Restored}
+use Rattle.script_loop.specs.declared.ends.Halt.{Halt}
 use Rattle.machine.specs.State.{Machine}
 use Rattle.command_steps.specs.Clients.{Client, Known, Turns}
-use Rattle.command_steps.specs.Trees.{which_of}
+use Rattle.command_steps.specs.Answers.{halt_by}
+use Rattle.command_steps.specs.Trees.{is_absent, which_of}
 use Rattle.command_steps.specs.declared.outcome.Outcome.{Outcome}
 use Rattle.command_steps.specs.declared.outcome.Outcome.TheVariants as came
 
@@ -56,21 +59,22 @@ pub record IsPlan (choice : List Rule) (i : IncrementalBackup) (told : Option Fi
   pub kept : HasVersions i.node i.filespace v versions
   pub value : AreActive (actives versions) → plan ≡ plan_of (scheme rules choice v.today) files (actives versions)
 
--- a file of the plan that is to be sent becomes a version of its path, under its class and with its time
-abbrev pub IsSent : Lists → NewVersion → Type 0
-IsSent plan item = (l : SendLine) × Contains plan.send l × (item.path ≡ l.file.path) × (item.class ≡ l.class) × (item.mtime ≡ l.file.mtime)
+-- A file of the plan that is to be sent becomes a version of its path, under its class and with its time; and where the tree tells its files, the version's digest is the SHA-256 of the file's bytes, which
+-- are as many as were listed.
+abbrev pub IsSent : Option Files → Lists → NewVersion → Type 0
+IsSent told plan item = (l : SendLine) × Contains plan.send l × (item.path ≡ l.file.path) × (item.class ≡ l.class) × (item.mtime ≡ l.file.mtime) × IsReadAs told l item.digest
 
--- files of the plan are stored, paths of the plan are bound anew, or versions of the plan are ended; or a filespace is defined
-abbrev pub IsOrdered : Lists → Change → Type 0
-IsOrdered plan c =
-    ((filespace : ℕ) × (scratch : List ScratchVolume) × (items : List NewVersion) × (c ≡ change.Backup (record { filespace = filespace; scratch = scratch; items = items })) × AllByRecursion (IsSent plan) items)
+-- files of the plan are stored, paths of the plan are bound anew, or versions of the plan are ended; or the node's filespace with this name is defined
+abbrev pub IsOrdered : (node : ℕ) → (name : List ℕ) → Option Files → Lists → Change → Type 0
+IsOrdered node name told plan c =
+    ((filespace : ℕ) × (scratch : List ScratchVolume) × (items : List NewVersion) × (c ≡ change.Backup (record { filespace = filespace; scratch = scratch; items = items })) × AllByRecursion (IsSent told plan) items)
     ⊎ ((filespace : ℕ) × (lines : List RebindLine) × (c ≡ change.Rebind (record { filespace = filespace; items = map rebound lines })) × AllByRecursion (λ l. Contains plan.rebind l) lines)
     ⊎ ((filespace : ℕ) × (lines : List GoneLine) × (c ≡ change.Gone (record { filespace = filespace; items = map named lines })) × AllByRecursion (λ l. Contains plan.gone l) lines)
-    ⊎ ((node : ℕ) × (name : List ℕ) × (filespace : ℕ) × (c ≡ change.Object (client.Filespace two.Define node name filespace)))
+    ⊎ ((filespace : ℕ) × (c ≡ change.Object (client.Filespace two.Define node name filespace)))
 
--- the backup of a tree that tells these files, over this database, may make this transaction
+-- The backup of a tree that tells these files, over this database, may make this transaction. The filespace that it may define is that of the node and the name that the command gives.
 abbrev pub IsOfBackup : List Rule → IncrementalBackup → (told : Option Files) → Inv → Change → Type 0
-IsOfBackup choice i told v c = (plan : Lists) × IsPlan choice i told v plan × IsOrdered plan c
+IsOfBackup choice i told v c = (plan : Lists) × (p : IsPlan choice i told v plan) × IsOrdered p.node i.filespace told plan c
 
 -- the backup of the tree that the command names may
 abbrev pub IsOfTree : Client → IncrementalBackup → Inv → Change → Type 0
@@ -91,7 +95,16 @@ abbrev pub Stand : Restored → (old new : Option Files) → Type 0
 Stand x (Some old) (Some new) = AreApart x.lines → HaveFiles x.lines x.gave new
 Stand x old new = Unit {0}
 
--- what is answered is said of each version that is wanted, and those that were restored stand in the tree
+-- Why nothing is restored: it isn't known which versions are wanted, or which the filespace has; the one object that is wanted isn't among them; or the run ended.
+abbrev pub GivesNothing : FilesRestore → Inv → Refusal → Type 0
+GivesNothing r v e =
+    (which_of r.wanted ≡ Err e)
+    ⊎ (versions_of r.node r.filespace v ≡ Err e)
+    ⊎ ((e ≡ NotFound) × (lines : List RestoreLine) × IsChosen r v lines × (is_absent r.wanted lines ≡ true))
+    ⊎ ((how : Halt) × (halt_by e ≡ Some how))
+
+-- what is answered is said of each version that is wanted, and those that were restored stand in the tree; or nothing is restored, for a cause
 abbrev pub GivesChosen : FilesRestore → Inv → (before after : Known) → Result Outcome Refusal → Type 0
 GivesChosen r v before after (Ok (came.Restored x)) = IsChosen r v x.lines × Stand x before.files after.files
-GivesChosen r v before after result = Unit {0}
+GivesChosen r v before after (Ok it) = Unit {0}
+GivesChosen r v before after (Err e) = GivesNothing r v e

@@ -95,7 +95,7 @@ filled old new whole held from to count before after is was ordered same within 
     )
 
 -- a slice of a vector's elements that was written to
-pub written_back : (n : ℕ) (new old : List ℕ) → length new ≡ n → take n (new ++ drop (length new) old) ≡ new
+pub written_back : {A : Type 0} (n : ℕ) (new old : List A) → length new ≡ n → take n (new ++ drop (length new) old) ≡ new
 written_back n new old size = ap (λ m. take m (new ++ drop (length new) old)) (sym size) ∙ take-append_seam new (drop (length new) old)
 
 -- no LF up to a place, and none from there on

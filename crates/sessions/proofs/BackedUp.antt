@@ -184,7 +184,7 @@ module _ (w : History) (actor : ℕ) (given : Option ClientFile) (pool size : �
   LeavesSealed (Err e) tickets = is_lasting e ≡ false → tickets ≡ []
 
   as-sealed : (it : Result Came Refusal) (tickets : List Ticket) → LeavesTickets actor given size it tickets → LeavesSealed (sealed_of it) tickets
-  as-sealed (Ok (came.Sealed number digest)) tickets h = h
+  as-sealed (Ok (came.Written number digest)) tickets h = h
   as-sealed (Ok (came.Failed e)) tickets h = λ _. h
   as-sealed (Ok (came.Held holder)) tickets h = λ _. h
   as-sealed (Err e) tickets h = h

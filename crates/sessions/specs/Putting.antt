@@ -98,7 +98,7 @@ FindsFilespace node filespace number events result = InTurn (Looks node filespac
 
 -- what came of the file: its ticket is sealed, or it is refused
 abbrev pub sealed_of : Result Came Refusal → Result Sealed Refusal
-sealed_of (Ok (came.Sealed ticket digest)) = Ok (record { ticket = ticket; digest = digest })
+sealed_of (Ok (came.Written ticket digest)) = Ok (record { ticket = ticket; digest = digest })
 sealed_of (Ok (came.Failed e)) = Err e
 sealed_of (Ok (came.Held holder)) = Err (refused.Busy holder)
 sealed_of (Err e) = Err e

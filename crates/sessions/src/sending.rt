@@ -24,7 +24,7 @@ fn sealed_of(came: Result<Came, Refusal>) -> Result<Sealed, Refusal>
     ensures { result ≡ sealed_of came }
 {
     match came {
-        Ok(Came::Sealed(ticket, digest)) => Ok(Sealed { ticket, digest }),
+        Ok(Came::Written(ticket, digest)) => Ok(Sealed { ticket, digest }),
         Ok(Came::Failed(refusal)) => Err(refusal),
         Ok(Came::Held(holder)) => Err(Refusal::Busy(holder)),
         Err(refusal) => Err(refusal),
