@@ -174,6 +174,7 @@ module _ {S : Type 0} (told : S → Option History) (moment : S → ℕ) (faults
         space = record { filled = tt; clear = tt; apart = refl };
         numbers = new_numbers hall.held valid;
         bytes = record { sized = sized; fronts = tt };
+        listed = λ none. tt;
         kept = kept;
       };
     }

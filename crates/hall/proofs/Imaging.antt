@@ -80,10 +80,10 @@ both_none None b h = (refl, h)
 both_none (Some x) None h = absurd cc
 both_none (Some x) (Some y) h = absurd cc
 
-parts_none : (xs ys : List Refusal) → foremost (xs ++ ys) ≡ None → (foremost xs ≡ None) × (foremost ys ≡ None)
+pub parts_none : (xs ys : List Refusal) → foremost (xs ++ ys) ≡ None → (foremost xs ≡ None) × (foremost ys ≡ None)
 parts_none xs ys h = both_none (foremost xs) (foremost ys) (sym (foremost_append xs ys) ∙ h)
 
-none_held : (i : Option BegunImage) → foremost (image_held i) ≡ None → i ≡ None
+pub none_held : (i : Option BegunImage) → foremost (image_held i) ≡ None → i ≡ None
 none_held None h = refl
 none_held (Some i) h = absurd cc
 
@@ -133,7 +133,7 @@ nothing_pends first generation (Some pending) (Some job) is = absurd is
 abbrev begun : Image → BegunImage
 begun x = record { actor = x.actor; picture = x.picture; file = x.file; seq = x.seq }
 
-own_is : (actor : ℕ) (x : Image) → is_some (own_begun actor (begun_of (Some x))) ≡ true → own_image actor (Some x) ≡ Some x
+pub own_is : (actor : ℕ) (x : Image) → is_some (own_begun actor (begun_of (Some x))) ≡ true → own_image actor (Some x) ≡ Some x
 own_is actor x mine = elim (x.actor == actor) as (λ b. is_some (if b then Some (begun x) else None) ≡ true
     → (if b then Some x else None) ≡ Some x) [
       | true ↦ λ _. refl

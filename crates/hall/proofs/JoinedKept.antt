@@ -19,7 +19,7 @@ use Rattle.inventory.specs.Meant.{meaning}
 use Rattle.inventory_rows.specs.version_groups.declared.versions.Version.{Version}
 use Rattle.inventory_rows.specs.Search.{version, versions}
 use Rattle.inventory_rows.specs.State.{Inv}
-use Rattle.inventory_rules.specs.Backups.{backup_at}
+use Rattle.inventory_rules.specs.Backups.{backup_at, is_unfinished}
 use Rattle.inventory_rules.specs.Run.{journal_of}
 use Rattle.inventory_rules.specs.Transactions.{effect, refused}
 use Rattle.inventory_laws.proofs.Lists.{each_also}
@@ -33,13 +33,13 @@ use Rattle.machine.specs.Machine.{durable, halting, storing_contents}
 use Rattle.machine.specs.State.{Core, Image, Machine, after, inventory, is_among, unforced, without}
 use Rattle.hall.specs.declared.seat.Seat.{Seat}
 use Rattle.hall.specs.Covered.{NumbersAreDrawn, SpaceIsClear, covered, databases, inv_at, is_any_reuse, left_open}
-use Rattle.hall.specs.Good.{AllInProgress, HasBytes, HasTaken, IsKept, IsLawful, IsPayload, IsSafe, IsSoundWith, IsStamped, RecoversToOne, StandsOn, between}
+use Rattle.hall.specs.Good.{AllInProgress, HasBytes, HasTaken, IsKept, IsLawful, IsListed, IsPayload, IsSafe, IsSoundWith, IsStamped, RecoversToOne, StandsOn, between}
 use Rattle.hall.specs.Held.{Held, IsCore, IsImage}
 use Rattle.hall.proofs.Beside.{all_taken_beside, covered_beside, covered_since}
 use Rattle.hall.proofs.ComeFrom.{each_found}
 use Rattle.hall.proofs.Covering.{all_each}
 use Rattle.hall.proofs.Databases.{each_covered, first_left, last_left, left_lawful}
-use Rattle.hall.proofs.DrawnNext.{KeepsBackup, backup_so}
+use Rattle.hall.proofs.DrawnNext.{KeepsBackup, backup_so, unfinished_so}
 use Rattle.hall.proofs.Forcing.{files_from, underway_same}
 use Rattle.hall.proofs.JoinedBytes.{brings, same_bytes}
 use Rattle.hall.proofs.Joining.{Joins, behind, entry_of, inv_before, inventory_last, last, left_last, long, durable_last, spent, unforced_last}
@@ -91,6 +91,19 @@ module _ (actor : ℕ) (x : Change) (numbers : List ℕ) (c : Core) (l : IsLawfu
     waiting = λ none. subst (λ es. AllByRecursion (λ (e : Entry). is_any_reuse e.change ≡ false) es) (sym (unforced_last actor x numbers c s.few))
         (each_appended (λ (e : Entry). is_any_reuse e.change ≡ false) (unforced c) (entry_of actor x numbers c ∷ []) (s.waiting none) (plain, tt));
   }
+
+  -- a backup in progress is listed behind it
+  pub listed_joined : length c.stamps ≤ length c.journal → IsListed (left_open c) c.image → IsListed (left_open (last actor x numbers c)) c.image
+  listed_joined few was = go c.image j.image was where
+    go : (i : Option Image) → IfSome i (λ i. KeepsBackup i.file x) → IsListed (left_open c) i → IsListed (left_open (last actor x numbers c)) i
+    go None keeps was = tt
+    go (Some i) keeps was = λ is.
+        let now = was is in (
+          now.0,
+          subst (AllByRecursion (λ v. is_unfinished (backup_at i.file v) ≡ true)) (sym (left_last actor x numbers c few))
+              (each_appended (λ v. is_unfinished (backup_at i.file v) ≡ true) (left_open c) (behind actor x numbers c ∷ []) now.1
+              (unfinished_so i.file x (inventory c) keeps ∙ last_left (λ v. is_unfinished (backup_at i.file v) ≡ true) c now.1, tt)),
+        )
 
 -- ---- what is kept over the run
 

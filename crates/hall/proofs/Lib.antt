@@ -3,6 +3,11 @@ pub mod Along
 pub mod Apart
 pub mod AskedJoins
 pub mod Asking
+pub mod Away
+pub mod Backed
+pub mod Backing
+pub mod BackupJoins
+pub mod BackupSteps
 pub mod Behind
 pub mod Beside
 pub mod Brought
@@ -24,6 +29,7 @@ pub mod DrawnNext
 pub mod Dropping
 pub mod Edited
 pub mod Ended
+pub mod Ending
 pub mod Exact
 pub mod Firm
 pub mod Flagged
@@ -41,6 +47,7 @@ pub mod JoinAnswers
 pub mod JoinedBytes
 pub mod JoinedCore
 pub mod JoinedFreed
+pub mod JoinedIs
 pub mod JoinedKept
 pub mod JoinedNumbers
 pub mod JoinedSpace

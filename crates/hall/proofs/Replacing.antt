@@ -168,6 +168,7 @@ module _ {S : Type 0} (told : S → Option History) (moment : S → ℕ) (faults
         space = g.space;
         numbers = g.numbers;
         bytes = record { sized = g.bytes.sized; fronts = g.bytes.fronts };
+        listed = g.listed;
         kept = kept_dropped (told hall.store) (told store) did (clock hall.store) is.good.kept;
       }
 
@@ -218,6 +219,7 @@ module _ {S : Type 0} (told : S → Option History) (moment : S → ℕ) (faults
       };
       space = space_edited actor number m.core f like t among filled is.good.space;
       numbers = numbers_edited actor number m.core f like is.good.numbers;
+      listed = is.good.listed;
       bytes = record {
         sized = is.good.bytes.sized;
         fronts = each_replaced actor number t m.core.tickets among (λ u. IsFront m.contents (inventory m.core) u.purpose u.size u.bytes) f is.good.bytes.fronts front;

@@ -58,6 +58,7 @@ module _ (tickets : List Ticket) (file object number : ℕ) where
     space = space;
     numbers = numbers;
     bytes = record { sized = g.bytes.sized; fronts = fronts };
+    listed = g.listed;
     kept = if_some_also (λ h. WasSound held.base held.opened h → IsKept m held h)
         (λ h. WasSound held.base held.opened h → IsKept (seated_machine tickets file object number m) (seated_held seats claims o n held) h) told
         (λ h kept sound. let k = kept sound in kept_seated m held seats claims o n h k (taken h k.tickets)) g.kept;

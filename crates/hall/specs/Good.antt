@@ -8,7 +8,7 @@ use Rattle.contents.specs.Contents.{FramesHave, HaveAll, Holds, InImage, InStore
 use Rattle.inventory.specs.Meant.{meaning}
 use Rattle.inventory_rows.specs.Search.{version, versions}
 use Rattle.inventory_rows.specs.State.{Inv}
-use Rattle.inventory_rules.specs.Backups.{backup_at}
+use Rattle.inventory_rules.specs.Backups.{backup_at, is_unfinished}
 use Rattle.inventory_rules.specs.Run.{journal_of}
 use Rattle.inventory_rules.specs.Transactions.{refused}
 use Rattle.inventory_rules.specs.Held.{IsTied}
@@ -20,8 +20,8 @@ use Rattle.log_file.specs.Safety.{acknowledged}
 use Rattle.vault.specs.Recovery.{RecoversWithin}
 use Rattle.vault.specs.Vaults.{State, IsHeld, IsLeft, IsPending}
 use Rattle.machine.specs.Machine.{durable}
-use Rattle.machine.specs.State.{Core, Image, Machine, Purpose, Ticket, copying, inventory, object_of, storing, unforced}
-use Rattle.hall.specs.Covered.{NumbersAreDrawn, SpaceIsClear, covered, inv_at, is_any_reuse}
+use Rattle.machine.specs.State.{Core, Image, Machine, Purpose, Ticket, backup, copying, inventory, object_of, storing, unforced}
+use Rattle.hall.specs.Covered.{NumbersAreDrawn, SpaceIsClear, covered, inv_at, is_any_reuse, left_open}
 use Rattle.hall.specs.Held.{Hall, Held, IsCore}
 
 -- ---- transactions and stamps
@@ -131,7 +131,13 @@ pub record IsKept (m : Machine) (held : Held) (h : History) : Type 0 where
   pub tickets : AllByRecursion (HasTaken h) m.core.tickets
   pub image : m.core.fault ≡ None → AllInProgress m.core held m.core.image h
 
--- A hall is good: its transactions are lawful and its stamps in order, the space of its tickets is clear, its numbers are drawn, and its objects have bytes; and over a store that tells its bytes
+-- a backup in progress is listed and not whole yet, in each of these databases
+abbrev pub IsListed : List Inv → Option Image → Type 0
+IsListed list None = Unit {0}
+IsListed list (Some i) = i.picture ≡ backup → (4 ≤ i.file) × AllByRecursion (λ v. is_unfinished (backup_at i.file v) ≡ true) list
+
+-- A hall is good: its transactions are lawful and its stamps in order, the space of its tickets is clear, its numbers are drawn, and its objects have bytes; while no fault has halted it, a backup
+-- in progress is listed in each database that a stop may bring back, and not whole yet; and over a store that tells its bytes
 -- and was sound when it was opened no stop takes away what it keeps.
 pub record IsGood (told : Option History) (m : Machine) (held : Held) : Type 0 where
   pub lawful : IsLawful m.core
@@ -139,6 +145,7 @@ pub record IsGood (told : Option History) (m : Machine) (held : Held) : Type 0 w
   pub space : SpaceIsClear m.core
   pub numbers : NumbersAreDrawn m.core
   pub bytes : HasBytes m.contents m.core
+  pub listed : m.core.fault ≡ None → IsListed (left_open m.core) m.core.image
   pub kept : IfSome told (λ h. WasSound held.base held.opened h → IsKept m held h)
 
 -- The hall is in this state of the machine, and good. `told`, `moment` and `faults` are its store's.
