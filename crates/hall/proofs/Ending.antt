@@ -219,13 +219,13 @@ module _ {S : Type 0} (told : S → Option History) (moment : S → ℕ) (faults
         subst (λ c. Is told moment faults (record { store = last_store; held = ended_held }) (record { core = c; contents = m.contents; moment = moment last_store; counts = faults last_store })) ending_is
         (waiting_is told moment faults clock actor end_change [] (record { store = store; held = with_job None None hall.held }) last_store running later dropped_at gone joins (end_takes job.file (inventory m.core)) refl number did)
 
-    -- it is in doubt, and the image is still held
-    module _ (end file count : ℕ) where
+    -- it is in doubt, and the image is still held, whatever its writer is
+    module _ (writer : Option Job) (end file count : ℕ) where
       abbrev pub in_doubt_at : Machine
       in_doubt_at = record { core = halting file count (ending actor own.its m.core); contents = m.contents; moment = moment last_store; counts = faults last_store }
 
       abbrev pub in_doubt_held : Held
-      in_doubt_held = joined_held end_change [] (in_doubt meaning hall.held.vault end_by end file count) hall.held
+      in_doubt_held = joined_held end_change [] (in_doubt meaning hall.held.vault end_by end file count) (with_job hall.held.image writer hall.held)
 
       pub is_in_doubt : (why : Refusal) → (let result : Result ℕ Refusal = Err why in Told (told store) (told last_store) (Waits meaning hall.held.vault end_by result (in_doubt meaning hall.held.vault end_by end file count)))
           → Is told moment faults (record { store = last_store; held = in_doubt_held }) in_doubt_at
@@ -235,7 +235,7 @@ module _ {S : Type 0} (told : S → Option History) (moment : S → ℕ) (faults
           (record { store = last_store; held = joined_held end_change [] (in_doubt meaning hall.held.vault end_by end file count) (with_job None None hall.held) })
           (record { core = halting file count (last actor end_change [] (with_image None m.core)); contents = m.contents; moment = moment last_store; counts = faults last_store })
           (doubted_is told moment faults clock actor end_change [] (record { store = store; held = with_job None None hall.held }) last_store running later dropped_at gone joins (end_takes job.file (inventory m.core)) refl end file count why did)
-          m.core.image hall.held.image hall.held.job is.core.image (λ none. absurd cc) (λ none. absurd cc) (halted_so (told last_store)))
+          m.core.image hall.held.image writer is.core.image (λ none. absurd cc) (λ none. absurd cc) (halted_so (told last_store)))
         where
           halted_so : (o : Option History) → IfSome o (λ h. WasSound hall.held.base hall.held.opened h
               → IsKept (record { core = halting file count (last actor end_change [] (with_image None m.core)); contents = m.contents; moment = moment last_store; counts = faults last_store })

@@ -6,6 +6,8 @@ pub mod Asking
 pub mod Away
 pub mod Backed
 pub mod Backing
+pub mod BackupBegins
+pub mod BackupEnds
 pub mod BackupJoins
 pub mod BackupSteps
 pub mod Behind
