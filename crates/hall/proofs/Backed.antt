@@ -60,7 +60,7 @@ use Rattle.hall.specs.Seats.{ended_at}
 use Rattle.hall.specs.Sights.{sight_of}
 use Rattle.db_image.proofs.One.{can_shut as settled_shut}
 use Rattle.hall.proofs.Away.{IsUnused, is_away, is_there, next_unused}
-use Rattle.hall.proofs.Backing.{imaged_at, is_imaged, none_spent}
+use Rattle.hall.proofs.Backing.{imaged_at, is_imaged}
 use Rattle.hall.proofs.BackupJoins.{begin_joins, begin_takes}
 use Rattle.hall.proofs.Ended.{ended_is, next_answers, none_halted}
 use Rattle.hall.proofs.Forced.{forced_is, halted_is}
@@ -69,6 +69,7 @@ use Rattle.hall.proofs.Forcing.{all_have_stamps}
 use Rattle.hall.proofs.Imaging.{held_alike, no_image, none_held, nothing_pends, parts_none}
 use Rattle.hall.proofs.JoinedIs.{doubted_is, waiting_is}
 use Rattle.hall.proofs.Joining.{Joins, all_of_it, last, valid_now}
+use Rattle.hall.proofs.Reusable.{none_among}
 use Rattle.hall.proofs.Runs.{after_end}
 use Rattle.hall.proofs.Sighted.{forgetting, sight_is}
 use Rattle.machine.proofs.Histories.{after-number}
@@ -93,7 +94,7 @@ none_listed None h = refl
 none_listed (Some e) h = absurd cc
 
 -- its transaction is legal
-legal_of : (actor : ℕ) (after : Option ℕ) (h : Held) → image_refused (kind_of after) (sight_of actor h) ≡ [] → refused (journal_of h.base h.vault.journal) (begin_of after h) h.vault.database ≡ None
+pub legal_of : (actor : ℕ) (after : Option ℕ) (h : Held) → image_refused (kind_of after) (sight_of actor h) ≡ [] → refused (journal_of h.base h.vault.journal) (begin_of after h) h.vault.database ≡ None
 legal_of actor None h free = none_listed (refused (journal_of h.base h.vault.journal) (begin_of None h) h.vault.database) free
 legal_of actor (Some file) h free =
     none_listed (refused (journal_of h.base h.vault.journal) (begin_of (Some file) h) h.vault.database)
@@ -135,7 +136,7 @@ backing_joins actor moment after h m is may numbers =
 -- what the machine makes of it
 pub begun_last : (actor : ℕ) (after : Option ℕ) (h : Held) (c : Core) → h.claims.next_file ≡ c.next_file → last actor (begin_of after h) [] c ≡ begun actor after c
 begun_last actor after h c is =
-    ap (λ tickets. record (made actor (begin_of after h) c) { tickets = tickets }) (none_spent actor c.tickets) ∙ ap (λ k. made actor (change.DbBegin k after) c) is
+    ap (λ tickets. record (made actor (begin_of after h) c) { tickets = tickets }) (none_among actor c.tickets) ∙ ap (λ k. made actor (change.DbBegin k after) c) is
 
 -- ---- the backup is listed
 
@@ -194,10 +195,10 @@ its_payload actor (Some file) h bytes c base journal behind number valid free (b
       omega (arith, first, from),
       omega (arith, to),
       holds
-      ∙ ap (λ (es : List Entry). increment.spell (holding file b.number es))
-      (sym (from_place (b.number - h.base.number) (h.vault.database.number + 1 - b.number) h.vault.journal e (omega (arith, number, to)) (omega (arith, number, from, to)))
-      ∙ ap (λ (n : ℕ). take (h.vault.database.number + 1 - b.number) (drop (b.number - n) (h.vault.journal ++ (e ∷ [])))) (sym first)
-      ∙ ap (λ (l : List Entry). take (h.vault.database.number + 1 - b.number) (drop (b.number - c.base.number) l)) (sym journal)),
+          ∙ ap (λ (es : List Entry). increment.spell (holding file b.number es))
+          (sym (from_place (b.number - h.base.number) (h.vault.database.number + 1 - b.number) h.vault.journal e (omega (arith, number, to)) (omega (arith, number, from, to)))
+          ∙ ap (λ (n : ℕ). take (h.vault.database.number + 1 - b.number) (drop (b.number - n) (h.vault.journal ++ (e ∷ [])))) (sym first)
+          ∙ ap (λ (l : List Entry). take (h.vault.database.number + 1 - b.number) (drop (b.number - c.base.number) l)) (sym journal)),
     )
 
 -- ---- it begins

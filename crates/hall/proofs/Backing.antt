@@ -75,7 +75,7 @@ module _ {S : Type 0} (told : S → Option History) (moment : S → ℕ) (faults
       clock = is.clock;
       counts = is.counts;
       good = record {
-        lawful = record { valid = is.good.lawful.valid; tied = is.good.lawful.tied; legal = is.good.lawful.legal };
+        lawful = record { valid = is.good.lawful.valid; tied = is.good.lawful.tied; legal = is.good.lawful.legal; short = is.good.lawful.short };
         stamped = record { few = is.good.stamped.few; rise = is.good.stamped.rise; waiting = is.good.stamped.waiting };
         space = record { filled = is.good.space.filled; clear = is.good.space.clear; apart = is.good.space.apart };
         numbers = numbers_same m.core.stamps i m.core.generation m.core.log_length m.core.fault m.core is.good.numbers;
@@ -115,14 +115,3 @@ pub own_backup : (actor first generation : ℕ) (pending : Option Pending) (job 
 own_backup actor first generation pending job None mine is = absurd cc
 own_backup actor first generation None job (Some x) mine is = record { its = x; there = refl; mine = own_is actor x mine; none = refl; is = is }
 own_backup actor first generation (Some p) job (Some x) mine is = absurd is
-
--- ---- no ticket is spent
-
-pub none_spent : (actor : ℕ) (tickets : List Ticket) → without actor [] tickets ≡ tickets
-none_spent actor [] = refl
-none_spent actor (t ∷ tickets) =
-    let rest : without actor [] tickets ≡ tickets = none_spent actor tickets in
-    elim (t.actor == actor) as (λ b. (if not (b && false) then t ∷ without actor [] tickets else without actor [] tickets) ≡ t ∷ tickets) [
-      | true ↦ ap (λ l. t ∷ l) rest
-      | false ↦ ap (λ l. t ∷ l) rest
-    ]

@@ -32,7 +32,7 @@ use Rattle.vault.proofs.Goodness.{log_ours}
 use Rattle.machine.specs.Causes.{image_refused}
 use Rattle.machine.specs.Machine.{ended, ending, halting, with_image}
 use Rattle.machine.specs.State.{Core, Image, Machine, inventory, sight}
-use Rattle.hall.specs.Backing.{end_entry, with_job}
+use Rattle.hall.specs.Backing.{end_by, with_job}
 use Rattle.hall.specs.Good.{Is}
 use Rattle.hall.specs.Held.{BegunImage, Hall, Held, IsImage, begun_of, unwritten_at}
 use Rattle.hall.specs.Imaging.{own_begun}
@@ -73,7 +73,7 @@ module _ {S : Type 0} (told : S → Option History) (moment : S → ℕ) (faults
   x = change.DbEnd job.file
 
   abbrev e : Entry
-  e = end_entry actor job
+  e = end_by actor job.file
 
   own : (m : Machine) → Is told moment faults hall m → OwnBackup actor job hall.held.vault.pending m.core.image
   own m is =

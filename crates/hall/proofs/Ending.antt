@@ -32,11 +32,12 @@ use Rattle.hall.specs.Good.{AllInProgress, InProgress, Is, IsKept, IsListed, Sta
 use Rattle.hall.specs.Held.{BegunImage, Hall, Held, IsBackup, IsImage, begun_of, has_failed, unwritten_at}
 use Rattle.hall.specs.Joined.{joined_held}
 use Rattle.hall.proofs.Away.{IsUnused, is_away, listed_unused}
-use Rattle.hall.proofs.Backing.{OwnBackup, is_dropped, is_imaged, none_spent}
+use Rattle.hall.proofs.Backing.{OwnBackup, is_dropped, is_imaged}
 use Rattle.hall.proofs.BackupJoins.{end_joins, end_takes}
 use Rattle.hall.proofs.Databases.{last_left}
 use Rattle.hall.proofs.JoinedIs.{doubted_is, waiting_is}
 use Rattle.hall.proofs.Joining.{Joins, last}
+use Rattle.hall.proofs.Reusable.{none_among}
 use Rattle.hall.proofs.Stamping.{rise_over}
 
 -- ---- how far it is
@@ -203,7 +204,7 @@ module _ {S : Type 0} (told : S → Option History) (moment : S → ℕ) (faults
     -- what the machine makes of it
     ending_is : last actor end_change [] (with_image None m.core) ≡ with_image None (ending actor own.its m.core)
     ending_is =
-        ap (λ tickets. record (made actor end_change (with_image None m.core)) { tickets = tickets }) (none_spent actor m.core.tickets)
+        ap (λ tickets. record (made actor end_change (with_image None m.core)) { tickets = tickets }) (none_among actor m.core.tickets)
         ∙ ap (λ n. made actor (change.DbEnd n) (with_image None m.core)) (sym own.is.file)
 
     -- it waits for a force

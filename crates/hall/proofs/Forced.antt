@@ -36,35 +36,35 @@ module _ {S : Type 0} (told : S → Option History) (moment : S → ℕ) (faults
   pub forced_is : (number : ℕ) → (let result : Result ℕ Refusal = Ok number in Told (told hall.store) (told store) (Forces meaning hall.held.vault result (all_forced hall.held.vault)))
       → (m : Machine) → Is told moment faults hall m → Is told moment faults (record { store = store; held = all_stamped (moment store) (with_vault (all_forced hall.held.vault) hall.held) }) (record m { core = stamped (moment store) m.core; moment = moment store; counts = faults store })
   forced_is number did m is =
-    record {
-      core = core_forced (moment store) hall.held m.core is.core none is.good.stamped.few;
-      clock = refl;
-      counts = refl;
-      good = good_stamped (told hall.store) (told store) m hall.held (all_forced hall.held.vault) (moment store) (faults store) m.core.image m.core.generation m.core.log_length hall.held.image
-          hall.held.job is.good (omega (arith, is.clock, since)) (λ none. listed_stamped (moment store) m.core m.core.image is.good.stamped.few (is.good.listed none))
-          (kept_by told moment faults hall store (let result : Result ℕ Refusal = Ok number in Forces meaning hall.held.vault result (all_forced hall.held.vault)) m (record m { core = stamped (moment store) m.core; moment = moment store; counts = faults store }) (all_stamped (moment store) (with_vault (all_forced hall.held.vault) hall.held)) is did clock
-          (λ h new r. ours_alone hall.held.vault.generation h new r.goes)
-          (λ h new r to k.
-          let held = k.sure (is.core.fault ∙ none) in
-          forced_kept m hall.held h new (ours_alone hall.held.vault.generation h new r.goes) is.core k is.good.lawful is.good.stamped.few is.good.numbers (r.since (durable m.core) held) (moment store)
-          to (r.good (durable m.core) held) r.pends (faults store)));
-    }
+      record {
+        core = core_forced (moment store) hall.held m.core is.core none is.good.stamped.few;
+        clock = refl;
+        counts = refl;
+        good = good_stamped (told hall.store) (told store) m hall.held (all_forced hall.held.vault) (moment store) (faults store) m.core.image m.core.generation m.core.log_length hall.held.image
+            hall.held.job is.good (omega (arith, is.clock, since)) (λ none. listed_stamped (moment store) m.core m.core.image is.good.stamped.few (is.good.listed none))
+            (kept_by told moment faults hall store (let result : Result ℕ Refusal = Ok number in Forces meaning hall.held.vault result (all_forced hall.held.vault)) m (record m { core = stamped (moment store) m.core; moment = moment store; counts = faults store }) (all_stamped (moment store) (with_vault (all_forced hall.held.vault) hall.held)) is did clock
+            (λ h new r. ours_alone hall.held.vault.generation h new r.goes)
+            (λ h new r to k.
+            let held = k.sure (is.core.fault ∙ none) in
+            forced_kept m hall.held h new (ours_alone hall.held.vault.generation h new r.goes) is.core k is.good.lawful is.good.stamped.few is.good.numbers (r.since (durable m.core) held) (moment store)
+            to (r.good (durable m.core) held) r.pends (faults store)));
+      }
 
   pub halted_is : (file count : ℕ) (e : Refusal) (next : State Inv) → (let result : Result ℕ Refusal = Err e in Told (told hall.store) (told store) (Forces meaning hall.held.vault result next))
       → (m : Machine) → Is told moment faults hall m → Is told moment faults (record { store = store; held = with_vault (with_fault hall.held.vault file count) hall.held }) (record m { core = halting file count m.core; moment = moment store; counts = faults store })
   halted_is file count e next did m is =
-    record {
-      core = core_halted file count hall.held.vault.forced hall.held.vault.sure hall.held m.core is.core;
-      clock = refl;
-      counts = refl;
-      good = good_halted (told hall.store) (told store) m hall.held (with_fault hall.held.vault file count) (moment store) (faults store) file count is.good (omega (arith, is.clock, since))
-          (kept_by told moment faults hall store (let result : Result ℕ Refusal = Err e in Forces meaning hall.held.vault result next) m (record m { core = halting file count m.core; moment = moment store; counts = faults store }) (with_vault (with_fault hall.held.vault file count) hall.held) is did clock
-          (λ h new r. ours_alone hall.held.vault.generation h new r.goes)
-          (λ h new r to k.
-          let held = k.sure (is.core.fault ∙ none) in
-          halted_kept m hall.held h new (ours_alone hall.held.vault.generation h new r.goes) is.core k is.good.lawful is.good.stamped.few is.good.numbers (r.since (durable m.core) held) file count
-          (with_fault hall.held.vault file count) (faults store) (moment store) (r.left (durable m.core) held)));
-    }
+      record {
+        core = core_halted file count hall.held.vault.forced hall.held.vault.sure hall.held m.core is.core;
+        clock = refl;
+        counts = refl;
+        good = good_halted (told hall.store) (told store) m hall.held (with_fault hall.held.vault file count) (moment store) (faults store) file count is.good (omega (arith, is.clock, since))
+            (kept_by told moment faults hall store (let result : Result ℕ Refusal = Err e in Forces meaning hall.held.vault result next) m (record m { core = halting file count m.core; moment = moment store; counts = faults store }) (with_vault (with_fault hall.held.vault file count) hall.held) is did clock
+            (λ h new r. ours_alone hall.held.vault.generation h new r.goes)
+            (λ h new r to k.
+            let held = k.sure (is.core.fault ∙ none) in
+            halted_kept m hall.held h new (ours_alone hall.held.vault.generation h new r.goes) is.core k is.good.lawful is.good.stamped.few is.good.numbers (r.since (durable m.core) held) file count
+            (with_fault hall.held.vault file count) (faults store) (moment store) (r.left (durable m.core) held)));
+      }
 
 -- ---- the step
 

@@ -236,3 +236,15 @@ refused_told o n was vault next e is_was t =
     subst (λ (v : State Inv). let r : Result ImageReply Refusal = Err e in Told o n (Begins meaning v r next)) is_was
     (told_map o n (let r : Result (ℕ × ℕ) Refusal = Err e in Begins meaning was r next) (let r : Result ImageReply Refusal = Err e in Begins meaning was r next)
     (λ h k r. record { goes = r.goes; begun = tt; since = r.since; left = r.left }) t)
+
+-- where none is in progress nothing is written
+pub no_job : {S : Type 0} (told : S → Option History) (moment : S → ℕ) (faults : S → ℕ → ℕ) (hall : Hall S) → ((m : Machine) × Is told moment faults hall m) → foremost (ended_at (moment hall.store) hall.held) ≡ None
+    → hall.held.image ≡ None → hall.held.job ≡ None
+no_job told moment faults hall (m, is) free none =
+    (nothing_pends m.core.base.number hall.held.vault.generation hall.held.vault.pending hall.held.job
+    (subst (λ (i : Option Image). IsImage m.core.base.number hall.held.vault.generation hall.held.vault.pending hall.held.job i) (no_image m.core.image (is.core.image ∙ none))
+    (is.core.is_image (none_halted (moment hall.store) hall.held free)))).1
+
+pub no_writer : (o : Option Job) → is_some o ≡ false → o ≡ None
+no_writer None h = refl
+no_writer (Some job) h = absurd cc

@@ -85,7 +85,7 @@ module _ {S : Type 0} (told : S → Option History) (moment : S → ℕ) (faults
           numbers = numbers_joined actor x numbers m.core is.good.lawful joins is.good.numbers is.good.space;
           bytes = bytes_joined actor x numbers m.core m.contents is.good.lawful joins is.good.numbers is.good.space is.good.bytes;
           listed = λ none. listed_joined actor x numbers m.core is.good.lawful joins few (is.good.listed none);
-          kept = 
+          kept =
               subst (λ (b : Inv). IfSome (told store) (λ h. WasSound b waiting_held.opened h → IsKept waiting_at waiting_held h)) (sym (ap (λ (h : Held). h.base) form))
               (subst (λ (o : ℕ). IfSome (told store) (λ h. WasSound hall.held.base o h → IsKept waiting_at waiting_held h)) (sym (ap (λ (h : Held). h.opened) form)) (good_waiting number did));
         };
@@ -133,7 +133,7 @@ module _ {S : Type 0} (told : S → Option History) (moment : S → ℕ) (faults
           clock = refl;
           counts = refl;
           good = record {
-            lawful = (let g = lawful_joined actor x numbers m.core is.good.lawful joins in record { valid = g.valid; tied = g.tied; legal = g.legal });
+            lawful = (let g = lawful_joined actor x numbers m.core is.good.lawful joins in record { valid = g.valid; tied = g.tied; legal = g.legal; short = g.short });
             stamped = subst (λ o. IsStamped o (moment store) (halting file count later_core)) (sym (ap (λ (h : Held). h.opened) form_of))
                 (let g = stamped_joined actor x numbers m.core is.good.lawful joins plain hall.held.opened m.moment (moment store) (omega (arith, is.clock, since)) is.good.stamped in
                 record { few = g.few; rise = g.rise; waiting = λ no. absurd (no_fault no) });

@@ -1,5 +1,5 @@
 -- What no stop takes away, behind a transaction that joined and waits for a force, or is in doubt.
-use Rattle.std.proofs.Common.{◌≡◌, ◌⊎◌, inl, inr, ℕ, ◌+◌, ◌-◌, ◌<◌, ◌≤◌, suc, zero, true, false, not, List, [], ◌∷◌, ◌++◌, length, take, drop, Option, Some, None, is_some, refl, sym, ap, subst, ◌∙◌, arith}
+use Rattle.std.proofs.Common.{◌≡◌, ◌⊎◌, inl, inr, ℕ, ◌+◌, ◌-◌, ◌<◌, ◌≤◌, ◌^◌, suc, zero, true, false, not, List, [], ◌∷◌, ◌++◌, length, take, drop, Option, Some, None, is_some, refl, sym, ap, subst, ◌∙◌, arith}
 use Rattle.std.specs.Prelude.{IfSome}
 use Rattle.std.specs.List.{AllByRecursion, flat_map, slice_get}
 use Rattle.std.proofs.lemmas.Bool.{cases_lt}
@@ -7,6 +7,7 @@ use Rattle.std.proofs.lemmas.List.{drop-append-le, length-drop, take-append-le, 
 use Rattle.store_api.specs.Disk.{History, ImageAt, now}
 use Rattle.store_api.specs.Runs.{EachImage, GoesOn}
 use Rattle.store_api.proofs.Runs.{goes_image_before, goes_later, goes_standing}
+use Rattle.entries.specs.EntryForm.{entry as entry_form}
 use Rattle.entries.specs.declared.change.Change.{Change}
 use Rattle.entries.specs.declared.entry.Entry.{Entry}
 use Rattle.contents.specs.Contents.{HasAll, HasVersion, HaveAll, Holds, InImage, InStore}
@@ -73,6 +74,7 @@ module _ (actor : ℕ) (x : Change) (numbers : List ℕ) (c : Core) (l : IsLawfu
     valid = l.valid;
     tied = l.tied;
     legal = λ i e at. legal i e (at_end c.journal (entry_of actor x numbers c) i e at);
+    short = each_appended (λ (e : Entry). length (entry_form.spell e) ≤ 2 ^ 24) c.journal (entry_of actor x numbers c ∷ []) l.short (j.short, tt);
   }
     where
       legal : (i : ℕ) (e : Entry) → ((slice_get c.journal i ≡ Some e) × (i < length c.journal)) ⊎ ((e ≡ entry_of actor x numbers c) × (i ≡ length c.journal))

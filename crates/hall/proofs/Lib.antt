@@ -7,8 +7,11 @@ pub mod Away
 pub mod Backed
 pub mod Backing
 pub mod BackupBegins
+pub mod BackupCalls
 pub mod BackupEnds
 pub mod BackupJoins
+pub mod BackupNext
+pub mod BackupRefused
 pub mod BackupSteps
 pub mod Behind
 pub mod Beside
@@ -69,6 +72,7 @@ pub mod PieceReads
 pub mod PieceSteps
 pub mod PlacesChosen
 pub mod PoolsStay
+pub mod Protecting
 pub mod Refusing
 pub mod Remaining
 pub mod Replacing

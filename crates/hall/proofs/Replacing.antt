@@ -159,7 +159,7 @@ module _ {S : Type 0} (told : S → Option History) (moment : S → ℕ) (faults
   good_dropped =
       let g = good_gone actor number (told hall.store) m hall.held is.good in
       record {
-        lawful = record { valid = g.lawful.valid; tied = g.lawful.tied; legal = g.lawful.legal };
+        lawful = record { valid = g.lawful.valid; tied = g.lawful.tied; legal = g.lawful.legal; short = g.lawful.short };
         stamped = record {
           few = g.stamped.few;
           rise = rise_later hall.held.opened m.moment (moment store) m.core.stamps is.good.stamped.rise (omega (arith, is.clock, since));
@@ -211,7 +211,7 @@ module _ {S : Type 0} (told : S → Option History) (moment : S → ℕ) (faults
 
     good_replaced : IsGood (told store) (replaced_at actor number f (moment store) (faults store) m) (record hall.held { seats = seats })
     good_replaced = record {
-      lawful = record { valid = is.good.lawful.valid; tied = is.good.lawful.tied; legal = is.good.lawful.legal };
+      lawful = record { valid = is.good.lawful.valid; tied = is.good.lawful.tied; legal = is.good.lawful.legal; short = is.good.lawful.short };
       stamped = record {
         few = is.good.stamped.few;
         rise = rise_later hall.held.opened m.moment (moment store) m.core.stamps is.good.stamped.rise (omega (arith, is.clock, since));

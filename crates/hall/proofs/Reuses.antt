@@ -386,7 +386,7 @@ module _ {S : Type 0} (told : S → Option History) (moment : S → ℕ) (faults
                 clock = refl;
                 counts = refl;
                 good = record {
-                  lawful = record { valid = lawful.valid; tied = lawful.tied; legal = lawful.legal };
+                  lawful = record { valid = lawful.valid; tied = lawful.tied; legal = lawful.legal; short = lawful.short };
                   stamped = record {
                     few = (let more = long actor x [] m.core in omega (arith, more, few));
                     rise = rise_later hall.held.opened m.moment (moment mid) m.core.stamps is.good.stamped.rise (omega (arith, is.clock, since));

@@ -185,7 +185,7 @@ pub nearly_stamped : (after : Option History) (m : Machine) (held : Held) (next 
     → IsKept (record m { core = imaged i generation long (stamped t m.core); moment = t; counts = counts }) (record (all_stamped t (with_vault next held)) { image = b; job = job }) h)
     → IsGood after (record m { core = imaged i generation long (stamped t m.core); moment = t; counts = counts }) (record (all_stamped t (with_vault next held)) { image = b; job = job })
 nearly_stamped after m held next t counts i generation long b job g since listed kept = record {
-  lawful = record { valid = g.lawful.valid; tied = g.lawful.tied; legal = g.lawful.legal };
+  lawful = record { valid = g.lawful.valid; tied = g.lawful.tied; legal = g.lawful.legal; short = g.lawful.short };
   stamped = record {
     few = let all = all_have_stamps t m.core g.few in omega (arith, all);
     rise = rise_more (length (unforced m.core)) held.opened m.moment t m.core.stamps g.rise since;
@@ -211,7 +211,7 @@ pub good_further : (before after : Option History) (m : Machine) (held : Held) (
     → IfSome after (λ h. WasSound held.base held.opened h → IsKept (record m { core = imaged i generation long m.core; moment = t; counts = counts }) (with_vault next held) h)
     → IsGood after (record m { core = imaged i generation long m.core; moment = t; counts = counts }) (with_vault next held)
 good_further before after m held next t counts i generation long g since listed kept = record {
-  lawful = record { valid = g.lawful.valid; tied = g.lawful.tied; legal = g.lawful.legal };
+  lawful = record { valid = g.lawful.valid; tied = g.lawful.tied; legal = g.lawful.legal; short = g.lawful.short };
   stamped = record { few = g.stamped.few; rise = rise_later held.opened m.moment t m.core.stamps g.stamped.rise since; waiting = g.stamped.waiting };
   space = record { filled = g.space.filled; clear = g.space.clear; apart = g.space.apart };
   numbers = numbers_same m.core.stamps i generation long m.core.fault m.core g.numbers;
@@ -225,7 +225,7 @@ pub nearly_halted : (after : Option History) (m : Machine) (held : Held) (next :
     → IfSome after (λ h. WasSound held.base held.opened h → IsKept (record m { core = halting file count m.core; moment = t; counts = counts }) (with_vault next held) h)
     → IsGood after (record m { core = halting file count m.core; moment = t; counts = counts }) (with_vault next held)
 nearly_halted after m held next t counts file count g since kept = record {
-  lawful = record { valid = g.lawful.valid; tied = g.lawful.tied; legal = g.lawful.legal };
+  lawful = record { valid = g.lawful.valid; tied = g.lawful.tied; legal = g.lawful.legal; short = g.lawful.short };
   stamped = record { few = g.few; rise = rise_later held.opened m.moment t m.core.stamps g.rise since; waiting = λ none. absurd cc };
   space = record { filled = g.space.filled; clear = g.space.clear; apart = g.space.apart };
   numbers = numbers_same m.core.stamps m.core.image m.core.generation m.core.log_length (Some (file, count)) m.core g.numbers;

@@ -1,6 +1,9 @@
 -- What the steps of a database backup make of what the hall holds.
-use Rattle.std.specs.Prelude.{◌≡◌, ◌⊎◌, ℕ, ◌+◌, ◌-◌, ◌<◌, ◌≤◌, Bool, true, false, List, [], ◌∷◌, ◌++◌, drop, length, Option, None, Some, Result, Ok, Err}
-use Rattle.kinds.specs.Refusals.{foremost}
+use Rattle.std.specs.Prelude.{◌≡◌, ◌⊎◌, ℕ, ◌+◌, ◌-◌, Bool, true, false, List, [], ◌∷◌, ◌++◌, drop, length, Option, None, Some, Result, Ok, Err}
+use Rattle.store_api.specs.Cause.{Rose}
+use Rattle.store_api.specs.Disk.{History}
+use Rattle.store_api.specs.Runs.{GoesOn}
+use Rattle.store_api.specs.declared.store.Failed.{Failed}
 use Rattle.kinds.specs.declared.refusal.Refusal.{Refusal}
 use Rattle.kinds.specs.declared.refusal.Refusal.TheVariants as refusal
 use Rattle.fields.specs.Editions.{second_form}
@@ -11,12 +14,14 @@ use Rattle.backup_payloads.specs.Increments.{increment}
 use Rattle.backup_payloads.specs.Holding.{holding}
 use Rattle.db_image.specs.declared.mark.Mark.TheVariants.{Backup}
 use Rattle.db_image.specs.declared.phase.Phase.TheVariants.{Begun}
-use Rattle.db_image.specs.Steps.{Job}
+use Rattle.db_image.specs.declared.phase.Progress.{Progress}
+use Rattle.db_image.specs.Steps.{Job, Stepped, at_phase, further, progress_at}
 use Rattle.inventory.specs.Meant.{meaning}
 use Rattle.inventory_rows.specs.declared.backup.Backup.{Backup as BackupRow}
 use Rattle.inventory_rows.specs.State.{Inv}
 use Rattle.inventory_rules.specs.Backups.{backup_at}
-use Rattle.inventory_rules.specs.Transactions.{effect}
+use Rattle.inventory_rules.specs.Run.{journal_of}
+use Rattle.inventory_rules.specs.Transactions.{effect, refused}
 use Rattle.steps.specs.declared.image.ImageKind.{ImageKind}
 use Rattle.steps.specs.declared.image.ImageKind.TheVariants as kind
 use Rattle.steps.specs.declared.image.ImageReply.{ImageReply}
@@ -24,9 +29,9 @@ use Rattle.steps.specs.declared.image.ImageReply.TheVariants as reply
 use Rattle.vault.specs.Vaults.{State, all_forced, with_waiting}
 use Rattle.machine.specs.Causes.{image_refused}
 use Rattle.machine.specs.State.{backup}
-use Rattle.hall.specs.Held.{BegunImage, Held}
+use Rattle.hall.specs.Held.{BegunImage, Held, has_failed}
 use Rattle.hall.specs.Imaging.{image_held}
-use Rattle.hall.specs.Joined.{joined_held}
+use Rattle.hall.specs.Joined.{RefusesJoin, joined_held}
 use Rattle.hall.specs.Seats.{all_stamped, ended_at, with_vault}
 use Rattle.hall.specs.Sights.{sight_of}
 
@@ -68,12 +73,6 @@ IsHolding actor None h bytes = bytes ≡ meaning.spelled second_form (backed_up 
 IsHolding actor (Some file) h bytes =
     (b : BackupRow) × (backup_at file h.vault.database ≡ Some b) × (bytes ≡ increment.spell (holding file b.number (since_number actor b.number (Some file) h)))
 
--- The transaction by which a backup begins, and its bytes, which aren't none, where nothing refuses it; or the foremost of what does, or want of memory.
-abbrev pub IsBacking : (actor moment : ℕ) → (after : Option ℕ) → Held → Result (Entry × List ℕ) Refusal → Type 0
-IsBacking actor moment after h (Ok made) =
-    (foremost (backup_refused actor moment after h) ≡ None) × (made.0 ≡ begin_entry actor after h) × IsHolding actor after h made.1 × (0 < length made.1)
-IsBacking actor moment after h (Err e) = (foremost (backup_refused actor moment after h) ≡ Some e) ⊎ (e ≡ refusal.Memory)
-
 -- ---- what is held then
 
 -- the same, with this image in progress and what it has still to write
@@ -107,6 +106,50 @@ backup_begun actor after bytes moment h =
 
 -- ---- how it goes on
 
--- the transaction by which it ends
-abbrev pub end_entry : (actor : ℕ) → Job → Entry
-end_entry actor job = record { actor = actor; change = change.DbEnd job.file }
+-- A step of writing a backup was taken: its writer is further; or a call on its file failed, and no image is in progress any more.
+abbrev pub Writes : Option Job → Held → Held → Result Progress Failed → Type 0
+Writes None old new answer = ⊥
+Writes (Some job) old new (Ok p) = (p ≡ progress_at (further job.phase (length job.payload))) × (new ≡ with_job old.image (Some (at_phase (further job.phase (length job.payload)) job)) old)
+Writes (Some job) old new (Err e) = new ≡ with_job None None old
+
+-- What it did to the store.
+abbrev pub WritesTo : Option Job → Result Progress Failed → History → History → Type 0
+WritesTo None answer old new = ⊥
+WritesTo (Some job) (Ok p) old new = (let result : Result Progress Failed = Ok p in Stepped job (at_phase (further job.phase (length job.payload)) job) result old new)
+WritesTo (Some job) (Err e) old new = GoesOn (λ n. n ≡ job.file) old new
+
+-- where it failed the count of its file rose
+abbrev pub WriteRose : Option Job → (before after : ℕ → ℕ) → Type 0
+WriteRose None before after = ⊥
+WriteRose (Some job) before after = Rose (before job.file) (after job.file)
+
+-- a backup that is written met no fault
+abbrev pub IsGoing : Option Job → Type 0
+IsGoing None = ⊥
+IsGoing (Some job) = has_failed job.phase ≡ false
+
+-- the transaction by which the backup in a file ends, and why that isn't legal
+abbrev pub end_by : (actor file : ℕ) → Entry
+end_by actor file = record { actor = actor; change = change.DbEnd file }
+
+abbrev pub end_refused : (file : ℕ) → Held → Option Refusal
+end_refused file h = refused (journal_of h.base h.vault.journal) (change.DbEnd file) h.vault.database
+
+-- what joining it answered
+abbrev pub joined_number : Held → Result ImageReply Refusal → Result ℕ Refusal
+joined_number h (Ok r) = Ok (h.vault.database.number + 1)
+joined_number h (Err e) = Err e
+
+-- The backup in the file ended: its transaction joined, and no image is in progress. Or that isn't legal, since a number would reach its bound or the items would be too many: then none is
+-- in progress either; or the transaction didn't join, or is in doubt, and the image is still held.
+abbrev pub Ends : (actor file seq : ℕ) → Held → Held → (before after : ℕ → ℕ) → (same : Type 0) → Result ImageReply Refusal → Type 0
+Ends actor file seq old new before after same (Ok r) =
+    (r ≡ reply.Done seq) × (end_refused file old ≡ None) × (new ≡ with_job None None (joined_held (change.DbEnd file) [] (with_waiting meaning old.vault (end_by actor file)) old))
+Ends actor file seq old new before after same (Err e) =
+    ((end_refused file old ≡ Some e) × (e ≡ refusal.InventoryFull) × (new ≡ with_job None None old) × same)
+    ⊎ ((end_refused file old ≡ None) × RefusesJoin old (end_by actor file) [] before after e new same)
+
+-- a file is a backup's that is written
+abbrev pub IsFileOf : Option Job → ℕ → Type 0
+IsFileOf None n = ⊥
+IsFileOf (Some job) n = n ≡ job.file

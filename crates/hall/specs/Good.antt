@@ -1,8 +1,9 @@
 -- What is kept of a hall at every moment.
-use Rattle.std.specs.Prelude.{◌≡◌, ◌⊎◌, ℕ, ◌+◌, ◌-◌, ◌≤◌, is_some, true, false, List, [], ◌∷◌, length, take, drop, Option, None, Some, IfSome}
+use Rattle.std.specs.Prelude.{◌≡◌, ◌⊎◌, ℕ, ◌+◌, ◌-◌, ◌≤◌, ◌^◌, is_some, true, false, List, [], ◌∷◌, length, take, drop, Option, None, Some, IfSome}
 use Rattle.std.specs.List.{AllByRecursion, slice_get}
 use Rattle.store_api.specs.Disk.{History, reads, now, ImageAt}
 use Rattle.fields.specs.Editions.{second_form}
+use Rattle.entries.specs.EntryForm.{entry as entry_form}
 use Rattle.entries.specs.declared.entry.Entry.{Entry}
 use Rattle.contents.specs.Contents.{FramesHave, HaveAll, Holds, InImage, InStore, TookHave}
 use Rattle.inventory.specs.Meant.{meaning}
@@ -26,11 +27,12 @@ use Rattle.hall.specs.Held.{Hall, Held, IsCore}
 
 -- ---- transactions and stamps
 
--- The base is a valid database, and each transaction of the run was legal where it was made, as the run's journal up to there tells it.
+-- The base is a valid database, and each transaction of the run was legal where it was made, as the run's journal up to there tells it, and it has few enough bytes for a record.
 pub record IsLawful (c : Core) : Type 0 where
   pub valid : is_valid c.base ≡ true
   pub tied : IsTied c.base
   pub legal : (i : ℕ) (e : Entry) → slice_get c.journal i ≡ Some e → refused (journal_of c.base (take i c.journal)) e.change (inv_at i c) ≡ None
+  pub short : AllByRecursion (λ e. length (entry_form.spell e) ≤ 2 ^ 24) c.journal
 
 -- stamps don't fall, and lie between two moments; the oldest comes first
 abbrev pub Rise : (first last : ℕ) → List ℕ → Type 0

@@ -97,11 +97,14 @@ pub record IsProvided (v : Inv) (file : ℕ) (b : Backup) (t : Taken) : Type 0 w
 
 -- ---- the store when it was opened
 
--- Each image of the moment of the opening gives the backup back, as it was taken.
+-- Each image of the moment of the opening leads from the backup's files to the same database; and where the backup is protected, its database has what it needs, and each image holds its copies in
+-- sequential pools.
 pub record WasGiven (base : Inv) (opened : ℕ) (h : History) (file : ℕ) (b : Backup) : Type 0 where
   pub backup : Taken
-  pub provided : IsProvided base file b backup
-  pub images : (image : ℕ → List ℕ) → ImageAt h opened image → GivesBack image file b backup
+  pub row : IsRow b backup
+  pub gives : (image : ℕ → List ℕ) → ImageAt h opened image → Gives meaning image file b.number backup.increments backup.database
+  pub provided : is_protected base.today b ≡ true → IsProvided base file b backup
+  pub copies : is_protected base.today b ≡ true → (image : ℕ → List ℕ) → ImageAt h opened image → EachSequential (λ w c. HasCopy (InImage image) (backup.contents w.object) w c) backup.database
 
 -- the store was sound for the backups that the base lists as whole: those that are protected, and one that is of the base's own number, which another may follow
 abbrev pub HadBackups : (base : Inv) → (opened : ℕ) → History → Type 0
