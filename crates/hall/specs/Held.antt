@@ -83,10 +83,20 @@ AreSeatsOf [] [] = Unit {0}
 AreSeatsOf (e ∷ seats) (t ∷ tickets) = IsSeatOf e.0 e.1 t × AreSeatsOf seats tickets
 AreSeatsOf _ _ = ⊥
 
+-- what an image is of: a backup where it has a writer of its own, and else the vault's checkpoint
+abbrev pub picture_of : Option Job → Picture
+picture_of None = checkpoint
+picture_of (Some job) = backup
+
 -- an image in progress as it is held
 abbrev pub image_in : Option Seated → Option BegunImage
 image_in None = None
-image_in (Some i) = Some (record { actor = i.actor; picture = checkpoint; file = i.file; seq = i.seq })
+image_in (Some i) = Some (record { actor = i.actor; picture = picture_of i.backup; file = i.file; seq = i.seq })
+
+-- what a backup in progress has still to write
+abbrev pub job_in : Option Seated → Option Job
+job_in None = None
+job_in (Some i) = i.backup
 
 -- what is held of an image of the machine
 abbrev pub begun_of : Option Image → Option BegunImage
