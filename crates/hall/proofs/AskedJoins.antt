@@ -3,7 +3,7 @@ use Rattle.std.proofs.Common.{◌≡◌, ◌⊎◌, inl, inr, ℕ, ◌<◌, ◌�
 use Rattle.std.specs.Prelude.{◌==◌, nat_le}
 use Rattle.std.specs.List.{AllByRecursion, Contains, flat_map, list_all, list_any}
 use Rattle.std.specs.Option.{option_map_or}
-use Rattle.std.proofs.lemmas.Bool.{and_from, and_parts, eq-eqb, eqb-true, false≢true}
+use Rattle.std.proofs.lemmas.Bool.{and_from, and_parts, eq-eqb, eqb-true, false≢true, leb-true}
 use Rattle.std.proofs.lemmas.Option.{same_Some}
 use Rattle.sha2.specs.Sha256.{sha256}
 use Rattle.kinds.specs.Names.{is_same_name}
@@ -16,6 +16,7 @@ use Rattle.entries.specs.change_items.declared.items.NewCopy.{NewCopy}
 use Rattle.entries.specs.change_items.declared.items.NewHeldObject.{NewHeldObject}
 use Rattle.entries.specs.change_items.declared.items.NewVersion.{NewVersion}
 use Rattle.entries.specs.change_items.declared.items.ScratchVolume.{ScratchVolume}
+use Rattle.entries.specs.EntryForm.{entry as entry_form}
 use Rattle.entries.specs.declared.change.Change.{Change}
 use Rattle.entries.specs.declared.change.Change.TheVariants as change
 use Rattle.inventory.proofs.Nothing.{IsFree, is_free}
@@ -384,6 +385,7 @@ module _ (actor : ℕ) (numbers : List ℕ) (c : Core) where
           draws = p.draws;
           bound = p.bound;
           further = p.further;
+          short = short_of x (subst (λ o. change_refused actor o s ≡ []) is four.1);
         },
         p.plain,
       )
@@ -394,3 +396,8 @@ module _ (actor : ℕ) (numbers : List ℕ) (c : Core) where
 
       legal_of : (x : Change) → change_refused actor (Some x) s ≡ [] → refused (journal_of c.base c.journal) x (inventory c) ≡ None
       legal_of x h = none_listed (refused (journal_of c.base c.journal) x (inventory c)) _ h
+
+      short_of : (x : Change) → change_refused actor (Some x) s ≡ [] → length (entry_form.spell (record { actor = actor; change = x })) ≤ 2 ^ 24
+      short_of x h =
+          let long : ℕ = length (entry_form.spell (record { actor = actor; change = x })) in
+          leb-true long (2 ^ 24) (unless_holds (nat_le long (2 ^ 24)) refusal.RecordFull (both_none (listed (refused (journal_of c.base c.journal) x (inventory c))) (unless (nat_le long (2 ^ 24)) refusal.RecordFull) h).1)

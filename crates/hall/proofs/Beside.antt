@@ -22,6 +22,39 @@ use Rattle.hall.specs.Good.{HasTaken}
 use Rattle.hall.proofs.Covering.{all_each}
 use Rattle.hall.proofs.Databases.{each_covered}
 
+-- ---- a run on any files
+
+module _ (theirs : ℕ → Type 0) (h new : History) (goes : GoesOn theirs h new) where
+  -- the segments of these tickets lie elsewhere
+  abbrev AreAway : List Ticket → Type 0
+  AreAway tickets = AllByRecursion (λ t. AllByRecursion (λ s. ¬ theirs s.file) t.place.segments) tickets
+
+  reads_same : (file : ℕ) → ¬ theirs file → reads new file ≡ reads h file
+  reads_same file away = ap (λ s. s.bytes) (goes_standing theirs h new file away goes)
+
+  took_away : (object number : ℕ) (segments : List Segment) (bytes : List ℕ) → AllByRecursion (λ s. ¬ theirs s.file) segments
+      → TookHave (InImage (reads h)) object number segments bytes → TookHave (InImage (reads new)) object number segments bytes
+  took_away object number [] bytes away t = t
+  took_away object number (s ∷ segments) [] away t = tt
+  took_away object number (s ∷ segments) (byte ∷ bytes) away t = (
+    subst (λ (b : List ℕ). Stands b s.offset (frame_header object number s.len ++ take s.len (byte ∷ bytes))) (sym (reads_same s.file away.0)) t.0,
+    took_away object (suc number) segments (drop s.len (byte ∷ bytes)) away.1 t.1,
+  )
+
+  taken_away : (t : Ticket) → AllByRecursion (λ s. ¬ theirs s.file) t.place.segments → HasTaken h t → HasTaken new t
+  taken_away t away taken = record {
+    stands = took_away (object_of t.purpose) 0 t.place.segments t.bytes away taken.stands;
+    firm = λ is_sealed. frames_carried (InStore h) (InStore new) (object_of t.purpose) 0 t.place.segments t.bytes
+        (each_also (λ s. ¬ theirs s.file) (Carries (InStore h) (InStore new)) t.place.segments (λ s one piece long f. firm_beside theirs h new s.file s.offset piece one goes f) away)
+        (taken.firm is_sealed);
+  }
+
+  pub all_taken_away : (tickets : List Ticket) → AreAway tickets → AllByRecursion (HasTaken h) tickets → AllByRecursion (HasTaken new) tickets
+  all_taken_away [] away taken = tt
+  all_taken_away (t ∷ tickets) away taken = (taken_away t away.0 taken.0, all_taken_away tickets away.1 taken.1)
+
+-- ---- a run on files of the vault
+
 module _ (h new : History) (goes : GoesOn IsOurs h new) where
   not_ours : (file : ℕ) → 4 ≤ file → ¬ IsOurs file
   not_ours file from ours = omega (arith, from, ours)
@@ -45,27 +78,9 @@ module _ (h new : History) (goes : GoesOn IsOurs h new) where
 
   -- ---- tickets
 
-  reads_same : (file : ℕ) → 4 ≤ file → reads new file ≡ reads h file
-  reads_same file from = ap (λ s. s.bytes) (goes_standing IsOurs h new file (not_ours file from) goes)
-
-  took_beside : (object number : ℕ) (segments : List Segment) (bytes : List ℕ) → AllByRecursion (λ s. 4 ≤ s.file) segments
-      → TookHave (InImage (reads h)) object number segments bytes → TookHave (InImage (reads new)) object number segments bytes
-  took_beside object number [] bytes from t = t
-  took_beside object number (s ∷ segments) [] from t = tt
-  took_beside object number (s ∷ segments) (byte ∷ bytes) from t = (
-    subst (λ (b : List ℕ). Stands b s.offset (frame_header object number s.len ++ take s.len (byte ∷ bytes))) (sym (reads_same s.file from.0)) t.0,
-    took_beside object (suc number) segments (drop s.len (byte ∷ bytes)) from.1 t.1,
-  )
-
-  taken_beside : (t : Ticket) → AllByRecursion (λ s. 4 ≤ s.file) t.place.segments → HasTaken h t → HasTaken new t
-  taken_beside t from taken = record {
-    stands = took_beside (object_of t.purpose) 0 t.place.segments t.bytes from taken.stands;
-    firm = λ is_sealed. frames_carried (InStore h) (InStore new) (object_of t.purpose) 0 t.place.segments t.bytes
-        (each_also (λ s. 4 ≤ s.file) (Carries (InStore h) (InStore new)) t.place.segments (λ s one piece long f. firm_beside IsOurs h new s.file s.offset piece (not_ours s.file one) goes f) from)
-        (taken.firm is_sealed);
-  }
-
   pub all_taken_beside : (tickets : List Ticket) → AllByRecursion (λ t. AllByRecursion (λ s. 4 ≤ s.file) t.place.segments) tickets → AllByRecursion (HasTaken h) tickets
       → AllByRecursion (HasTaken new) tickets
-  all_taken_beside [] from taken = tt
-  all_taken_beside (t ∷ tickets) from taken = (taken_beside t from.0 taken.0, all_taken_beside tickets from.1 taken.1)
+  all_taken_beside tickets from taken =
+      all_taken_away IsOurs h new goes tickets
+      (each_also (λ (t : Ticket). AllByRecursion (λ s. 4 ≤ s.file) t.place.segments) (λ (t : Ticket). AllByRecursion (λ s. ¬ IsOurs s.file) t.place.segments) tickets
+      (λ t each. each_also (λ (s : Segment). 4 ≤ s.file) (λ (s : Segment). ¬ IsOurs s.file) t.place.segments (λ s one. not_ours s.file one) each) from) taken

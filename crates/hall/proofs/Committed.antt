@@ -94,6 +94,7 @@ unjoined_is {S} told moment faults x hall m is = record {
     space = is.good.space;
     numbers = is.good.numbers;
     bytes = is.good.bytes;
+    listed = is.good.listed;
     kept = kept_same (told hall.store) is.good.kept;
   };
 }

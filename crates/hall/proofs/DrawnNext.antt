@@ -19,7 +19,7 @@ use Rattle.entries.specs.declared.change.Change.TheVariants as change
 use Rattle.inventory_rows.specs.declared.backup.Backup.{Backup}
 use Rattle.inventory_rows.specs.version_groups.declared.copies.CopyRow.{CopyRow}
 use Rattle.inventory_rows.specs.State.{Inv}
-use Rattle.inventory_rules.specs.Backups.{backup_at, backup_ended}
+use Rattle.inventory_rules.specs.Backups.{backup_at, backup_ended, is_unfinished}
 use Rattle.inventory_rules.specs.Clients.{client_changed}
 use Rattle.inventory_rules.specs.Common.{each}
 use Rattle.inventory_rules.specs.Copies.{add_copy, added, change_copy, drop_copy, move_copy, put_moved, segments_in, version_at}
@@ -29,9 +29,8 @@ use Rattle.inventory_rules.specs.Transactions.{OnlyData, changed, effect}
 use Rattle.inventory_rules.specs.Versions.{back_up, copies_at, discard, expire, held_too, hold, inserted, mark_gone, rebind}
 use Rattle.inventory_rules.proofs.Touched.{effect-data}
 use Rattle.inventory_rows.proofs.of_pool_tables.Counting.{apart_at, at_is}
-use Rattle.inventory_laws.proofs.Gone.{lookup-beside_removed}
+use Rattle.inventory_laws.proofs.Gone.{lookup-beside_removed, lookup-beside_set}
 use Rattle.inventory_laws.proofs.Stays.{row_at-inserted_other}
-use Rattle.inventory_laws.proofs.StoreRows.{seen_same}
 
 -- ---- numbers
 
@@ -127,31 +126,30 @@ module _ (n m : ℕ) where
 
 -- ---- backups
 
--- the change neither lists nor takes off the list the backup in this file
+-- the change neither lists nor ends nor takes off the list the backup in this file
 abbrev pub KeepsBackup : ℕ → Change → Type 0
 KeepsBackup file (change.DbBegin k after) = k ≡ file → ⊥
+KeepsBackup file (change.DbEnd k) = k ≡ file → ⊥
 KeepsBackup file (change.DbDelete k) = k ≡ file → ⊥
 KeepsBackup file _ = Unit {0}
 
-module _ (file : ℕ) where
+-- what doesn't look at the delays of a backup
+module _ (seen : Option Backup → Bool) (alike : (b : Backup) (delays : List (ℕ × ℕ)) → seen (Some (record b { delays = delays })) ≡ seen (Some b)) (file : ℕ) where
   abbrev listed : List (ℕ × Backup) → Bool
-  listed backups = is_some (lookup (is_at (nat_cmp file)) backups)
+  listed backups = seen (lookup (is_at (nat_cmp file)) backups)
 
-  mapped : (f : Backup → Backup) (backups : List (ℕ × Backup)) → listed (map (λ (b : ℕ × Backup). (b.0, f b.1)) backups) ≡ listed backups
+  mapped : (f : Backup → List (ℕ × ℕ)) (backups : List (ℕ × Backup)) → listed (map (λ (b : ℕ × Backup). (b.0, record b.1 { delays = f b.1 })) backups) ≡ listed backups
   mapped f [] = refl
   mapped f (b ∷ backups) = elim (is_at (nat_cmp file) b.0) as
-      (λ t. is_some (cond t (Some (f b.1)) (lookup (is_at (nat_cmp file)) (map (λ (b : ℕ × Backup). (b.0, f b.1)) backups))) ≡ is_some (cond t (Some b.1) (lookup (is_at (nat_cmp file)) backups))) [
-        | true ↦ refl
+      (λ t. seen (cond t (Some (record b.1 { delays = f b.1 })) (lookup (is_at (nat_cmp file)) (map (λ (b : ℕ × Backup). (b.0, record b.1 { delays = f b.1 })) backups)))
+      ≡ seen (cond t (Some b.1) (lookup (is_at (nat_cmp file)) backups))) [
+        | true ↦ alike b.1 (f b.1)
         | false ↦ mapped f backups
       ]
 
   lowered_so : (pool : Option ℕ) (delay : ℕ) (backups : List (ℕ × Backup)) → listed (backups_lowered pool delay backups) ≡ listed backups
   lowered_so None delay backups = refl
   lowered_so (Some pool) delay backups = mapped _ backups
-
-  ended_so : (k : ℕ) (o : Option Backup) (backups : List (ℕ × Backup)) → lookup (is_at (nat_cmp k)) backups ≡ o → listed (backup_ended k o backups) ≡ listed backups
-  ended_so k None backups at = refl
-  ended_so k (Some b) backups at = seen_same is_some k file b (record b { is_done = true }) backups at refl
 
   stores_listed : (x : PoolChange) (v : Inv) → listed (store_changed x v).backups ≡ listed v.backups
   stores_listed (store.DevClass what name capacity) v = refl
@@ -174,23 +172,35 @@ module _ (file : ℕ) where
   beside : (k : ℕ) → (k ≡ file → ⊥) → (q : ℕ) → is_at (nat_cmp k) q ≡ true → is_at (nat_cmp file) q ≡ false
   beside k ne q here = apart_at file q (λ e. ne (at_is k q here ∙ sym e))
 
-  -- it is listed behind a change that keeps it exactly where it was
-  pub backup_so : (c : Change) (v : Inv) → KeepsBackup file c → is_some (backup_at file (effect c v)) ≡ is_some (backup_at file v)
+  ended_so : (k : ℕ) (o : Option Backup) (backups : List (ℕ × Backup)) → (k ≡ file → ⊥) → listed (backup_ended k o backups) ≡ listed backups
+  ended_so k None backups ne = refl
+  ended_so k (Some b) backups ne = ap seen (lookup-beside_set (is_at (nat_cmp k)) (is_at (nat_cmp file)) (beside k ne) (record b { is_done = true }) backups)
+
+  -- behind a change that keeps it the same is seen of it
+  row_so : (c : Change) (v : Inv) → KeepsBackup file c → seen (backup_at file (effect c v)) ≡ seen (backup_at file v)
   unfolding effect
-  backup_so (change.Day day) v keeps = refl
-  backup_so (change.Policy x) v keeps = refl
-  backup_so (change.Object x) v keeps = clients_listed x v
-  backup_so (change.Pool x) v keeps = stores_listed x v
-  backup_so (change.Backup x) v keeps = of_data v (effect (change.Backup x) v) (effect-data (change.Backup x) v refl)
-  backup_so (change.Hold x) v keeps = of_data v (effect (change.Hold x) v) (effect-data (change.Hold x) v refl)
-  backup_so (change.Rebind x) v keeps = of_data v (effect (change.Rebind x) v) (effect-data (change.Rebind x) v refl)
-  backup_so (change.Gone x) v keeps = of_data v (effect (change.Gone x) v) (effect-data (change.Gone x) v refl)
-  backup_so (change.Move x) v keeps = of_data v (effect (change.Move x) v) (effect-data (change.Move x) v refl)
-  backup_so (change.Copy x) v keeps = of_data v (effect (change.Copy x) v) (effect-data (change.Copy x) v refl)
-  backup_so (change.DropCopies x) v keeps = of_data v (effect (change.DropCopies x) v) (effect-data (change.DropCopies x) v refl)
-  backup_so (change.Expire x) v keeps = of_data v (effect (change.Expire x) v) (effect-data (change.Expire x) v refl)
-  backup_so (change.Discard x) v keeps = of_data v (effect (change.Discard x) v) (effect-data (change.Discard x) v refl)
-  backup_so (change.Reuse k) v keeps = of_data v (effect (change.Reuse k) v) (effect-data (change.Reuse k) v refl)
-  backup_so (change.DbBegin k after) v keeps = ap is_some (row_at-inserted_other k file _ v.backups keeps)
-  backup_so (change.DbEnd k) v keeps = ended_so k (lookup (is_at (nat_cmp k)) v.backups) v.backups refl
-  backup_so (change.DbDelete k) v keeps = ap is_some (lookup-beside_removed (is_at (nat_cmp k)) (is_at (nat_cmp file)) (beside k keeps) v.backups)
+  row_so (change.Day day) v keeps = refl
+  row_so (change.Policy x) v keeps = refl
+  row_so (change.Object x) v keeps = clients_listed x v
+  row_so (change.Pool x) v keeps = stores_listed x v
+  row_so (change.Backup x) v keeps = of_data v (effect (change.Backup x) v) (effect-data (change.Backup x) v refl)
+  row_so (change.Hold x) v keeps = of_data v (effect (change.Hold x) v) (effect-data (change.Hold x) v refl)
+  row_so (change.Rebind x) v keeps = of_data v (effect (change.Rebind x) v) (effect-data (change.Rebind x) v refl)
+  row_so (change.Gone x) v keeps = of_data v (effect (change.Gone x) v) (effect-data (change.Gone x) v refl)
+  row_so (change.Move x) v keeps = of_data v (effect (change.Move x) v) (effect-data (change.Move x) v refl)
+  row_so (change.Copy x) v keeps = of_data v (effect (change.Copy x) v) (effect-data (change.Copy x) v refl)
+  row_so (change.DropCopies x) v keeps = of_data v (effect (change.DropCopies x) v) (effect-data (change.DropCopies x) v refl)
+  row_so (change.Expire x) v keeps = of_data v (effect (change.Expire x) v) (effect-data (change.Expire x) v refl)
+  row_so (change.Discard x) v keeps = of_data v (effect (change.Discard x) v) (effect-data (change.Discard x) v refl)
+  row_so (change.Reuse k) v keeps = of_data v (effect (change.Reuse k) v) (effect-data (change.Reuse k) v refl)
+  row_so (change.DbBegin k after) v keeps = ap seen (row_at-inserted_other k file _ v.backups keeps)
+  row_so (change.DbEnd k) v keeps = ended_so k (lookup (is_at (nat_cmp k)) v.backups) v.backups keeps
+  row_so (change.DbDelete k) v keeps = ap seen (lookup-beside_removed (is_at (nat_cmp k)) (is_at (nat_cmp file)) (beside k keeps) v.backups)
+
+-- it is listed behind a change that keeps it exactly where it was
+pub backup_so : (file : ℕ) (c : Change) (v : Inv) → KeepsBackup file c → is_some (backup_at file (effect c v)) ≡ is_some (backup_at file v)
+backup_so file c v keeps = row_so is_some (λ b delays. refl) file c v keeps
+
+-- and exactly then it isn't whole yet
+pub unfinished_so : (file : ℕ) (c : Change) (v : Inv) → KeepsBackup file c → is_unfinished (backup_at file (effect c v)) ≡ is_unfinished (backup_at file v)
+unfinished_so file c v keeps = row_so is_unfinished (λ b delays. refl) file c v keeps

@@ -27,7 +27,44 @@ use Rattle.hall.proofs.Calling.{kept_by, later_run}
 use Rattle.hall.proofs.Dropping.{no_later}
 use Rattle.hall.proofs.Ended.{ended_has, ended_is, none_halted}
 use Rattle.hall.proofs.Forcing.{forced_kept, halted_kept, ours_alone}
-use Rattle.hall.proofs.Stamped.{core_forced, core_halted, good_halted, good_stamped}
+use Rattle.hall.proofs.Stamped.{listed_stamped, core_forced, core_halted, good_halted, good_stamped}
+
+-- ---- the hall behind a force
+
+module _ {S : Type 0} (told : S → Option History) (moment : S → ℕ) (faults : S → ℕ → ℕ) (clock : (s : S) → IfSome (told s) (λ h. now h ≡ moment s)) (hall : Hall S) (store : S)
+    (none : hall.held.vault.fault ≡ None) (since : moment hall.store ≤ moment store) where
+  pub forced_is : (number : ℕ) → (let result : Result ℕ Refusal = Ok number in Told (told hall.store) (told store) (Forces meaning hall.held.vault result (all_forced hall.held.vault)))
+      → (m : Machine) → Is told moment faults hall m → Is told moment faults (record { store = store; held = all_stamped (moment store) (with_vault (all_forced hall.held.vault) hall.held) }) (record m { core = stamped (moment store) m.core; moment = moment store; counts = faults store })
+  forced_is number did m is =
+      record {
+        core = core_forced (moment store) hall.held m.core is.core none is.good.stamped.few;
+        clock = refl;
+        counts = refl;
+        good = good_stamped (told hall.store) (told store) m hall.held (all_forced hall.held.vault) (moment store) (faults store) m.core.image m.core.generation m.core.log_length hall.held.image
+            hall.held.job is.good (omega (arith, is.clock, since)) (λ none. listed_stamped (moment store) m.core m.core.image is.good.stamped.few (is.good.listed none))
+            (kept_by told moment faults hall store (let result : Result ℕ Refusal = Ok number in Forces meaning hall.held.vault result (all_forced hall.held.vault)) m (record m { core = stamped (moment store) m.core; moment = moment store; counts = faults store }) (all_stamped (moment store) (with_vault (all_forced hall.held.vault) hall.held)) is did clock
+            (λ h new r. ours_alone hall.held.vault.generation h new r.goes)
+            (λ h new r to k.
+            let held = k.sure (is.core.fault ∙ none) in
+            forced_kept m hall.held h new (ours_alone hall.held.vault.generation h new r.goes) is.core k is.good.lawful is.good.stamped.few is.good.numbers (r.since (durable m.core) held) (moment store)
+            to (r.good (durable m.core) held) r.pends (faults store)));
+      }
+
+  pub halted_is : (file count : ℕ) (e : Refusal) (next : State Inv) → (let result : Result ℕ Refusal = Err e in Told (told hall.store) (told store) (Forces meaning hall.held.vault result next))
+      → (m : Machine) → Is told moment faults hall m → Is told moment faults (record { store = store; held = with_vault (with_fault hall.held.vault file count) hall.held }) (record m { core = halting file count m.core; moment = moment store; counts = faults store })
+  halted_is file count e next did m is =
+      record {
+        core = core_halted file count hall.held.vault.forced hall.held.vault.sure hall.held m.core is.core;
+        clock = refl;
+        counts = refl;
+        good = good_halted (told hall.store) (told store) m hall.held (with_fault hall.held.vault file count) (moment store) (faults store) file count is.good (omega (arith, is.clock, since))
+            (kept_by told moment faults hall store (let result : Result ℕ Refusal = Err e in Forces meaning hall.held.vault result next) m (record m { core = halting file count m.core; moment = moment store; counts = faults store }) (with_vault (with_fault hall.held.vault file count) hall.held) is did clock
+            (λ h new r. ours_alone hall.held.vault.generation h new r.goes)
+            (λ h new r to k.
+            let held = k.sure (is.core.fault ∙ none) in
+            halted_kept m hall.held h new (ours_alone hall.held.vault.generation h new r.goes) is.core k is.good.lawful is.good.stamped.few is.good.numbers (r.since (durable m.core) held) file count
+            (with_fault hall.held.vault file count) (faults store) (moment store) (r.left (durable m.core) held)));
+      }
 
 -- ---- the step
 
@@ -59,19 +96,7 @@ module _ {S : Type 0} (told : S → Option History) (moment : S → ℕ) (faults
       later = later_run told moment faults hall store counts since (omega (arith, soon)) m (forced_at m) is refl refl;
       step = (open_machine m is, (is_number ∙ ap (λ v. v.number) is.core.database, record { core = refl; contents = refl }));
     },
-    record {
-      core = core_forced (moment store) hall.held m.core is.core none is.good.stamped.few;
-      clock = refl;
-      counts = refl;
-      good = good_stamped (told hall.store) (told store) m hall.held (all_forced hall.held.vault) (moment store) (faults store) m.core.image m.core.generation m.core.log_length hall.held.image
-          hall.held.job is.good (omega (arith, is.clock, since))
-          (kept_by told moment faults hall store (let result : Result ℕ Refusal = Ok number in Forces meaning hall.held.vault result (all_forced hall.held.vault)) m (forced_at m) forced_held is did clock
-          (λ h new r. ours_alone hall.held.vault.generation h new r.goes)
-          (λ h new r to k.
-          let held = k.sure (is.core.fault ∙ none) in
-          forced_kept m hall.held h new (ours_alone hall.held.vault.generation h new r.goes) is.core k is.good.lawful is.good.stamped.few is.good.numbers (r.since (durable m.core) held) (moment store)
-          to (r.good (durable m.core) held) r.pends (faults store)));
-    },
+    forced_is told moment faults clock hall store none since number did m is,
   )
 
   -- ---- the log failed
@@ -96,18 +121,7 @@ module _ {S : Type 0} (told : S → Option History) (moment : S → ℕ) (faults
         step = (let rises : Rose (m.counts file) (faults store file) = subst (λ n. Rose n (faults store file)) (sym (ap (λ (f : ℕ → ℕ). f file) is.counts)) rose in
             inr (open_machine m is, (file, count, is_fault, (own, rises, is_count), record { core = refl; contents = refl })));
       },
-      record {
-        core = core_halted file count hall.held.vault.forced hall.held.vault.sure hall.held m.core is.core;
-        clock = refl;
-        counts = refl;
-        good = good_halted (told hall.store) (told store) m hall.held (with_fault hall.held.vault file count) (moment store) (faults store) file count is.good (omega (arith, is.clock, since))
-            (kept_by told moment faults hall store (let result : Result ℕ Refusal = Err e in Forces meaning hall.held.vault result next) m (failed_at m) halted_held is did clock
-            (λ h new r. ours_alone hall.held.vault.generation h new r.goes)
-            (λ h new r to k.
-            let held = k.sure (is.core.fault ∙ none) in
-            halted_kept m hall.held h new (ours_alone hall.held.vault.generation h new r.goes) is.core k is.good.lawful is.good.stamped.few is.good.numbers (r.since (durable m.core) held) file count
-            (with_fault hall.held.vault file count) (faults store) (moment store) (r.left (durable m.core) held)));
-      },
+      halted_is told moment faults clock hall store none since file count e next did m is,
     )
 
   no_fault : (a : ℕ × ℕ) → hall.held.vault.fault ≡ Some a → ⊥

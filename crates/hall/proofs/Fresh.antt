@@ -169,11 +169,12 @@ module _ {S : Type 0} (told : S → Option History) (moment : S → ℕ) (faults
       clock = refl;
       counts = refl;
       good = record {
-        lawful = record { valid = valid; tied = tied; legal = λ i e at. absurd cc };
+        lawful = record { valid = valid; tied = tied; legal = λ i e at. absurd cc; short = tt };
         stamped = record { few = omega arith; rise = omega (arith, fresh.opened); waiting = λ running. tt };
         space = record { filled = tt; clear = tt; apart = refl };
         numbers = new_numbers hall.held valid;
         bytes = record { sized = sized; fronts = tt };
+        listed = λ none. tt;
         kept = kept;
       };
     }

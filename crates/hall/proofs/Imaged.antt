@@ -35,7 +35,7 @@ use Rattle.machine.specs.Machine.{WroteMore, checkpointed, durable, ended, halti
 use Rattle.machine.specs.State.{Core, Image, Machine, after, checkpoint, inventory, sight}
 use Rattle.machine.proofs.Elsewhere.{append-all, foremost-all, unless-all}
 use Rattle.machine.proofs.Histories.{after-number}
-use Rattle.hall.specs.Covered.{inv_at}
+use Rattle.hall.specs.Covered.{inv_at, left_open}
 use Rattle.hall.specs.Good.{AllInProgress, InProgress, Is, IsKept, StandsOn}
 use Rattle.hall.specs.Held.{BegunImage, Hall, Held, IsCheckpoint, IsCore, IsImage, begun_of, unwritten_at}
 use Rattle.hall.specs.Imaging.{GoesFurther, checkpoint_begun, checkpoint_by, checkpoint_done, checkpoint_refused, image_held, own_begun, progress_of}
@@ -46,7 +46,7 @@ use Rattle.hall.proofs.Dropping.{no_later}
 use Rattle.hall.proofs.Ended.{ended_all, ended_first, ended_has, ended_is, next_answers, none_halted}
 use Rattle.hall.proofs.Forcing.{all_have_stamps, further_kept, halted_kept, stamped_kept}
 use Rattle.hall.proofs.Imaging.{OwnCheckpoint, begin_is, first_going, goes_less, image_alike, may_begin, no_image, its_own as own_of, nothing_pends}
-use Rattle.hall.proofs.Stamped.{AllForced, core_further, core_halted, core_stamped, good_further, good_halted, good_stamped}
+use Rattle.hall.proofs.Stamped.{AllForced, checkpoint_unlisted, core_further, core_halted, core_stamped, good_further, good_halted, good_stamped}
 
 -- ---- numbers
 
@@ -289,7 +289,7 @@ module _ {S : Type 0} (told : S → Option History) (moment : S → ℕ) (faults
             clock = refl;
             counts = refl;
             good = good_stamped (told hall.store) (told store) m hall.held next (moment store) (faults store) (Some i) m.core.generation m.core.log_length (Some (checkpoint_by actor vault))
-                hall.held.job is.good (omega (arith, is.clock, since))
+                hall.held.job is.good (omega (arith, is.clock, since)) (λ none. checkpoint_unlisted (left_open (stamped (moment store) m.core)) i refl)
                 (kept_by told moment faults hall store (let result : Result ImageReply Refusal = Ok answer in Begins meaning vault result next) m after
                 (checkpoint_begun actor (moment store) next hall.held) is did clock (λ h new r. r.goes)
                 (λ h new r to k.
@@ -388,7 +388,7 @@ module _ {S : Type 0} (told : S → Option History) (moment : S → ℕ) (faults
             clock = refl;
             counts = refl;
             good = good_further (told hall.store) (told store) m hall.held next (moment store) (faults store) (Some further.its) m.core.generation m.core.log_length is.good
-                (omega (arith, is.clock, since))
+                (omega (arith, is.clock, since)) (λ none. checkpoint_unlisted (left_open m.core) further.its further.is.picture)
                 (kept_by told moment faults hall store (let result : Result ImageReply Refusal = Ok reply.More in Pieced meaning vault (progress_of result) next) m after (with_vault next hall.held) is did
                 clock (λ h new r. r.goes)
                 (λ h new r to k.
@@ -458,7 +458,7 @@ module _ {S : Type 0} (told : S → Option History) (moment : S → ℕ) (faults
             clock = refl;
             counts = refl;
             good = good_stamped (told hall.store) (told store) m hall.held next (moment store) (faults store) None (c.generation + 1) (records_length (drop (own.its.seq - c.base.number) c.journal)) None
-                hall.held.job is.good (omega (arith, is.clock, since))
+                hall.held.job is.good (omega (arith, is.clock, since)) (λ none. tt)
                 (kept_by told moment faults hall store (let result : Result ImageReply Refusal = Ok (reply.Done seq) in Pieced meaning vault (progress_of result) next) m after
                 (checkpoint_done (moment store) next hall.held) is did clock (λ h new r. r.goes)
                 (λ h new r to k.

@@ -80,10 +80,10 @@ both_none None b h = (refl, h)
 both_none (Some x) None h = absurd cc
 both_none (Some x) (Some y) h = absurd cc
 
-parts_none : (xs ys : List Refusal) → foremost (xs ++ ys) ≡ None → (foremost xs ≡ None) × (foremost ys ≡ None)
+pub parts_none : (xs ys : List Refusal) → foremost (xs ++ ys) ≡ None → (foremost xs ≡ None) × (foremost ys ≡ None)
 parts_none xs ys h = both_none (foremost xs) (foremost ys) (sym (foremost_append xs ys) ∙ h)
 
-none_held : (i : Option BegunImage) → foremost (image_held i) ≡ None → i ≡ None
+pub none_held : (i : Option BegunImage) → foremost (image_held i) ≡ None → i ≡ None
 none_held None h = refl
 none_held (Some i) h = absurd cc
 
@@ -133,7 +133,7 @@ nothing_pends first generation (Some pending) (Some job) is = absurd is
 abbrev begun : Image → BegunImage
 begun x = record { actor = x.actor; picture = x.picture; file = x.file; seq = x.seq }
 
-own_is : (actor : ℕ) (x : Image) → is_some (own_begun actor (begun_of (Some x))) ≡ true → own_image actor (Some x) ≡ Some x
+pub own_is : (actor : ℕ) (x : Image) → is_some (own_begun actor (begun_of (Some x))) ≡ true → own_image actor (Some x) ≡ Some x
 own_is actor x mine = elim (x.actor == actor) as (λ b. is_some (if b then Some (begun x) else None) ≡ true
     → (if b then Some x else None) ≡ Some x) [
       | true ↦ λ _. refl
@@ -236,3 +236,15 @@ refused_told o n was vault next e is_was t =
     subst (λ (v : State Inv). let r : Result ImageReply Refusal = Err e in Told o n (Begins meaning v r next)) is_was
     (told_map o n (let r : Result (ℕ × ℕ) Refusal = Err e in Begins meaning was r next) (let r : Result ImageReply Refusal = Err e in Begins meaning was r next)
     (λ h k r. record { goes = r.goes; begun = tt; since = r.since; left = r.left }) t)
+
+-- where none is in progress nothing is written
+pub no_job : {S : Type 0} (told : S → Option History) (moment : S → ℕ) (faults : S → ℕ → ℕ) (hall : Hall S) → ((m : Machine) × Is told moment faults hall m) → foremost (ended_at (moment hall.store) hall.held) ≡ None
+    → hall.held.image ≡ None → hall.held.job ≡ None
+no_job told moment faults hall (m, is) free none =
+    (nothing_pends m.core.base.number hall.held.vault.generation hall.held.vault.pending hall.held.job
+    (subst (λ (i : Option Image). IsImage m.core.base.number hall.held.vault.generation hall.held.vault.pending hall.held.job i) (no_image m.core.image (is.core.image ∙ none))
+    (is.core.is_image (none_halted (moment hall.store) hall.held free)))).1
+
+pub no_writer : (o : Option Job) → is_some o ≡ false → o ≡ None
+no_writer None h = refl
+no_writer (Some job) h = absurd cc

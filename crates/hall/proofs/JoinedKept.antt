@@ -1,5 +1,5 @@
 -- What no stop takes away, behind a transaction that joined and waits for a force, or is in doubt.
-use Rattle.std.proofs.Common.{◌≡◌, ◌⊎◌, inl, inr, ℕ, ◌+◌, ◌-◌, ◌<◌, ◌≤◌, suc, zero, true, false, not, List, [], ◌∷◌, ◌++◌, length, take, drop, Option, Some, None, is_some, refl, sym, ap, subst, ◌∙◌, arith}
+use Rattle.std.proofs.Common.{◌≡◌, ◌⊎◌, inl, inr, ℕ, ◌+◌, ◌-◌, ◌<◌, ◌≤◌, ◌^◌, suc, zero, true, false, not, List, [], ◌∷◌, ◌++◌, length, take, drop, Option, Some, None, is_some, refl, sym, ap, subst, ◌∙◌, arith}
 use Rattle.std.specs.Prelude.{IfSome}
 use Rattle.std.specs.List.{AllByRecursion, flat_map, slice_get}
 use Rattle.std.proofs.lemmas.Bool.{cases_lt}
@@ -7,6 +7,7 @@ use Rattle.std.proofs.lemmas.List.{drop-append-le, length-drop, take-append-le, 
 use Rattle.store_api.specs.Disk.{History, ImageAt, now}
 use Rattle.store_api.specs.Runs.{EachImage, GoesOn}
 use Rattle.store_api.proofs.Runs.{goes_image_before, goes_later, goes_standing}
+use Rattle.entries.specs.EntryForm.{entry as entry_form}
 use Rattle.entries.specs.declared.change.Change.{Change}
 use Rattle.entries.specs.declared.entry.Entry.{Entry}
 use Rattle.contents.specs.Contents.{HasAll, HasVersion, HaveAll, Holds, InImage, InStore}
@@ -19,7 +20,7 @@ use Rattle.inventory.specs.Meant.{meaning}
 use Rattle.inventory_rows.specs.version_groups.declared.versions.Version.{Version}
 use Rattle.inventory_rows.specs.Search.{version, versions}
 use Rattle.inventory_rows.specs.State.{Inv}
-use Rattle.inventory_rules.specs.Backups.{backup_at}
+use Rattle.inventory_rules.specs.Backups.{backup_at, is_unfinished}
 use Rattle.inventory_rules.specs.Run.{journal_of}
 use Rattle.inventory_rules.specs.Transactions.{effect, refused}
 use Rattle.inventory_laws.proofs.Lists.{each_also}
@@ -33,13 +34,13 @@ use Rattle.machine.specs.Machine.{durable, halting, storing_contents}
 use Rattle.machine.specs.State.{Core, Image, Machine, after, inventory, is_among, unforced, without}
 use Rattle.hall.specs.declared.seat.Seat.{Seat}
 use Rattle.hall.specs.Covered.{NumbersAreDrawn, SpaceIsClear, covered, databases, inv_at, is_any_reuse, left_open}
-use Rattle.hall.specs.Good.{AllInProgress, HasBytes, HasTaken, IsKept, IsLawful, IsPayload, IsSafe, IsSoundWith, IsStamped, RecoversToOne, StandsOn, between}
+use Rattle.hall.specs.Good.{AllInProgress, HasBytes, HasTaken, IsKept, IsLawful, IsListed, IsPayload, IsSafe, IsSoundWith, IsStamped, RecoversToOne, StandsOn, between}
 use Rattle.hall.specs.Held.{Held, IsCore, IsImage}
 use Rattle.hall.proofs.Beside.{all_taken_beside, covered_beside, covered_since}
 use Rattle.hall.proofs.ComeFrom.{each_found}
 use Rattle.hall.proofs.Covering.{all_each}
 use Rattle.hall.proofs.Databases.{each_covered, first_left, last_left, left_lawful}
-use Rattle.hall.proofs.DrawnNext.{KeepsBackup, backup_so}
+use Rattle.hall.proofs.DrawnNext.{KeepsBackup, backup_so, unfinished_so}
 use Rattle.hall.proofs.Forcing.{files_from, underway_same}
 use Rattle.hall.proofs.JoinedBytes.{brings, same_bytes}
 use Rattle.hall.proofs.Joining.{Joins, behind, entry_of, inv_before, inventory_last, last, left_last, long, durable_last, spent, unforced_last}
@@ -73,6 +74,7 @@ module _ (actor : ℕ) (x : Change) (numbers : List ℕ) (c : Core) (l : IsLawfu
     valid = l.valid;
     tied = l.tied;
     legal = λ i e at. legal i e (at_end c.journal (entry_of actor x numbers c) i e at);
+    short = each_appended (λ (e : Entry). length (entry_form.spell e) ≤ 2 ^ 24) c.journal (entry_of actor x numbers c ∷ []) l.short (j.short, tt);
   }
     where
       legal : (i : ℕ) (e : Entry) → ((slice_get c.journal i ≡ Some e) × (i < length c.journal)) ⊎ ((e ≡ entry_of actor x numbers c) × (i ≡ length c.journal))
@@ -91,6 +93,19 @@ module _ (actor : ℕ) (x : Change) (numbers : List ℕ) (c : Core) (l : IsLawfu
     waiting = λ none. subst (λ es. AllByRecursion (λ (e : Entry). is_any_reuse e.change ≡ false) es) (sym (unforced_last actor x numbers c s.few))
         (each_appended (λ (e : Entry). is_any_reuse e.change ≡ false) (unforced c) (entry_of actor x numbers c ∷ []) (s.waiting none) (plain, tt));
   }
+
+  -- a backup in progress is listed behind it
+  pub listed_joined : length c.stamps ≤ length c.journal → IsListed (left_open c) c.image → IsListed (left_open (last actor x numbers c)) c.image
+  listed_joined few was = go c.image j.image was where
+    go : (i : Option Image) → IfSome i (λ i. KeepsBackup i.file x) → IsListed (left_open c) i → IsListed (left_open (last actor x numbers c)) i
+    go None keeps was = tt
+    go (Some i) keeps was = λ is.
+        let now = was is in (
+          now.0,
+          subst (AllByRecursion (λ v. is_unfinished (backup_at i.file v) ≡ true)) (sym (left_last actor x numbers c few))
+              (each_appended (λ v. is_unfinished (backup_at i.file v) ≡ true) (left_open c) (behind actor x numbers c ∷ []) now.1
+              (unfinished_so i.file x (inventory c) keeps ∙ last_left (λ v. is_unfinished (backup_at i.file v) ≡ true) c now.1, tt)),
+        )
 
 -- ---- what is kept over the run
 

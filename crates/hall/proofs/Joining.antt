@@ -5,6 +5,7 @@ use Rattle.std.specs.List.{AllByRecursion, Contains}
 use Rattle.std.proofs.lemmas.List.{drop-append-le, length-append, take-append-le, take_all}
 use Rattle.sha2.specs.Sha256.{sha256}
 use Rattle.kinds.specs.declared.segment.Segment.{Segment}
+use Rattle.entries.specs.EntryForm.{entry as entry_form}
 use Rattle.entries.specs.declared.change.Change.{Change}
 use Rattle.entries.specs.declared.entry.Entry.{Entry}
 use Rattle.inventory.proofs.Nothing.{IsFree, is_free}
@@ -68,6 +69,7 @@ pub record Joins (actor : ℕ) (x : Change) (numbers : List ℕ) (c : Core) : Ty
   pub draws : DrawsBelow (file_drawn x c.next_file) c.next_object x
   pub bound : file_drawn x c.next_file < 2 ^ 32
   pub further : c.next_file ≤ file_drawn x c.next_file
+  pub short : length (entry_form.spell (record { actor = actor; change = x })) ≤ 2 ^ 24
 
 module _ (actor : ℕ) (x : Change) (numbers : List ℕ) (c : Core) where
   -- the database behind it, and the state

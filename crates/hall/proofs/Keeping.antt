@@ -36,10 +36,11 @@ use Rattle.hall.proofs.Pairs.{none_found}
 use Rattle.hall.proofs.PoolsStay.{KeepsPool}
 use Rattle.hall.proofs.VolumesStay.{BringsVolume, KeepsVolume}
 
--- it neither reuses a volume nor begins a backup
+-- it neither reuses a volume nor begins or ends a backup
 abbrev pub is_ordinary : Change → Bool
 is_ordinary (change.Reuse file) = false
 is_ordinary (change.DbBegin file after) = false
+is_ordinary (change.DbEnd file) = false
 is_ordinary _ = true
 
 -- ---- held by tickets
@@ -130,7 +131,7 @@ module _ (c : Core) where
   keeps_volumes j (change.DropCopies x) h cause ordinary volumes = plain_kept (change.DropCopies x) (λ s. (tt, tt))
   keeps_volumes j (change.Expire x) h cause ordinary volumes = plain_kept (change.Expire x) (λ s. (tt, tt))
   keeps_volumes j (change.Discard x) h cause ordinary volumes = plain_kept (change.Discard x) (λ s. (tt, tt))
-  keeps_volumes j (change.DbEnd k) h cause ordinary volumes = plain_kept (change.DbEnd k) (λ s. (tt, tt))
+  keeps_volumes j (change.DbEnd k) h cause ordinary volumes = absurd (false≢true ordinary)
 
   -- ---- the image that is written
 
@@ -158,7 +159,7 @@ module _ (c : Core) where
   keeps_image (change.DropCopies x) h ordinary = any_image (change.DropCopies x) c.image (λ i. tt)
   keeps_image (change.Expire x) h ordinary = any_image (change.Expire x) c.image (λ i. tt)
   keeps_image (change.Discard x) h ordinary = any_image (change.Discard x) c.image (λ i. tt)
-  keeps_image (change.DbEnd k) h ordinary = any_image (change.DbEnd k) c.image (λ i. tt)
+  keeps_image (change.DbEnd k) h ordinary = absurd (false≢true ordinary)
 
 -- ---- a change that comes from no ticket
 

@@ -3,6 +3,16 @@ pub mod Along
 pub mod Apart
 pub mod AskedJoins
 pub mod Asking
+pub mod Away
+pub mod Backed
+pub mod Backing
+pub mod BackupBegins
+pub mod BackupCalls
+pub mod BackupEnds
+pub mod BackupJoins
+pub mod BackupNext
+pub mod BackupRefused
+pub mod BackupSteps
 pub mod Behind
 pub mod Beside
 pub mod Brought
@@ -24,6 +34,7 @@ pub mod DrawnNext
 pub mod Dropping
 pub mod Edited
 pub mod Ended
+pub mod Ending
 pub mod Exact
 pub mod Firm
 pub mod Flagged
@@ -41,6 +52,7 @@ pub mod JoinAnswers
 pub mod JoinedBytes
 pub mod JoinedCore
 pub mod JoinedFreed
+pub mod JoinedIs
 pub mod JoinedKept
 pub mod JoinedNumbers
 pub mod JoinedSpace
@@ -60,6 +72,7 @@ pub mod PieceReads
 pub mod PieceSteps
 pub mod PlacesChosen
 pub mod PoolsStay
+pub mod Protecting
 pub mod Refusing
 pub mod Remaining
 pub mod Replacing

@@ -121,6 +121,7 @@ module _ {S : Type 0} (told : S → Option History) (moment : S → ℕ) (faults
     counts = refl;
     good = record {
       lawful = is.good.lawful;
+      listed = is.good.listed;
       stamped = record {
         few = is.good.stamped.few;
         rise = rise_later hall.held.opened m.moment (moment store) m.core.stamps is.good.stamped.rise (omega (arith, is.clock, since));

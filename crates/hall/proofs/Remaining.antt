@@ -144,7 +144,7 @@ module _ (old new : Machine) where
 
   backup_same : (actor : ℕ) (after : Option ℕ) (held : List Refusal) (answer : Result ImageReply Refusal) → BeginsBackup actor after held old new answer → Same
   backup_same actor after held (Ok x) h = h.1.2.contents
-  backup_same actor after held (Err e) h = refused_same (λ fails. ⊎_elim (λ log. log.7.contents) (λ file. file.3.contents) fails) h
+  backup_same actor after held (Err e) h = refused_same (λ fails. ⊎_elim (λ log. log.4.contents) (λ file. file.3.contents) fails) h
 
   finish_same : (actor : ℕ) (i : Picture) → Finishes actor i old new → Same
   finish_same actor i (inl h) = h.2.contents

@@ -159,7 +159,7 @@ module _ {S : Type 0} (told : S → Option History) (moment : S → ℕ) (faults
   good_dropped =
       let g = good_gone actor number (told hall.store) m hall.held is.good in
       record {
-        lawful = record { valid = g.lawful.valid; tied = g.lawful.tied; legal = g.lawful.legal };
+        lawful = record { valid = g.lawful.valid; tied = g.lawful.tied; legal = g.lawful.legal; short = g.lawful.short };
         stamped = record {
           few = g.stamped.few;
           rise = rise_later hall.held.opened m.moment (moment store) m.core.stamps is.good.stamped.rise (omega (arith, is.clock, since));
@@ -168,6 +168,7 @@ module _ {S : Type 0} (told : S → Option History) (moment : S → ℕ) (faults
         space = g.space;
         numbers = g.numbers;
         bytes = record { sized = g.bytes.sized; fronts = g.bytes.fronts };
+        listed = g.listed;
         kept = kept_dropped (told hall.store) (told store) did (clock hall.store) is.good.kept;
       }
 
@@ -210,7 +211,7 @@ module _ {S : Type 0} (told : S → Option History) (moment : S → ℕ) (faults
 
     good_replaced : IsGood (told store) (replaced_at actor number f (moment store) (faults store) m) (record hall.held { seats = seats })
     good_replaced = record {
-      lawful = record { valid = is.good.lawful.valid; tied = is.good.lawful.tied; legal = is.good.lawful.legal };
+      lawful = record { valid = is.good.lawful.valid; tied = is.good.lawful.tied; legal = is.good.lawful.legal; short = is.good.lawful.short };
       stamped = record {
         few = is.good.stamped.few;
         rise = rise_later hall.held.opened m.moment (moment store) m.core.stamps is.good.stamped.rise (omega (arith, is.clock, since));
@@ -218,6 +219,7 @@ module _ {S : Type 0} (told : S → Option History) (moment : S → ℕ) (faults
       };
       space = space_edited actor number m.core f like t among filled is.good.space;
       numbers = numbers_edited actor number m.core f like is.good.numbers;
+      listed = is.good.listed;
       bytes = record {
         sized = is.good.bytes.sized;
         fronts = each_replaced actor number t m.core.tickets among (λ u. IsFront m.contents (inventory m.core) u.purpose u.size u.bytes) f is.good.bytes.fronts front;

@@ -58,9 +58,21 @@ use Rattle.hall.proofs.Refusing.{held_forgot}
 use Rattle.hall.proofs.Sighted.{sight_is, tickets_are}
 use Rattle.hall.proofs.VolumesStay.{KeepsVolume}
 
+-- ---- its record
+
+entry_bytes : (actor file : ℕ) → entry_form.spell (record { actor = actor; change = change.Reuse file }) ≡ to_be_bytes w32 actor ++ (20 ∷ to_be_bytes w32 file)
+unfolding entry_in change_form change_body data_body
+entry_bytes actor file = refl
+
+pub short_record : (actor file : ℕ) → length (entry_form.spell (record { actor = actor; change = change.Reuse file })) ≤ 2 ^ 24
+short_record actor file =
+    let bytes : length (entry_form.spell (record { actor = actor; change = change.Reuse file })) ≡ length (to_be_bytes w32 actor ++ (20 ∷ to_be_bytes w32 file)) = ap length (entry_bytes actor file) in
+    let long : length (to_be_bytes w32 actor ++ (20 ∷ to_be_bytes w32 file)) ≡ 9 = refl in
+    omega (arith, bytes, long)
+
 -- ---- a transaction without tickets
 
-none_among : (actor : ℕ) (ts : List Ticket) → without actor [] ts ≡ ts
+pub none_among : (actor : ℕ) (ts : List Ticket) → without actor [] ts ≡ ts
 none_among actor [] = refl
 none_among actor (t ∷ ts) =
     ap (λ b. if not b then t ∷ without actor [] ts else without actor [] ts) (and_false (t.actor == actor)) ∙ ap (λ (l : List Ticket). t ∷ l) (none_among actor ts)
@@ -103,6 +115,7 @@ module _ (actor file : ℕ) (c : Core) where
     draws = tt;
     bound = n.bounds.0;
     further = omega arith;
+    short = short_record actor file;
   }
 
 -- ---- the volume
@@ -137,6 +150,14 @@ LeavesValid =
     (j : Journal) (file : ℕ) (v : Inv) → is_valid v ≡ true → IsTied v → causes j (change.Reuse file) v ≡ [] → sizes_refused (change.Reuse file) v ≡ []
     → (is_valid (effect (change.Reuse file) v) ≡ true) × IsTied (effect (change.Reuse file) v)
 
+-- where none of these causes refuses a change, and what it leaves is valid, nothing does
+pub as_valid : (P : Refusal → Type 0) (es : List Refusal) → AllByRecursion P es → (b : Bool) → (es ≡ [] → b ≡ true) → AllByRecursion P (listed (then_valid (foremost es) b))
+as_valid P es all b valid = go (foremost es) refl b refl where
+  go : (o : Option Refusal) → foremost es ≡ o → (t : Bool) → b ≡ t → AllByRecursion P (listed (then_valid o t))
+  go (Some e) at t is = (foremost-all P es all e at, tt)
+  go None at true is = tt
+  go None at false is = absurd (false≢true (sym is ∙ valid (nothing es at)))
+
 module _ (P : Refusal → Type 0) (none : P refusal.NotFound) (used : (object : ℕ) → P (refusal.InUse (by.Object object))) (early : (file day : ℕ) → P (refusal.NotYet file day)) (full : P refusal.InventoryFull)
     (busy : (n : ℕ) → P (refusal.Busy (holder.Ticket n))) where
   held_all : (test : Ticket → Bool) (ts : List Ticket) → AllByRecursion P (held_by test ts)
@@ -145,17 +166,10 @@ module _ (P : Refusal → Type 0) (none : P refusal.NotFound) (used : (object : 
     go None = tt
     go (Some t) = (busy t.number, tt)
 
-  as_valid : (es : List Refusal) → AllByRecursion P es → (b : Bool) → (es ≡ [] → b ≡ true) → AllByRecursion P (listed (then_valid (foremost es) b))
-  as_valid es all b valid = go (foremost es) refl b refl where
-    go : (o : Option Refusal) → foremost es ≡ o → (t : Bool) → b ≡ t → AllByRecursion P (listed (then_valid o t))
-    go (Some e) at t is = (foremost-all P es all e at, tt)
-    go None at true is = tt
-    go None at false is = absurd (false≢true (sym is ∙ valid (nothing es at)))
-
   rules_all : LeavesValid → (j : Journal) (file : ℕ) (v : Inv) → is_valid v ≡ true → IsTied v → AllByRecursion P (listed (refused j (change.Reuse file) v))
   unfolding refused
   rules_all leaves j file v valid tied =
-      as_valid (causes j (change.Reuse file) v ++ sizes_refused (change.Reuse file) v)
+      as_valid P (causes j (change.Reuse file) v ++ sizes_refused (change.Reuse file) v)
       (append-all P (causes j (change.Reuse file) v) (sizes_refused (change.Reuse file) v) (reuse_all P none used early file v.today v.stores (row_at file v.stores.volumes))
       (append-all P (unless (nat_le (count_items (effect (change.Reuse file) v)) most_items) refusal.InventoryFull) (unless (nat_lt (v.number + 1) (2 ^ 62)) refusal.InventoryFull)
       (unless-all P (nat_le (count_items (effect (change.Reuse file) v)) most_items) refusal.InventoryFull full) (unless-all P (nat_lt (v.number + 1) (2 ^ 62)) refusal.InventoryFull full)))
@@ -246,15 +260,3 @@ memory_listed file e is = ap (λ x. is_listed (Reuse file (Err x))) is
 pub number_listed : (file number : ℕ) → is_listed (Reuse file (Ok number)) ≡ true
 unfolding is_listed
 number_listed file number = refl
-
--- ---- its record
-
-entry_bytes : (actor file : ℕ) → entry_form.spell (record { actor = actor; change = change.Reuse file }) ≡ to_be_bytes w32 actor ++ (20 ∷ to_be_bytes w32 file)
-unfolding entry_in change_form change_body data_body
-entry_bytes actor file = refl
-
-pub short_record : (actor file : ℕ) → length (entry_form.spell (record { actor = actor; change = change.Reuse file })) ≤ 2 ^ 24
-short_record actor file =
-    let bytes : length (entry_form.spell (record { actor = actor; change = change.Reuse file })) ≡ length (to_be_bytes w32 actor ++ (20 ∷ to_be_bytes w32 file)) = ap length (entry_bytes actor file) in
-    let long : length (to_be_bytes w32 actor ++ (20 ∷ to_be_bytes w32 file)) ≡ 9 = refl in
-    omega (arith, bytes, long)

@@ -63,14 +63,14 @@ use Rattle.hall.proofs.FreedFiles.{none_new}
 use Rattle.hall.proofs.JoinedBytes.{bytes_joined}
 use Rattle.hall.proofs.JoinedCore.{core_doubted, core_waiting}
 use Rattle.hall.proofs.JoinedFreed.{TakesAway, number_behind}
-use Rattle.hall.proofs.JoinedKept.{doubted_kept, lawful_joined, waiting_kept}
+use Rattle.hall.proofs.JoinedKept.{doubted_kept, lawful_joined, listed_joined, waiting_kept}
 use Rattle.hall.proofs.JoinedNumbers.{numbers_joined}
 use Rattle.hall.proofs.JoinedSpace.{space_joined}
 use Rattle.hall.proofs.Joining.{Joins, inventory_last, last, long, spent, valid_now}
 use Rattle.hall.proofs.Lists.{each_kept}
 use Rattle.hall.proofs.PlacesChosen.{row_volume}
 use Rattle.hall.proofs.Reusable.{fault_listed, made_alone, may_begin, memory_listed, no_ticket, number_listed, on_cited, reuse_joins, reused_there, short_record}
-use Rattle.hall.proofs.Stamped.{IsNearlyGood, core_forced, core_halted, nearly_halted, nearly_stamped}
+use Rattle.hall.proofs.Stamped.{IsNearlyGood, core_forced, core_halted, listed_stamped, nearly_halted, nearly_stamped}
 use Rattle.hall.proofs.Stamping.{rise_later, rise_over}
 use Rattle.hall.proofs.Takes.{takes_joined}
 
@@ -249,6 +249,7 @@ module _ {S : Type 0} (told : S → Option History) (moment : S → ℕ) (faults
         clock = refl;
         counts = refl;
         good = nearly_stamped (told store) (waiting_at m) waiting_held (all_forced w) (moment store) (faults store) c.image c.generation c.log_length waiting_held.image waiting_held.job b.good later
+            (λ none. listed_stamped (moment store) c c.image b.good.few (listed_joined actor x [] m.core is.good.lawful (may m is).joins is.good.stamped.few (is.good.listed none)))
             (kept_from told moment mid store hall.held.base hall.held.opened OursOrGone (Empties file (Ok number) w (all_forced w)) (IsKept (waiting_at m) waiting_held) (IsKept final_at final_held)
             (rise_over hall.held.opened (moment mid) c.stamps b.good.rise) clock did (empties_goes number) (cleared number) b.kept);
       }
@@ -385,7 +386,7 @@ module _ {S : Type 0} (told : S → Option History) (moment : S → ℕ) (faults
                 clock = refl;
                 counts = refl;
                 good = record {
-                  lawful = record { valid = lawful.valid; tied = lawful.tied; legal = lawful.legal };
+                  lawful = record { valid = lawful.valid; tied = lawful.tied; legal = lawful.legal; short = lawful.short };
                   stamped = record {
                     few = (let more = long actor x [] m.core in omega (arith, more, few));
                     rise = rise_later hall.held.opened m.moment (moment mid) m.core.stamps is.good.stamped.rise (omega (arith, is.clock, since));
@@ -394,6 +395,7 @@ module _ {S : Type 0} (told : S → Option History) (moment : S → ℕ) (faults
                   space = record { filled = space.filled; clear = space.clear; apart = space.apart };
                   numbers = record { tickets = numbers.tickets; below = numbers.below; objects = numbers.objects; apart = numbers.apart; pools = numbers.pools; files = numbers.files; lying = numbers.lying; none_back = numbers.none_back; next_file = numbers.next_file; next_object = numbers.next_object; bounds = numbers.bounds };
                   bytes = record { sized = bytes.sized; fronts = bytes.fronts };
+                  listed = λ no. absurd (no_doubt no);
                   kept = kept_from told moment hall.store mid hall.held.base hall.held.opened IsOurs (Waits {T = ℕ} {E = Refusal} meaning hall.held.vault e (Err why) doubted_vault) (IsKept m hall.held) (IsKept (doubted_at m) doubted_held)
                       (opened_before m is) clock did (λ h new r. ours_alone hall.held.vault.generation h new r.goes)
                       (λ h new r to k.

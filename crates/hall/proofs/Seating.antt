@@ -53,11 +53,12 @@ module _ (tickets : List Ticket) (file object number : ℕ) where
       → ((h : History) → AllByRecursion (HasTaken h) m.core.tickets → AllByRecursion (HasTaken h) tickets)
       → IsGood told (seated_machine tickets file object number m) (seated_held seats claims o n held)
   good_seated told m held seats claims o n g space numbers fronts taken = record {
-    lawful = record { valid = g.lawful.valid; tied = g.lawful.tied; legal = g.lawful.legal };
+    lawful = record { valid = g.lawful.valid; tied = g.lawful.tied; legal = g.lawful.legal; short = g.lawful.short };
     stamped = record { few = g.stamped.few; rise = g.stamped.rise; waiting = g.stamped.waiting };
     space = space;
     numbers = numbers;
     bytes = record { sized = g.bytes.sized; fronts = fronts };
+    listed = g.listed;
     kept = if_some_also (λ h. WasSound held.base held.opened h → IsKept m held h)
         (λ h. WasSound held.base held.opened h → IsKept (seated_machine tickets file object number m) (seated_held seats claims o n held) h) told
         (λ h kept sound. let k = kept sound in kept_seated m held seats claims o n h k (taken h k.tickets)) g.kept;

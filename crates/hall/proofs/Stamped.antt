@@ -9,13 +9,14 @@ use Rattle.entries.specs.declared.entry.Entry.{Entry}
 use Rattle.db_image.specs.Steps.{Job}
 use Rattle.inventory_laws.proofs.Lists.{each_also}
 use Rattle.inventory_rows.specs.State.{Inv}
+use Rattle.inventory_rules.specs.Backups.{backup_at, is_unfinished}
 use Rattle.space.specs.Claims.{forced as none_freed}
 use Rattle.vault.specs.Pieces.{Pending}
 use Rattle.vault.specs.Vaults.{State, all_forced, halted_at, with_pending}
 use Rattle.machine.specs.Machine.{durable, freed, halting, space, stamped}
-use Rattle.machine.specs.State.{Core, Image, Machine, inventory, unforced}
-use Rattle.hall.specs.Covered.{IsClear, NumbersAreDrawn, SpaceIsClear, is_any_reuse, is_beside}
-use Rattle.hall.specs.Good.{HasBytes, IsGood, IsKept, IsLawful, Rise, WasSound}
+use Rattle.machine.specs.State.{Core, Image, Machine, backup, checkpoint, inventory, unforced}
+use Rattle.hall.specs.Covered.{IsClear, NumbersAreDrawn, SpaceIsClear, is_any_reuse, is_beside, left_open}
+use Rattle.hall.specs.Good.{HasBytes, IsGood, IsKept, IsLawful, IsListed, Rise, WasSound}
 use Rattle.hall.specs.Held.{BegunImage, Held, IsCore, IsImage, begun_of}
 use Rattle.hall.specs.Placed.{IsSpace}
 use Rattle.hall.specs.Seats.{all_stamped, with_vault}
@@ -133,7 +134,7 @@ clear_stamped t c i generation long few s = record {
 }
 
 -- stamps, an image in progress and a fault change nothing of the numbers that were drawn
-numbers_same : (stamps : List ℕ) (i : Option Image) (generation long : ℕ) (fault : Option (ℕ × ℕ)) (c : Core) → NumbersAreDrawn c
+pub numbers_same : (stamps : List ℕ) (i : Option Image) (generation long : ℕ) (fault : Option (ℕ × ℕ)) (c : Core) → NumbersAreDrawn c
     → NumbersAreDrawn (record c { stamps = stamps; image = i; generation = generation; log_length = long; fault = fault })
 numbers_same stamps i generation long fault c n = record {
   tickets = n.tickets;
@@ -163,14 +164,28 @@ pub record IsNearlyGood (m : Machine) (held : Held) : Type 0 where
 pub nearly : (told : Option History) (m : Machine) (held : Held) → IsGood told m held → IsNearlyGood m held
 nearly told m held g = record { lawful = g.lawful; few = g.stamped.few; rise = g.stamped.rise; space = g.space; numbers = g.numbers; bytes = g.bytes }
 
+-- no checkpoint is listed
+pub checkpoint_unlisted : (list : List Inv) (i : Image) → i.picture ≡ checkpoint → IsListed list (Some i)
+checkpoint_unlisted list i is = λ other. let both : checkpoint ≡ backup = sym is ∙ other in absurd cc
+
+-- a backup that is listed wherever a stop may lead is listed now
+pub listed_stamped : (t : ℕ) (c : Core) (i : Option Image) → length c.stamps ≤ length c.journal → IsListed (left_open c) i → IsListed (left_open (stamped t c)) i
+listed_stamped t c None few h = tt
+listed_stamped t c (Some i) few h = λ is.
+    let was = h is in (
+      was.0,
+      subst (AllByRecursion (λ v. is_unfinished (backup_at i.file v) ≡ true)) (sym (left_alone (stamped t c) (all_have_stamps t c few)))
+          (last_left (λ v. is_unfinished (backup_at i.file v) ≡ true) c was.1, tt),
+    )
+
 -- every transaction has a stamp, and whatever image is in progress
 pub nearly_stamped : (after : Option History) (m : Machine) (held : Held) (next : State Inv) (t : ℕ) (counts : ℕ → ℕ) (i : Option Image) (generation long : ℕ) (b : Option BegunImage) (job : Option Job)
-    → IsNearlyGood m held → m.moment ≤ t
+    → IsNearlyGood m held → m.moment ≤ t → (m.core.fault ≡ None → IsListed (left_open (stamped t m.core)) i)
     → IfSome after (λ h. WasSound held.base held.opened h
     → IsKept (record m { core = imaged i generation long (stamped t m.core); moment = t; counts = counts }) (record (all_stamped t (with_vault next held)) { image = b; job = job }) h)
     → IsGood after (record m { core = imaged i generation long (stamped t m.core); moment = t; counts = counts }) (record (all_stamped t (with_vault next held)) { image = b; job = job })
-nearly_stamped after m held next t counts i generation long b job g since kept = record {
-  lawful = record { valid = g.lawful.valid; tied = g.lawful.tied; legal = g.lawful.legal };
+nearly_stamped after m held next t counts i generation long b job g since listed kept = record {
+  lawful = record { valid = g.lawful.valid; tied = g.lawful.tied; legal = g.lawful.legal; short = g.lawful.short };
   stamped = record {
     few = let all = all_have_stamps t m.core g.few in omega (arith, all);
     rise = rise_more (length (unforced m.core)) held.opened m.moment t m.core.stamps g.rise since;
@@ -179,26 +194,29 @@ nearly_stamped after m held next t counts i generation long b job g since kept =
   space = clear_stamped t m.core i generation long g.few g.space;
   numbers = numbers_same (stamped t m.core).stamps i generation long m.core.fault m.core g.numbers;
   bytes = record { sized = g.bytes.sized; fronts = g.bytes.fronts };
+  listed = listed;
   kept = kept;
 }
 
 pub good_stamped : (before after : Option History) (m : Machine) (held : Held) (next : State Inv) (t : ℕ) (counts : ℕ → ℕ) (i : Option Image) (generation long : ℕ) (b : Option BegunImage) (job : Option Job)
-    → IsGood before m held → m.moment ≤ t
+    → IsGood before m held → m.moment ≤ t → (m.core.fault ≡ None → IsListed (left_open (stamped t m.core)) i)
     → IfSome after (λ h. WasSound held.base held.opened h
     → IsKept (record m { core = imaged i generation long (stamped t m.core); moment = t; counts = counts }) (record (all_stamped t (with_vault next held)) { image = b; job = job }) h)
     → IsGood after (record m { core = imaged i generation long (stamped t m.core); moment = t; counts = counts }) (record (all_stamped t (with_vault next held)) { image = b; job = job })
-good_stamped before after m held next t counts i generation long b job g since kept = nearly_stamped after m held next t counts i generation long b job (nearly before m held g) since kept
+good_stamped before after m held next t counts i generation long b job g since listed kept = nearly_stamped after m held next t counts i generation long b job (nearly before m held g) since listed kept
 
 -- the image in progress went on
 pub good_further : (before after : Option History) (m : Machine) (held : Held) (next : State Inv) (t : ℕ) (counts : ℕ → ℕ) (i : Option Image) (generation long : ℕ) → IsGood before m held → m.moment ≤ t
+    → (m.core.fault ≡ None → IsListed (left_open m.core) i)
     → IfSome after (λ h. WasSound held.base held.opened h → IsKept (record m { core = imaged i generation long m.core; moment = t; counts = counts }) (with_vault next held) h)
     → IsGood after (record m { core = imaged i generation long m.core; moment = t; counts = counts }) (with_vault next held)
-good_further before after m held next t counts i generation long g since kept = record {
-  lawful = record { valid = g.lawful.valid; tied = g.lawful.tied; legal = g.lawful.legal };
+good_further before after m held next t counts i generation long g since listed kept = record {
+  lawful = record { valid = g.lawful.valid; tied = g.lawful.tied; legal = g.lawful.legal; short = g.lawful.short };
   stamped = record { few = g.stamped.few; rise = rise_later held.opened m.moment t m.core.stamps g.stamped.rise since; waiting = g.stamped.waiting };
   space = record { filled = g.space.filled; clear = g.space.clear; apart = g.space.apart };
   numbers = numbers_same m.core.stamps i generation long m.core.fault m.core g.numbers;
   bytes = record { sized = g.bytes.sized; fronts = g.bytes.fronts };
+  listed = listed;
   kept = kept;
 }
 
@@ -207,11 +225,12 @@ pub nearly_halted : (after : Option History) (m : Machine) (held : Held) (next :
     → IfSome after (λ h. WasSound held.base held.opened h → IsKept (record m { core = halting file count m.core; moment = t; counts = counts }) (with_vault next held) h)
     → IsGood after (record m { core = halting file count m.core; moment = t; counts = counts }) (with_vault next held)
 nearly_halted after m held next t counts file count g since kept = record {
-  lawful = record { valid = g.lawful.valid; tied = g.lawful.tied; legal = g.lawful.legal };
+  lawful = record { valid = g.lawful.valid; tied = g.lawful.tied; legal = g.lawful.legal; short = g.lawful.short };
   stamped = record { few = g.few; rise = rise_later held.opened m.moment t m.core.stamps g.rise since; waiting = λ none. absurd cc };
   space = record { filled = g.space.filled; clear = g.space.clear; apart = g.space.apart };
   numbers = numbers_same m.core.stamps m.core.image m.core.generation m.core.log_length (Some (file, count)) m.core g.numbers;
   bytes = record { sized = g.bytes.sized; fronts = g.bytes.fronts };
+  listed = λ none. absurd cc;
   kept = kept;
 }
 

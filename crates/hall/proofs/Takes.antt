@@ -88,7 +88,7 @@ effect_copies x v = refl
 
 -- ---- nothing goes
 
-quiet : (x : Change) (v : Inv) → taken_by x v ≡ [] → AllByRecursion (Contains (copies (effect x v))) (copies v) → TakesAway x v
+pub quiet : (x : Change) (v : Inv) → taken_by x v ≡ [] → AllByRecursion (Contains (copies (effect x v))) (copies v) → TakesAway x v
 quiet x v none stays = record {
   noted = subst (λ l. AllByRecursion (λ s. (p : Placed) × Contains l p × (p.segment ≡ s)) (left_by v (effect x v))) (sym none)
       (all_left_noted v (effect x v) [] (each_also (Contains (copies (effect x v))) (λ e. Contains {X = ℕ × CopyRow} [] e ⊎ Contains (copies (effect x v)) e) (copies v) (λ e there. inr there) stays));

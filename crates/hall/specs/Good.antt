@@ -1,14 +1,15 @@
 -- What is kept of a hall at every moment.
-use Rattle.std.specs.Prelude.{◌≡◌, ◌⊎◌, ℕ, ◌+◌, ◌-◌, ◌≤◌, is_some, true, false, List, [], ◌∷◌, length, take, drop, Option, None, Some, IfSome}
+use Rattle.std.specs.Prelude.{◌≡◌, ◌⊎◌, ℕ, ◌+◌, ◌-◌, ◌≤◌, ◌^◌, is_some, true, false, List, [], ◌∷◌, length, take, drop, Option, None, Some, IfSome}
 use Rattle.std.specs.List.{AllByRecursion, slice_get}
 use Rattle.store_api.specs.Disk.{History, reads, now, ImageAt}
 use Rattle.fields.specs.Editions.{second_form}
+use Rattle.entries.specs.EntryForm.{entry as entry_form}
 use Rattle.entries.specs.declared.entry.Entry.{Entry}
 use Rattle.contents.specs.Contents.{FramesHave, HaveAll, Holds, InImage, InStore, TookHave}
 use Rattle.inventory.specs.Meant.{meaning}
 use Rattle.inventory_rows.specs.Search.{version, versions}
 use Rattle.inventory_rows.specs.State.{Inv}
-use Rattle.inventory_rules.specs.Backups.{backup_at}
+use Rattle.inventory_rules.specs.Backups.{backup_at, is_unfinished}
 use Rattle.inventory_rules.specs.Run.{journal_of}
 use Rattle.inventory_rules.specs.Transactions.{refused}
 use Rattle.inventory_rules.specs.Held.{IsTied}
@@ -20,17 +21,18 @@ use Rattle.log_file.specs.Safety.{acknowledged}
 use Rattle.vault.specs.Recovery.{RecoversWithin}
 use Rattle.vault.specs.Vaults.{State, IsHeld, IsLeft, IsPending}
 use Rattle.machine.specs.Machine.{durable}
-use Rattle.machine.specs.State.{Core, Image, Machine, Purpose, Ticket, copying, inventory, object_of, storing, unforced}
-use Rattle.hall.specs.Covered.{NumbersAreDrawn, SpaceIsClear, covered, inv_at, is_any_reuse}
+use Rattle.machine.specs.State.{Core, Image, Machine, Purpose, Ticket, backup, copying, inventory, object_of, storing, unforced}
+use Rattle.hall.specs.Covered.{NumbersAreDrawn, SpaceIsClear, covered, inv_at, is_any_reuse, left_open}
 use Rattle.hall.specs.Held.{Hall, Held, IsCore}
 
 -- ---- transactions and stamps
 
--- The base is a valid database, and each transaction of the run was legal where it was made, as the run's journal up to there tells it.
+-- The base is a valid database, and each transaction of the run was legal where it was made, as the run's journal up to there tells it, and it has few enough bytes for a record.
 pub record IsLawful (c : Core) : Type 0 where
   pub valid : is_valid c.base ≡ true
   pub tied : IsTied c.base
   pub legal : (i : ℕ) (e : Entry) → slice_get c.journal i ≡ Some e → refused (journal_of c.base (take i c.journal)) e.change (inv_at i c) ≡ None
+  pub short : AllByRecursion (λ e. length (entry_form.spell e) ≤ 2 ^ 24) c.journal
 
 -- stamps don't fall, and lie between two moments; the oldest comes first
 abbrev pub Rise : (first last : ℕ) → List ℕ → Type 0
@@ -131,7 +133,13 @@ pub record IsKept (m : Machine) (held : Held) (h : History) : Type 0 where
   pub tickets : AllByRecursion (HasTaken h) m.core.tickets
   pub image : m.core.fault ≡ None → AllInProgress m.core held m.core.image h
 
--- A hall is good: its transactions are lawful and its stamps in order, the space of its tickets is clear, its numbers are drawn, and its objects have bytes; and over a store that tells its bytes
+-- a backup in progress is listed and not whole yet, in each of these databases
+abbrev pub IsListed : List Inv → Option Image → Type 0
+IsListed list None = Unit {0}
+IsListed list (Some i) = i.picture ≡ backup → (4 ≤ i.file) × AllByRecursion (λ v. is_unfinished (backup_at i.file v) ≡ true) list
+
+-- A hall is good: its transactions are lawful and its stamps in order, the space of its tickets is clear, its numbers are drawn, and its objects have bytes; while no fault has halted it, a backup
+-- in progress is listed in each database that a stop may bring back, and not whole yet; and over a store that tells its bytes
 -- and was sound when it was opened no stop takes away what it keeps.
 pub record IsGood (told : Option History) (m : Machine) (held : Held) : Type 0 where
   pub lawful : IsLawful m.core
@@ -139,6 +147,7 @@ pub record IsGood (told : Option History) (m : Machine) (held : Held) : Type 0 w
   pub space : SpaceIsClear m.core
   pub numbers : NumbersAreDrawn m.core
   pub bytes : HasBytes m.contents m.core
+  pub listed : m.core.fault ≡ None → IsListed (left_open m.core) m.core.image
   pub kept : IfSome told (λ h. WasSound held.base held.opened h → IsKept m held h)
 
 -- The hall is in this state of the machine, and good. `told`, `moment` and `faults` are its store's.

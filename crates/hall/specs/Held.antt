@@ -3,6 +3,7 @@ use Rattle.std.specs.Prelude.{◌≡◌, ℕ, ◌+◌, ◌-◌, ◌<◌, ◌≤�
 use Rattle.sha2.specs.Hashers.{Holds256}
 use Rattle.sha2.specs.Sha256.{sha256}
 use Rattle.kinds.specs.ValueForms.{digest_with}
+use Rattle.db_image.specs.declared.mark.Mark.TheVariants.{Backup}
 use Rattle.db_image.specs.declared.phase.Phase.{Phase}
 use Rattle.db_image.specs.declared.phase.Phase.TheVariants as phase
 use Rattle.db_image.specs.Steps.{IsWithin, Job}
@@ -82,10 +83,20 @@ AreSeatsOf [] [] = Unit {0}
 AreSeatsOf (e ∷ seats) (t ∷ tickets) = IsSeatOf e.0 e.1 t × AreSeatsOf seats tickets
 AreSeatsOf _ _ = ⊥
 
+-- what an image is of: a backup where it has a writer of its own, and else the vault's checkpoint
+abbrev pub picture_of : Option Job → Picture
+picture_of None = checkpoint
+picture_of (Some job) = backup
+
 -- an image in progress as it is held
 abbrev pub image_in : Option Seated → Option BegunImage
 image_in None = None
-image_in (Some i) = Some (record { actor = i.actor; picture = checkpoint; file = i.file; seq = i.seq })
+image_in (Some i) = Some (record { actor = i.actor; picture = picture_of i.backup; file = i.file; seq = i.seq })
+
+-- what a backup in progress has still to write
+abbrev pub job_in : Option Seated → Option Job
+job_in None = None
+job_in (Some i) = i.backup
 
 -- what is held of an image of the machine
 abbrev pub begun_of : Option Image → Option BegunImage
@@ -112,10 +123,23 @@ pub record IsCheckpoint (first generation : ℕ) (pending : Pending) (i : Image)
   pub unwritten : i.unwritten ≡ unwritten_at pending.job.phase (length pending.job.payload)
   pub copied : i.copied ≡ pending.copied - pending.start
 
--- a backup in progress is the one that is written
+-- a call on its file failed
+abbrev pub has_failed : Phase → Bool
+has_failed phase.Failed = true
+has_failed phase.Begun = false
+has_failed (phase.Written written) = false
+has_failed phase.Durable = false
+has_failed phase.Open = false
+
+-- A backup in progress is the one that is written, with its number behind a backup's mark. Its payload isn't empty, and no call on its file failed.
 pub record IsBackup (job : Job) (i : Image) : Type 0 where
   pub picture : i.picture ≡ backup
   pub file : i.file ≡ job.file
+  pub mark : job.mark ≡ Backup
+  pub number : job.number ≡ i.seq
+  pub going : has_failed job.phase ≡ false
+  pub within : IsWithin job.phase (length job.payload)
+  pub some : 0 < length job.payload
   pub unwritten : i.unwritten ≡ unwritten_at job.phase (length job.payload)
   pub copied : i.copied ≡ 0
 

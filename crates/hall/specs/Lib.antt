@@ -1,4 +1,5 @@
 pub mod Alone
+pub mod Backing
 pub mod Beside
 pub mod Commits
 pub mod Copying
@@ -13,6 +14,7 @@ pub mod Noted
 pub mod Opening
 pub mod Placed
 pub mod Plays
+pub mod Protected
 pub mod Reading
 pub mod Reusing
 pub mod Seats

@@ -1,5 +1,5 @@
 //! Checkpoints: images of the database that are written piece by piece.
-ghost use Rattle.std.specs.Prelude.{◌≡◌, ◌+◌, ◌<◌, ◌≤◌, ◌^◌, None, true, is_some, length, IfErr, IfOk, IsSome, OnErr, OnOk};
+ghost use Rattle.std.specs.Prelude.{◌≡◌, ◌⊎◌, ◌+◌, ◌<◌, ◌≤◌, ◌^◌, None, true, is_some, length, IfErr, IfOk, IsSome, OnErr, OnOk};
 ghost use Rattle.store_api.specs.Cause.{NoneFell};
 ghost use Rattle.store_api.specs.Runs.{GoesOn};
 ghost use Rattle.store_api.specs.Told.{Told};
@@ -11,6 +11,7 @@ ghost use Rattle.steps.specs.Events.{is_listed};
 ghost use Rattle.steps.specs.Events.Deed.{Image};
 ghost use Rattle.steps.specs.declared.image.ImageKind.TheVariants.{Checkpoint, Next};
 ghost use Rattle.steps.specs.declared.image.ImageReply.TheVariants.{Begun};
+ghost use Rattle.hall.specs.Backing.{IsFileOf};
 ghost use Rattle.hall.specs.Imaging.{GoesFurther, checkpoint_begun, checkpoint_refused, own_begun, progress_of};
 ghost use Rattle.hall.specs.Seats.{with_vault};
 ghost use Rattle.hall.specs.Steps.{Goes, Steps};
@@ -45,8 +46,7 @@ impl Parts {
 
     /// The image in progress is the actor's.
     pub(crate) fn has_image(&self, actor: u32) -> bool
-        ensures own { result ≡ is_some (own_begun actor self.now.image) }
-        ensures checkpoint { self.now.job ≡ None }
+        ensures { result ≡ is_some (own_begun actor self.now.image) }
     {
         match &self.image {
             Some(image) => image.actor == actor,
@@ -64,6 +64,7 @@ impl Parts {
         requires time { S.moment_of store.old + 11 ≤ 2 ^ 62 }
         requires few { length self.old.stamps ≤ length self.old.vault.journal }
         requires number { self.old.vault.generation + 1 < 2 ^ 62 }
+        requires none { self.old.job ≡ None }
         ensures told { Told (S.told store.old) (S.told store.new) (Begins meaning self.old.vault result self.new.vault) }
         ensures ok { OnOk result (self.new ≡ checkpoint_begun actor (S.moment_of store.new) self.new.vault self.old) }
         ensures begun { OnOk result (IsBegun meaning self.old.vault self.new.vault) }
@@ -76,7 +77,12 @@ impl Parts {
     {
         match self.vault.begin_checkpoint(self.alloc, store) {
             Ok((file, seq)) => {
-                self.image = Some(Seated { actor, file, seq });
+                self.image = Some(Seated {
+                    actor,
+                    file,
+                    seq,
+                    backup: None,
+                });
                 self.stamp(store.moment());
                 Ok(ImageReply::Begun { file, seq })
             }
@@ -92,6 +98,7 @@ impl Parts {
         requires number { self.old.vault.generation + 1 < 2 ^ 62 }
         requires begun { IsSome self.old.vault.pending }
         requires image { IsSome self.old.image }
+        requires checkpoint { self.old.job ≡ None }
         ensures told { Told (S.told store.old) (S.told store.new) (Pieced meaning self.old.vault (progress_of result) self.new.vault) }
         ensures ok { IfOk result (GoesFurther (S.moment_of store.new) self.old self.new) }
         ensures same { OnErr result (self.new ≡ with_vault self.new.vault self.old) }
@@ -137,24 +144,29 @@ impl<S: Store> Hall<S> {
     }
 
     /// Goes on with the image that the actor has begun. It writes at most 65,536 bytes of the payload, or copies at most 65,536 bytes of records of the transactions that were committed
-    /// since, or one record, and answers `More`. Where none is left it forces what waits, makes the image whole and its log the log, and answers `Done` with the number of the transaction
-    /// whose database the image is; then each transaction that had no stamp gets the store's moment at the return. Refused with `RunFull` where the store's moment is 2^62 - 2^24 or a later
-    /// one; with `LogFault` where a fault has halted the hall, or a call on an image or a log failed, by which it is halted; with `NotFound` where the actor has begun none; and with
-    /// `Memory`. It makes 6 device calls at most.
+    /// since a checkpoint's begin, or one record, and answers `More`. Where none is left of a checkpoint it forces what waits, makes the image whole and its log the log, and answers `Done` with
+    /// the number of the transaction whose database the image is; then each transaction that had no stamp gets the store's moment at the return. Where none is left of a database backup it opens
+    /// the backup's gate, makes the transaction by which the backup is whole, which waits for a force, and answers `Done` with the number of the backup. Refused with `RunFull` where the
+    /// store's moment is 2^62 - 2^24 or a later one; with `LogFault` where a fault has halted the hall, or a call on an image or a log failed, by which it is halted; with `NotFound` where the
+    /// actor has begun none; with `WriteFault` where a call on a backup's file failed, and with `InventoryFull` where the number of its last transaction would reach its bound: then the
+    /// backup isn't in progress any more; and with `Memory`. It makes 7 device calls at most.
     pub fn next_image(&mut self, actor: u32) -> Result<ImageReply, Refusal>
         ensures step { Steps S.told S.moment_of S.faults_of actor (Image Next result) self.old self.new }
         ensures listed { is_listed (Image Next result) ≡ true }
         ensures goes { Goes S.told self.old self.new }
-        ensures time { S.moment_of self.new.store ≤ S.moment_of self.old.store + 6 }
+        ensures time { S.moment_of self.new.store ≤ S.moment_of self.old.store + 7 }
         ensures later { S.moment_of self.old.store ≤ S.moment_of self.new.store }
         ensures counts { NoneFell (S.faults_of self.old.store) (S.faults_of self.new.store) }
-        ensures files { Told (S.told self.old.store) (S.told self.new.store) (GoesOn IsOurs) }
+        ensures files { Told (S.told self.old.store) (S.told self.new.store) (GoesOn (λ n. IsOurs n ⊎ IsFileOf self.old.held.job n)) }
     {
         if let Some(refusal) = self.parts.ended(self.store.moment()) {
             return Err(refusal);
         }
         if !self.parts.has_image(actor) {
             return Err(Refusal::NotFound);
+        }
+        if self.parts.is_in_backup() {
+            return self.next_backup(actor);
         }
         self.parts.next_image(&mut self.store)
     }

@@ -3,6 +3,7 @@
 #![tactic(auto)]
 
 mod asked;
+mod backups;
 mod begin;
 mod changes;
 mod committing;

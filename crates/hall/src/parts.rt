@@ -46,15 +46,14 @@ pub(crate) struct Parts {
 }
 
 impl Model for Parts {
-    ghost use Rattle.std.specs.Prelude.{None};
     ghost use Rattle.std.specs.Vec.{vec_capacity};
-    ghost use Rattle.hall.specs.Held.{Held, image_in};
+    ghost use Rattle.hall.specs.Held.{Held, image_in, job_in};
     ghost use Rattle.hall.specs.Noted.{IsNoted};
     ghost use Rattle.kept_index.specs.Kept.{IsKeptOf};
 
     ghost Value = { Held };
 
-    ghost view = { λ p. record { base = p.base; opened = p.opened; vault = p.vault; stamps = p.stamps.items; seats = p.seats.entries; claims = p.space; next_object = p.next_object; next_ticket = p.next_ticket; image = image_in p.image; job = None } };
+    ghost view = { λ p. record { base = p.base; opened = p.opened; vault = p.vault; stamps = p.stamps.items; seats = p.seats.entries; claims = p.space; next_object = p.next_object; next_ticket = p.next_ticket; image = image_in p.image; job = job_in p.image } };
 
     // There is room for the stamp of each transaction, so that forcing takes no memory; what is told of the run is its journal's; and the index is that of the database and of the space
     // that is held beside its copies.

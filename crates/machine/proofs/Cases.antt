@@ -130,7 +130,7 @@ copy-fails actor number old new e (inl h) = elsewhere-by e refusal.Unavailable r
 copy-fails actor number old new e (inr h) = dropped actor number old new e h
 
 begin-fails : (actor : ℕ) (after : Option ℕ) (old new : Machine) (e : Refusal) → BackupFails actor after old e new → is_elsewhere e ≡ true
-begin-fails actor after old new e (inl h) = elsewhere-by e (refusal.LogFault h.0 h.1) refl h.4
+begin-fails actor after old new e (inl h) = elsewhere-by e (refusal.LogFault h.0 h.1) refl h.2
 begin-fails actor after old new e (inr h) = elsewhere-by e (refusal.WriteFault old.core.next_file) refl h.1
 
 says-begun : (actor : ℕ) (after : Option ℕ) (kind : ImageKind) (old new : Machine) (answer : Result ImageReply Refusal)

@@ -356,15 +356,8 @@ backup-begins actor after kind held old new (Ok told) joins doubt nothing stays 
 backup-begins actor after kind held old new (Err e) joins doubt nothing stays is h = elim h as (λ _. Leads actor (Image kind (Err e)) old new) [
   | inl s ↦ stays-led actor (Image kind (Err e)) old new s.1 (nothing e) refl (stays e)
   | inr f ↦ elim f.1 as (λ _. Leads actor (Image kind (Err e)) old new) [
-    | inl d ↦ (let log : (is_log_fault e || is_write_fault e) ≡ true = in-doubt e (refusal.LogFault d.0 d.1) refl d.4 in
-        elim d.6 as (λ _. Leads actor (Image kind (Err e)) old new) [
-          | inl s ↦ or-stamped actor (Image kind (Err e)) old d.0 d.1 d.2 d.3 new.core d.7.core (inl s) (nothing e) refl (stays e)
-          | inr rest ↦ elim rest as (λ _. Leads actor (Image kind (Err e)) old new) [
-            | inl s ↦ or-stamped actor (Image kind (Err e)) old d.0 d.1 d.2 d.3 new.core d.7.core (inr s) (nothing e) refl (stays e)
-            | inr s ↦ joining actor (Image kind (Err e)) old (halting d.0 d.1 d.3) new.core (change.DbBegin old.core.next_file after) d.7.core
-                (ap (λ (c : Core). c.base) s) (ap (λ (c : Core). c.journal) s) (ap (λ (c : Core). c.tickets) s) (ap (λ (c : Core). c.image) s) (doubt e old.core.next_file log) refl (stays e)
-          ]
-        ])
+    | inl d ↦ joining actor (Image kind (Err e)) old (halting d.0 d.1 (begun actor after old.core)) new.core (change.DbBegin old.core.next_file after) d.4.core refl refl refl refl
+        (doubt e old.core.next_file (in-doubt e (refusal.LogFault d.0 d.1) refl d.2)) refl (stays e)
     | inr d ↦ joining actor (Image kind (Err e)) old (stamped d.0 (begun actor after old.core)) new.core (change.DbBegin old.core.next_file after) d.3.core refl refl refl refl
         (doubt e old.core.next_file (in-doubt e (refusal.WriteFault old.core.next_file) refl d.1)) refl (stays e)
   ]

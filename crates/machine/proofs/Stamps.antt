@@ -120,13 +120,7 @@ begins-backup actor after held old new (Ok told) h = stamped-by new.moment (begu
 begins-backup actor after held old new (Err e) h = elim h [
   | inl s ↦ stays old new s.1
   | inr f ↦ elim f.1 [
-    | inl d ↦ elim d.6 [
-      | inl s ↦ or-stamped d.2 d.3 _ old new d.7 refl (inl s)
-      | inr rest ↦ elim rest [
-        | inl s ↦ or-stamped d.2 d.3 _ old new d.7 refl (inr s)
-        | inr s ↦ stamped-by d.2 old.core _ old new d.7 (ap (λ (c : Core). c.stamps) s) refl
-      ]
-    ]
+    | inl d ↦ becomes _ old new d.4 refl
     | inr d ↦ stamped-by d.0 (begun actor after old.core) _ old new d.3 refl refl
   ]
 ]

@@ -385,10 +385,6 @@ begun_change after c = change.DbBegin c.next_file after
 abbrev pub begun : (actor : ℕ) → (after : Option ℕ) → Core → Core
 begun actor after c = made actor (begun_change after c) c
 
--- all are forced, then the backup's transaction joins and is forced; each of these may have been done where a fault came
-abbrev pub LeavesBegun : (actor : ℕ) → (after : Option ℕ) → (moment : ℕ) → Core → Core → Type 0
-LeavesBegun actor after moment c left = (left ≡ c) ⊎ (left ≡ stamped moment c) ⊎ (left ≡ begun actor after (stamped moment c))
-
 -- all are forced, and the checkpoint's image is of the database as it is
 abbrev pub CheckpointBegun : (actor : ℕ) → Machine → ImageReply → Machine → Type 0
 CheckpointBegun actor old told new =
@@ -418,11 +414,10 @@ BackupBegun actor after old told new =
     × Becomes (with_image (Some (record { actor = actor; picture = backup; file = old.core.next_file; seq = (inventory old.core).number + 1; unwritten = unwritten; copied = 0 }))
     (stamped new.moment (begun actor after old.core))) old new
 
--- the log failed; or writing to the backup's file did, behind its transaction
+-- the log failed, and the backup's transaction is in doubt with all that wasn't forced; or writing to the backup's file did, behind its transaction
 abbrev pub BackupFails : (actor : ℕ) → (after : Option ℕ) → Machine → Refusal → Machine → Type 0
 BackupFails actor after old e new =
-    ((file : ℕ) × (count : ℕ) × (moment : ℕ) × (core : Core) × (e ≡ refusal.LogFault file count) × IsLogFault old new file count
-    × LeavesBegun actor after moment old.core core × Becomes (halting file count core) old new)
+    ((file : ℕ) × (count : ℕ) × (e ≡ refusal.LogFault file count) × IsLogFault old new file count × Becomes (halting file count (begun actor after old.core)) old new)
     ⊎ ((moment : ℕ) × (e ≡ refusal.WriteFault old.core.next_file) × RoseAt old.counts new.counts old.core.next_file
     × Becomes (stamped moment (begun actor after old.core)) old new)
 

@@ -5,7 +5,7 @@ use Rattle.steps.specs.Events.Deed.{Image}
 use Rattle.steps.specs.declared.image.ImageKind.TheVariants.{Checkpoint}
 use Rattle.vault.specs.Files.{IsOurs}
 use Rattle.hall.proofs.Imaged.{begin_listed, begin_stops, begins_files, begins_stay, checkpoints, image_listed}
-use Rattle.hall.proofs.Imaging.{may_begin, said_to_begin, time_to_begin}
+use Rattle.hall.proofs.Imaging.{may_begin, no_job, said_to_begin, time_to_begin}
 use Rattle.hall.proofs.Stepping.{goes_over, goes_seen, stays_seen, still_good}
 use Rattle.hall.proofs.hall.Hall.checkpoint.Goals as goal
 
@@ -70,3 +70,9 @@ returns-clause-goes g c =
     goes_over g.S.Store.told IsOurs (record { store = c.self.inside.store; held = c.self.inside.parts }) c.args.self.now (record { store = c.begin_image.new.store; held = c.begin_image.new.self })
     c.self.view_is same.0 same.1
     (begins_files c.self.inside.parts.vault c.begin_image.new.self.vault c.begin_image.result (g.S.Store.told c.self.inside.store) (g.S.Store.told c.begin_image.new.store) c.begin_image.ensures.told)
+
+pub begin_image-requires-clause-none : goal.begin_image-requires-clause-none
+begin_image-requires-clause-none g c =
+    let may = may_begin (g.S.Store.moment_of c.self.inside.store) c.self.inside.parts
+    (said_to_begin c.moment.result (g.S.Store.moment_of c.self.inside.store) c.self.inside.parts c.checkpoint_refused.result None c.moment.ensures c.checkpoint_refused.ensures c.in_default.is) in
+    no_job g.S.Store.told g.S.Store.moment_of g.S.Store.faults_of (record { store = c.self.inside.store; held = c.self.inside.parts }) c.self.invariant may.free may.none
