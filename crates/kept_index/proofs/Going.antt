@@ -22,7 +22,7 @@ use Rattle.inventory_rows.specs.object_rows.Rows.{Rows, rows_cleared, rows_witho
 use Rattle.inventory_rows.specs.volume_rows.Held.{held_of}
 use Rattle.inventory_rows.specs.volume_rows.Holdings.{is_held}
 use Rattle.inventory_rows.specs.volume_rows.declared.volume.Volume.{Volume}
-use Rattle.inventory_rows.specs.Search.{copies, segments_on, version}
+use Rattle.inventory_rows.specs.Search.{segments_on, version}
 use Rattle.inventory_rows.specs.State.{Inv}
 use Rattle.pool_tables.specs.Rows.{row_at}
 use Rattle.pool_tables.proofs.Counting.{each_there}

@@ -1,6 +1,6 @@
 -- The rows of volumes, and the index, while scratch volumes and segments come.
-use Rattle.std.proofs.Common.{◌≡◌, ◌⊎◌, inl, inr, ℕ, Bool, true, false, List, [], ◌∷◌, map, Option, Some, None, Result, Ok, Err, refl, sym, ap, subst, ◌∙◌}
-use Rattle.std.specs.Prelude.{◌≢◌, IfSome, if◌then◌else◌}
+use Rattle.std.proofs.Common.{◌≡◌, ◌⊎◌, inl, inr, ℕ, Bool, true, false, List, [], ◌∷◌, map, Option, Some, None, is_some, Result, Ok, Err, refl, sym, ap, subst, ◌∙◌}
+use Rattle.std.specs.Prelude.{IfSome, if◌then◌else◌}
 use Rattle.std.specs.Option.{option_map_or}
 use Rattle.std.proofs.lemmas.Bool.{cases_eq, false≢true}
 use Rattle.kinds.specs.declared.refusal.Refusal.{Refusal}
@@ -22,9 +22,9 @@ use Rattle.space.specs.declared.site.Site.{Site}
 use Rattle.space.specs.Claims.{Claims}
 use Rattle.space_index.specs.declared.index.Index.{Index}
 use Rattle.space_index.specs.Index.{shape_at, shape_of_row, shape_by}
-use Rattle.space_index.specs.Tails.{tail_at, IsIndexOf, IsIndexWith}
+use Rattle.space_index.specs.Tails.{base_at, IsIndexOf, IsIndexWith}
 use Rattle.space_index.specs.Updates.{ChangesAt}
-use Rattle.space_index.proofs.Listings.{tails_else, tails_same, with_else, with_here, with_site}
+use Rattle.space_index.proofs.Listings.{bases_else, tails_same, with_else, with_here, with_site}
 use Rattle.space_index.proofs.Volumes.{inserted_other}
 use Rattle.kept_index.specs.Following.{IsUnderway, Remains}
 use Rattle.kept_index.specs.Steps.{LiesOn, puts, scratched, scratches, takes, with_put, with_take}
@@ -108,32 +108,33 @@ kind_before xs es s full p rest sequential = sym (scratches_kind xs s p) ∙ sym
 
 pub takes_kind : (today : ℕ) (es : List (ℕ × Segment)) (s : PoolRows) (p : ℕ) → is_sequential p (takes today es s) ≡ is_sequential p s
 takes_kind today [] s p = refl
-takes_kind today (e ∷ es) s p = takes_kind today es (with_take today e s) p ∙ (take_changes today e s).kinds p
+takes_kind today (e ∷ es) s p = takes_kind today es (with_take today e s) p ∙ ap is_some ((take_changes today e s).kinds p)
 
 -- ---- the index on the way
 
 pub begins : (i : Index) (c : Claims) (s final : PoolRows) → IsIndexOf i s c → IsUnderway i c s final
-begins i c s final is = record { sites = tail_at s; is = is; listed = λ f. inr refl }
+begins i c s final is = record { sites = base_at s c.tickets; is = is; listed = λ f. inr refl }
 
 pub ends : (i : Index) (c : Claims) (s final : PoolRows) → s ≡ final → IsUnderway i c s final → IsIndexOf i final c
 ends i c s final rest way =
     let at : IsIndexWith i final c way.sites = subst (λ (t : PoolRows). IsIndexWith i t c way.sites) rest way.is in
     record {
       random = at.random;
-      tails = tails_same i.tails way.sites (tail_at final) (λ f. elim (way.listed f) [ inl now ↦ now | inr before ↦ before ∙ ap (λ (t : PoolRows). tail_at t f) rest ]) at.tails;
+      tails = tails_same i.tails way.sites (base_at final c.tickets) (λ f. elim (way.listed f) [ inl now ↦ now | inr before ↦ before ∙ ap (λ (t : PoolRows). base_at t c.tickets f) rest ]) at.tails;
+      held = at.held;
     }
 
 -- its volume is listed as it is to stand
-pub looked : (i : Index) (c : Claims) (file : ℕ) (s t final : PoolRows) (sites : ℕ → Option Site) → ChangesAt file s t → ((f : ℕ) → (sites f ≡ tail_at final f) ⊎ (sites f ≡ tail_at s f))
-    → IsIndexWith i t c (with_site file (tail_at final file) sites) → IsUnderway i c t final
+pub looked : (i : Index) (c : Claims) (file : ℕ) (s t final : PoolRows) (sites : ℕ → Option Site) → ChangesAt file s t → ((f : ℕ) → (sites f ≡ base_at final c.tickets f) ⊎ (sites f ≡ base_at s c.tickets f))
+    → IsIndexWith i t c (with_site file (base_at final c.tickets file) sites) → IsUnderway i c t final
 looked i c file s t final sites changes listed is = record {
-  sites = with_site file (tail_at final file) sites;
+  sites = with_site file (base_at final c.tickets file) sites;
   is = is;
   listed = λ f. elim (cases_eq f file) [
-    | inl same ↦ inl (ap (with_site file (tail_at final file) sites) same ∙ with_here file (tail_at final file) sites ∙ ap (tail_at final) (sym same))
+    | inl same ↦ inl (ap (with_site file (base_at final c.tickets file) sites) same ∙ with_here file (base_at final c.tickets file) sites ∙ ap (base_at final c.tickets) (sym same))
     | inr apart ↦ elim (listed f) [
-      | inl now ↦ inl (with_else file (tail_at final file) sites f apart ∙ now)
-      | inr before ↦ inr (with_else file (tail_at final file) sites f apart ∙ before ∙ sym (tails_else file s t changes f apart))
+      | inl now ↦ inl (with_else file (base_at final c.tickets file) sites f apart ∙ now)
+      | inr before ↦ inr (with_else file (base_at final c.tickets file) sites f apart ∙ before ∙ sym (bases_else c.tickets file s t changes f apart))
     ]
   ];
 }

@@ -1,6 +1,6 @@
 -- What changes of device classes, storage pools and volumes make of the rows of volumes, and of an index of them.
-use Rattle.std.proofs.Common.{◌≡◌, ℕ, ◌+◌, Bool, true, false, cond, eqb, not, ◌&&◌, ◌||◌, List, [], ◌∷◌, ◌++◌, Option, Some, None, is_some, is_none, nat_le, Result, Ok, Err, if◌then◌else◌, refl, sym, ap, subst, ◌∙◌}
-use Rattle.std.specs.Prelude.{◌==◌, ◌≢◌}
+use Rattle.std.proofs.Common.{◌≡◌, ◌⊎◌, inl, inr, ℕ, ◌+◌, Bool, true, false, cond, eqb, not, ◌&&◌, ◌||◌, List, [], ◌∷◌, ◌++◌, Option, Some, None, is_some, is_none, nat_le, Result, Ok, Err, if◌then◌else◌, refl, sym, ap, subst, ◌∙◌}
+use Rattle.std.specs.Prelude.{◌==◌}
 use Rattle.std.specs.List.{list_all}
 use Rattle.std.specs.Map.{keys_of, remove_entry}
 use Rattle.std.specs.BTreeMap.{insert_entry, is_at}
@@ -36,7 +36,7 @@ use Rattle.pool_rows.specs.Changed.{changed}
 use Rattle.pool_rows.specs.Changes.{change_pool, define_pool, delete_filed, delete_numbered, is_bad_row, is_next_there, new_pool, new_volume, object_on, unless_held, update_filed, update_numbered, update_pool, volume_of_pool}
 use Rattle.pool_rows.specs.ClassChanges.{change_class, class_gone, define_class, pool_of_class}
 use Rattle.pool_rows.specs.Hierarchy.{is_bad_hierarchy}
-use Rattle.pool_rows.specs.PoolRows.{PoolRows, capacity_there, class_capacity, is_sequential, is_sequential_at, is_sequential_row, pool_class_capacity, pool_named, volume_named}
+use Rattle.pool_rows.specs.PoolRows.{PoolRows, capacity_there, class_capacity, is_sequential, is_sequential_at, is_sequential_row, pool_capacity, pool_class_capacity, pool_named, volume_named}
 use Rattle.pool_rows.specs.Segments.{delay_of, reuse_row}
 use Rattle.inventory_rules.specs.Common.{file_bound, files_refused, is_free_file, or_same}
 use Rattle.inventory_rules.specs.Facts.{Facts}
@@ -50,13 +50,15 @@ use Rattle.inventory_laws.proofs.PoolLaws.{free_filled}
 use Rattle.inventory_laws.proofs.Pools.{alike_row, undrawn}
 use Rattle.inventory_laws.proofs.StoreLegal.{held, none_of_both, unless_so, where_so}
 use Rattle.inventory_laws.proofs.StoreRows.{all_there, found_apart, none_where, number_there, other_row, row_came, row_went, seen_same, some_from}
+use Rattle.space.specs.declared.site.Site.{Site}
 use Rattle.space.specs.Claims.{Claims}
 use Rattle.space_index.specs.declared.index.Index.{Index}
 use Rattle.space_index.specs.Index.{copies_reach, claims_reach, shape_at, shape_by, shape_of_row, times_at}
-use Rattle.space_index.specs.Tails.{IsIndexOf, tail_at, tail_by, tail_of_row}
+use Rattle.space_index.specs.Claimed.{pool_on}
+use Rattle.space_index.specs.Tails.{IsIndexOf, IsIndexWith, base_at, base_of, tail_by}
 use Rattle.space_index.specs.Updates.{ChangesAt, IsAccessOf, rows_with}
-use Rattle.space_index.proofs.Following.{index_same}
-use Rattle.space_index.proofs.Listings.{tails_same}
+use Rattle.space_index.proofs.Following.{index_same, stays_same}
+use Rattle.space_index.proofs.Listings.{bases_kept, tails_same}
 use Rattle.space_index.proofs.Volumes.{row_changes, row_comes}
 use Rattle.kept_index.specs.Steps.{IsLegalOn, named_in}
 use Rattle.kept_index.proofs.Effects.{effect_stores, legal_causes}
@@ -71,24 +73,41 @@ record StaysSo (s t : PoolRows) : Type 0 where
   volumes : t.volumes ≡ s.volumes
   kinds : SameKinds s t
 
-unmoved : (i : Index) (c : Claims) (s t : PoolRows) → StaysSo s t → IsIndexOf i s c → IsIndexOf i t c
-unmoved i c s t stays is = record {
+-- the volumes of each pool are as large as they were
+record StaysAll (s t : PoolRows) : Type 0 where
+  volumes : t.volumes ≡ s.volumes
+  sizes : (pool : ℕ) → pool_capacity pool t ≡ pool_capacity pool s
+
+-- where no ticket has space
+unmoved : (i : Index) (c : Claims) (s t : PoolRows) → ((file : ℕ) → pool_on file c.tickets ≡ None) → StaysSo s t → IsIndexOf i s c → IsIndexOf i t c
+unmoved i c s t unheld stays is = record {
   random = index_same i.random (shape_at s) (shape_at t) (times_at s c) (times_at t c) (λ f. shape_row (row_at f s.volumes) (stays.kinds f) ∙ ap (λ (l : List (ℕ × Volume)). shape_of_row t (row_at f l)) (sym stays.volumes))
       (λ f k. ap (λ (l : List (ℕ × Volume)). copies_reach f (row_at f l) k + claims_reach c f k) (sym stays.volumes)) is.random;
-  tails = tails_same i.tails (tail_at s) (tail_at t) (λ f. tail_row (row_at f s.volumes) (stays.kinds f) ∙ ap (λ (l : List (ℕ × Volume)). tail_of_row t (row_at f l)) (sym stays.volumes)) is.tails;
+  tails = tails_same i.tails (base_at s c.tickets) (base_at t c.tickets) (λ f. ap (base_of s (row_at f s.volumes)) (unheld f) ∙ base_row (row_at f s.volumes) (stays.kinds f) ∙ ap (λ (l : List (ℕ × Volume)). base_of t (row_at f l) None) (sym stays.volumes) ∙ sym (ap (base_of t (row_at f t.volumes)) (unheld f))) is.tails;
+  held = is.held;
 }
   where
     shape_row : (o : Option Volume) → ((x : Volume) → o ≡ Some x → is_sequential x.pool t ≡ is_sequential x.pool s) → shape_of_row s o ≡ shape_of_row t o
     shape_row None h = refl
     shape_row (Some x) h = ap (λ (b : Bool). shape_by b x) (sym (h x refl))
 
-    tail_row : (o : Option Volume) → ((x : Volume) → o ≡ Some x → is_sequential x.pool t ≡ is_sequential x.pool s) → tail_of_row s o ≡ tail_of_row t o
-    tail_row None h = refl
-    tail_row (Some x) h = ap (λ (b : Bool). tail_by b x) (sym (h x refl))
+    base_row : (o : Option Volume) → ((x : Volume) → o ≡ Some x → is_sequential x.pool t ≡ is_sequential x.pool s) → base_of s o None ≡ base_of t o None
+    base_row None h = refl
+    base_row (Some x) h = ap (λ (b : Bool). tail_by b x) (sym (h x refl))
+
+unmoved_all : (i : Index) (c : Claims) (s t : PoolRows) → StaysAll s t → IsIndexOf i s c → IsIndexOf i t c
+unmoved_all i c s t stays is = record {
+  random = stays_same i.random s t c c stays.volumes (λ pool. ap is_some (stays.sizes pool)) refl refl is.random;
+  tails = tails_same i.tails (base_at s c.tickets) (base_at t c.tickets) (bases_kept c.tickets s t stays.volumes stays.sizes) is.tails;
+  held = is.held;
+}
 
 -- what a change makes of the rows, where it is made
 stays_as : (s t : PoolRows) (r : Result PoolRows Refusal) → r ≡ Ok t → StaysSo s t → StaysSo s (or_same s r)
 stays_as s t r is stays = subst (λ (q : Result PoolRows Refusal). StaysSo s (or_same s q)) (sym is) stays
+
+all_as : (s t : PoolRows) (r : Result PoolRows Refusal) → r ≡ Ok t → StaysAll s t → StaysAll s (or_same s r)
+all_as s t r is stays = subst (λ (q : Result PoolRows Refusal). StaysAll s (or_same s q)) (sym is) stays
 
 -- ---- device classes
 
@@ -101,22 +120,22 @@ class_free : (class : List ℕ) (s : PoolRows) (o : Option ℕ) → refusal_of (
 class_free class s None h = (refl, refl)
 class_free class s (Some pool) h = absurd cc
 
-class_stays : (d : DefineOrDelete) (class : List ℕ) (capacity : ℕ) (v : Inv) → Facts v → refusal_of (change_class d class capacity v.stores) ≡ [] → StaysSo v.stores (or_same v.stores (change_class d class capacity v.stores))
+class_stays : (d : DefineOrDelete) (class : List ℕ) (capacity : ℕ) (v : Inv) → Facts v → refusal_of (change_class d class capacity v.stores) ≡ [] → StaysAll v.stores (or_same v.stores (change_class d class capacity v.stores))
 class_stays two.Define class capacity v f legal =
     let s = v.stores in
     let classes = insert_entry (slice_cmp nat_cmp) s.classes class (Some capacity) in
     let new : Result PoolRows Refusal = Ok (record s { classes = classes }) in
     let t = unless_so (is_some (named class s.classes)) Exists new legal in
-    stays_as s (record s { classes = classes }) (define_class class capacity s) t.2
-    (record { volumes = refl; kinds = λ file x found. ap is_some ((alike v classes (defined_stays v class (Some capacity) f (none_from (named class s.classes) t.0)) x.pool).capacity) })
+    all_as s (record s { classes = classes }) (define_class class capacity s) t.2
+    (record { volumes = refl; sizes = λ pool. (alike v classes (defined_stays v class (Some capacity) f (none_from (named class s.classes) t.0)) pool).capacity })
 class_stays two.Delete class capacity v f legal =
     let s = v.stores in
     let classes = remove_entry (is_at (slice_cmp nat_cmp class)) s.classes in
     let t = where_so (is_some (class_capacity class s)) NotFound (class_gone class s (pool_of_class class s)) legal in
     let u = class_free class s (pool_of_class class s) t.1 in
     let there = class_there (named class s.classes) t.0 in
-    stays_as s (record s { classes = classes }) (change_class two.Delete class capacity s) (t.2 ∙ u.1)
-    (record { volumes = refl; kinds = λ file x found. ap is_some ((alike v classes (deleted_stays v class there.0 there.1 u.0) x.pool).capacity) })
+    all_as s (record s { classes = classes }) (change_class two.Delete class capacity s) (t.2 ∙ u.1)
+    (record { volumes = refl; sizes = λ pool. (alike v classes (deleted_stays v class there.0 there.1 u.0) pool).capacity })
 
 -- ---- storage pools
 
@@ -161,33 +180,44 @@ pool_goes v (Some k) f there legal =
     })
 
 -- settings are none of a pool's class
-settled : (rule : PoolRule) (k q : ℕ) (s : PoolRows) → is_sequential q (record s { pools = edit_row k (with_settings rule) s.pools }) ≡ is_sequential q s
+settled : (rule : PoolRule) (k q : ℕ) (s : PoolRows) → pool_capacity q (record s { pools = edit_row k (with_settings rule) s.pools }) ≡ pool_capacity q s
 settled rule k q s = aside (row_at q (edit_row k (with_settings rule) s.pools)) ∙ go (row_at k s.pools) refl where
-  aside : (o : Option Pool) → is_some (pool_class_capacity (record s { pools = edit_row k (with_settings rule) s.pools }) o) ≡ is_some (pool_class_capacity s o)
+  aside : (o : Option Pool) → pool_class_capacity (record s { pools = edit_row k (with_settings rule) s.pools }) o ≡ pool_class_capacity s o
   aside None = refl
   aside (Some x) = refl
 
-  go : (o : Option Pool) → row_at k s.pools ≡ o → is_some (pool_class_capacity s (row_at q (edited k (with_settings rule) s.pools o))) ≡ is_some (pool_class_capacity s (row_at q s.pools))
+  go : (o : Option Pool) → row_at k s.pools ≡ o → pool_class_capacity s (row_at q (edited k (with_settings rule) s.pools o)) ≡ pool_class_capacity s (row_at q s.pools)
   go None there = refl
-  go (Some x) there = seen_same (λ (o : Option Pool). is_some (pool_class_capacity s o)) k q x (with_settings rule x) s.pools there refl
+  go (Some x) there = seen_same (λ (o : Option Pool). pool_class_capacity s o) k q x (with_settings rule x) s.pools there refl
 
-numbered_stays : (rule : PoolRule) (s : PoolRows) (o : Option ℕ) → StaysSo s (or_same s (update_numbered rule s o))
-numbered_stays rule s None = record { volumes = refl; kinds = λ file x found. refl }
+numbered_stays : (rule : PoolRule) (s : PoolRows) (o : Option ℕ) → StaysAll s (or_same s (update_numbered rule s o))
+numbered_stays rule s None = record { volumes = refl; sizes = λ pool. refl }
 numbered_stays rule s (Some k) = go (is_bad_row k rule.next s (row_at k s.pools)) where
-  go : (b : Bool) → StaysSo s (or_same s (if b then Err BadHierarchy else Ok (record s { pools = edit_row k (with_settings rule) s.pools })))
-  go true = record { volumes = refl; kinds = λ file x found. refl }
-  go false = record { volumes = refl; kinds = λ file x found. settled rule k x.pool s }
+  go : (b : Bool) → StaysAll s (or_same s (if b then Err BadHierarchy else Ok (record s { pools = edit_row k (with_settings rule) s.pools })))
+  go true = record { volumes = refl; sizes = λ pool. refl }
+  go false = record { volumes = refl; sizes = λ pool. settled rule k pool s }
 
-pool_settled : (name : List ℕ) (rule : PoolRule) (s : PoolRows) → StaysSo s (or_same s (update_pool name rule s))
+pool_settled : (name : List ℕ) (rule : PoolRule) (s : PoolRows) → StaysAll s (or_same s (update_pool name rule s))
 pool_settled name rule s = go (is_next_there rule.next s) where
-  go : (b : Bool) → StaysSo s (or_same s (if b then update_numbered rule s (pool_named name s) else Err NotFound))
+  go : (b : Bool) → StaysAll s (or_same s (if b then update_numbered rule s (pool_named name s) else Err NotFound))
   go true = numbered_stays rule s (pool_named name s)
-  go false = record { volumes = refl; kinds = λ file x found. refl }
+  go false = record { volumes = refl; sizes = λ pool. refl }
 
-pool_stays : (w : Verb) (name class : List ℕ) (kind : PoolKind) (rule : PoolRule) (v : Inv) → Facts v → refusal_of (change_pool w v.next_pool name class kind rule v.stores) ≡ [] → StaysSo v.stores (or_same v.stores (change_pool w v.next_pool name class kind rule v.stores))
-pool_stays verb.Define name class kind rule v f legal = pool_comes name class kind rule v f legal
-pool_stays verb.Update name class kind rule v f legal = pool_settled name rule v.stores
-pool_stays verb.Delete name class kind rule v f legal = pool_goes v (pool_named name v.stores) f (λ k is. number_there (λ (p : Pool). is_same_name (pool_name p) name) k v.stores.pools is) legal
+-- nothing is held, or the pool is updated
+pub unheld_or : (P : Type 0) (i : Index) (s : PoolRows) (c : Claims) → IsIndexOf i s c → P ⊎ ((t : PoolRows) (d : Claims) (sites : ℕ → Option Site) → IsIndexWith i t d sites → (file : ℕ) → pool_on file d.tickets ≡ None) → P ⊎ ((file : ℕ) → pool_on file c.tickets ≡ None)
+unheld_or P i s c is (inl h) = inl h
+unheld_or P i s c is (inr h) = inr (h s c (base_at s c.tickets) is)
+
+pool_index : (i : Index) (c : Claims) (w : Verb) (name class : List ℕ) (kind : PoolKind) (rule : PoolRule) (v : Inv) → Facts v → refusal_of (change_pool w v.next_pool name class kind rule v.stores) ≡ [] → (w ≡ verb.Update) ⊎ ((file : ℕ) → pool_on file c.tickets ≡ None)
+    → IsIndexOf i v.stores c → IsIndexOf i (or_same v.stores (change_pool w v.next_pool name class kind rule v.stores)) c
+pool_index i c verb.Update name class kind rule v f legal held is = unmoved_all i c v.stores (or_same v.stores (update_pool name rule v.stores)) (pool_settled name rule v.stores) is
+pool_index i c verb.Define name class kind rule v f legal (inl other) is = absurd cc
+pool_index i c verb.Define name class kind rule v f legal (inr unheld) is =
+    unmoved i c v.stores (or_same v.stores (define_pool v.next_pool name class kind rule v.stores)) unheld (pool_comes name class kind rule v f legal) is
+pool_index i c verb.Delete name class kind rule v f legal (inl other) is = absurd cc
+pool_index i c verb.Delete name class kind rule v f legal (inr unheld) is =
+    unmoved i c v.stores (or_same v.stores (delete_numbered v.stores (pool_named name v.stores))) unheld
+    (pool_goes v (pool_named name v.stores) f (λ k there. number_there (λ (p : Pool). is_same_name (pool_name p) name) k v.stores.pools there) legal) is
 
 -- ---- legal changes
 
@@ -202,14 +232,14 @@ pub classes_index : (i : Index) (c : Claims) (d : DefineOrDelete) (class : List 
 classes_index i c d class capacity v t legal rows is =
     let k = store.DevClass d class capacity in
     subst (λ (u : PoolRows). IsIndexOf i u c) (sym (rows ∙ effect_stores (change.Pool k) v))
-    (unmoved i c v.stores (or_same v.stores (change_class d class capacity v.stores)) (class_stays d class capacity v (facts_of v legal.valid) (store_legal k v legal)) is)
+    (unmoved_all i c v.stores (or_same v.stores (change_class d class capacity v.stores)) (class_stays d class capacity v (facts_of v legal.valid) (store_legal k v legal)) is)
 
 pub pools_index : (i : Index) (c : Claims) (w : Verb) (name class : List ℕ) (kind : PoolKind) (rule : PoolRule) (v : Inv) (t : PoolRows) → IsLegalOn (change.Pool (store.Pool w name class kind rule)) v
-    → t ≡ (effect (change.Pool (store.Pool w name class kind rule)) v).stores → IsIndexOf i v.stores c → IsIndexOf i t c
-pools_index i c w name class kind rule v t legal rows is =
+    → t ≡ (effect (change.Pool (store.Pool w name class kind rule)) v).stores → (w ≡ verb.Update) ⊎ ((file : ℕ) → pool_on file c.tickets ≡ None) → IsIndexOf i v.stores c → IsIndexOf i t c
+pools_index i c w name class kind rule v t legal rows held is =
     let k = store.Pool w name class kind rule in
     subst (λ (u : PoolRows). IsIndexOf i u c) (sym (rows ∙ effect_stores (change.Pool k) v ∙ aside w))
-    (unmoved i c v.stores (or_same v.stores (change_pool w v.next_pool name class kind rule v.stores)) (pool_stays w name class kind rule v (facts_of v legal.valid) (store_legal k v legal)) is)
+    (pool_index i c w name class kind rule v (facts_of v legal.valid) (store_legal k v legal) held is)
   where
     aside : (x : Verb) → (made (change.Pool (store.Pool x name class kind rule)) v).stores ≡ or_same v.stores (change_pool x v.next_pool name class kind rule v.stores)
     aside verb.Define = refl

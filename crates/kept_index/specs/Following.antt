@@ -6,14 +6,14 @@ use Rattle.pool_rows.specs.PoolRows.{PoolRows, is_sequential}
 use Rattle.space.specs.declared.site.Site.{Site}
 use Rattle.space.specs.Claims.{Claims}
 use Rattle.space_index.specs.declared.index.Index.{Index}
-use Rattle.space_index.specs.Tails.{tail_at, IsIndexWith}
+use Rattle.space_index.specs.Tails.{base_at, IsIndexWith}
 use Rattle.kept_index.specs.Steps.{AllLie, puts, scratches, takes}
 
 -- It is the index of these rows, but for the sequential volumes, each of which is listed as it stands there or as it is to stand.
 pub record IsUnderway (i : Index) (c : Claims) (s final : PoolRows) : Type 0 where
   pub sites : ℕ → Option Site
   pub is : IsIndexWith i s c sites
-  pub listed : (file : ℕ) → (sites file ≡ tail_at final file) ⊎ (sites file ≡ tail_at s file)
+  pub listed : (file : ℕ) → (sites file ≡ base_at final c.tickets file) ⊎ (sites file ≡ base_at s c.tickets file)
 
 -- These scratch volumes and then these segments are still to come, and that makes the rows what they are before segments go.
 pub record Remains (i : Index) (c : Claims) (xs : List ScratchVolume) (es : List (ℕ × Segment)) (full final : PoolRows) : Type 0 where

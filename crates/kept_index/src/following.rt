@@ -1,15 +1,18 @@
 //! How the index follows a transaction.
-ghost use Rattle.std.specs.Prelude.{◌≡◌, ℕ, List, [], ◌∷◌, ◌++◌, map, OnOk};
+ghost use Rattle.std.specs.Prelude.{◌≡◌, ◌⊎◌, ℕ, None, Option, List, [], ◌∷◌, ◌++◌, map, OnOk};
 ghost use Rattle.std.specs.List.{flat_map};
 ghost use Rattle.entries.specs.declared.change.Change.TheVariants.{Pool, Reuse};
 ghost use Rattle.kinds.specs.declared.change.PoolChange.TheVariants.{Volume};
+ghost use Rattle.kinds.specs.declared.change.Verb.TheVariants.{Update};
 ghost use Rattle.kinds.specs.declared.segment.Segment.{Segment};
 ghost use Rattle.entries.specs.change_items.declared.items.ScratchVolume.{ScratchVolume};
 ghost use Rattle.inventory_rows.specs.State.{Inv};
 ghost use Rattle.inventory_rules.specs.Transactions.{effect};
 ghost use Rattle.pool_rows.specs.PoolRows.{PoolRows, is_sequential};
+ghost use Rattle.space.specs.declared.site.Site.{Site};
 ghost use Rattle.space.specs.Claims.{Claims};
-ghost use Rattle.space_index.specs.Tails.{IsIndexOf};
+ghost use Rattle.space_index.specs.Claimed.{pool_on};
+ghost use Rattle.space_index.specs.Tails.{IsIndexOf, IsIndexWith};
 ghost use Rattle.kept_index.specs.Following.{AreLeaving, IsUnderway, Remains};
 ghost use Rattle.kept_index.specs.Steps.{AllLie, IsLegalOn, gone, is_elsewhere, named_by, named_in, of_object, only_takes, puts, scratches, takes};
 ghost use Rattle.kept_index.specs.Kept.{IsIndexed};
@@ -20,23 +23,7 @@ use entries::change_items::{MovedCopy, NewCopy, NewHeldObject, NewVersion, Scrat
 use kinds::{Access, PoolChange, Segment, Verb};
 use pool_rows::Pools;
 use space::{Placed, Space};
-use space_index::Index;
-use std::alloc::AllocError;
-
-/// Why an index can't follow a transaction.
-#[derive(Clone, Copy, Debug)]
-pub enum Lost {
-    /// There is too little memory.
-    Memory,
-    /// The change isn't one that is followed so, or none that the rules allow.
-    Kind,
-}
-
-impl From<AllocError> for Lost {
-    fn from(_: AllocError) -> Self {
-        Lost::Memory
-    }
-}
+use space_index::{Index, Lost};
 
 /// An item of a change that brings a copy of an object.
 trait Brings {
@@ -274,7 +261,25 @@ fn follow_volume(
     match verb {
         Verb::Define => define_volume(index, pools, space, file),
         Verb::Update => set_access(index, pools, named, access),
-        Verb::Delete => delete_volume(index, named),
+        Verb::Delete => delete_volume(index, pools, named),
+    }
+}
+
+/// The index behind a change of a storage pool: where one is defined or deleted, nothing is to be held, since a scratch volume that a ticket has
+/// drawn is as large as those of its pool.
+fn follow_pool(index: &mut Index, verb: Verb) -> Result<(), Lost>
+    ensures index { index.new ≡ index.old }
+    ensures held { OnOk result ((verb ≡ Update) ⊎ ((s : PoolRows) (c : Claims) (sites : ℕ → Option Site) → IsIndexWith index.old s c sites → (file : ℕ) → pool_on file c.tickets ≡ None)) }
+{
+    match verb {
+        Verb::Update => Ok(()),
+        Verb::Define | Verb::Delete => {
+            if index.is_unheld() {
+                Ok(())
+            } else {
+                Err(Lost::Kind)
+            }
+        }
     }
 }
 
@@ -290,7 +295,7 @@ fn follow_stores(
 {
     match change {
         PoolChange::DevClass { .. } => Ok(()),
-        PoolChange::Pool { .. } => Ok(()),
+        PoolChange::Pool { verb, .. } => follow_pool(index, *verb),
         PoolChange::Volume {
             verb,
             file,

@@ -18,7 +18,7 @@ use space::{Claim, Placed, Places, Request, Space, choose_by_walk};
 use space_index::{Index, choose};
 use std::alloc::Global;
 
-/// The index of free space, kept beside rows and beside what is held. It is lost where memory is wanted for a change of it; no call is refused then, and `make` makes it anew. Contracts
+/// The index of free space, kept beside rows and beside what is held. It is lost where memory is wanted for a change of it, and where a storage pool is defined or deleted while tickets hold space; no call is refused then, and `make` makes it anew. Contracts
 /// see of which rows and claims it is the index, where it is there.
 #[derive(Drop)]
 pub struct KeptIndex {
@@ -26,28 +26,28 @@ pub struct KeptIndex {
     pub(crate) index: Option<Index>,
 }
 
-fn held(index: Index, space: &Space, number: u64, claim: &Claim) -> Option<Index>
-    ensures { (s : PoolRows) → IsIndexOf index s space.now → IsIndexed result s (held number claim.now space.now) }
+fn held(index: Index, pools: &Pools, space: &Space, number: u64, claim: &Claim) -> Option<Index>
+    ensures { IsIndexOf index pools.now space.now → IsIndexed result pools.now (held number claim.now space.now) }
 {
     let mut index = index;
     let None = space.tickets().get(&number) else {
         return None;
     };
-    match index.hold(claim) {
+    match index.hold(pools, claim) {
         Ok(()) => Some(index),
         Err(_) => None,
     }
 }
 
-fn released(index: Index, space: &Space, number: u64) -> Option<Index>
-    ensures { (s : PoolRows) → IsIndexOf index s space.now → IsIndexed result s (released number space.now) }
+fn released(index: Index, pools: &Pools, space: &Space, number: u64) -> Option<Index>
+    ensures { IsIndexOf index pools.now space.now → IsIndexed result pools.now (released number space.now) }
 {
     let mut index = index;
     let claim = match space.tickets().get(&number) {
         Some(claim) => claim,
         None => return None,
     };
-    match index.release(claim) {
+    match index.release(pools, claim) {
         Ok(()) => Some(index),
         Err(_) => None,
     }
@@ -151,21 +151,21 @@ impl KeptIndex {
     }
 
     /// A ticket gets its space: `space` is as it was before.
-    pub fn hold(&mut self, space: &Space, number: u64, claim: &Claim)
-        ensures { (s : PoolRows) → IsKeptOf self.old s space.now → IsKeptOf self.new s (held number claim.now space.now) }
+    pub fn hold(&mut self, pools: &Pools, space: &Space, number: u64, claim: &Claim)
+        ensures { IsKeptOf self.old pools.now space.now → IsKeptOf self.new pools.now (held number claim.now space.now) }
     {
         self.index = match self.index.take() {
-            Some(index) => held(index, space, number, claim),
+            Some(index) => held(index, pools, space, number, claim),
             None => None,
         };
     }
 
     /// A ticket gives its space back, or its segments have become a copy's: `space` is as it was before.
-    pub fn release(&mut self, space: &Space, number: u64)
-        ensures { (s : PoolRows) → IsKeptOf self.old s space.now → IsKeptOf self.new s (released number space.now) }
+    pub fn release(&mut self, pools: &Pools, space: &Space, number: u64)
+        ensures { IsKeptOf self.old pools.now space.now → IsKeptOf self.new pools.now (released number space.now) }
     {
         self.index = match self.index.take() {
-            Some(index) => released(index, space, number),
+            Some(index) => released(index, pools, space, number),
             None => None,
         };
     }

@@ -8,11 +8,10 @@ ghost use Rattle.space.specs.Volumes.{is_held};
 ghost use Rattle.space_index.specs.Tails.{IsIndexOf};
 ghost use Rattle.space_index.specs.Updates.{ChangesAt, IsAccessOf};
 
-use crate::following::Lost;
 use kinds::Access;
 use pool_rows::Pools;
 use space::{Space, is_held};
-use space_index::Index;
+use space_index::{Index, Lost};
 
 /// No ticket holds space on the volume.
 fn no_ticket_there(space: &Space, file: u32) -> bool
@@ -74,12 +73,12 @@ pub fn set_access(
 }
 
 /// The volume that was named went.
-pub fn delete_volume(index: &mut Index, named: Option<u32>) -> Result<(), Lost>
-    ensures { (s t : PoolRows) (c : Claims) (file : ℕ) → named ≡ Some file → IsIndexOf index.old s c → ChangesAt file s t → row_at file t.volumes ≡ None → OnOk result (IsIndexOf index.new t c) }
+pub fn delete_volume(index: &mut Index, pools: &Pools, named: Option<u32>) -> Result<(), Lost>
+    ensures { (s : PoolRows) (c : Claims) (file : ℕ) → named ≡ Some file → IsIndexOf index.old s c → ChangesAt file s pools.now → row_at file pools.now.volumes ≡ None → OnOk result (IsIndexOf index.new pools.now c) }
 {
     let Some(at) = named else {
         return Err(Lost::Kind);
     };
-    index.remove_volume(at)?;
+    index.remove_volume(pools, at)?;
     Ok(())
 }

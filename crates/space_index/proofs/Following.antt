@@ -1,6 +1,6 @@
 -- The index after the rows, or what is held beside them, changed.
 use Rattle.std.proofs.Common.{◌≡◌, ℕ, ◌+◌, ◌<◌, ◌/◌, Bool, true, false, cond, List, [], ◌∷◌, ◌++◌, take, drop, length, get_or, Option, Some, None, Result, Ok, Err, refl, sym, ap, subst, ◌∙◌, arith, inl, inr, ◌⊎◌, append_assoc, ◌*◌}
-use Rattle.std.specs.Prelude.{◌≢◌, if◌then◌else◌}
+use Rattle.std.specs.Prelude.{◌≢◌, is_some, if◌then◌else◌}
 use Rattle.std.specs.Option.{option_map}
 use Rattle.std.specs.Map.{keys_of}
 use Rattle.std.specs.List.Sorted.{IsStrictlySortedBy}
@@ -127,7 +127,7 @@ shape_kind s t None kinds = refl
 shape_kind s t (Some v) kinds = ap (λ (b : Bool). shape_by b v) (sym (kinds v.pool))
 
 pub shapes_else : (file : ℕ) (s t : PoolRows) → ChangesAt file s t → AreSame file (shape_at s) (shape_at t)
-shapes_else file s t changes q apart = ap (shape_of_row t) (changes.others q apart) ∙ sym (shape_kind s t (row_at q s.volumes) changes.kinds)
+shapes_else file s t changes q apart = ap (shape_of_row t) (changes.others q apart) ∙ sym (shape_kind s t (row_at q s.volumes) (λ pool. ap is_some (changes.kinds pool)))
 
 -- what one volume's rows say may change with the volume
 times_else : (file : ℕ) (s t : PoolRows) (c : Claims) → ChangesAt file s t → (q : ℕ) → q ≢ file → (k : ℕ) → times_at s c q k ≡ times_at t c q k
@@ -189,7 +189,7 @@ access_reach access file k (Some v) None is = absurd is
 access_reach access file k (Some v) (Some w) is = ap (λ (l : List (HeldSegment × ℕ)). weight_of (λ h. reach (segment_on file h) k) l) (sym is.segments)
 
 pub access_shapes : (access : Access) (s t : PoolRows) (file : ℕ) → ChangesAt file s t → IsAccessOf access (row_at file s.volumes) (row_at file t.volumes) → option_map (with_access (is_writable access)) (shape_at s file) ≡ shape_at t file
-access_shapes access s t file changes is = access_row access s t (row_at file s.volumes) (row_at file t.volumes) changes.kinds is
+access_shapes access s t file changes is = access_row access s t (row_at file s.volumes) (row_at file t.volumes) (λ pool. ap is_some (changes.kinds pool)) is
 
 pub access_index : (i : RandomIndex) (s t : PoolRows) (c : Claims) (access : Access) (file : ℕ) → ChangesAt file s t → IsAccessOf access (row_at file s.volumes) (row_at file t.volumes) → IsIndexBy i (shape_at t) (times_at s c) → IsRandomIndexOf i t c
 access_index i s t c access file changes is index =

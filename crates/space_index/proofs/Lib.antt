@@ -1,3 +1,5 @@
+pub mod Bags
+pub mod Claiming
 pub mod Counting
 pub mod Entries
 pub mod Fills
@@ -9,4 +11,5 @@ pub mod Parts
 pub mod Places
 pub mod Serving
 pub mod Uses
+pub mod Views
 pub mod Volumes

@@ -1,21 +1,27 @@
 -- The lists of the pools after one volume came, changed or went.
-use Rattle.std.proofs.Common.{◌≡◌, ℕ, Bool, List, ◌∷◌, Option, Some, None, Result, Ok, Err, refl, sym, ap, subst, ◌∙◌, inl, inr}
+use Rattle.std.proofs.Common.{◌≡◌, ℕ, Bool, true, false, List, [], ◌∷◌, Option, Some, None, is_some, unwrap_or, Result, Ok, Err, refl, sym, ap, subst, ◌∙◌, inl, inr, ◌⊎◌}
 use Rattle.std.specs.Prelude.{◌≢◌, ◌==◌, if◌then◌else◌}
-use Rattle.std.proofs.lemmas.Bool.{cases_eq, eq-eqb, ne_eqb}
+use Rattle.std.specs.Option.{option_map}
+use Rattle.std.proofs.lemmas.Bool.{cases_eq, eq-eqb, eqb-true, ne_eqb}
 use Rattle.std.proofs.lemmas.Option.{same_Some}
 use Rattle.kinds.specs.declared.refusal.Refusal.{Refusal}
 use Rattle.kinds.specs.declared.refusal.Refusal.TheVariants.{NotFound}
 use Rattle.volume_rows.specs.declared.volume.Volume.{Volume}
 use Rattle.pool_tables.specs.Rows.{row_at, set_row, row_set, changed, change_row}
 use Rattle.pool_tables.proofs.Counting.{row_at-set_other}
-use Rattle.pool_rows.specs.PoolRows.{PoolRows, is_sequential}
+use Rattle.pool_rows.specs.PoolRows.{PoolRows, pool_capacity}
 use Rattle.pool_rows.specs.Segments.{with_volumes}
+use Rattle.space.specs.declared.claims.Claim.{Claim}
 use Rattle.space.specs.declared.site.Site.{Site}
+use Rattle.space.specs.Volumes.{drawn_site}
 use Rattle.space_index.specs.declared.by_pool.Home.{Home}
 use Rattle.space_index.specs.declared.by_pool.Listing.{Listing}
 use Rattle.space_index.specs.Listed.{some_room, rooms_at, HasRoom}
+use Rattle.space_index.specs.declared.held.Held.{Held}
+use Rattle.space_index.specs.declared.lists.Lists.{Lists}
 use Rattle.space_index.specs.declared.tails.Tails.{Tails}
-use Rattle.space_index.specs.Tails.{room_if, IsListing, AreElse, filling_room, empty_room, scratch_room, home_by, AreTails, tail_by, tail_of_row, tail_at}
+use Rattle.space_index.specs.Claimed.{lone, is_this, is_lone, with_held, pool_on}
+use Rattle.space_index.specs.Tails.{room_if, IsListing, AreElse, filling_room, empty_room, scratch_room, home_by, open_home, own_home, IsOwnListing, AreLists, AreTails, tail_by, base_of, base_at}
 use Rattle.space_index.specs.Updates.{ChangesAt}
 use Rattle.space_index.proofs.Numbers.{row_later}
 
@@ -98,20 +104,78 @@ entered l m file home homes others is else_same absent there noted_here noted_el
   ]
 
 -- what is said of homes, from what is said of volumes
-pub homes_else : (room : Site → ℕ) (file : ℕ) (sites others : ℕ → Option Site) → AreElse file sites others → AreElse file (λ q. home_by room (sites q)) (λ q. home_by room (others q))
-homes_else room file sites others same = λ q apart. ap (home_by room) (same q apart)
+pub homes_else : (home : Option Site → Option Home) (file : ℕ) (sites others : ℕ → Option Site) → AreElse file sites others → AreElse file (λ q. home (sites q)) (λ q. home (others q))
+homes_else home file sites others same = λ q apart. ap home (same q apart)
 
--- ---- all three lists
+-- and of what tickets hold
+pub holds_else : (home : Option Site → Option Held → Option Home) (file : ℕ) (sites others : ℕ → Option Site) (helds : ℕ → Option Held) → AreElse file sites others → AreElse file (λ q. home (sites q) (helds q)) (λ q. home (others q) (helds q))
+holds_else home file sites others helds same = λ q apart. ap (λ (o : Option Site). home o (helds q)) (same q apart)
 
-pub listing_same : (room : Site → ℕ) (l : Listing) (sites others : ℕ → Option Site) → ((q : ℕ) → sites q ≡ others q) → IsListing l (λ q. home_by room (sites q)) → IsListing l (λ q. home_by room (others q))
-listing_same room l sites others same is = record { noted = is.noted; listed = λ p q. is.listed p q ∙ ap (λ (o : Option Site). room_if p (home_by room o)) (same q) }
+-- ---- all lists
+
+pub listing_same : (l : Listing) (homes others : ℕ → Option Home) → ((q : ℕ) → homes q ≡ others q) → IsListing l homes → IsListing l others
+listing_same l homes others same is = record { noted = is.noted; listed = λ p q. is.listed p q ∙ ap (room_if p) (same q) }
+
+pub own_same : (o : Option Listing) (homes others : ℕ → Option Home) → ((q : ℕ) → homes q ≡ others q) → IsOwnListing o homes → IsOwnListing o others
+own_same None homes others same is = λ p q. sym (ap (room_if p) (same q)) ∙ is p q
+own_same (Some l) homes others same is = listing_same l homes others same is
+
+pub lists_same : (l : Lists) (sites others : ℕ → Option Site) (helds holds : ℕ → Option Held) → ((q : ℕ) → sites q ≡ others q) → ((q : ℕ) → (others q ≡ None) ⊎ (helds q ≡ holds q)) → AreLists l sites helds → AreLists l others holds
+lists_same l sites others helds holds same held is = record {
+  filling = listing_same l.filling (λ q. open_home filling_room (sites q) (helds q)) (λ q. open_home filling_room (others q) (holds q)) (opens filling_room) is.filling;
+  empty = listing_same l.empty (λ q. open_home empty_room (sites q) (helds q)) (λ q. open_home empty_room (others q) (holds q)) (opens empty_room) is.empty;
+  scratch = listing_same l.scratch (λ q. home_by scratch_room (sites q)) (λ q. home_by scratch_room (others q)) (λ q. ap (home_by scratch_room) (same q)) is.scratch;
+  own = λ a. own_same (row_at a l.own.entries) (λ q. own_home a (sites q) (helds q)) (λ q. own_home a (others q) (holds q)) (owns a) (is.own a);
+} where
+  opens : (room : Site → ℕ) (q : ℕ) → open_home room (sites q) (helds q) ≡ open_home room (others q) (holds q)
+  opens room q = ap (λ (o : Option Site). open_home room o (helds q)) (same q) ∙ elim (held q) [
+    | inl none ↦ ap (λ (o : Option Site). open_home room o (helds q)) none ∙ nothing (helds q) ∙ sym (ap (λ (o : Option Site). open_home room o (holds q)) none ∙ nothing (holds q))
+    | inr equal ↦ ap (open_home room (others q)) equal
+  ] where
+    nothing : (h : Option Held) → open_home room None h ≡ None
+    nothing None = refl
+    nothing (Some h) = refl
+
+  owns : (a q : ℕ) → own_home a (sites q) (helds q) ≡ own_home a (others q) (holds q)
+  owns a q = ap (λ (o : Option Site). own_home a o (helds q)) (same q) ∙ elim (held q) [
+    | inl none ↦ ap (λ (o : Option Site). own_home a o (helds q)) none ∙ nothing (helds q) ∙ sym (ap (λ (o : Option Site). own_home a o (holds q)) none ∙ nothing (holds q))
+    | inr equal ↦ ap (own_home a (others q)) equal
+  ] where
+    nothing : (h : Option Held) → own_home a None h ≡ None
+    nothing None = refl
+    nothing (Some h) = refl
 
 pub tails_same : (t : Tails) (sites others : ℕ → Option Site) → ((q : ℕ) → sites q ≡ others q) → AreTails t sites → AreTails t others
-tails_same t sites others same is = record {
-  filling = listing_same filling_room t.filling sites others same is.filling;
-  empty = listing_same empty_room t.empty sites others same is.empty;
-  scratch = listing_same scratch_room t.scratch sites others same is.scratch;
-}
+tails_same t sites others same is = lists_same t.lists sites others (λ q. row_at q t.held.entries) (λ q. row_at q t.held.entries) same (λ q. inr refl) is
+
+-- ---- an actor's list
+
+-- an actor has none where nothing would stand in it
+pub own_begin : (l : Listing) (homes : ℕ → Option Home) → IsOwnListing None homes → IsListing l (λ q. None) → IsListing l homes
+own_begin l homes none is = record { noted = is.noted; listed = λ p q. is.listed p q ∙ sym (none p q) }
+
+pub own_end : (l : Listing) (homes : ℕ → Option Home) → IsListing l homes → l.homes.entries ≡ [] → IsOwnListing None homes
+own_end l homes is none = λ p q. sym (is.listed p q) ∙ is.noted p q (λ h. none_some p (sym (ap (row_at q) none) ∙ h))
+
+-- a volume of a pool with so much room
+abbrev pub homed : ℕ → ℕ → Option Home
+homed pool room = Some (record { pool = pool; room = room })
+
+-- what only one actor has alone is in no other's list
+pub own_apart : (actor : ℕ) (site : Option Site) (h : Held) → (lone h.actors ≡ Some actor → ⊥) → own_home actor site (Some h) ≡ None
+own_apart actor None h other = refl
+own_apart actor (Some x) h other = go (is_lone actor h) refl where
+  this : (n : ℕ) (o : Option ℕ) → is_this n o ≡ true → o ≡ Some n
+  this n None e = absurd cc
+  this n (Some k) e = ap (λ (m : ℕ). Some m) (eqb-true k n e)
+
+  go : (b : Bool) → is_lone actor h ≡ b → (if b then homed x.pool (filling_room (with_held h x)) else None) ≡ None
+  go false e = refl
+  go true e = absurd (other (this actor (lone h.actors) e))
+
+pub own_alone : (actor : ℕ) (site : Option Site) (h : Held) → lone h.actors ≡ Some actor → own_home actor site (Some h) ≡ home_by filling_room (option_map (with_held h) site)
+own_alone actor None h only = refl
+own_alone actor (Some x) h only = ap (λ (b : Bool). if b then homed x.pool (filling_room (with_held h x)) else None) (ap (is_this actor) only ∙ eq-eqb actor actor refl)
 
 -- one volume stands so
 abbrev pub with_site : ℕ → Option Site → (ℕ → Option Site) → ℕ → Option Site
@@ -125,30 +189,32 @@ with_else file x sites q apart = ap (λ (b : Bool). if b then x else sites q) (n
 
 -- ---- the rows one after the other
 
--- what isn't left to be looked at stands as its row
+-- what isn't left to be looked at stands as its row, where nothing is held
 abbrev pub AreSeen : PoolRows → List (ℕ × Volume) → (ℕ → Option Site) → Type 0
-AreSeen s rest sites = (q : ℕ) → row_at q rest ≡ None → sites q ≡ tail_at s q
+AreSeen s rest sites = (q : ℕ) → row_at q rest ≡ None → sites q ≡ base_of s (row_at q s.volumes) None
 
 pub seen_first : (s : PoolRows) (rest : List (ℕ × Volume)) → rest ≡ s.volumes → AreSeen s rest (λ q. None)
-seen_first s rest all q none = sym (ap (tail_of_row s) (ap (row_at q) (sym all) ∙ none))
+seen_first s rest all q none = sym (ap (λ (o : Option Volume). base_of s o None) (ap (row_at q) (sym all) ∙ none))
 
-pub seen_next : (s : PoolRows) (rest next : List (ℕ × Volume)) (file : ℕ) (v : Volume) (sites : ℕ → Option Site) → rest ≡ (file, v) ∷ next → AreSeen s rest sites → AreSeen s next (with_site file (tail_at s file) sites)
-seen_next s rest next file v sites first is q none = elim (cases_eq q file) [
-  | inl same ↦ ap (with_site file (tail_at s file) sites) same ∙ with_here file (tail_at s file) sites ∙ ap (tail_at s) (sym same)
-  | inr other ↦ with_else file (tail_at s file) sites q other ∙ is q (ap (row_at q) first ∙ row_later (file, v) next q other ∙ none)
+pub seen_next : (s : PoolRows) (rest next : List (ℕ × Volume)) (file : ℕ) (v : Volume) (x : Option Site) (sites : ℕ → Option Site) → rest ≡ (file, v) ∷ next → x ≡ base_of s (row_at file s.volumes) None → AreSeen s rest sites → AreSeen s next (with_site file x sites)
+seen_next s rest next file v x sites first here is q none = elim (cases_eq q file) [
+  | inl same ↦ ap (with_site file x sites) same ∙ with_here file x sites ∙ here ∙ ap (λ (n : ℕ). base_of s (row_at n s.volumes) None) (sym same)
+  | inr other ↦ with_else file x sites q other ∙ is q (ap (row_at q) first ∙ row_later (file, v) next q other ∙ none)
 ]
 
 -- ---- a change at one volume
 
-tail_kind : (s t : PoolRows) (o : Option Volume) → ((pool : ℕ) → is_sequential pool t ≡ is_sequential pool s) → tail_of_row s o ≡ tail_of_row t o
-tail_kind s t None kinds = refl
-tail_kind s t (Some v) kinds = ap (λ (b : Bool). tail_by b v) (sym (kinds v.pool))
+base_kind : (s t : PoolRows) (o : Option Volume) (drawn : Option ℕ) → ((pool : ℕ) → pool_capacity pool t ≡ pool_capacity pool s) → base_of s o drawn ≡ base_of t o drawn
+base_kind s t None None kinds = refl
+base_kind s t None (Some pool) kinds = ap (λ (c : Option ℕ). Some (drawn_site pool (unwrap_or c 0))) (sym (kinds pool))
+base_kind s t (Some v) drawn kinds = ap (λ (c : Option ℕ). tail_by (is_some c) v) (sym (kinds v.pool))
 
-pub tails_else : (file : ℕ) (s t : PoolRows) → ChangesAt file s t → AreElse file (tail_at s) (tail_at t)
-tails_else file s t changes q apart = ap (tail_of_row t) (changes.others q apart) ∙ sym (tail_kind s t (row_at q s.volumes) changes.kinds)
+pub bases_else : (tickets : List (ℕ × Claim)) (file : ℕ) (s t : PoolRows) → ChangesAt file s t → AreElse file (base_at s tickets) (base_at t tickets)
+bases_else tickets file s t changes q apart =
+    ap (λ (o : Option Volume). base_of t o (pool_on q tickets)) (changes.others q apart) ∙ sym (base_kind s t (row_at q s.volumes) (pool_on q tickets) changes.kinds)
 
-pub tails_kept : (s t : PoolRows) → t.volumes ≡ s.volumes → ((pool : ℕ) → is_sequential pool t ≡ is_sequential pool s) → (q : ℕ) → tail_at s q ≡ tail_at t q
-tails_kept s t volumes kinds q = tail_kind s t (row_at q s.volumes) kinds ∙ ap (λ (l : List (ℕ × Volume)). tail_of_row t (row_at q l)) (sym volumes)
+pub bases_kept : (tickets : List (ℕ × Claim)) (s t : PoolRows) → t.volumes ≡ s.volumes → ((pool : ℕ) → pool_capacity pool t ≡ pool_capacity pool s) → (q : ℕ) → base_at s tickets q ≡ base_at t tickets q
+bases_kept tickets s t volumes kinds q = base_kind s t (row_at q s.volumes) (pool_on q tickets) kinds ∙ ap (λ (l : List (ℕ × Volume)). base_of t (row_at q l) (pool_on q tickets)) (sym volumes)
 
 same_Ok : (x y : PoolRows) → (let a : Result PoolRows Refusal = Ok x in let b : Result PoolRows Refusal = Ok y in a ≡ b) → x ≡ y
 same_Ok x y h = cc

@@ -5,12 +5,10 @@ use Rattle.std.specs.Map.{values_of}
 use Rattle.std.proofs.lemmas.List.{append-nil}
 use Rattle.std.proofs.lemmas.List.Sums.{sum_by-cons, sum-map}
 use Rattle.pool_tables.specs.Rows.{row_at}
-use Rattle.pool_rows.specs.PoolRows.{PoolRows}
 use Rattle.space.specs.declared.piece.Piece.{Piece}
 use Rattle.space.specs.declared.site.Site.{Site}
 use Rattle.space.specs.Pieces.{room, filled}
 use Rattle.space_index.specs.Listed.{given_at}
-use Rattle.space_index.specs.Tails.{site_at}
 use Rattle.space_index.specs.Sequential.{over, Serves, listed_near, listed_else}
 use Rattle.space_index.proofs.Fills.{filled_none, filled-append}
 use Rattle.space_index.proofs.Numbers.{Ascends, bound, below_bound, below_higher, by_numbers, numbers_of}
@@ -156,10 +154,10 @@ module _ (rooms : List (ℕ × ℕ)) (near : List (ℕ × Site)) (ascend-r : Asc
         each q (Some x) (Some r) is = omega (arith, room_of_sized (unwrap_or (row_at q rooms) 0), room_of_sized r, ap (λ (p : Option ℕ). unwrap_or p 0) is)
 
   -- the room of all volumes, from that of those that are looked at and what is listed of the others
-  pub part_room : (g : ℕ × Site → List Piece) (s : PoolRows) (sites : List (ℕ × Site)) → Ascends 0 sites → ((q : ℕ) → row_at q sites ≡ over (row_at q near) (site_at s q))
-      → ((q : ℕ) → row_at q near ≡ None → room (given_at g q (site_at s q)) ≡ unwrap_or (row_at q rooms) 0) → room (flat_map g sites) ≡ room (flat_map g near) + listed_else rooms near
+  pub part_room : (g : ℕ × Site → List Piece) (view : ℕ → Option Site) (sites : List (ℕ × Site)) → Ascends 0 sites → ((q : ℕ) → row_at q sites ≡ over (row_at q near) (view q))
+      → ((q : ℕ) → row_at q near ≡ None → room (given_at g q (view q)) ≡ unwrap_or (row_at q rooms) 0) → room (flat_map g sites) ≡ room (flat_map g near) + listed_else rooms near
   unfolding given_at
-  part_room g s sites ascend-s is-over else_room =
+  part_room g view sites ascend-s is-over else_room =
       let n : ℕ = bound rooms + bound near + bound sites in
       let all : room (flat_map g sites) ≡ room (by_numbers (λ q. given_at g q (row_at q sites)) 0 n) =
       ap room (numbers_of g n 0 n sites ascend-s (below_higher (bound sites) n sites (omega arith) (below_bound sites)) (omega arith)) in
@@ -172,14 +170,14 @@ module _ (rooms : List (ℕ × ℕ)) (near : List (ℕ × Site)) (ascend-r : Asc
         each : (q : ℕ) (o : Option Site) (r : Option ℕ) → row_at q near ≡ o → row_at q rooms ≡ r
             → room (given_at g q (row_at q sites)) + room (given_at (of_listed rooms) q o) ≡ room (given_at g q o) + room (given_at of_room q r)
         each q None None now is =
-            let here : room (given_at g q (row_at q sites)) ≡ unwrap_or (row_at q rooms) 0 = ap (λ (o : Option Site). room (given_at g q o)) (is-over q ∙ ap (λ (o : Option Site). over o (site_at s q)) now) ∙ else_room q now in
+            let here : room (given_at g q (row_at q sites)) ≡ unwrap_or (row_at q rooms) 0 = ap (λ (o : Option Site). room (given_at g q o)) (is-over q ∙ ap (λ (o : Option Site). over o (view q)) now) ∙ else_room q now in
             omega (arith, here, ap (λ (p : Option ℕ). unwrap_or p 0) is)
         each q None (Some r) now is =
-            let here : room (given_at g q (row_at q sites)) ≡ unwrap_or (row_at q rooms) 0 = ap (λ (o : Option Site). room (given_at g q o)) (is-over q ∙ ap (λ (o : Option Site). over o (site_at s q)) now) ∙ else_room q now in
+            let here : room (given_at g q (row_at q sites)) ≡ unwrap_or (row_at q rooms) 0 = ap (λ (o : Option Site). room (given_at g q o)) (is-over q ∙ ap (λ (o : Option Site). over o (view q)) now) ∙ else_room q now in
             omega (arith, here, ap (λ (p : Option ℕ). unwrap_or p 0) is, room_of_sized r)
         each q (Some x) None now is =
-            let here : room (given_at g q (row_at q sites)) ≡ room (g (q, x)) = ap (λ (o : Option Site). room (given_at g q o)) (is-over q ∙ ap (λ (o : Option Site). over o (site_at s q)) now) in
+            let here : room (given_at g q (row_at q sites)) ≡ room (g (q, x)) = ap (λ (o : Option Site). room (given_at g q o)) (is-over q ∙ ap (λ (o : Option Site). over o (view q)) now) in
             omega (arith, here, ap (λ (p : Option ℕ). unwrap_or p 0) is, room_of_sized (unwrap_or (row_at q rooms) 0))
         each q (Some x) (Some r) now is =
-            let here : room (given_at g q (row_at q sites)) ≡ room (g (q, x)) = ap (λ (o : Option Site). room (given_at g q o)) (is-over q ∙ ap (λ (o : Option Site). over o (site_at s q)) now) in
+            let here : room (given_at g q (row_at q sites)) ≡ room (g (q, x)) = ap (λ (o : Option Site). room (given_at g q o)) (is-over q ∙ ap (λ (o : Option Site). over o (view q)) now) in
             omega (arith, here, ap (λ (p : Option ℕ). unwrap_or p 0) is, room_of_sized (unwrap_or (row_at q rooms) 0), room_of_sized r)

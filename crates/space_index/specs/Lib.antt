@@ -1,4 +1,5 @@
 pub mod Choosing
+pub mod Claimed
 pub mod Counts
 pub mod Index
 pub mod Sequential

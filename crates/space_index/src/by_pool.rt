@@ -1,8 +1,8 @@
 // Volumes by pool.
-ghost use Rattle.std.specs.Prelude.{◌≡◌, ℕ, Some, None, Option, OnOk};
+ghost use Rattle.std.specs.Prelude.{◌≡◌, ℕ, true, Some, None, Option, OnOk};
 ghost use Rattle.space_index.specs.declared.by_pool.Home.{Home};
 ghost use Rattle.space_index.specs.Listed.{HasRoom};
-ghost use Rattle.space_index.specs.Tails.{IsListing, AreElse};
+ghost use Rattle.space_index.specs.Tails.{IsListing, IsOwnListing, AreElse};
 
 use crate::random::set_room;
 use crate::rooms::Rooms;
@@ -47,6 +47,13 @@ impl Listing {
             homes: BTreeMap::new(alloc),
             pools: BTreeMap::new(alloc),
         }
+    }
+
+    /// Whether no volume is in a list: each that was listed has gone.
+    pub fn is_empty(&self) -> bool
+        ensures { (homes : ℕ → Option Home) → IsListing self.now homes → result ≡ true → IsOwnListing None homes }
+    {
+        self.homes.is_empty()
     }
 
     fn strike(&mut self, file: u32)

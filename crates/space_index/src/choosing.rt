@@ -10,7 +10,7 @@ ghost use Rattle.space.specs.Claims.{counted};
 ghost use Rattle.space.specs.Pieces.{pieces, run_piece, room, cut, filled};
 ghost use Rattle.extent_map.specs.Blocks.{room_in};
 ghost use Rattle.space.specs.Placing.{has_place, placed_in, choose};
-ghost use Rattle.space_index.specs.Tails.{AreTails, tail_at, IsIndexOf};
+ghost use Rattle.space_index.specs.Tails.{IsTailsOf, IsIndexOf};
 ghost use Rattle.space_index.specs.Choosing.{pieces_on, other_pieces, preferred_pieces, listed_pieces, listed_room};
 ghost use Rattle.space_index.specs.Listed.{rooms_at};
 
@@ -191,7 +191,7 @@ fn has_sequential_room(
     request: &Request,
     number: u32,
 ) -> Result<bool, AllocError>
-    requires index { AreTails index.now (tail_at pools.now) }
+    requires index { IsTailsOf index.now pools.now space.now.tickets }
     requires sequential { is_sequential number pools.now ≡ true }
     ensures { IfOk result (λ b. b ≡ nat_le request.now.size (room (pieces number request.now.prefer request.now.avoid space.now.next_file (counted request.now.actor space.now) pools.now))) }
 {
@@ -209,7 +209,7 @@ fn used_sequential(
     request: &Request,
     number: u32,
 ) -> Result<Vec<Piece>, AllocError>
-    requires index { AreTails index.now (tail_at pools.now) }
+    requires index { IsTailsOf index.now pools.now space.now.tickets }
     requires sequential { is_sequential number pools.now ≡ true }
     ensures { IfOk result (λ v. v.items ≡ filled request.now.size (pieces number request.now.prefer request.now.avoid space.now.next_file (counted request.now.actor space.now) pools.now)) }
 {
@@ -286,9 +286,8 @@ fn used_pieces(
 }
 
 /// Where an object goes: its segments, each with its pool, exactly as `choose_by_walk` of `space` answers. On pools of random access it takes
-/// time that grows with the logarithm of the volumes and blocks, and with the segments that it answers. On sequential pools it takes time that
-/// grows with the logarithm of the volumes, with the segments that tickets hold in any pool, and with the FILLING and the EMPTY volumes that
-/// the object would need if the actor had no ticket. Where no pool has room all is walked. `NoSpace`, with the number of the pool that the aim
+/// time that grows with the logarithm of the volumes and blocks, and with the segments that it answers; on sequential pools with the logarithm of
+/// the volumes, of the tickets and of the segments that they hold, and with the segments that it answers. Where no pool has room all is walked. `NoSpace`, with the number of the pool that the aim
 /// goes to, where no pool of the hierarchy that may take the object has room; `Busy` where one would have, if other actors' tickets or the
 /// transactions that aren't forced yet were gone, with the least of these that holds space there; `InventoryFull` where a scratch volume is
 /// needed for which no file number is left; `Memory`.

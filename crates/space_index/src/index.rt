@@ -1,6 +1,6 @@
 //! The index: where space is free on volumes of random access, and which volumes of sequential pools have room behind their ends.
 
-ghost use Rattle.std.specs.Prelude.{◌≡◌, ℕ, false, Some, None, Option, Ok, IfOk, OnOk};
+ghost use Rattle.std.specs.Prelude.{◌≡◌, ℕ, true, false, Some, None, Option, Ok, [], IfOk, OnOk};
 ghost use Rattle.pool_tables.specs.Rows.{row_at};
 ghost use Rattle.pool_rows.specs.PoolRows.{PoolRows, is_sequential};
 ghost use Rattle.pool_rows.specs.Segments.{put_segment, take_segment};
@@ -8,11 +8,13 @@ ghost use Rattle.volume_rows.specs.declared.volume.Volume.{Volume};
 ghost use Rattle.space.specs.declared.site.Site.{Site};
 ghost use Rattle.space.specs.Claims.{Claims, held, released, noted, forgotten, forced};
 ghost use Rattle.space_index.specs.Index.{shape_at, claims_reach};
-ghost use Rattle.space_index.specs.Tails.{AreElse, AreTails, tail_at, IsIndexWith, IsIndexOf};
+ghost use Rattle.space_index.specs.Claimed.{pool_on};
+ghost use Rattle.space_index.specs.Tails.{AreElse, base_at, IsTailsOf, IsIndexWith, IsIndexOf};
 ghost use Rattle.space_index.specs.Updates.{ChangesAt, IsAccessOf};
 
+use crate::lost::Lost;
 use crate::random::RandomIndex;
-use crate::tails::{Tails, tail_at};
+use crate::tails::Tails;
 use kinds::{Access, Segment};
 use pool_rows::Pools;
 use space::{Claim, Places, Space};
@@ -27,43 +29,61 @@ pub struct Index {
     pub(crate) tails: Tails,
 }
 
-/// The sequential volumes of these rows.
-fn tails_of(alloc: Global, pools: &Pools) -> Result<Tails, AllocError>
-    ensures { IfOk result (λ t. AreTails t (tail_at pools.now)) }
+/// The sequential volumes of these rows, where nothing is held.
+fn rows_of(alloc: Global, pools: &Pools) -> Result<Tails, AllocError>
+    ensures { IfOk result (λ t. IsTailsOf t pools.now []) }
 {
     let mut tails = Tails::new(alloc);
     let _len = pools.volumes().len();
     'volumes: for (file, _) in pools.volumes() {
-        tails.set(*file, tail_at(pools, *file))?;
+        let site = tails.base_at(pools, *file);
+        tails.set(*file, site)?;
+    }
+    Ok(tails)
+}
+
+/// The sequential volumes of these rows, and what tickets hold.
+fn tails_of(alloc: Global, pools: &Pools, space: &Space) -> Result<Tails, Lost>
+    ensures { IfOk result (λ t. IsTailsOf t pools.now space.now.tickets) }
+{
+    let mut tails = rows_of(alloc, pools)?;
+    'tickets: for (_, claim) in space.tickets() {
+        tails.put_all(pools, claim.actor, claim.places.as_slice())?;
     }
     Ok(tails)
 }
 
 impl Index {
     /// The index of these rows and of what is held beside them. It takes time for all volumes, their blocks and copies, and for all that is held.
-    pub fn of(alloc: Global, pools: &Pools, space: &Space) -> Result<Self, AllocError>
+    /// `Kind` where places of tickets on one volume don't all name the same pool; those that `choose` answers do.
+    pub fn of(alloc: Global, pools: &Pools, space: &Space) -> Result<Self, Lost>
         ensures { IfOk result (λ i. IsIndexOf i pools.now space.now) }
     {
-        let tails = tails_of(alloc, pools)?;
+        let tails = tails_of(alloc, pools, space)?;
         let random = RandomIndex::of(alloc, pools, space)?;
         Ok(Index { random, tails })
     }
 
     // ---- tickets and transactions
 
-    /// A ticket gets its space, under a number that no ticket has.
-    pub fn hold(&mut self, claim: &Claim) -> Result<(), AllocError>
-        ensures { (s : PoolRows) (c : Claims) (sites : ℕ → Option Site) (number : ℕ) → IsIndexWith self.old s c sites → row_at number c.tickets ≡ None → OnOk result (IsIndexWith self.new s (held number claim.now c) sites) }
+    /// A ticket gets its space, under a number that no ticket has. `Kind` where its places name another pool than those that are held on the same
+    /// volume.
+    pub fn hold(&mut self, pools: &Pools, claim: &Claim) -> Result<(), Lost>
+        ensures { (c : Claims) (number : ℕ) → IsIndexOf self.old pools.now c → row_at number c.tickets ≡ None → OnOk result (IsIndexOf self.new pools.now (held number claim.now c)) }
     {
         self.random.hold(claim)?;
+        self.tails
+            .put_all(pools, claim.actor, claim.places.as_slice())?;
         Ok(())
     }
 
     /// A ticket gives its space back, or its segments have become a copy's.
-    pub fn release(&mut self, claim: &Claim) -> Result<(), AllocError>
-        ensures { (s : PoolRows) (c : Claims) (sites : ℕ → Option Site) (number : ℕ) → IsIndexWith self.old s c sites → row_at number c.tickets ≡ Some claim.now → OnOk result (IsIndexWith self.new s (released number c) sites) }
+    pub fn release(&mut self, pools: &Pools, claim: &Claim) -> Result<(), AllocError>
+        ensures { (c : Claims) (number : ℕ) → IsIndexOf self.old pools.now c → row_at number c.tickets ≡ Some claim.now → OnOk result (IsIndexOf self.new pools.now (released number c)) }
     {
         self.random.release(claim)?;
+        self.tails
+            .take_all(pools, claim.actor, claim.places.as_slice())?;
         Ok(())
     }
 
@@ -123,9 +143,10 @@ impl Index {
 
     /// A volume is listed as it stands in these rows.
     pub fn look_at(&mut self, pools: &Pools, file: u32) -> Result<(), AllocError>
-        ensures { (s : PoolRows) (c : Claims) (sites others : ℕ → Option Site) → IsIndexWith self.old s c sites → AreElse file sites others → others file ≡ tail_at pools.now file → OnOk result (IsIndexWith self.new s c others) }
+        ensures { (s : PoolRows) (c : Claims) (sites others : ℕ → Option Site) → IsIndexWith self.old s c sites → AreElse file sites others → others file ≡ base_at pools.now c.tickets file → OnOk result (IsIndexWith self.new s c others) }
     {
-        self.tails.set(file, tail_at(pools, file))?;
+        let site = self.tails.base_at(pools, file);
+        self.tails.set(file, site)?;
         Ok(())
     }
 
@@ -147,13 +168,20 @@ impl Index {
         Ok(())
     }
 
-    /// A volume goes.
-    pub fn remove_volume(&mut self, file: u32) -> Result<(), AllocError>
-        ensures { (s t : PoolRows) (c : Claims) → IsIndexOf self.old s c → ChangesAt file s t → row_at file t.volumes ≡ None → OnOk result (IsIndexOf self.new t c) }
+    /// A volume goes: these are the rows behind it.
+    pub fn remove_volume(&mut self, pools: &Pools, file: u32) -> Result<(), AllocError>
+        ensures { (s : PoolRows) (c : Claims) → IsIndexOf self.old s c → ChangesAt file s pools.now → row_at file pools.now.volumes ≡ None → OnOk result (IsIndexOf self.new pools.now c) }
     {
         self.random.remove_volume(file)?;
-        self.tails.set(file, None)?;
+        self.look_at(pools, file)?;
         Ok(())
+    }
+
+    /// Whether no ticket has space.
+    pub fn is_unheld(&self) -> bool
+        ensures { (s : PoolRows) (c : Claims) (sites : ℕ → Option Site) → IsIndexWith self.now s c sites → result ≡ true → (file : ℕ) → pool_on file c.tickets ≡ None }
+    {
+        self.tails.held.is_empty()
     }
 
     /// A volume's access changes, and no segment on it: these are the rows behind it.

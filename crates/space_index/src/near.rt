@@ -1,58 +1,48 @@
 // The volumes of a sequential pool that are looked at one by one.
 ghost use Rattle.std.specs.Prelude.{IfOk, OnOk};
-ghost use Rattle.space.specs.Volumes.{claim_all, seen};
-ghost use Rattle.space_index.specs.Sequential.{KnowsMore, KnowsPlaces, AreNear};
+ghost use Rattle.space_index.specs.Sequential.{view, KnowsMore, AreNear};
 
+use crate::tails::Tails;
 use pool_rows::Pools;
-use space::{Placed, Request, Site, claim_all, site_of};
+use space::{Request, Site};
 use std::alloc::{AllocError, Global};
 use std::collections::BTreeMap;
 
-/// A volume is looked at as its row stands, where it wasn't before and is there.
-pub fn note_row(pools: &Pools, near: &mut BTreeMap<u32, Site>, file: u32) -> Result<(), AllocError>
-    ensures { OnOk result (KnowsMore pools.now file near.old.entries near.new.entries) }
+/// A volume of the pool is looked at as the actor sees it, where it wasn't before, and nobody else's tickets have space on it.
+pub fn note_seen(
+    pools: &Pools,
+    tails: &Tails,
+    request: &Request,
+    number: u32,
+    near: &mut BTreeMap<u32, Site>,
+    file: u32,
+) -> Result<(), AllocError>
+    ensures { OnOk result (KnowsMore (view pools.now tails.now.held.entries number request.now.actor) file near.old.entries near.new.entries) }
 {
     if near.get(&file).is_some() {
         return Ok(());
     }
-    match pools.volumes().get(&file) {
-        Some(volume) => {
-            near.insert(file, site_of(volume))?;
+    match tails.seen(pools, number, request.actor, file) {
+        Some(site) => {
+            near.insert(file, site)?;
             Ok(())
         }
         None => Ok(()),
     }
 }
 
-fn note_places(
-    pools: &Pools,
-    near: &mut BTreeMap<u32, Site>,
-    places: &[Placed],
-) -> Result<(), AllocError>
-    ensures { OnOk result (KnowsPlaces pools.now places.now near.old.entries near.new.entries) }
-{
-    'places: for place in places {
-        note_row(pools, near, place.segment.file)?;
-    }
-    Ok(())
-}
-
-/// The volumes on which tickets have space, the preferred one and the avoided one, with what tickets claim.
+/// The preferred volume and the avoided one.
 pub fn near_sites(
     alloc: Global,
     pools: &Pools,
-    own: &[Placed],
-    others: &[Placed],
+    tails: &Tails,
     request: &Request,
+    number: u32,
 ) -> Result<BTreeMap<u32, Site>, AllocError>
-    ensures { IfOk result (λ near. AreNear pools.now request.now.prefer request.now.avoid others.now (claim_all pools.now others.now (claim_all pools.now own.now (seen pools.now.volumes))) near.entries) }
+    ensures { IfOk result (λ near. AreNear (view pools.now tails.now.held.entries number request.now.actor) request.now.prefer request.now.avoid near.entries) }
 {
     let mut near = BTreeMap::new(alloc);
-    note_places(pools, &mut near, own)?;
-    note_places(pools, &mut near, others)?;
-    note_row(pools, &mut near, request.prefer)?;
-    note_row(pools, &mut near, request.avoid)?;
-    claim_all(pools, own, &mut near)?;
-    claim_all(pools, others, &mut near)?;
+    note_seen(pools, tails, request, number, &mut near, request.prefer)?;
+    note_seen(pools, tails, request, number, &mut near, request.avoid)?;
     Ok(near)
 }

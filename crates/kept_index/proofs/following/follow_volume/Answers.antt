@@ -31,4 +31,4 @@ returns-in-Delete c = λ name pool capacity v is legal named made.
     let goes = deleted_goes name pool file capacity access v c.args.pools.now c.args.named (subst (λ (w : Verb). IsLegalOn (Pool (Volume w name pool file capacity access)) v) c.in-Delete.is legal)
     (named ∙ ap (λ (w : Verb). named_in (Volume w name pool file capacity access) v.stores) c.in-Delete.is)
     (made ∙ ap (λ (w : Verb). (effect (Pool (Volume w name pool file capacity access)) v).stores) c.in-Delete.is) in
-    c.delete_volume.ensures v.stores c.args.pools.now c.args.space.now goes.file goes.is is goes.has.changes goes.has.gone
+    c.delete_volume.ensures v.stores c.args.space.now goes.file goes.is is goes.has.changes goes.has.gone

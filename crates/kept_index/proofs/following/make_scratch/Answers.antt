@@ -1,5 +1,5 @@
 use Rattle.std.proofs.Common.{◌∷◌, sym, ◌∙◌}
-use Rattle.space_index.specs.Tails.{tail_at}
+use Rattle.space_index.specs.Tails.{base_at}
 use Rattle.space_index.proofs.Listings.{with_else, with_here, with_site}
 use Rattle.kept_index.specs.Steps.{scratched}
 use Rattle.kept_index.proofs.Rows.{kind_before, looked, scratch_changes, scratch_shape}
@@ -17,7 +17,7 @@ returns c = λ claims full xs es remains.
     record {
       rows = t;
       is = looked c.look_at.new.self claims x.file s t final sites changes remains.is.listed
-          (c.in_ok-look_at.ensures t claims sites (with_site x.file (tail_at final x.file) sites) aside (with_else x.file (tail_at final x.file) sites) (with_here x.file (tail_at final x.file) sites));
+          (c.in_ok-look_at.ensures t claims sites (with_site x.file (base_at final claims.tickets x.file) sites) aside (with_else x.file (base_at final claims.tickets x.file) sites) (with_here x.file (base_at final claims.tickets x.file) sites));
       rest = remains.rest;
       kinds = remains.kinds;
     }

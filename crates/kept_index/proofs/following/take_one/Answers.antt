@@ -1,4 +1,4 @@
-use Rattle.space_index.specs.Tails.{tail_at}
+use Rattle.space_index.specs.Tails.{base_at}
 use Rattle.space_index.proofs.Listings.{with_else, with_here, with_site}
 use Rattle.kept_index.specs.Steps.{with_take}
 use Rattle.kept_index.proofs.Rows.{looked, take_changes, take_index}
@@ -16,7 +16,7 @@ returns c = λ claims today object es leaving.
     record {
       rows = t;
       is = looked c.look_at.new.self claims x.file s t final sites (take_changes today (object, x) s) leaving.is.listed
-          (c.in_ok-look_at.ensures t claims sites (with_site x.file (tail_at final x.file) sites) took (with_else x.file (tail_at final x.file) sites) (with_here x.file (tail_at final x.file) sites));
+          (c.in_ok-look_at.ensures t claims sites (with_site x.file (base_at final claims.tickets x.file) sites) took (with_else x.file (base_at final claims.tickets x.file) sites) (with_here x.file (base_at final claims.tickets x.file) sites));
       lie = leaving.lie.1;
       rest = leaving.rest;
     }

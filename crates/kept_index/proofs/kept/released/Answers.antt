@@ -1,7 +1,6 @@
 use Rattle.std.proofs.Common.{sym, ap, ◌∙◌}
 use Rattle.pool_tables.specs.Rows.{row_at}
-use Rattle.space_index.specs.Tails.{tail_at}
 use Rattle.kept_index.proofs.kept.released.Goals as goal
 
 pub returns-in-Ok : goal.returns-in-Ok
-returns-in-Ok c = λ s is. c.in-Ok.ensures s c.args.space.now (tail_at s) c.args.number is (ap (row_at c.args.number) (sym c.tickets.ensures) ∙ sym c.in-Some.ensures.value)
+returns-in-Ok c = λ is. c.in-Ok.ensures c.args.space.now c.args.number is (ap (row_at c.args.number) (sym c.tickets.ensures) ∙ sym c.in-Some.ensures.value)

@@ -5,7 +5,11 @@ use Rattle.std.specs.Ordering.{nat_cmp}
 use Rattle.volume_rows.specs.declared.volume.Volume.{Volume}
 use Rattle.space.specs.Claims.{counted}
 use Rattle.space_index.proofs.Places.{has_by_room, listed_room_is}
+use Rattle.space_index.proofs.Claiming.{tails_in}
 use Rattle.space_index.proofs.choosing.has_room.Goals as goal
+
+pub has_sequential_room-requires-clause-index : goal.has_sequential_room-requires-clause-index
+has_sequential_room-requires-clause-index c = tails_in c.args.index.now.tails c.args.pools.now c.args.space.now.tickets c.requires.held c.requires.tails
 
 pub returns : goal.returns
 returns c =

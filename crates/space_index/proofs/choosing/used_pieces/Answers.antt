@@ -5,7 +5,11 @@ use Rattle.std.specs.Ordering.{nat_cmp}
 use Rattle.volume_rows.specs.declared.volume.Volume.{Volume}
 use Rattle.space.specs.Pieces.{filled}
 use Rattle.space_index.proofs.Places.{listed_pieces_are}
+use Rattle.space_index.proofs.Claiming.{tails_in}
 use Rattle.space_index.proofs.choosing.used_pieces.Goals as goal
+
+pub used_sequential-requires-clause-index : goal.used_sequential-requires-clause-index
+used_sequential-requires-clause-index c = tails_in c.args.index.now.tails c.args.pools.now c.args.space.now.tickets c.requires.held c.requires.tails
 
 pub returns : goal.returns
 returns c =

@@ -1,8 +1,9 @@
-use Rattle.std.proofs.Common.{ℕ, Option}
-use Rattle.space.specs.declared.site.Site.{Site}
-use Rattle.space_index.specs.Tails.{AreTails}
-use Rattle.space_index.proofs.Listings.{AreSeen}
+use Rattle.std.proofs.Common.{◌≡◌, ◌+◌, ℕ, Bool, List}
+use Rattle.space.specs.declared.claims.Claim.{Claim}
+use Rattle.space.specs.declared.places.Placed.{Placed}
+use Rattle.space_index.specs.Claimed.{times}
+use Rattle.space_index.specs.Tails.{IsTailsOf}
 use Rattle.space_index.proofs.index.tails_of.Given as goal
 
-abbrev pub invariant-volumes : goal.invariant-volumes
-invariant-volumes l = (sites : ℕ → Option Site) × AreTails l.tails sites × AreSeen l.pools l.file-iterator sites
+abbrev pub invariant-tickets : goal.invariant-tickets
+invariant-tickets l = (now : List (ℕ × Claim)) × ((m : ℕ → Placed → Bool) → times m now + times m l.claim-iterator ≡ times m l.space.tickets) × IsTailsOf l.tails l.pools now

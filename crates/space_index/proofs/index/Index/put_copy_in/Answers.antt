@@ -2,13 +2,13 @@ use Rattle.std.proofs.Common.{refl}
 use Rattle.volume_rows.specs.Held.{held_of}
 use Rattle.pool_tables.specs.RowChanges.{put}
 use Rattle.pool_rows.specs.PoolRows.{is_sequential_at}
-use Rattle.space_index.specs.Tails.{tail_at}
-use Rattle.space_index.proofs.Listings.{tails_else, changed_at}
+use Rattle.space_index.specs.Tails.{base_at}
+use Rattle.space_index.proofs.Listings.{bases_else, changed_at}
 use Rattle.space_index.proofs.index.Index.put_copy_in.Goals as goal
 
 pub returns : goal.returns
 returns c = λ s claims object is made.
     let t = c.args.pools.now in
     let x = c.args.segment.now in
-    c.in_ok-look_at.ensures t claims (tail_at s) (tail_at t) (c.in_ok-put_copy.ensures.comes s t claims (tail_at s) object is made)
-    (tails_else x.file s t (changed_at s t x.file (put (is_sequential_at x.file s) (held_of object x)) made)) refl
+    c.in_ok-look_at.ensures t claims (base_at s claims.tickets) (base_at t claims.tickets) (c.in_ok-put_copy.ensures.comes s t claims (base_at s claims.tickets) object is made)
+    (bases_else claims.tickets x.file s t (changed_at s t x.file (put (is_sequential_at x.file s) (held_of object x)) made)) refl

@@ -1,10 +1,9 @@
-use Rattle.std.proofs.Common.{ap}
-use Rattle.space_index.specs.Tails.{tail_of_row, tail_at}
-use Rattle.space_index.proofs.Listings.{tails_else}
+use Rattle.std.proofs.Common.{refl}
+use Rattle.space_index.specs.Tails.{base_at}
+use Rattle.space_index.proofs.Listings.{bases_else}
 use Rattle.space_index.proofs.index.Index.remove_volume.Goals as goal
 
 pub returns : goal.returns
-returns c = λ s t claims is changes gone. record {
-  random = c.in_ok-remove_volume.ensures s t claims is.random changes gone;
-  tails = c.in_ok-set.ensures (tail_at s) (tail_at t) is.tails (tails_else c.args.file s t changes) (ap (tail_of_row t) gone);
-}
+returns c = λ s claims is changes gone.
+    let t = c.args.pools.now in
+    c.in_ok-look_at.ensures t claims (base_at s claims.tickets) (base_at t claims.tickets) (record { random = c.in_ok-remove_volume.ensures s t claims is.random changes gone; tails = is.tails; held = is.held }) (bases_else claims.tickets c.args.file s t changes) refl

@@ -1,9 +1,9 @@
 use Rattle.std.proofs.Common.{refl}
-use Rattle.space_index.specs.Tails.{tail_at}
-use Rattle.space_index.proofs.Listings.{tails_else}
+use Rattle.space_index.specs.Tails.{base_at}
+use Rattle.space_index.proofs.Listings.{bases_else}
 use Rattle.space_index.proofs.index.Index.set_volume_access.Goals as goal
 
 pub returns : goal.returns
 returns c = λ s claims is changes access.
     let t = c.args.pools.now in
-    c.in_ok-look_at.ensures t claims (tail_at s) (tail_at t) (record { random = c.in_ok-set_volume_access.ensures s t claims is.random changes access; tails = is.tails }) (tails_else c.args.file s t changes) refl
+    c.in_ok-look_at.ensures t claims (base_at s claims.tickets) (base_at t claims.tickets) (record { random = c.in_ok-set_volume_access.ensures s t claims is.random changes access; tails = is.tails; held = is.held }) (bases_else claims.tickets c.args.file s t changes) refl
