@@ -7,7 +7,7 @@
 //!     benches entries [encode | decode | copy [COUNT]]
 //!     benches objects [COUNT [STEPS]]
 //!     benches words [LINES [split]]
-//!     benches space [random | sequential [VOLUMES [COUNT [ROOM]]]]
+//!     benches space [random | sequential [VOLUMES [COUNT [ROOM [TICKETS]]]]]
 #![tactic(auto)]
 
 mod codec;
@@ -35,8 +35,8 @@ fn report_all(rt: &impl Print, alloc: Global) -> io::Result<()> {
     codec::report(rt, alloc, "encode", codec::USUAL_COUNT)?;
     objects::report(rt, alloc, objects::USUAL_COUNT, objects::ALL_STEPS)?;
     words::report(rt, alloc, words::USUAL_LINES, false)?;
-    report_space(rt, alloc, "random", [None, None, None])?;
-    report_space(rt, alloc, "sequential", [None, None, None])
+    report_space(rt, alloc, "random", [None, None, None, None])?;
+    report_space(rt, alloc, "sequential", [None, None, None, None])
 }
 
 /// The placing of objects in a pool of this kind.
@@ -44,9 +44,9 @@ fn report_space(
     rt: &impl Print,
     alloc: Global,
     kind: &str,
-    words: [Option<&str>; 3],
+    words: [Option<&str>; 4],
 ) -> io::Result<()> {
-    let [volumes, count, room] = words;
+    let [volumes, count, room, tickets] = words;
     let count = number(count, spaces::USUAL_COUNT);
     spaces::report(
         rt,
@@ -55,6 +55,7 @@ fn report_space(
         number(volumes, spaces::USUAL_VOLUMES),
         count,
         number(room, count),
+        number(tickets, 0),
     )
 }
 
@@ -64,9 +65,9 @@ fn report(
     alloc: Global,
     name: &str,
     first: Option<&str>,
-    rest: [Option<&str>; 3],
+    rest: [Option<&str>; 4],
 ) -> io::Result<()> {
-    let [second, _, _] = rest;
+    let [second, _, _, _] = rest;
     match name {
         "paths" => paths::report(
             rt,
@@ -115,6 +116,7 @@ fn main(rt: HostRuntime) -> io::Result<()> {
     let second = words.next();
     let third = words.next();
     let fourth = words.next();
+    let fifth = words.next();
     report(
         &rt,
         rt.alloc(),
@@ -124,6 +126,7 @@ fn main(rt: HostRuntime) -> io::Result<()> {
             second.as_ref().map(|word| word.as_str()),
             third.as_ref().map(|word| word.as_str()),
             fourth.as_ref().map(|word| word.as_str()),
+            fifth.as_ref().map(|word| word.as_str()),
         ],
     )
 }

@@ -1,6 +1,7 @@
 //! Places objects of 1 to 65,536 bytes in a storage pool, of random access or sequential, with so many volumes that together have room for
-//! all of them, and removes half of them again: after every second object one that was placed 201 before. It prints how many were placed, in how
-//! many segments, and how many were removed.
+//! all of them, and removes half of them again: after every second object one that was placed 201 before. Beside so many live tickets, of the same
+//! actor or, where there are more volumes than tickets, every second one of another. It prints how many were placed, in how many segments, and how
+//! many were removed.
 
 ghost use Rattle.std.specs.Prelude.{OnOk};
 ghost use Rattle.space.specs.Claims.{Claims};
@@ -8,7 +9,7 @@ ghost use Rattle.space_index.specs.Tails.{IsIndexOf};
 
 use kinds::{Access, Capacity, Day, Name, PoolKind, PoolSettings, Refusal, Segment};
 use pool_rows::{Pool, Pools};
-use space::{Aim, Placed, Places, Request, Space};
+use space::{Aim, Claim, Placed, Places, Request, Space};
 use space_index::{Index, choose};
 use std::alloc::Global;
 use std::collections::BTreeMap;
@@ -91,6 +92,67 @@ fn take_all(
     Ok(())
 }
 
+/// What an object of the pool asks for.
+fn request_of(actor: u32, object: u32, pool: u32) -> Request {
+    Request {
+        actor,
+        size: 1 + scattered(object) / 65_536 % 65_536,
+        aim: Aim::New { pool },
+        prefer: 0,
+        avoid: 0,
+    }
+}
+
+/// An actor's ticket gets space for an object, under a number that no ticket has.
+fn open(
+    alloc: Global,
+    pools: &Pools,
+    index: &mut Index,
+    space: &mut Space,
+    actor: u32,
+    number: u32,
+    pool: u32,
+) -> Result<(), Refusal>
+    requires { IsIndexOf index.old pools.now space.old }
+    ensures { OnOk result (IsIndexOf index.new pools.now space.new) }
+{
+    let places = choose(alloc, pools, space, index, &request_of(actor, number, pool))?;
+    let claim = Claim { actor, places };
+    let ticket = u64::from(number);
+    let None = space.tickets().get(&ticket) else {
+        return Err(Refusal::NotFound);
+    };
+    let Ok(()) = index.hold(pools, &claim) else {
+        return Err(Refusal::Memory);
+    };
+    space.hold(ticket, claim)?;
+    Ok(())
+}
+
+/// So many tickets get space.
+fn open_all(
+    alloc: Global,
+    pools: &Pools,
+    index: &mut Index,
+    space: &mut Space,
+    pool: u32,
+    tickets: u32,
+    apart: bool,
+) -> Result<(), Refusal>
+    requires { IsIndexOf index.old pools.now space.old }
+    ensures { OnOk result (IsIndexOf index.new pools.now space.new) }
+{
+    'tickets: for number in 0..tickets {
+        let actor = if apart && number % 2 == 1 {
+            number.saturating_add(1)
+        } else {
+            1
+        };
+        open(alloc, pools, index, space, actor, number, pool)?;
+    }
+    Ok(())
+}
+
 /// Places an object.
 fn place(
     alloc: Global,
@@ -103,14 +165,7 @@ fn place(
     requires { IsIndexOf index.old pools.old space.now }
     ensures { OnOk result (IsIndexOf index.new pools.new space.now) }
 {
-    let request = Request {
-        actor: 1,
-        size: 1 + scattered(object) / 65_536 % 65_536,
-        aim: Aim::New { pool },
-        prefer: 0,
-        avoid: 0,
-    };
-    let places = choose(alloc, pools, space, index, &request)?;
+    let places = choose(alloc, pools, space, index, &request_of(1, object, pool))?;
     put_all(pools, index, u64::from(object), places.as_slice())?;
     Ok(places)
 }
@@ -261,17 +316,28 @@ fn rows_of(alloc: Global, pool: u32, volumes: u32, bytes: u64) -> Result<Pools, 
     made.ok_or(Refusal::NotFound)
 }
 
-fn all(alloc: Global, pool: u32, volumes: u32, bytes: u64, count: u32) -> Result<Totals, Refusal> {
+fn all(
+    alloc: Global,
+    pool: u32,
+    volumes: u32,
+    bytes: u64,
+    count: u32,
+    tickets: u32,
+) -> Result<Totals, Refusal> {
     let Some(today) = Day::new(1) else {
         return Err(Refusal::NotFound);
     };
     let mut pools = rows_of(alloc, pool, volumes, bytes)?;
-    let space = Space::new(alloc, volumes.saturating_add(1));
-    let mut index = Index::of(alloc, &pools, &space)?;
+    let mut space = Space::new(alloc, volumes.saturating_add(1));
+    let Ok(mut index) = Index::of(alloc, &pools, &space) else {
+        return Err(Refusal::Memory);
+    };
+    let apart = tickets < volumes;
+    open_all(alloc, &pools, &mut index, &mut space, pool, tickets, apart)?;
     churn(alloc, &mut pools, &mut index, &space, pool, count, today)
 }
 
-/// Places so many objects on so many volumes with room for as many objects as `room` says, sequential or not.
+/// Places so many objects on so many volumes with room for as many objects as `room` says, sequential or not, beside so many tickets.
 pub(crate) fn report(
     rt: &impl Print,
     alloc: Global,
@@ -279,9 +345,17 @@ pub(crate) fn report(
     volumes: u32,
     count: u32,
     room: u32,
+    tickets: u32,
 ) -> io::Result<()> {
     let pool = if sequential { 2 } else { 1 };
-    match all(alloc, pool, volumes, 40_960 * u64::from(room), count) {
+    match all(
+        alloc,
+        pool,
+        volumes,
+        40_960 * u64::from(room),
+        count,
+        tickets,
+    ) {
         Ok(Totals { segments, removed }) => println!(rt;
             "{count} objects in {segments} segments, {removed} removed"
         ),

@@ -198,7 +198,8 @@ impl Parts {
         };
         let last = last_file(seat.places.as_slice());
         self.seats.insert(number, seat)?;
-        self.index.hold(&self.space, number, &claim);
+        let pools = &self.vault.database().tables().pools;
+        self.index.hold(pools, &self.space, number, &claim);
         if let Err(refusal) = self.space.hold(number, claim) {
             self.index.lose();
             let _ = self.seats.remove(&number);

@@ -95,7 +95,8 @@ impl Parts {
     pub(crate) fn drop_seat(&mut self, number: u64)
         ensures { self.new ≡ without_seat number self.old }
     {
-        self.index.release(&self.space, number);
+        let pools = &self.vault.database().tables().pools;
+        self.index.release(pools, &self.space, number);
         self.space.release(number);
         let _ = self.seats.remove(&number);
     }

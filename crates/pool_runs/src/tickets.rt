@@ -143,15 +143,17 @@ fn places_text(alloc: Global, places: &[Placed]) -> Result<String, AllocError> {
     Ok(out)
 }
 
-/// Where an object goes, found by the index.
+/// Where an object goes, found by the index, or by the walk where there is none.
 fn by_index(
     alloc: Global,
     pools: &Pools,
     space: &Space,
     request: &Request,
 ) -> Result<Places, Refusal> {
-    let index = Index::of(alloc, pools, space)?;
-    space_index::choose(alloc, pools, space, &index, request)
+    match Index::of(alloc, pools, space) {
+        Ok(index) => space_index::choose(alloc, pools, space, &index, request),
+        Err(_) => choose_by_walk(alloc, pools, space, request),
+    }
 }
 
 fn answer_text(alloc: Global, answered: Result<Places, Refusal>) -> Result<String, AllocError> {
