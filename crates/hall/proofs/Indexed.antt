@@ -94,7 +94,7 @@ pub kept_drawn : (k : KeptIndex) (s : PoolRows) (c : Claims) (next : ℕ) → Is
 kept_drawn k s c next is = go k.index is where
   go : (o : Option Index) → IsIndexed o s c → IsIndexed o s (record c { next_file = next })
   go None h = tt
-  go (Some i) h = record { random = h.random; tails = h.tails }
+  go (Some i) h = record { random = h.random; tails = h.tails; held = h.held }
 
 -- of rows and claims that are the same
 pub kept_as : (k : KeptIndex) (s t : PoolRows) (c d : Claims) → t ≡ s → d ≡ c → IsKeptOf k s c → IsKeptOf k t d
