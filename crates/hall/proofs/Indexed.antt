@@ -1,6 +1,6 @@
 -- The index of the free space beside what the hall holds: behind a ticket that is drawn, and behind a transaction that joined.
 use Rattle.std.proofs.Common.{◌≡◌, inl, inr, ℕ, ◌+◌, Bool, true, false, List, [], ◌∷◌, ◌++◌, length, get_or, map, ◌≤◌, ◌^◌, Option, None, Some, Result, Ok, Err, refl, sym, ap, subst, ◌∙◌, arith}
-use Rattle.std.specs.Prelude.{if◌then◌else◌, IfErr, OnOk}
+use Rattle.std.specs.Prelude.{if◌then◌else◌, max, IfErr, OnOk}
 use Rattle.std.specs.List.{flat_map}
 use Rattle.std.specs.Result.{is_ok}
 use Rattle.std.proofs.lemmas.Bool.{false≢true}
@@ -22,7 +22,8 @@ use Rattle.inventory_rows.specs.State.{Inv}
 use Rattle.inventory_rules.specs.Transactions.{effect}
 use Rattle.inventory_laws.proofs.ScratchBack.{own_row}
 use Rattle.space.specs.declared.places.Placed.{Placed}
-use Rattle.space.specs.Claims.{Claims, forgotten, noted}
+use Rattle.space.specs.declared.claims.Claim.{Claim}
+use Rattle.space.specs.Claims.{Claims, drawn, forgotten, held, noted}
 use Rattle.space_index.specs.declared.index.Index.{Index}
 use Rattle.vault.specs.Vaults.{RefusesCommit, State, with_waiting}
 use Rattle.kept_index.specs.declared.kept.KeptIndex.{KeptIndex}
@@ -95,6 +96,15 @@ kept_drawn k s c next is = go k.index is where
   go : (o : Option Index) → IsIndexed o s c → IsIndexed o s (record c { next_file = next })
   go None h = tt
   go (Some i) h = record { random = h.random; tails = h.tails; held = h.held }
+
+-- a ticket got its space, by the rows of these tables, and a number was drawn
+pub kept_seated : (before after : KeptIndex) (tables database : Inv) (claims got drawn_now : Claims) (number file : ℕ) (claim : Claim) → tables ≡ database → (IsKeptOf before tables.stores claims → IsKeptOf after tables.stores (held number claim claims))
+    → (let said : Result Claims Refusal = Ok (held number claim claims) in said ≡ Ok got) → drawn_now ≡ drawn file got → IsKeptOf before database.stores claims → IsKeptOf after database.stores drawn_now
+kept_seated before after tables database claims got drawn_now number file claim same holds said is_drawn is =
+    let rows : IsKeptOf after database.stores (held number claim claims) =
+    subst (λ (v : Inv). IsKeptOf after v.stores (held number claim claims)) same (holds (subst (λ (v : Inv). IsKeptOf before v.stores claims) (sym same) is)) in
+    let is_held : held number claim claims ≡ got = cc in
+    subst (λ (c : Claims). IsKeptOf after database.stores c) (ap (drawn file) is_held ∙ sym is_drawn) (kept_drawn after database.stores (held number claim claims) (max claims.next_file (file + 1)) rows)
 
 -- of rows and claims that are the same
 pub kept_as : (k : KeptIndex) (s t : PoolRows) (c d : Claims) → t ≡ s → d ≡ c → IsKeptOf k s c → IsKeptOf k t d

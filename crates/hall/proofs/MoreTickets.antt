@@ -1,5 +1,5 @@
 -- One ticket more: its seat and its space behind those that are held, and what is kept of the numbers and the space of all.
-use Rattle.std.proofs.Common.{◌≡◌, inl, inr, ℕ, ◌+◌, ◌*◌, ◌/◌, ◌<◌, ◌≤◌, ◌^◌, max, Bool, true, false, cond, not, ◌&&◌, ◌||◌, is_some, List, [], ◌∷◌, ◌++◌, length, map, refl, sym, ap, subst, ◌∙◌, arith}
+use Rattle.std.proofs.Common.{◌≡◌, inl, inr, ℕ, ◌+◌, ◌*◌, ◌/◌, ◌<◌, ◌≤◌, ◌^◌, max, Bool, true, false, cond, not, ◌&&◌, ◌||◌, is_some, List, [], ◌∷◌, ◌++◌, length, map, Result, Ok, Err, refl, sym, ap, subst, ◌∙◌, arith}
 use Rattle.std.specs.Prelude.{◌==◌, nat_le}
 use Rattle.std.specs.List.{AllByRecursion, list_all, sum_by}
 use Rattle.std.specs.Ordering.{match_ordering, nat_cmp}
@@ -7,6 +7,7 @@ use Rattle.std.specs.declared.cmp.Ordering.TheVariants.{Greater}
 use Rattle.std.proofs.lemmas.Bool.{and_from, and_parts, eq-eqb, eqb-true, false≢true, le-leb}
 use Rattle.std.proofs.lemmas.Grind.{flat_map-append}
 use Rattle.store_api.specs.Disk.{History, reads}
+use Rattle.kinds.specs.declared.refusal.Refusal.{Refusal}
 use Rattle.kinds.specs.declared.segment.Segment.{Segment}
 use Rattle.contents.specs.Contents.{InImage, TookHave}
 use Rattle.inventory_rows.specs.pool_rows.PoolRows.{is_sequential}
@@ -19,13 +20,13 @@ use Rattle.inventory_rules.specs.Segments.{are_clear}
 use Rattle.inventory_laws.proofs.Lists.{all_from, each_also, each_any, each_both}
 use Rattle.inventory_laws.proofs.StoreRows.{nat_itself}
 use Rattle.space.specs.declared.places.Placed.{Placed}
-use Rattle.space.specs.Claims.{Claims}
+use Rattle.space.specs.Claims.{Claims, drawn, held}
 use Rattle.space_laws.specs.Apart.{AllApart, IsBefore}
 use Rattle.machine.specs.Machine.{files_drawn}
 use Rattle.machine.specs.State.{Core, Place, Purpose, Ticket, copying, inventory, object_of, storing}
 use Rattle.hall.specs.declared.seat.Seat.{Seat}
 use Rattle.hall.specs.Covered.{IsClear, IsFilled, IsObject, IsVolume, LiesIn, NumbersAreDrawn, SpaceIsClear, all_space, are_apart_in, bring_others, is_later, with_segments}
-use Rattle.hall.specs.Drawn.{AreBelow, last_file}
+use Rattle.hall.specs.Drawn.{AreBelow, last_file, with_seat}
 use Rattle.hall.specs.Good.{HasTaken}
 use Rattle.hall.specs.Held.{AreSeatsOf, Held, IsSeatOf}
 use Rattle.hall.proofs.Apart.{both_joined}
@@ -298,3 +299,23 @@ pub seat_undone : (h now : Held) (s : Seat) (put left : List (ℕ × Seat)) (cla
 seat_undone h now s put left claims is below came went same =
     ap (λ (l : List (ℕ × Seat)). record h { seats = l; claims = claims }) (went ∙ ap (without_row h.next_ticket) came ∙ row_undone h.next_ticket s h.seats (subst AreBelow (sym is) below))
     ∙ ap (λ (x : Claims). record h { claims = x }) same ∙ is
+
+-- ---- a seat that stays
+
+-- the claims of an answer, or these
+abbrev claims_in : Claims → Result Claims Refusal → Claims
+claims_in d (Ok c) = c
+claims_in d (Err e) = d
+
+pub ok_same : (a b : Claims) (r : Result Claims Refusal) → r ≡ Ok a → r ≡ Ok b → a ≡ b
+ok_same a b r is also = ap (claims_in a) (sym is ∙ also)
+
+pub seat_done : (h now : Held) (s : Seat) (put : List (ℕ × Seat)) (last : ℕ) (places : List Placed) (held_now drawn_now : Claims) → h ≡ now → put ≡ with_row h.next_ticket s h.seats → last ≡ last_file s.places → places ≡ s.places
+    → held_now ≡ held h.next_ticket (record { actor = s.actor; places = places }) h.claims → drawn_now ≡ drawn last held_now → (h.next_ticket ≡ now.next_ticket) × (record h { seats = put; claims = drawn_now; next_ticket = h.next_ticket + 1 } ≡ with_seat s now)
+seat_done h now s put last places held_now drawn_now is came file same got draws = (
+  ap (λ (x : Held). x.next_ticket) is,
+  ap (λ (l : List (ℕ × Seat)). record h { seats = l; claims = drawn_now; next_ticket = h.next_ticket + 1 }) came
+      ∙ ap (λ (x : Claims). record h { seats = with_row h.next_ticket s h.seats; claims = x; next_ticket = h.next_ticket + 1 })
+      (draws ∙ ap (λ (n : ℕ). drawn n held_now) file ∙ ap (drawn (last_file s.places)) (got ∙ ap (λ (l : List Placed). held h.next_ticket (record { actor = s.actor; places = l }) h.claims) same))
+      ∙ ap (with_seat s) is,
+)
