@@ -337,10 +337,11 @@ impl Parts {
 impl<S: Store> Hall<S> {
     /// Reads a piece of an object into the front of the buffer: as many bytes as the buffer has, at most 65,536, or as the object has from `offset` on; and answers how many these are. The
     /// object's copies are tried in their order, or with `from` that pool's copy alone; one is passed over where a segment that has bytes of the piece lies on a volume whose access forbids
-    /// reading, or where a call on such a segment's file failed. Refused with `RunFull` where the store's moment is 2^62 - 2^24 or a later one, with `LogFault` where a fault of the log has
-    /// halted the hall, with `BadValue` where the buffer is longer or `offset` lies behind the object's end, with `NotFound` where the object was never there or has no copy in that pool, with
-    /// `Gone` where a transaction of this run removed it, with `DigestDiffers` where it has another digest than `kept`, and with `Unavailable` exactly where each copy that is asked has such a
-    /// segment. It takes no memory, changes nothing, and makes one device call at most for each segment of the copies that it tries.
+    /// reading, or where a call on such a segment's file failed; of a piece of no bytes, the segment that has bytes on both sides of `offset`. Refused with `RunFull` where the store's moment is
+    /// 2^62 - 2^24 or a later one, with `LogFault` where a fault of the log has halted the hall, with `BadValue` where the buffer is longer or `offset` lies behind the object's end, with
+    /// `NotFound` where the object was never there or has no copy in that pool, with `Gone` where a transaction of this run removed it, with `DigestDiffers` where it has another digest than
+    /// `kept`, and with `Unavailable` exactly where each copy that is asked has such a segment. It takes no memory, changes nothing, and makes one device call at most for each segment of the
+    /// copies that it tries.
     pub fn read_piece(
         &mut self,
         actor: u32,
