@@ -2,6 +2,7 @@ pub mod Causes
 pub mod Lent
 pub mod Making
 pub mod Noting
+pub mod OneLine
 pub mod Opening
 pub mod Running
 pub mod Safe

@@ -21,12 +21,11 @@ use Rattle.vault.specs.Recovery.{Recovers}
 use Rattle.vault.specs.Vaults.{State}
 use Rattle.machine.specs.State.{Machine, Ticket}
 use Rattle.hall.specs.declared.seat.Seat.{Seat}
-use Rattle.hall.specs.Good.{AlwaysSafe, Is, IsKept, IsSoundWith, Rise, WasSound}
+use Rattle.hall.specs.Good.{AlwaysSafe, Is, IsSoundWith, Rise}
 use Rattle.hall.specs.Held.{AreSeatsOf, Hall, Held}
 use Rattle.hall.specs.Opening.{IsNewHall, IsSound, IsWith, Opens, OpensFiles}
 use Rattle.hall.specs.Steps.{IsTrusted}
 use Rattle.hall.proofs.Imaging.{no_image}
-use Rattle.hall_turns.specs.Left.{LeavesSound}
 use Rattle.command_steps.specs.Clients.{Client}
 use Rattle.line_results.specs.Resting.{IsAtRest}
 use Rattle.tsm_top.specs.declared.note.Note.{Note}
@@ -35,7 +34,7 @@ use Rattle.tsm_top.specs.Serve.{Begins, IsNone, IsOurFile, Later, OpensNot, Ran,
 use Rattle.tsm_top.specs.Sessions.{HaltsLine, ServesLine, clients}
 use Rattle.tsm_top.specs.Sites.{IsThere, RepliesAt, StopsAt, site}
 use Rattle.tsm_top.proofs.Running.{AreAlone, AreThere, At, Come, End_, Ended, GoOn, Hold, says}
-use Rattle.tsm_top.proofs.There.{there}
+use Rattle.tsm_top.proofs.There.{AreKept, LeaveSound, left_sound, safe_since, there}
 use Rattle.tsm_top.proofs.Treed.{ChangeTheirTree}
 
 no_seats : (seats : List (ℕ × Seat)) (tickets : List Ticket) → seats ≡ [] → AreSeatsOf seats tickets → tickets ≡ []
@@ -52,13 +51,6 @@ pub goes_no_further : (x : Option History) → Told x x (GoesOn (λ file. Unit {
 goes_no_further x = told_same x (GoesOn (λ file. Unit {0})) (goes_none (λ file. Unit {0}))
 
 module _ {S : Type 0} (told : S → Option History) (moment : S → ℕ) (faults : S → ℕ → ℕ) (clock : (s : S) → IfSome (told s) (λ h. now h ≡ moment s)) where
-  -- what is kept of every hall over a store that was sound
-  abbrev pub AreKept : Type 0
-  AreKept = (hall : Hall S) (m : Machine) (h : History) → told hall.store ≡ Some h → Is told moment faults hall m → WasSound hall.held.base hall.held.opened h → IsKept m hall.held h
-
-  abbrev pub LeaveSound : Type 0
-  LeaveSound = (hall : Hall S) (m : Machine) (h : History) → told hall.store ≡ Some h → Is told moment faults hall m → WasSound hall.held.base hall.held.opened h → LeavesSound m h
-
   module _ (hall : Hall S) (fresh : IsNewHall (moment hall.store) hall.held) where
     begins : (m : Machine) → Is told moment faults hall m → Begins hall.held.base (moment hall.store) (faults hall.store) m
     begins m is =
@@ -83,17 +75,7 @@ module _ {S : Type 0} (told : S → Option History) (moment : S → ℕ) (faults
           faults = is.counts;
         }
 
-    -- images of every moment since, as the store tells them at the return
-    safe_over : AreKept → (last : Hall S) (m : Machine) (x : Option History) → told last.store ≡ x → Is told moment faults last m → IsTrusted x last.held → last.held.opened ≡ moment hall.store
-        → IfSome x (AlwaysSafe m.contents m.core (moment hall.store))
-    safe_over kept last m None tells is trusted at = tt
-    safe_over kept last m (Some h) tells is trusted at = subst (λ (n : ℕ). AlwaysSafe m.contents m.core n h) at (kept last m h tells is trusted).always
-
-    left_over : LeaveSound → (last : Hall S) (m : Machine) (x : Option History) → told last.store ≡ x → Is told moment faults last m → IsTrusted x last.held → IfSome x (LeavesSound m)
-    left_over leave last m None tells is trusted = tt
-    left_over leave last m (Some h) tells is trusted = leave last m h tells is trusted
-
-    module _ {T : Type 0} (files : T → Option Files) (tree_faults : T → ℕ) (changes : ChangeTheirTree) (goes : GoOn told moment faults) (gives : AreThere told moment faults) (kept : AreKept) (leave : LeaveSound) (old new : Session S T)
+    module _ {T : Type 0} (files : T → Option Files) (tree_faults : T → ℕ) (changes : ChangeTheirTree) (goes : GoOn told moment faults) (gives : AreThere told moment faults) (kept : AreKept told moment faults) (leave : LeaveSound told moment faults) (old new : Session S T)
         (begun : old.hall ≡ hall) (unnoted : old.notes.items ≡ []) (end : End) (script was is : Option (List ℕ))
         (said : Says (λ a n line answer b. ServesLine told moment faults files tree_faults a n line answer b) (λ a n line how b. HaltsLine told moment faults files tree_faults a n line how b) old new script was is end) where
       -- the clients between the two
@@ -129,8 +111,10 @@ module _ {S : Type 0} (told : S → Option History) (moment : S → ℕ) (faults
             generation_is = generation_is ∙ sym all.is.core.generation;
             clock = all.is.clock;
             faults = all.is.counts;
-            images = λ t. safe_over kept new.hall all.next (told new.hall.store) refl all.is (all.known t) (on.1 ∙ fresh.opened);
-            left = λ t. left_over leave new.hall all.next (told new.hall.store) refl all.is (all.known t);
+            images = λ t.
+                subst (λ (n : ℕ). IfSome (told new.hall.store) (AlwaysSafe all.next.contents all.next.core n)) (on.1 ∙ fresh.opened)
+                (safe_since told moment faults kept new.hall all.next (told new.hall.store) refl all.is (all.known t));
+            left = λ t. left_sound told moment faults leave new.hall all.next (told new.hall.store) refl all.is (all.known t);
           }
 
       -- all that is said of it, and what stays of the hall

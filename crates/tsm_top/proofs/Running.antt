@@ -162,7 +162,7 @@ module _ {S T : Type 0} (told : S → Option History) (moment : S → ℕ) (faul
     pub same : next.core.base ≡ m.core.base
     pub run : (last : Session S T) → Goes new last → Machined last (of old m) n line answer (of new next)
 
-  step : (old new : Session S T) (n : ℕ) (line : List ℕ) (answer : Answer) (m : Machine) → At old m → Serves old n line answer new → Stepped old new n line answer m
+  pub step : (old new : Session S T) (n : ℕ) (line : List ℕ) (answer : Answer) (m : Machine) → At old m → Serves old n line answer new → Stepped old new n line answer m
   step old new n line answer m at (why, (events, ran, did), binder, notes) =
       let run = alone 0 events old.hall new.hall m at.is at.known ran in
       let on = steps_go 0 events old.hall new.hall ran in
@@ -198,7 +198,7 @@ module _ {S T : Type 0} (told : S → Option History) (moment : S → ℕ) (faul
     pub same : next.core.base ≡ m.core.base
     pub run : Ending new (of old m) n line how (of new next)
 
-  halt : (old new : Session S T) (n : ℕ) (line : List ℕ) (how : Halt) (m : Machine) → At old m → Stops old n line how new → Halting old new n line how m
+  pub halt : (old new : Session S T) (n : ℕ) (line : List ℕ) (how : Halt) (m : Machine) → At old m → Stops old n line how new → Halting old new n line how m
   halt old new n line how m at ((events, ran, did), binder, notes) =
       let run = alone 0 events old.hall new.hall m at.is at.known ran in
       let on = steps_go 0 events old.hall new.hall ran in

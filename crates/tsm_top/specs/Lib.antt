@@ -1,4 +1,5 @@
 pub mod Notes
+pub mod OneLine
 pub mod Serve
 pub mod Sessions
 pub mod Sites

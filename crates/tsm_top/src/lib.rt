@@ -6,4 +6,5 @@ mod session;
 mod top;
 
 pub use note::Note;
+pub use session::Session;
 pub use top::{Ended, USAGE, serve};

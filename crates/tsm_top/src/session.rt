@@ -1,27 +1,35 @@
 // A session of the server, and how it answers a line.
-ghost use Rattle.std.specs.Prelude.{◌≡◌, ◌≤◌, ◌<◌, ◌-◌, ◌^◌, length};
+ghost use Rattle.std.specs.Prelude.{◌≡◌, ◌≤◌, ◌<◌, ◌-◌, ◌^◌, length, IfErr, IfOk};
+ghost use Rattle.machine.specs.State.{Machine};
+ghost use Rattle.hall.specs.Steps.{IsTrusted};
 ghost use Rattle.hall_turns.specs.Runs.{CameTo};
 ghost use Rattle.command_steps.specs.Answering.{AnswersLine};
 ghost use Rattle.command_steps.specs.Clients.{client};
 ghost use Rattle.command_steps.specs.Lines.{line_of};
+ghost use Rattle.tsm_top.specs.OneLine.{ComesTo, RestsAs};
+ghost use Rattle.tsm_top.specs.Sessions.{HaltsLine, ServesLine, can_serve};
 
 use crate::note::{Note, note_of};
 use choosers::Binder;
 use client_trees::Tree;
 use command_steps::answer_line;
+use command_steps::laws::lines_change_their_tree;
 use command_words::is_comment;
 use entries::Database;
 use hall::Hall;
+use hall::laws::trusted_halls_are_safe;
 use hall_turns::Direct;
+use hall_turns::laws::{halls_at_rest_are_there, halls_leave_sound_stores, runs_are_alone};
 use kinds::Refusal;
-use line_results::laws::Placing;
+use line_results::laws::{Placing, answered_lines_hold, lines_come_to};
 use script_loop::{Answerer, Halt, Reply};
 use std::alloc::Global;
 use store_api::Store;
 
 /// A hall on which the script, actor 0, makes its steps alone, the clients' trees, and what was noted of its lines.
 #[derive(Drop)]
-pub(crate) struct Session<S: Store, T: Tree> {
+pub struct Session<S: Store, T: Tree> {
+    /// The hall.
     pub hall: Hall<S>,
     /// The clients' trees by their numbers, from 0.
     pub trees: Vec<T>,
@@ -67,24 +75,15 @@ fn answer_alone<S: Store, T: Tree>(
     answer_line(alloc, &mut direct, trees, binder, buffer, number, line)
 }
 
-/// What a line is is done and answered, and noted; behind it a checkpoint is made where the log is long.
-impl<S: Store, T: Tree> Answerer for Session<S, T> {
-    ghost use Rattle.tsm_top.specs.Sessions.{HaltsLine, ServesLine, can_serve};
-
-    ghost serves = { λ old n line answer new. ServesLine S.told S.moment_of S.faults_of T.files T.fault_count old n line answer new };
-
-    ghost halts = { λ old n line halt new. HaltsLine S.told S.moment_of S.faults_of T.files T.fault_count old n line halt new };
-
-    ghost can_take = { λ session lines. can_serve session };
-
-    fn answer(
-        &mut self,
-        alloc: Global,
-        number: u32,
-        line: &[u8],
-        left: u32,
-    ) -> Result<Reply, Halt> {
-        let _left = left;
+impl<S: Store, T: Tree> Session<S, T> {
+    /// What a line is is done and answered, and noted; behind it a checkpoint is made where the log is long.
+    fn answer_noted(&mut self, alloc: Global, number: u32, line: &[u8]) -> Result<Reply, Halt>
+        requires ready { can_serve self.old }
+        requires short { length line.now < 2 ^ 32 - 1 }
+        ensures served { IfOk result (λ reply. ServesLine S.told S.moment_of S.faults_of T.files T.fault_count self.old number line.now reply self.new) }
+        ensures halted { IfErr result (λ how. HaltsLine S.told S.moment_of S.faults_of T.files T.fault_count self.old number line.now how self.new) }
+        ensures ready { can_serve self.new }
+    {
         // The room for the note is taken before anything is done.
         if self.notes.reserve(1).is_err() {
             return Err(Halt::Memory);
@@ -111,5 +110,53 @@ impl<S: Store, T: Tree> Answerer for Session<S, T> {
             Ok(()) => Ok(reply),
             Err(_) => unreachable!(),
         }
+    }
+
+    /// Does what one line of a script asks, outside blocks, and answers the lines that are printed of it. Its command is done by steps of actor 0, who has the hall alone, and on the client's tree
+    /// that it names; behind it a checkpoint is made where the log is long. It waits for nobody.
+    ///
+    /// `number` is the line's, counted from 1, and `line` has its bytes without LF. Of each line that was answered and is no comment a note joins the notes. It ends the run with the fault of a log or
+    /// an image, with a full run or for want of memory, and answers with nothing else (`Halt`). A line that is refused is answered with its REFUSED line; so is a line of a block.
+    pub fn one_line(&mut self, alloc: Global, number: u32, line: &[u8]) -> Result<Reply, Halt>
+        requires ready { can_serve self.old }
+        requires short { length line.now < 2 ^ 32 - 1 }
+        // Which steps were made, what they did to the trees, and what was noted.
+        ensures served { IfOk result (λ reply. ServesLine S.told S.moment_of S.faults_of T.files T.fault_count self.old number line.now reply self.new) }
+        ensures halted { IfErr result (λ how. HaltsLine S.told S.moment_of S.faults_of T.files T.fault_count self.old number line.now how self.new) }
+        ensures ready { can_serve self.new }
+        // What that is of the machine, in whatever state at rest the hall was: the line's case, what holds of it, and what it leaves; so over any store.
+        ensures comes { (m : Machine) → RestsAs S.told S.moment_of S.faults_of self.old m → ComesTo S.told S.moment_of S.faults_of T.files T.fault_count ⊥ self.old number line.now result self.new m }
+        // Over one that tells its bytes and was sound when the hall was opened every byte is exact, and each image of each moment since is safe.
+        ensures exact { (m : Machine) → RestsAs S.told S.moment_of S.faults_of self.old m → IsTrusted (S.told self.old.hall.store) self.old.hall.held
+            → ComesTo S.told S.moment_of S.faults_of T.files T.fault_count (Unit {0}) self.old number line.now result self.new m }
+    {
+        runs_are_alone::<S>();
+        halls_at_rest_are_there::<S>();
+        halls_leave_sound_stores::<S>();
+        trusted_halls_are_safe::<S>();
+        lines_come_to::<HallPlaces>();
+        answered_lines_hold::<HallPlaces>();
+        lines_change_their_tree();
+        self.answer_noted(alloc, number, line)
+    }
+}
+
+/// Each line is done and answered by `one_line`.
+impl<S: Store, T: Tree> Answerer for Session<S, T> {
+    ghost serves = { λ old n line answer new. ServesLine S.told S.moment_of S.faults_of T.files T.fault_count old n line answer new };
+
+    ghost halts = { λ old n line halt new. HaltsLine S.told S.moment_of S.faults_of T.files T.fault_count old n line halt new };
+
+    ghost can_take = { λ session lines. can_serve session };
+
+    fn answer(
+        &mut self,
+        alloc: Global,
+        number: u32,
+        line: &[u8],
+        left: u32,
+    ) -> Result<Reply, Halt> {
+        let _left = left;
+        self.one_line(alloc, number, line)
     }
 }

@@ -1,6 +1,6 @@
 use Rattle.std.proofs.Common.{refl}
 use Rattle.steps.specs.Events.{is_listed}
-use Rattle.steps.specs.declared.image.ImageKind.TheVariants.{Checkpoint, Next}
+use Rattle.steps.specs.declared.image.ImageKind.TheVariants.{Backup, Checkpoint, Next}
 use Rattle.hall_turns.proofs.Valued.{of_kind}
 use Rattle.hall_turns.proofs.stepping.image.Goals as goal
 
@@ -8,9 +8,9 @@ pub returns-in-Checkpoint-clause-step : goal.returns-in-Checkpoint-clause-step
 returns-in-Checkpoint-clause-step g c =
     of_kind g.S.Store.told g.S.Store.moment_of g.S.Store.faults_of c.args.actor c.args.kind Checkpoint c.checkpoint.result c.args.hall.now c.checkpoint.new.self c.in-Checkpoint.is c.checkpoint.ensures.step
 
-pub returns-in-Backup-clause-listed : goal.returns-in-Backup-clause-listed
-unfolding is_listed
-returns-in-Backup-clause-listed g c = refl
+pub returns-in-Backup-clause-step : goal.returns-in-Backup-clause-step
+returns-in-Backup-clause-step g c =
+    of_kind g.S.Store.told g.S.Store.moment_of g.S.Store.faults_of c.args.actor c.args.kind Backup c.backup.result c.args.hall.now c.backup.new.self c.in-Backup.is c.backup.ensures.step
 
 pub returns-in-Since-clause-listed : goal.returns-in-Since-clause-listed
 unfolding is_listed

@@ -9,7 +9,7 @@ use Rattle.tsm_top.specs.Sessions.{number_of}
 use Rattle.tsm_top.specs.declared.note.Note.{Note}
 use Rattle.tsm_top.proofs.Lent.{lent}
 use Rattle.tsm_top.proofs.Noting.{line_noted, not_noted}
-use Rattle.tsm_top.proofs.session.SessionAnswerer.answer.Goals as goal
+use Rattle.tsm_top.proofs.session.Session.answer_noted.Goals as goal
 
 pub returns-clause-served : goal.returns-clause-served
 returns-clause-served g c =
