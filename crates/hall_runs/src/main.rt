@@ -30,13 +30,9 @@
 //! The stored output was written by hand, from the rules of steps, space and the vault, and not by this program.
 #![tactic(auto)]
 
-mod checks;
 mod choices;
-mod desk;
-mod fault;
 mod plain;
 mod run;
-mod seeds;
 mod sweeps;
 mod turns;
 

@@ -1,7 +1,6 @@
 //! A run over the lines.
-use crate::desk::Desk;
-use crate::fault::Fault;
 use crate::{sweeps, turns};
+use hall_desk::{Desk, Fault};
 use std::alloc::{AllocError, Global};
 use std::mem;
 use step_words::{long, longs, number};

@@ -1,13 +1,10 @@
 //! Turns of three actors on a hall and on a machine of plain lists, which are to answer alike, with stops of the machine between them.
-use crate::desk::Desk;
-use crate::fault::{Fault, Finding};
-use crate::seeds::Seeds;
-use crate::sweeps::{databases, opened};
 use crate::{choices, plain};
 use entries::Database;
+use hall_desk::{Desk, Fault, Finding, Seeds, databases, opened};
 use plain_hall::Hall;
-use space::Space;
 use std::alloc::Global;
+use std::collections::BTreeMap;
 use std::mem;
 use step_words::number;
 
@@ -155,17 +152,9 @@ impl Both<'_> {
         let Some(hall) = &self.desk.hall else {
             return Err(Fault::Closed);
         };
-        let generation = hall.generation();
         let inventory = hall.base().copy(self.alloc)?;
-        let next_object = inventory.tables().next_object;
-        let next_file = inventory.tables().next_file;
-        let mut plain = Hall::new(self.alloc)?;
-        plain.first = inventory.number();
-        drop(mem::replace(&mut plain.inventory, inventory));
-        drop(mem::replace(&mut plain.space, Space::new(self.alloc, next_file)));
-        plain.next_object = next_object;
-        plain.generation = generation;
-        mem::swap(&mut plain.contents, &mut self.plain.contents);
+        let contents = mem::replace(&mut self.plain.contents, BTreeMap::new(self.alloc));
+        let plain = Hall::behind(self.alloc, inventory, hall.generation(), contents);
         drop(mem::replace(&mut self.plain, plain));
         Ok(())
     }

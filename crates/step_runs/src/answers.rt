@@ -1,6 +1,6 @@
 //! What a process is answered, in words.
-use crate::trace::Mark;
 use kinds::Refusal;
+use plain_hall::Mark;
 use std::alloc::{AllocError, Global};
 use step_words::numbered;
 

@@ -1,89 +1,11 @@
 //! A line is a step, a process, or a word to the machine.
 use crate::answers;
-use crate::list_machine::{Between, ListMachine, Nobody, Others};
-use crate::trace::Trace;
-use inventory_work::Listed;
-use kinds::{Digest, Holder, Refusal, bad_value};
-use plain_hall::Hall;
+use kinds::{Holder, Refusal};
+use plain_hall::{Between, Hall, ListMachine, Nobody, Others, Trace};
 use std::alloc::{AllocError, Global};
 use std::mem;
 use step_words::{Fault, long, number};
-use steps::{Asked, Reply, Step, Stepper};
-
-/// A transaction has at most so many tickets.
-const MOST_TICKETS: usize = 256;
-
-/// A piece has at most so many bytes.
-const MOST_BYTES: usize = 65536;
-
-fn write<P: Stepper>(p: &mut P, ticket: u64, bytes: &[u8]) -> Result<u64, Refusal> {
-    if bytes.len() < 1 || bytes.len() > MOST_BYTES {
-        return Err(bad_value());
-    }
-    p.write_piece(ticket, bytes)
-}
-
-/// Commits what is asked, with these tickets.
-fn commit<P: Stepper>(p: &mut P, asked: &Asked, tickets: &[u64]) -> Result<u64, Refusal> {
-    if tickets.len() > MOST_TICKETS {
-        return Err(bad_value());
-    }
-    p.commit(asked, tickets)
-}
-
-/// The bytes of a piece.
-fn read<P: Stepper>(
-    alloc: Global,
-    p: &mut P,
-    object: u64,
-    kept: &Digest,
-    from: u32,
-    offset: u64,
-    wanted: usize,
-) -> Result<Listed<u8>, Refusal> {
-    if wanted > MOST_BYTES {
-        return Err(bad_value());
-    }
-    let mut into = vec![in alloc; 0u8; wanted]?;
-    match p.read_piece(object, kept, from, offset, into.as_mut_slice()) {
-        Ok(count) => {
-            into.truncate(count);
-            Ok(Listed::from_vec(into))
-        }
-        Err(refusal) => Err(refusal),
-    }
-}
-
-/// What is answered to a step.
-fn make<P: Stepper>(alloc: Global, p: &mut P, step: &Step) -> Reply {
-    match step {
-        Step::OpenNew(pool, size, prefer) => Reply::OpenNew(p.open_new(*pool, *size, *prefer)),
-        Step::OpenCopy(object, aim, avoid) => Reply::OpenCopy(p.open_copy(*object, *aim, *avoid)),
-        Step::WritePiece(ticket, bytes) => Reply::WritePiece(write(p, *ticket, bytes.as_slice())),
-        Step::CopyPiece(ticket) => Reply::CopyPiece(p.copy_piece(*ticket)),
-        Step::Seal(ticket) => Reply::Seal(p.seal(*ticket)),
-        Step::Commit(asked, tickets) => Reply::Commit(commit(p, asked, tickets.as_slice())),
-        Step::DropTicket(ticket) => Reply::DropTicket(p.drop_ticket(*ticket)),
-        Step::ReadPiece(object, kept, from, offset, wanted) => {
-            let wanted = *wanted as usize;
-            Reply::ReadPiece(read(alloc, p, *object, kept, *from, *offset, wanted))
-        }
-        Step::Ask(query) => Reply::Ask(p.ask(query)),
-        Step::Image(kind) => Reply::Image(p.image(*kind)),
-        Step::Reuse(file) => Reply::Reuse(p.reuse(*file)),
-        Step::Force => Reply::Force(p.force()),
-    }
-}
-
-/// A step of those that may be made by anyone.
-fn make_line<P: Stepper>(alloc: Global, p: &mut P, line: &[&str]) -> Result<String, Fault> {
-    let step = step_words::step(alloc, line)?;
-    let reply = make(alloc, p, &step);
-    drop(step);
-    let text = step_words::text(alloc, &reply);
-    drop(reply);
-    Ok(text?)
-}
+use steps::Stepper;
 
 /// What is waited for.
 fn holder(words: &[&str]) -> Result<Holder, Fault> {
@@ -106,7 +28,7 @@ fn step<P: Stepper>(alloc: Global, p: &mut P, line: &[&str]) -> Result<String, F
             let count = p.refused();
             Ok(format!(in alloc; "refused {count}")?)
         }
-        _ => make_line(alloc, p, line),
+        _ => step_words::answer(alloc, p, line),
     }
 }
 

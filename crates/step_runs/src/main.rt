@@ -22,11 +22,9 @@
 
 mod answers;
 mod lines;
-mod list_machine;
-mod trace;
 
 use lines::Desk;
-use list_machine::{ListMachine, Nobody, Others};
+use plain_hall::{ListMachine, Nobody, Others};
 use std::alloc::AllocError;
 use std::io;
 use std::io::{BufWriter, Write};
