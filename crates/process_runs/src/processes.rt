@@ -1,5 +1,6 @@
 //! Processes of the server and commands of sessions, by whoever makes their steps.
 use crate::files;
+use crate::last::Last;
 use choosers::{Binder, First};
 use client_trees::FileRow;
 use copy_pools::backup_pool;
@@ -64,6 +65,7 @@ fn copying<P: Stepper>(
     let answer = match word {
         "BACKUP" => backup_pool(alloc, p, first, second),
         "MIGRATE" => migrate(alloc, p, &First, first, percent(second)),
+        "MIGRATE_LAST" => migrate(alloc, p, &Last, first, percent(second)),
         "MIGRATE_ALL" => migrate_all(alloc, p, &First),
         "RECLAIM" => reclaim(alloc, p, first, percent(second)),
         "MOVE" => move_data(alloc, p, first, second),
@@ -202,7 +204,7 @@ fn command<P: Stepper>(alloc: Global, p: &mut P, line: &[&str]) -> Result<String
 }
 
 /// Commands and processes are in capital letters.
-pub fn is_command(line: &[&str]) -> bool {
+fn is_command(line: &[&str]) -> bool {
     match line.first() {
         Some(word) => match word.as_bytes().first() {
             Some(byte) => byte.is_ascii_uppercase(),
