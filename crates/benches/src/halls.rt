@@ -1,28 +1,13 @@
-//! Steps of one actor on a hall over the folder `store`, to be timed by the lines that are printed: `ready`, then how many objects there are, about a hundred times, and `done`; and the calls of
-//! the folder alone, to be timed beside them.
-//!
-//!     hall_bench random COUNT SIZE       makes a new store, and stores so many objects of so many bytes in a pool of random access, 32 in a transaction, with one force behind all
-//!     hall_bench sequential COUNT SIZE   the same in a sequential pool
-//!     hall_bench read COUNT SIZE         reads so many pieces of the objects of a store, which have so many bytes, one object after the other
-//!     hall_bench write COUNT SIZE        writes and hashes as many bytes with no hall, one behind the other in one file, with a sync behind each 32 objects and one behind all
-//!     hall_bench look COUNT SIZE         reads so many pieces of that file
-#![tactic(auto)]
-
-mod fault;
-mod plain;
-mod said;
-mod storing;
-mod text;
-
-use fault::Fault;
+//! Steps of one actor on a hall over a folder, and the calls of the folder alone.
+use crate::fault::Fault;
+use crate::text::Text;
+use crate::{plain, said, storing};
 use real_edge::{FolderStore, RealFiles};
 use std::alloc::Global;
-use std::env::Env;
+use std::io;
 use std::io::Write;
 use std::process::ExitCode;
-use std::{env, io};
 use store_api::Store;
-use text::Text;
 
 /// The store's folder, in the folder that the program is run in.
 const FOLDER: &str = "store";
@@ -61,35 +46,18 @@ fn number(word: &str) -> Result<u64, Fault> {
 }
 
 /// What the words ask.
-fn task_of(alloc: Global, words: &[String]) -> Result<Task, Fault> {
-    let [_, word, count, size] = words else {
+fn task_of(alloc: Global, words: &[&str]) -> Result<Task, Fault> {
+    let [word, count, size] = words else {
         return Err(Fault::NoCommand);
     };
-    let kind = kind_of(word.as_str())?;
-    let count = number(count.as_str())?;
-    let text = Text::new(alloc, number(size.as_str())?)?;
+    let kind = kind_of(word)?;
+    let count = number(count)?;
+    let text = Text::new(alloc, number(size)?)?;
     Ok(Task { kind, count, text })
 }
 
-/// The words that the program is called with, its name first.
-fn words<R: Env + AllocGlobal>(rt: &R) -> io::Result<Vec<String>> {
-    let mut words = Vec::new(rt.alloc());
-    for word in env::args(rt)? {
-        words.push(word)?;
-    }
-    Ok(words)
-}
-
-/// What the program is asked.
-fn read_task<R: Env + AllocGlobal>(rt: &R) -> Result<Task, Fault> {
-    match words(rt) {
-        Ok(words) => task_of(rt.alloc(), words.as_slice()),
-        Err(_) => Err(Fault::NoCommand),
-    }
-}
-
 /// Does it.
-fn run<S: Store + Drop, W: Write>(
+fn make<S: Store + Drop, W: Write>(
     alloc: Global,
     store: S,
     task: &Task,
@@ -119,13 +87,14 @@ fn tell<W: Write>(alloc: Global, fault: &Fault, out: &mut W) -> Result<(), Fault
     said::say(out, line.as_bytes())
 }
 
-fn main(rt: HostRuntime) -> ExitCode {
+/// Does what the words ask.
+pub(crate) fn run(rt: HostRuntime, words: &[&str]) -> ExitCode {
     let alloc = rt.alloc();
     let mut out = io::writer(&rt);
-    let ended = match read_task(&rt) {
+    let ended = match task_of(alloc, words) {
         Ok(task) => {
             let store = FolderStore::new(RealFiles::new(rt, alloc, FOLDER), alloc);
-            run(alloc, store, &task, &mut out)
+            make(alloc, store, &task, &mut out)
         }
         Err(fault) => Err(fault),
     };
