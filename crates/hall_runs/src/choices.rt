@@ -1,5 +1,5 @@
 //! Which steps are made, by numbers from a seed: those that go on with what stands on the machine of plain lists, and others.
-use hall_desk::Seeds;
+use crate::seeds::Seeds;
 use inventory_answers::{Query, Rows};
 use inventory_rows::version_groups::{CopyRow, Version};
 use plain_hall::{Hall, Purpose, Ticket, digest_of};

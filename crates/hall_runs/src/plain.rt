@@ -1,5 +1,5 @@
 //! The steps of lines on the machine of plain lists.
-use hall_desk::Fault;
+use crate::fault::Fault;
 use inventory_work::Listed;
 use kinds::{Digest, Refusal};
 use plain_hall::Hall;

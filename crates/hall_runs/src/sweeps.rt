@@ -1,5 +1,7 @@
 //! Lines that are made again and again, with another call of the device that fails each time, and there the machine stops.
-use hall_desk::{Databases, Desk, Fault, Finding, databases, opened};
+use crate::checks::{Databases, databases, opened};
+use crate::desk::Desk;
+use crate::fault::{Fault, Finding};
 use std::alloc::Global;
 
 /// How the machine stops: which of the writes that aren't durable are left. None; the first of each file; the first, and half of the last; all.

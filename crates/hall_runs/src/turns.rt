@@ -1,7 +1,11 @@
 //! Turns of three actors on a hall and on a machine of plain lists, which are to answer alike, with stops of the machine between them.
+use crate::checks::{databases, opened};
+use crate::desk::Desk;
+use crate::fault::{Fault, Finding};
+use crate::made::Made;
+use crate::seeds::Seeds;
 use crate::{choices, plain};
 use entries::Database;
-use hall_desk::{Desk, Fault, Finding, Seeds, databases, opened};
 use plain_hall::Hall;
 use std::alloc::Global;
 use std::collections::BTreeMap;
@@ -42,8 +46,8 @@ struct Both<'a> {
     alloc: Global,
     desk: &'a mut Desk,
     plain: Hall,
-    /// How many steps of each word weren't refused.
-    made: [u64; 15],
+    /// Of which words steps weren't refused.
+    made: Made,
 }
 
 /// The answer isn't a refusal: these alone begin with a capital letter, but for what an image came to.
@@ -94,28 +98,9 @@ impl Both<'_> {
         let hall = self.on_hall(line)?;
         let plain = self.on_plain(number(actor)?, step)?;
         if is_fine(hall.as_str()) {
-            self.note(step);
+            self.made.note(step);
         }
         Ok(Answers { hall, plain })
-    }
-
-    /// One more step with the word at this place wasn't refused.
-    fn raise(&mut self, place: usize) {
-        if let Some(count) = self.made.get_mut(place) {
-            *count = count.saturating_add(1);
-        }
-    }
-
-    /// One more step with this word wasn't refused.
-    fn note(&mut self, step: &[&str]) {
-        let Some(made) = step.first() else {
-            return;
-        };
-        for (place, word) in WORDS.iter().enumerate() {
-            if *word == *made {
-                self.raise(place);
-            }
-        }
     }
 
     /// A line that both are to answer alike; else what they answer.
@@ -159,16 +144,6 @@ impl Both<'_> {
         Ok(())
     }
 
-    /// The first word of which no step was made.
-    fn lacking(&self) -> Option<&'static str> {
-        for (place, word) in WORDS.iter().enumerate() {
-            if self.made.get(place).copied() == Some(0) {
-                return Some(*word);
-            }
-        }
-        None
-    }
-
     /// So many turns; or the first line that they answer otherwise.
     fn turns(&mut self, seeds: &mut Seeds, count: u64) -> Result<Option<String>, Fault> {
         for turn in 0..count {
@@ -204,7 +179,7 @@ fn played(both: &mut Both<'_>, lines: &[String], seed: u64, count: u64) -> Resul
         return Ok(found);
     }
     let alloc = both.alloc;
-    match both.lacking() {
+    match both.made.lacking() {
         Some(word) => Ok(format!(in alloc; "no {word}")?),
         None => {
             let stops = count / STOP;
@@ -228,7 +203,7 @@ pub fn play(
         alloc,
         desk,
         plain: Hall::new(alloc)?,
-        made: [0; 15],
+        made: Made::new(&WORDS),
     };
     let text = played(&mut both, lines, seed, count);
     drop(both);

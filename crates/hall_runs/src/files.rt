@@ -1,6 +1,7 @@
 //! The files that are stored: what a file has follows from its size and the time of its last change.
+use crate::fault::Fault;
+use crate::seeds::Seeds;
 use client_trees::{FileRow, MemTree, Tree};
-use hall_desk::{Fault, Seeds};
 use inventory_rows::Tables;
 use inventory_rows::version_groups::Version;
 use kinds::Refusal;

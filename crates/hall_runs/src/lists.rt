@@ -1,6 +1,6 @@
 //! Lines on a machine of plain lists that an actor has alone, or with others whose transactions come between its steps.
+use crate::fault::Fault;
 use crate::processes;
-use hall_desk::Fault;
 use kinds::{Holder, Refusal};
 use plain_hall::{Between, Hall, ListMachine, Mark, Others, Trace};
 use std::alloc::{AllocError, Global};

@@ -1,5 +1,5 @@
 //! Which processes and commands are turns, by numbers from a seed and by what stands on the machine of plain lists.
-use hall_desk::Seeds;
+use crate::seeds::Seeds;
 use inventory_rows::Tables;
 use inventory_rows::version_groups::Version;
 use inventory_rows::volume_rows::Volume;

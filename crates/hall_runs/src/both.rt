@@ -1,8 +1,12 @@
 //! Processes and commands as turns of actors, on a hall and on the machine of plain lists, which answer alike; and stops of the machine, between them or in one.
-use crate::{choices, files, processes};
+use crate::checks::{Databases, databases, opened};
+use crate::desk::Desk;
+use crate::fault::{Fault, Finding};
+use crate::made::Made;
+use crate::seeds::Seeds;
+use crate::{files, orders, processes};
 use entries::Database;
 use hall::Hall;
-use hall_desk::{Databases, Desk, Fault, Finding, Seeds, databases, opened};
 use hall_turns::Direct;
 use mem_store::MemStore;
 use plain_hall::{Hall as Plain, ListMachine, Nobody, Trace};
@@ -121,8 +125,8 @@ pub struct Both<'a> {
     alloc: Global,
     desk: &'a mut Desk,
     plain: &'a mut ListMachine<Nobody>,
-    /// How often each word did something.
-    made: [u64; 18],
+    /// Which words did something.
+    made: Made,
     /// How often calls had failed when the hall was opened.
     faults: u64,
 }
@@ -135,7 +139,7 @@ impl<'a> Both<'a> {
             alloc,
             desk,
             plain,
-            made: [0; 18],
+            made: Made::new(&WORDS),
             faults,
         }
     }
@@ -177,7 +181,7 @@ impl Both<'_> {
         let plain = self.on_plain(actor, line)?;
         let hall = self.on_hall(actor, line)?;
         if did_something(hall.as_str()) {
-            self.note(line);
+            self.made.note(line);
         }
         Ok(Answers { hall, plain })
     }
@@ -198,25 +202,9 @@ impl Both<'_> {
         Ok(format!(in self.alloc; "{hall}, but {plain}")?)
     }
 
-    /// The word at this place did something once more.
-    fn raise(&mut self, place: usize) {
-        if let Some(count) = self.made.get_mut(place) {
-            *count = count.saturating_add(1);
-        }
-    }
-
-    /// The line's word did something once more.
-    fn note(&mut self, line: &[&str]) {
-        if let Some(made) = line.first() {
-            if let Some(place) = WORDS.iter().position(|word| *word == *made) {
-                self.raise(place);
-            }
-        }
-    }
-
     /// A turn; what they answer where that isn't alike.
     fn turn(&mut self, seeds: &mut Seeds) -> Result<Option<String>, Fault> {
-        let line = choices::line(self.alloc, seeds, &self.plain.hall)?;
+        let line = orders::line(self.alloc, seeds, &self.plain.hall)?;
         let answers = self.answers(line.as_str())?;
         if self.are_alike(&answers) {
             return Ok(None);
@@ -304,16 +292,6 @@ impl Both<'_> {
         Ok(None)
     }
 
-    /// The first word that did nothing.
-    fn lacking(&self) -> Option<&'static str> {
-        for (place, word) in WORDS.iter().enumerate() {
-            if self.made.get(place).copied() == Some(0) {
-                return Some(*word);
-            }
-        }
-        None
-    }
-
     /// So many stretches of turns, each up to a stop: how many, or what they answer where that isn't alike, or a word that did nothing.
     pub fn play(&mut self, seed: u64, count: u64) -> Result<String, Fault> {
         let mut seeds = Seeds::new(seed);
@@ -322,7 +300,7 @@ impl Both<'_> {
                 return Ok(found);
             }
         }
-        match self.lacking() {
+        match self.made.lacking() {
             Some(word) => Ok(format!(in self.alloc; "no {word}")?),
             None => Ok(format!(in self.alloc; "{count} stops")?),
         }

@@ -1,4 +1,5 @@
 //! Processes of the server and commands of sessions, by whoever makes their steps.
+use crate::fault::Fault;
 use crate::files;
 use crate::last::Last;
 use choosers::{Binder, First};
@@ -8,7 +9,6 @@ use copy_runs::Moved;
 use deletions::{Removed, delete_filespace, delete_volume};
 use entries::Entry;
 use expiration::expire;
-use hall_desk::Fault;
 use kinds::{FilespaceName, NodeName, Path, Refusal};
 use migration::{migrate, migrate_all};
 use plain_hall::digest_of;
