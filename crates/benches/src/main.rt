@@ -40,7 +40,7 @@ mod text;
 mod vaults;
 mod words;
 
-use std::alloc::Global;
+use std::alloc::{AllocError, Global};
 use std::env::Env;
 use std::process::ExitCode;
 use std::rt::Files;
@@ -180,6 +180,14 @@ fn read_words<R: Env + AllocGlobal>(rt: &R) -> io::Result<Vec<String>> {
     Ok(words)
 }
 
+fn texts_of<'a>(alloc: Global, words: &'a [String]) -> Result<Vec<&'a str>, AllocError> {
+    let mut texts = Vec::new(alloc);
+    for word in words {
+        texts.push(word.as_str())?;
+    }
+    Ok(texts)
+}
+
 /// What the words ask.
 fn run(rt: HostRuntime, words: &[&str]) -> io::Result<ExitCode> {
     let alloc = rt.alloc();
@@ -200,8 +208,8 @@ fn run(rt: HostRuntime, words: &[&str]) -> io::Result<ExitCode> {
 fn start(rt: HostRuntime) -> io::Result<ExitCode> {
     let alloc = rt.alloc();
     let words = read_words(&rt)?;
-    let words: Vec<&str> = words.iter().map(|word| word.as_str()).collect(alloc)?;
-    run(rt, words.as_slice())
+    let texts = texts_of(alloc, words.as_slice())?;
+    run(rt, texts.as_slice())
 }
 
 fn main(rt: HostRuntime) -> ExitCode {
