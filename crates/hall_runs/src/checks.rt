@@ -1,4 +1,5 @@
 //! What is looked for in a hall that was opened behind a stop.
+use crate::desk::Desk;
 use crate::fault::{Fault, Finding};
 use entries::{Database, Entry};
 use hall::Hall;
@@ -159,7 +160,7 @@ fn reads_back(hall: &mut Hall<MemStore>, kept: &Kept, into: &mut [u8]) -> bool {
 }
 
 /// Reads back all copies of all objects that may be read, each with the bytes of its object.
-pub fn read_back(alloc: Global, hall: &mut Hall<MemStore>) -> Result<(), Fault> {
+fn read_back(alloc: Global, hall: &mut Hall<MemStore>) -> Result<(), Fault> {
     let all = copies(alloc, hall.base().tables())?;
     let mut into = vec![in alloc; 0u8; MOST_BYTES]?;
     for kept in &all {
@@ -169,4 +170,25 @@ pub fn read_back(alloc: Global, hall: &mut Hall<MemStore>) -> Result<(), Fault> 
         }
     }
     Ok(())
+}
+
+/// The databases of the run that stands on this desk.
+pub fn databases(alloc: Global, desk: &Desk) -> Result<Databases, Fault> {
+    match &desk.hall {
+        Some(hall) => Databases::of(alloc, hall),
+        None => Err(Fault::Closed),
+    }
+}
+
+/// The number of the database that is opened behind a stop, of which no call fails, and which is to be as it should.
+pub fn opened(alloc: Global, desk: &mut Desk, databases: &Databases) -> Result<u64, Fault> {
+    desk.fail_at(Vec::new(alloc));
+    desk.open()?;
+    let acknowledged = desk.acknowledged;
+    let Some(hall) = &mut desk.hall else {
+        return Err(Fault::Closed);
+    };
+    let number = databases.find(alloc, hall, acknowledged)?;
+    read_back(alloc, hall)?;
+    Ok(number)
 }

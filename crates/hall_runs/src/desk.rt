@@ -12,8 +12,11 @@ use steps::Reply;
 use store_api::{Stop, Store};
 use vault::Vault;
 
-/// Each file of a store has a number below this.
+/// Calls that fail are looked for on files with numbers below this.
 const FILES: u32 = 16;
+
+/// Fewer files are drawn between two stops.
+const TAKEN_BACK: u32 = 256;
 
 /// A store, and the hall that is open over it, which has the store then.
 #[derive(Drop)]
@@ -148,14 +151,26 @@ impl Desk {
         }
     }
 
-    /// Whether a call has failed.
-    pub fn has_faults(&self) -> bool {
-        for file in 0..FILES {
-            if self.faults(file) > 0 {
-                return true;
-            }
+    /// How often calls on the files with these numbers have failed, together.
+    fn faults_below(&self, files: u32) -> u64 {
+        let mut sum: u64 = 0;
+        for file in 0..files {
+            sum = sum.saturating_add(self.faults(file));
         }
-        false
+        sum
+    }
+
+    /// Whether a call on one of the first 16 files has failed.
+    pub fn has_faults(&self) -> bool {
+        self.faults_below(FILES) > 0
+    }
+
+    /// How often calls have failed on all files, where a hall is open: on those that were drawn, and those behind them that a stop has taken back.
+    pub fn all_faults(&self) -> u64 {
+        match &self.hall {
+            Some(hall) => self.faults_below(hall.next().0.saturating_add(TAKEN_BACK)),
+            None => 0,
+        }
     }
 
     /// What the open hall has.

@@ -1,23 +1,34 @@
 //! A run over the lines.
-use crate::desk::Desk;
+use crate::both::Both;
 use crate::fault::Fault;
-use crate::{sweeps, turns};
+use crate::lists;
+use crate::script::Script;
+use plain_hall::{Hall, ListMachine, Nobody, Others};
 use std::alloc::{AllocError, Global};
 use std::mem;
-use step_words::{long, longs, number};
+use step_words::long;
 
-/// What the lines are about: a store and its hall, the lines since the store was new, and those over which lines are made again.
+/// On what lines are made.
+#[derive(Clone, Copy)]
+pub enum Mode {
+    /// A store and its hall.
+    Hall,
+    /// A hall, and a machine of plain lists.
+    Both,
+    /// A machine of plain lists that the actor has alone.
+    Alone,
+    /// One on which other actors' transactions come between its steps.
+    Among,
+}
+
+/// What the lines are about: a store with the hall over it and the lines that were made on them, the machine of plain lists of an actor that has it alone, and that of one that has it with others.
 #[derive(Drop)]
-pub struct Run {
-    alloc: Global,
-    desk: Desk,
-    trial: Desk,
-    /// The lines that were made since the store was new.
-    lines: Vec<String>,
-    /// How many of them stood before the first that is swept.
-    mark: usize,
-    /// The moments at which calls fail.
-    failing: Vec<u64>,
+pub struct Run<'a> {
+    pub alloc: Global,
+    pub script: &'a mut Script,
+    pub plain: &'a mut ListMachine<Nobody>,
+    pub among: &'a mut ListMachine<Others>,
+    pub mode: Mode,
 }
 
 /// The words of why a line has no answer.
@@ -34,103 +45,78 @@ fn fault_text(alloc: Global, fault: &Fault) -> Result<String, AllocError> {
     }
 }
 
-impl Run {
-    /// A store that was not formatted.
-    pub fn new(alloc: Global) -> Run {
-        Run {
-            alloc,
-            desk: Desk::new(alloc),
-            trial: Desk::new(alloc),
-            lines: Vec::new(alloc),
-            mark: 0,
-            failing: Vec::new(alloc),
-        }
-    }
-
-    fn done(&self) -> Result<String, Fault> {
-        Ok(String::from_str(self.alloc, "done")?)
-    }
-
+impl Run<'_> {
+    /// A new store.
     fn start_again(&mut self) -> Result<String, Fault> {
-        drop(mem::replace(&mut self.lines, Vec::new(self.alloc)));
-        self.mark = 0;
-        self.failing = Vec::new(self.alloc);
-        self.desk.begin(Vec::new(self.alloc))?;
-        self.done()
+        self.mode = Mode::Hall;
+        self.script.start_again()
     }
 
-    /// The lines to come are those that are swept.
-    fn begin(&mut self) -> Result<String, Fault> {
-        self.mark = self.lines.len();
-        self.done()
+    /// A new store with a hall over it, and a new machine of plain lists.
+    fn both(&mut self) -> Result<String, Fault> {
+        self.mode = Mode::Both;
+        drop(mem::replace(&mut self.plain.hall, Hall::new(self.alloc)?));
+        self.script.desk.begin(Vec::new(self.alloc))?;
+        let number = self.script.desk.open()?;
+        Ok(format!(in self.alloc; "number {number}")?)
     }
 
-    /// The calls that begin so many calls later fail: all lines are made again over a store that has these among the moments at which it fails.
-    fn fail(&mut self, calls: &[&str]) -> Result<String, Fault> {
-        let calls = longs(self.alloc, calls)?;
-        let lines = self.lines.as_slice();
-        let moment = sweeps::moment_behind(self.alloc, &mut self.trial, lines, &self.failing)?;
-        for call in &calls {
-            self.failing.push(moment.saturating_add(*call))?;
-        }
-        sweeps::make_all(self.alloc, &mut self.desk, lines, &self.failing)?;
-        self.done()
+    fn alone(&mut self) -> Result<String, Fault> {
+        self.mode = Mode::Alone;
+        lists::begin(self.alloc, self.plain)
     }
 
-    fn sweep(&mut self) -> Result<String, Fault> {
-        if !self.failing.is_empty() {
-            return Err(Fault::NoCommand);
-        }
-        sweeps::stop_each(
-            self.alloc,
-            &mut self.trial,
-            self.lines.as_slice(),
-            self.mark,
-        )
+    fn among(&mut self) -> Result<String, Fault> {
+        self.mode = Mode::Among;
+        lists::begin(self.alloc, self.among)
     }
 
-    fn fail_each(&mut self) -> Result<String, Fault> {
-        if !self.failing.is_empty() {
-            return Err(Fault::NoCommand);
-        }
-        sweeps::fail_each(
-            self.alloc,
-            &mut self.trial,
-            self.lines.as_slice(),
-            self.mark,
-        )
+    /// What is made on the hall and on the machine of plain lists.
+    fn on_both(&mut self) -> Both<'_> {
+        Both::new(self.alloc, &mut self.script.desk, self.plain)
+    }
+
+    fn stop(&mut self, choice: &str) -> Result<String, Fault> {
+        let number = self.on_both().stop(long(choice)?)?;
+        Ok(format!(in self.alloc; "number {number}")?)
     }
 
     fn turns(&mut self, seed: &str, count: &str) -> Result<String, Fault> {
         let seed = long(seed)?;
         let count = long(count)?;
-        let lines = self.lines.as_slice();
-        turns::play(self.alloc, &mut self.trial, lines, seed, count)
+        self.on_both().play(seed, count)
     }
 
-    fn faults(&self, file: &str) -> Result<String, Fault> {
-        let count = self.desk.faults(number(file)?);
-        Ok(format!(in self.alloc; "{count}")?)
+    /// A line on the hall and on the machine of plain lists.
+    fn line_on_both(&mut self, line: &str, words: &[&str]) -> Result<String, Fault> {
+        match words {
+            ["stop", choice] => self.stop(choice),
+            ["turns", seed, count] => self.turns(seed, count),
+            _ => self.on_both().line(line),
+        }
     }
 
-    /// What a line on the store and its hall is answered, which is kept.
-    fn keep(&mut self, line: &str) -> Result<String, Fault> {
-        self.lines.push(String::from_str(self.alloc, line)?)?;
-        self.desk.make(line)
+    /// A line on what lines are made on.
+    fn made(&mut self, line: &str, words: &[&str]) -> Result<String, Fault> {
+        match self.mode {
+            Mode::Hall => self.script.answer(line, words),
+            Mode::Both => self.line_on_both(line, words),
+            Mode::Alone => lists::answer(self.alloc, self.plain, words),
+            Mode::Among => lists::answer(self.alloc, self.among, words),
+        }
     }
 
     fn answer(&mut self, line: &str) -> Result<String, Fault> {
         let words: Vec<&str> = line.split_whitespace().collect(self.alloc)?;
         match words.as_slice() {
             ["new"] => self.start_again(),
-            ["begin"] => self.begin(),
-            ["fail", calls @ ..] => self.fail(calls),
-            ["sweep"] => self.sweep(),
-            ["fail_each"] => self.fail_each(),
-            ["turns", seed, count] => self.turns(seed, count),
-            ["state"] => self.desk.state(),
-            ["faults", file] => self.faults(file),
-            _ => self.keep(line),
+            ["both"] => self.both(),
+            ["alone"] => self.alone(),
+            ["among"] => self.among(),
+            ["other", actor, digits] => {
+                lists::queue(self.alloc, &mut self.among.between, actor, digits)
+            }
+            words => self.made(line, words),
         }
     }
 

@@ -1,5 +1,5 @@
 //! Lines that are made again and again, with another call of the device that fails each time, and there the machine stops.
-use crate::checks::{Databases, read_back};
+use crate::checks::{Databases, databases, opened};
 use crate::desk::Desk;
 use crate::fault::{Fault, Finding};
 use std::alloc::Global;
@@ -45,27 +45,6 @@ fn from(alloc: Global, moment: u64) -> Result<Vec<u64>, Fault> {
         moments.push(moment.saturating_add(later))?;
     }
     Ok(moments)
-}
-
-/// The databases of the run that stands on this desk.
-pub fn databases(alloc: Global, desk: &Desk) -> Result<Databases, Fault> {
-    match &desk.hall {
-        Some(hall) => Databases::of(alloc, hall),
-        None => Err(Fault::Closed),
-    }
-}
-
-/// The number of the database that is opened behind a stop, of which no call fails, and which is to be as it should.
-pub fn opened(alloc: Global, desk: &mut Desk, databases: &Databases) -> Result<u64, Fault> {
-    desk.fail_at(Vec::new(alloc));
-    desk.open()?;
-    let acknowledged = desk.acknowledged;
-    let Some(hall) = &mut desk.hall else {
-        return Err(Fault::Closed);
-    };
-    let number = databases.find(alloc, hall, acknowledged)?;
-    read_back(alloc, hall)?;
-    Ok(number)
 }
 
 /// Why a sweep ended behind a stop in this call by this choice.

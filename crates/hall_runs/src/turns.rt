@@ -1,13 +1,14 @@
 //! Turns of three actors on a hall and on a machine of plain lists, which are to answer alike, with stops of the machine between them.
+use crate::checks::{databases, opened};
 use crate::desk::Desk;
 use crate::fault::{Fault, Finding};
+use crate::made::Made;
 use crate::seeds::Seeds;
-use crate::sweeps::{databases, opened};
 use crate::{choices, plain};
 use entries::Database;
 use plain_hall::Hall;
-use space::Space;
 use std::alloc::Global;
+use std::collections::BTreeMap;
 use std::mem;
 use step_words::number;
 
@@ -45,8 +46,8 @@ struct Both<'a> {
     alloc: Global,
     desk: &'a mut Desk,
     plain: Hall,
-    /// How many steps of each word weren't refused.
-    made: [u64; 15],
+    /// Of which words steps weren't refused.
+    made: Made,
 }
 
 /// The answer isn't a refusal: these alone begin with a capital letter, but for what an image came to.
@@ -97,28 +98,9 @@ impl Both<'_> {
         let hall = self.on_hall(line)?;
         let plain = self.on_plain(number(actor)?, step)?;
         if is_fine(hall.as_str()) {
-            self.note(step);
+            self.made.note(step);
         }
         Ok(Answers { hall, plain })
-    }
-
-    /// One more step with the word at this place wasn't refused.
-    fn raise(&mut self, place: usize) {
-        if let Some(count) = self.made.get_mut(place) {
-            *count = count.saturating_add(1);
-        }
-    }
-
-    /// One more step with this word wasn't refused.
-    fn note(&mut self, step: &[&str]) {
-        let Some(made) = step.first() else {
-            return;
-        };
-        for (place, word) in WORDS.iter().enumerate() {
-            if *word == *made {
-                self.raise(place);
-            }
-        }
     }
 
     /// A line that both are to answer alike; else what they answer.
@@ -155,29 +137,11 @@ impl Both<'_> {
         let Some(hall) = &self.desk.hall else {
             return Err(Fault::Closed);
         };
-        let generation = hall.generation();
         let inventory = hall.base().copy(self.alloc)?;
-        let next_object = inventory.tables().next_object;
-        let next_file = inventory.tables().next_file;
-        let mut plain = Hall::new(self.alloc)?;
-        plain.first = inventory.number();
-        drop(mem::replace(&mut plain.inventory, inventory));
-        drop(mem::replace(&mut plain.space, Space::new(self.alloc, next_file)));
-        plain.next_object = next_object;
-        plain.generation = generation;
-        mem::swap(&mut plain.contents, &mut self.plain.contents);
+        let contents = mem::replace(&mut self.plain.contents, BTreeMap::new(self.alloc));
+        let plain = Hall::behind(self.alloc, inventory, hall.generation(), contents);
         drop(mem::replace(&mut self.plain, plain));
         Ok(())
-    }
-
-    /// The first word of which no step was made.
-    fn lacking(&self) -> Option<&'static str> {
-        for (place, word) in WORDS.iter().enumerate() {
-            if self.made.get(place).copied() == Some(0) {
-                return Some(*word);
-            }
-        }
-        None
     }
 
     /// So many turns; or the first line that they answer otherwise.
@@ -215,7 +179,7 @@ fn played(both: &mut Both<'_>, lines: &[String], seed: u64, count: u64) -> Resul
         return Ok(found);
     }
     let alloc = both.alloc;
-    match both.lacking() {
+    match both.made.lacking() {
         Some(word) => Ok(format!(in alloc; "no {word}")?),
         None => {
             let stops = count / STOP;
@@ -239,7 +203,7 @@ pub fn play(
         alloc,
         desk,
         plain: Hall::new(alloc)?,
-        made: [0; 15],
+        made: Made::new(&WORDS),
     };
     let text = played(&mut both, lines, seed, count);
     drop(both);

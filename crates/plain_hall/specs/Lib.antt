@@ -1,1 +1,4 @@
+pub mod Kinds
+pub mod Laws
 pub mod Marks
+pub mod Traces

@@ -138,24 +138,34 @@ impl Hall {
     /// A machine with the database of a server that was just formatted.
     pub fn new(alloc: Global) -> Result<Hall, Refusal> {
         let inventory = Inventory::fresh(alloc)?;
+        Ok(Hall::behind(alloc, inventory, 0, BTreeMap::new(alloc)))
+    }
+
+    /// A machine that begins with this database, whose newest image is of this generation, and with the bytes of its objects. It takes no memory.
+    pub fn behind(
+        alloc: Global,
+        inventory: Inventory,
+        generation: u64,
+        contents: BTreeMap<u64, Vec<u8>>,
+    ) -> Hall {
         let first = inventory.number();
         let next_file = inventory.tables().next_file;
         let next_object = inventory.tables().next_object;
-        Ok(Hall {
+        Hall {
             alloc,
             inventory,
             first,
             space: Space::new(alloc, next_file),
             tickets: BTreeMap::new(alloc),
-            contents: BTreeMap::new(alloc),
+            contents,
             told: Told::new(alloc),
             lengths: Vec::new(alloc),
             next_object,
             next_ticket: 1,
             image: None,
-            generation: 0,
+            generation,
             log_length: 0,
-        })
+        }
     }
 
     /// The number of the last transaction.

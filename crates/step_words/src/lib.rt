@@ -1,4 +1,4 @@
-//! Steps of actors as the words of a line, and what they are answered, in words. Programs read lines of them.
+//! Steps of actors as the words of a line, and what they are answered, in words, by whoever makes them. Programs read lines of them.
 //!
 //! - `open_new POOL SIZE PREFER`; `open_copy OBJECT AVOID AIM` with the aim `new POOL`, `copy TO`, `move FROM PLACED TO along` or `move FROM PLACED TO alone`; `write TICKET TEXT`;
 //!   `copy_piece TICKET`; `seal TICKET`; `drop TICKET`.
@@ -12,10 +12,12 @@
 
 mod fault;
 mod lines;
+mod making;
 mod replies;
 mod words;
 
 pub use fault::Fault;
 pub use lines::step;
+pub use making::answer;
 pub use replies::{acknowledged, done, numbered, put_digest, refusal, text};
-pub use words::{entry, long, longs, number};
+pub use words::{bytes_of, entry, long, longs, number};

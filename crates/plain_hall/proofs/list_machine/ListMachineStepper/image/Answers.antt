@@ -1,0 +1,6 @@
+use Rattle.steps.specs.Events.Deed.{Image}
+use Rattle.plain_hall.proofs.Stepping.{noted}
+use Rattle.plain_hall.proofs.list_machine.ListMachineStepper.image.Goals as goal
+
+pub returns : goal.returns
+returns g c = noted c.args.self.now.trace c.begin.new.self.trace c.end.new.self (Image c.args.kind c.end.result) c.begin.ensures c.end.ensures.ended

@@ -1,6 +1,0 @@
-use Rattle.steps.specs.Events.Deed.{Commit}
-use Rattle.step_runs.proofs.Stepping.{noted}
-use Rattle.step_runs.proofs.list_machine.ListMachineStepper.commit.Goals as goal
-
-pub returns : goal.returns
-returns g c = noted c.args.self.now.trace c.begin.new.self.trace c.end.new.self (Commit c.args.asked.now c.args.tickets.now c.end.result) c.begin.ensures c.end.ensures.ended

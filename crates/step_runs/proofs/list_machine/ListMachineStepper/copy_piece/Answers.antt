@@ -1,6 +1,0 @@
-use Rattle.steps.specs.Events.Deed.{CopyPiece}
-use Rattle.step_runs.proofs.Stepping.{noted}
-use Rattle.step_runs.proofs.list_machine.ListMachineStepper.copy_piece.Goals as goal
-
-pub returns : goal.returns
-returns g c = noted c.args.self.now.trace c.begin.new.self.trace c.end.new.self (CopyPiece c.args.ticket c.end.result) c.begin.ensures c.end.ensures.ended
