@@ -1,5 +1,5 @@
 //! Processes and commands as turns of actors, on a hall and on the machine of plain lists, which answer alike; and stops of the machine, between them or in one.
-use crate::checks::{Databases, databases, opened};
+use crate::checks::{Databases, databases_of, opened};
 use crate::desk::Desk;
 use crate::fault::{Fault, Finding};
 use crate::made::Made;
@@ -225,7 +225,7 @@ impl Both<'_> {
 
     /// The machine stops. Both have the same database then, unless a call has failed, and the hall that is opened one of those before it.
     fn stop_hall(&mut self, choice: u64) -> Result<(), Fault> {
-        let databases = databases(self.alloc, self.desk)?;
+        let databases = databases_of(self.alloc, self.desk)?;
         if !self.has_failed() {
             self.check_same(&databases)?;
         }
@@ -257,7 +257,7 @@ impl Both<'_> {
     /// The hall is opened again over a store of which so many calls fail, from one a number of calls later on. Where the opening makes that one the machine stops there once more, and none
     /// fails then.
     fn open_failing(&mut self, later: u64, count: u64, choice: u64) -> Result<(), Fault> {
-        let databases = databases(self.alloc, self.desk)?;
+        let databases = databases_of(self.alloc, self.desk)?;
         let first = self.desk.moment().saturating_add(later);
         self.desk.fail_at(moments(self.alloc, first, count)?);
         if self.desk.open().is_err() {

@@ -173,7 +173,7 @@ fn read_back(alloc: Global, hall: &mut Hall<MemStore>) -> Result<(), Fault> {
 }
 
 /// The databases of the run that stands on this desk.
-pub fn databases(alloc: Global, desk: &Desk) -> Result<Databases, Fault> {
+pub fn databases_of(alloc: Global, desk: &Desk) -> Result<Databases, Fault> {
     match &desk.hall {
         Some(hall) => Databases::of(alloc, hall),
         None => Err(Fault::Closed),

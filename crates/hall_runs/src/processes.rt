@@ -107,7 +107,7 @@ struct Names {
     filespace: FilespaceName,
 }
 
-fn names(alloc: Global) -> Result<Names, Refusal> {
+fn read_names(alloc: Global) -> Result<Names, Refusal> {
     let filespace = FilespaceName::read(alloc, b"/home")?;
     Ok(Names {
         node: NodeName::read(alloc, b"ANNA", 64)?,
@@ -158,7 +158,7 @@ fn put_words<P: Stepper>(
     size: &str,
     mtime: &str,
 ) -> Result<String, Fault> {
-    let names = names(alloc)?;
+    let names = read_names(alloc)?;
     let row = row_of(alloc, path, size, mtime)?;
     let text = put(alloc, p, &names, &row);
     drop(row);
@@ -183,7 +183,7 @@ fn read(alloc: Global, answer: &Result<FileRead, Refusal>) -> Result<String, All
 fn get<P: Stepper>(alloc: Global, p: &mut P, path: &str) -> Result<String, Fault> {
     let path = Path::read(alloc, path.as_bytes())?;
     let mut buffer = vec![in alloc; 0u8; MOST_BYTES]?;
-    let Names { node, filespace } = names(alloc)?;
+    let Names { node, filespace } = read_names(alloc)?;
     let answer = read_file(alloc, p, node, filespace, path, buffer.as_mut_slice());
     let text = read(alloc, &answer);
     drop(answer);

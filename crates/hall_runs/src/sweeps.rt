@@ -1,5 +1,5 @@
 //! Lines that are made again and again, with another call of the device that fails each time, and there the machine stops.
-use crate::checks::{Databases, databases, opened};
+use crate::checks::{Databases, databases_of, opened};
 use crate::desk::Desk;
 use crate::fault::{Fault, Finding};
 use std::alloc::Global;
@@ -137,7 +137,7 @@ pub fn stop_each(
     let front = &lines[..mark.min(lines.len())];
     let first = moment_behind(alloc, desk, front, &[])?;
     make_all(alloc, desk, lines, &[])?;
-    let databases = databases(alloc, desk)?;
+    let databases = databases_of(alloc, desk)?;
     let last = desk.moment();
     let stopping = Stopping {
         alloc,
@@ -171,7 +171,7 @@ impl Failing<'_> {
         let mut moments = Vec::new(self.alloc);
         moments.push(self.first.saturating_add(call))?;
         make_all(self.alloc, desk, self.lines, moments.as_slice())?;
-        let databases = databases(self.alloc, desk)?;
+        let databases = databases_of(self.alloc, desk)?;
         desk.stop(choice);
         opened(self.alloc, desk, &databases)
     }

@@ -1,5 +1,5 @@
 //! Turns of three actors on a hall and on a machine of plain lists, which are to answer alike, with stops of the machine between them.
-use crate::checks::{databases, opened};
+use crate::checks::{databases_of, opened};
 use crate::desk::Desk;
 use crate::fault::{Fault, Finding};
 use crate::made::Made;
@@ -122,7 +122,7 @@ impl Both<'_> {
 
     /// The machine stops. Both have the same database then, and the hall that is opened one of those before it, which the machine of plain lists goes on with.
     fn stop(&mut self, choice: u64) -> Result<(), Fault> {
-        let databases = databases(self.alloc, self.desk)?;
+        let databases = databases_of(self.alloc, self.desk)?;
         let bytes = self.plain.inventory.encode(self.alloc)?;
         if !databases.is_last(bytes.as_slice()) {
             return Err(Fault::Wrong(Finding::OtherDatabase));
