@@ -139,7 +139,7 @@ impl<'a> Both<'a> {
             alloc,
             desk,
             plain,
-            made: Made::new(&WORDS),
+            made: Made::new(),
             faults,
         }
     }
@@ -181,7 +181,7 @@ impl Both<'_> {
         let plain = self.on_plain(actor, line)?;
         let hall = self.on_hall(actor, line)?;
         if did_something(hall.as_str()) {
-            self.made.note(line);
+            self.made.note(&WORDS, line);
         }
         Ok(Answers { hall, plain })
     }
@@ -300,7 +300,7 @@ impl Both<'_> {
                 return Ok(found);
             }
         }
-        match self.made.lacking() {
+        match self.made.lacking(&WORDS) {
             Some(word) => Ok(format!(in self.alloc; "no {word}")?),
             None => Ok(format!(in self.alloc; "{count} stops")?),
         }

@@ -3,20 +3,16 @@
 /// There are at most so many words.
 const MOST: usize = 18;
 
-/// How often each of some words did something.
+/// How often each of some words, of which there are at most 18, did something.
 #[derive(Clone, Copy)]
 pub struct Made {
-    words: &'static [&'static str],
     counts: [u64; MOST],
 }
 
 impl Made {
-    /// None of these words, of which there are at most 18, did anything yet.
-    pub fn new(words: &'static [&'static str]) -> Made {
-        Made {
-            words,
-            counts: [0; MOST],
-        }
+    /// None of them did anything yet.
+    pub fn new() -> Made {
+        Made { counts: [0; MOST] }
     }
 
     /// The word at this place did something once more.
@@ -26,18 +22,18 @@ impl Made {
         }
     }
 
-    /// The first word of a line did something once more.
-    pub fn note(&mut self, line: &[&str]) {
+    /// The first word of a line, where it is one of these, did something once more.
+    pub fn note(&mut self, words: &[&str], line: &[&str]) {
         if let Some(made) = line.first() {
-            if let Some(place) = self.words.iter().position(|word| *word == *made) {
+            if let Some(place) = words.iter().position(|word| *word == *made) {
                 self.raise(place);
             }
         }
     }
 
-    /// The first word that did nothing.
-    pub fn lacking(&self) -> Option<&'static str> {
-        for (place, word) in self.words.iter().enumerate() {
+    /// The first of these words that did nothing.
+    pub fn lacking(&self, words: &'static [&'static str]) -> Option<&'static str> {
+        for (place, word) in words.iter().enumerate() {
             if self.counts.get(place).copied() == Some(0) {
                 return Some(*word);
             }

@@ -1,5 +1,6 @@
 //! A run over the lines.
 use crate::both::Both;
+use crate::desk::Desk;
 use crate::fault::Fault;
 use crate::lists;
 use crate::script::Script;
@@ -45,6 +46,46 @@ fn fault_text(alloc: Global, fault: &Fault) -> Result<String, AllocError> {
     }
 }
 
+/// A stop of the machine, of which both are opened again: the number of the last transaction that is there.
+fn stop_both(
+    alloc: Global,
+    desk: &mut Desk,
+    plain: &mut ListMachine<Nobody>,
+    choice: u64,
+) -> Result<u64, Fault> {
+    let mut both = Both::new(alloc, desk, plain);
+    let number = both.stop(choice);
+    drop(both);
+    number
+}
+
+/// So many stretches of turns from a seed on both.
+fn play_both(
+    alloc: Global,
+    desk: &mut Desk,
+    plain: &mut ListMachine<Nobody>,
+    seed: u64,
+    count: u64,
+) -> Result<String, Fault> {
+    let mut both = Both::new(alloc, desk, plain);
+    let text = both.play(seed, count);
+    drop(both);
+    text
+}
+
+/// A line on both.
+fn answer_both(
+    alloc: Global,
+    desk: &mut Desk,
+    plain: &mut ListMachine<Nobody>,
+    line: &str,
+) -> Result<String, Fault> {
+    let mut both = Both::new(alloc, desk, plain);
+    let text = both.line(line);
+    drop(both);
+    text
+}
+
 impl Run<'_> {
     /// A new store.
     fn start_again(&mut self) -> Result<String, Fault> {
@@ -71,20 +112,16 @@ impl Run<'_> {
         lists::begin(self.alloc, self.among)
     }
 
-    /// What is made on the hall and on the machine of plain lists.
-    fn on_both(&mut self) -> Both<'_> {
-        Both::new(self.alloc, &mut self.script.desk, self.plain)
-    }
-
     fn stop(&mut self, choice: &str) -> Result<String, Fault> {
-        let number = self.on_both().stop(long(choice)?)?;
+        let choice = long(choice)?;
+        let number = stop_both(self.alloc, &mut self.script.desk, self.plain, choice)?;
         Ok(format!(in self.alloc; "number {number}")?)
     }
 
     fn turns(&mut self, seed: &str, count: &str) -> Result<String, Fault> {
         let seed = long(seed)?;
         let count = long(count)?;
-        self.on_both().play(seed, count)
+        play_both(self.alloc, &mut self.script.desk, self.plain, seed, count)
     }
 
     /// A line on the hall and on the machine of plain lists.
@@ -92,7 +129,7 @@ impl Run<'_> {
         match words {
             ["stop", choice] => self.stop(choice),
             ["turns", seed, count] => self.turns(seed, count),
-            _ => self.on_both().line(line),
+            _ => answer_both(self.alloc, &mut self.script.desk, self.plain, line),
         }
     }
 

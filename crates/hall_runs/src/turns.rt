@@ -98,7 +98,7 @@ impl Both<'_> {
         let hall = self.on_hall(line)?;
         let plain = self.on_plain(number(actor)?, step)?;
         if is_fine(hall.as_str()) {
-            self.made.note(step);
+            self.made.note(&WORDS, step);
         }
         Ok(Answers { hall, plain })
     }
@@ -179,7 +179,7 @@ fn played(both: &mut Both<'_>, lines: &[String], seed: u64, count: u64) -> Resul
         return Ok(found);
     }
     let alloc = both.alloc;
-    match both.made.lacking() {
+    match both.made.lacking(&WORDS) {
         Some(word) => Ok(format!(in alloc; "no {word}")?),
         None => {
             let stops = count / STOP;
@@ -203,7 +203,7 @@ pub fn play(
         alloc,
         desk,
         plain: Hall::new(alloc)?,
-        made: Made::new(&WORDS),
+        made: Made::new(),
     };
     let text = played(&mut both, lines, seed, count);
     drop(both);
