@@ -153,7 +153,7 @@ module _ (trusted : Type 0) (places : Places) (k : Client) (result : Result Outc
   on-as : (work : OnTree) (before after : Known) → DoesOn trusted places k.choice work before after (later_of old mid) new result added → DoesOn trusted places k.choice work before after old new result added
   on-as (write w) before after (did, still, none) = (did, still-as new still, none)
   on-as (erase e) before after (did, still, none) = (did, still-as new still, none)
-  on-as (back_up i) before after (ran, are, image, bytes) = (ran-as (λ events. BacksUp k.choice i before after events result) ran, are, image, bytes)
+  on-as (back_up i) before after (ran, are, image, bytes, have) = (ran-as (λ events. BacksUp k.choice i before after events result) ran, are, image, bytes, have)
   on-as (restore r) before after (ran, gives, ends, still, none) = (ran-as (λ events. GivesWanted r before after events result) ran, gives, ends-so-as ends, still-as new still, none)
 
   there-as : (work : OnTree) → DoesThere trusted places k work (later_of old mid) new result added → DoesThere trusted places k work old new result added

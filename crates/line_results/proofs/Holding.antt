@@ -3,6 +3,8 @@ use Rattle.std.proofs.Common.{◌≡◌, ◌⊎◌, inl, inr, ℕ, zero, suc, �
 use Rattle.std.proofs.lemmas.Bool.{and_parts, false≢true}
 use Rattle.std.proofs.lemmas.Option.{same_Some}
 use Rattle.std.specs.List.{AllByRecursion, list_all}
+use Rattle.sha2.specs.Sha256.{sha256}
+use Rattle.kinds.specs.ValueForms.{digest_with}
 use Rattle.kinds.specs.declared.refusal.Refusal.{Refusal}
 use Rattle.kinds.specs.declared.refusal.Refusal.TheVariants as refused
 use Rattle.kinds.specs.declared.segment.Segment.{Segment}
@@ -54,7 +56,7 @@ use Rattle.line_results.specs.Clauses.{BytesBy, BytesOwn, CauseBy, CauseOwn, Cau
 use Rattle.line_results.specs.Commands.{Comes, Does, DoesOwn, DoesThere, EndsWith, IsReuse, Tells, Works, WorksWith, drawn, validated, work_over}
 use Rattle.line_results.specs.Files.{Checkpoints, Gets, GetsOf, GetsUnder, Puts, ShowsFound, active_at}
 use Rattle.line_results.specs.Lines.{Replies, Says}
-use Rattle.line_results.specs.Resting.{Commits, EndsRun, RoseFrom, database, why_not}
+use Rattle.line_results.specs.Resting.{Commits, EndsRun, RoseFrom, SameBytes, database, why_not}
 use Rattle.admin_words.specs.declared.files.FilesRestore.{FilesRestore}
 use Rattle.command_steps.specs.Trees.{is_absent, which_of}
 use Rattle.inventory_answers.specs.Clients.{versions_of}
@@ -63,7 +65,8 @@ use Rattle.restores.specs.Chosen.{chosen}
 use Rattle.restores.specs.declared.choosing.RestoreLine.{RestoreLine}
 use Rattle.restores.specs.declared.choosing.Which.{Which}
 use Rattle.script_loop.specs.declared.ends.Halt.{Halt}
-use Rattle.line_results.specs.Trees.{GivesNothing, IsChosen, IsOfBackup, IsOfTree}
+use Rattle.line_results.specs.Trees.{GivesNothing, HasBytes, IsChosen, IsOfBackup, IsOfTree}
+use Rattle.line_results.proofs.Keeping.{each-same}
 use Rattle.line_results.proofs.Changing.{comes-trees}
 use Rattle.line_results.proofs.Processing.{IsPlainOwn, IsPlainTree, IsProcess, IsProcessOwn, IsProcessTree, IsRowless, kind, over-rowless}
 use Rattle.line_results.proofs.PutHeld.{IsMild, PutHeld, no-end, no-put, put-held}
@@ -436,19 +439,65 @@ bytes-none trusted n own (Ok (Show q)) old mid answer so = tt
 bytes-none trusted n own (Ok (Run numbers)) old mid answer so = own-bytes-none trusted n own old mid answer so
 bytes-none trusted n own (Err why) old mid answer so = tt
 
-own-items-none : (own : Own) (mid : Machine) (c : Change) → IsProcessOwn own → ItemsOwn own mid c
-own-items-none (put p) mid c so = absurd so
-own-items-none own mid c so = tt
+-- ---- what it stored
 
-items-none : (own : Own) (w : Result Work Refusal) (mid : Machine) (c : Change) → IsProcessOwn own → ItemsBy own w mid c
-items-none own (Ok (Commit what)) mid c so = tt
-items-none own (Ok (Show q)) mid c so = tt
-items-none own (Ok (Run numbers)) mid c so = own-items-none own mid c so
-items-none own (Err why) mid c so = tt
+abbrev HaveItems : Own → Result Work Refusal → (mid : Machine) → List Entry → Type 0
+HaveItems own w mid added = AllByRecursion (λ e. ItemsBy own w mid e.change) added
 
-all-items-none : (own : Own) (w : Result Work Refusal) (mid : Machine) (added : List Entry) → IsProcessOwn own → AllByRecursion (λ e. ItemsBy own w mid e.change) added
-all-items-none own w mid [] so = tt
-all-items-none own w mid (e ∷ added) so = (items-none own w mid e.change so, all-items-none own w mid added so)
+each-entry : (P : Change → Type 0) → ((c : Change) → P c) → (added : List Entry) → AllByRecursion (λ e. P e.change) added
+each-entry P so [] = tt
+each-entry P so (e ∷ added) = (so e.change, each-entry P so added)
+
+-- what a backup stored keeps its bytes behind it
+there-items : (trusted : Type 0) (places : Places) (k : Client) (numbers : List ℕ) (work : OnTree) (old mid new : Machine) (said : Result Outcome Refusal) (added : List Entry)
+    → DoesThere trusted places k work old mid said added → SameBytes mid new → HaveItems (on_tree work) (Ok (Run numbers)) new added
+there-items trusted places k numbers (back_up i) old mid new said added (inl (before, after, turns, (ran, are, image, keeps, have))) same =
+    each-same (HasBytes mid) (HasBytes new)
+    (λ i h. (let is : mid.contents i.object ≡ new.contents i.object = ap (λ (f : ℕ → List ℕ). f i.object) (sym same) in (h.0 ∙ ap length is, h.1 ∙ ap (λ (l : List ℕ). digest_with (sha256 l)) is))) added have
+there-items trusted places k numbers (write w) old mid new said added (inl (before, after, turns, (did, still, none))) same = no-entries (λ x. ItemsBy (on_tree (write w)) (Ok (Run numbers)) new x.change) added none
+there-items trusted places k numbers (erase e) old mid new said added (inl (before, after, turns, (did, still, none))) same = no-entries (λ x. ItemsBy (on_tree (erase e)) (Ok (Run numbers)) new x.change) added none
+there-items trusted places k numbers (restore r) old mid new said added (inl (before, after, turns, (ran, gives, ends, still, none))) same =
+    no-entries (λ x. ItemsBy (on_tree (restore r)) (Ok (Run numbers)) new x.change) added none
+there-items trusted places k numbers work old mid new said added (inr (missing, kept, is, still, none)) same = no-entries (λ x. ItemsBy (on_tree work) (Ok (Run numbers)) new x.change) added none
+
+process-items : (trusted : Type 0) (places : Places) (k : Client) (numbers : List ℕ) (own : Own) (old mid new : Machine) (said : Result Outcome Refusal) (added : List Entry) → IsProcessOwn own
+    → DoesOwn trusted places k numbers own old mid said added → SameBytes mid new → HaveItems own (Ok (Run numbers)) new added
+process-items trusted places k numbers (on_tree work) old mid new said added so h same = there-items trusted places k numbers work old mid new said added h same
+process-items trusted places k numbers (put p) old mid new said added so h same = absurd so
+process-items trusted places k numbers own old mid new said added so h same = each-entry (λ c. ItemsBy own (Ok (Run numbers)) new c) (λ c. tt) added
+
+work-items : (trusted : Type 0) (places : Places) (k : Client) (c : Command) (w : Work) (old mid new : Machine) (said : Result Outcome Refusal) (added : List Entry) → IsProcessOwn (own_of c)
+    → Does trusted places k c (Ok w) old mid said added → SameBytes mid new → HaveItems (own_of c) (Ok w) new added
+work-items trusted places k c (Commit what) old mid new said added so h same = each-entry (λ x. ItemsBy (own_of c) (Ok (Commit what)) new x) (λ x. tt) added
+work-items trusted places k c (Show q) old mid new said added so h same = each-entry (λ x. ItemsBy (own_of c) (Ok (Show q)) new x) (λ x. tt) added
+work-items trusted places k c (Run numbers) old mid new said added so h same = process-items trusted places k numbers (own_of c) old mid new said added so h same
+
+-- a volume that is reused brings none
+tree-reused : (work : OnTree) (mid : Machine) (file : ℕ) → ItemsOwn (on_tree work) mid (change.Reuse file)
+tree-reused (back_up i) mid file = tt
+tree-reused work mid file = tt
+
+own-reused : (own : Own) (mid : Machine) (file : ℕ) → ItemsOwn own mid (change.Reuse file)
+own-reused (on_tree work) mid file = tree-reused work mid file
+own-reused own mid file = tt
+
+reused-items : (own : Own) (w : Result Work Refusal) (b : Behind) (mid : Machine) (c : Change) → IsReuse b c → ItemsBy own w mid c
+reused-items own (Ok (Commit what)) b mid c h = tt
+reused-items own (Ok (Show q)) b mid c h = tt
+reused-items own (Ok (Run numbers)) reuses mid c h = subst (λ (x : Change). ItemsOwn own mid x) (sym h.1) (own-reused own mid h.0)
+reused-items own (Ok (Run numbers)) b mid c h = absurd h
+reused-items own (Err why) b mid c h = tt
+
+both-items : (own : Own) (w : Result Work Refusal) (b : Behind) (mid : Machine) (first later : List Entry) → HaveItems own w mid first → AllByRecursion (λ e. (e.actor ≡ 0) × IsReuse b e.change) later → HaveItems own w mid (first ++ later)
+both-items own w b mid [] [] h l = tt
+both-items own w b mid [] (e ∷ later) h l = (reused-items own w b mid e.change l.0.1, both-items own w b mid [] later tt l.1)
+both-items own w b mid (e ∷ first) later h l = (h.0, both-items own w b mid first later h.1 l)
+
+-- what comes behind a command's work changes no bytes
+behind-bytes : (trusted : Type 0) (places : Places) (b : Behind) (said result : Result Outcome Refusal) (mid new : Machine) → (b ≡ no_more → ⊥) → EndsWith trusted places b said mid new result → SameBytes mid new
+behind-bytes trusted places no_more said result mid new some h = absurd (some refl)
+behind-bytes trusted places forces said result mid new some (events, alone, ends, image, bytes) = bytes
+behind-bytes trusted places reuses said result mid new some (events, alone, ends, image, bytes) = bytes
 
 -- ---- which transactions
 
@@ -469,7 +518,7 @@ of-tree k i before after old (e ∷ added) turns h = ((h.0.0, (before, after, tu
 
 there-ordered : (trusted : Type 0) (places : Places) (k : Client) (numbers : List ℕ) (work : OnTree) (old mid : Machine) (said : Result Outcome Refusal) (added : List Entry)
     → DoesThere trusted places k work old mid said added → AreBy k (on_tree work) (Ok (Run numbers)) old added
-there-ordered trusted places k numbers (back_up i) old mid said added (inl (before, after, turns, (ran, are, image, keeps))) = of-tree k i before after old added turns are
+there-ordered trusted places k numbers (back_up i) old mid said added (inl (before, after, turns, (ran, are, image, keeps, have))) = of-tree k i before after old added turns are
 there-ordered trusted places k numbers (write w) old mid said added (inl (before, after, turns, (did, still, none))) = no-entries (λ x. (x.actor ≡ 0) × OrderedBy k (on_tree (write w)) (Ok (Run numbers)) old x.change) added none
 there-ordered trusted places k numbers (erase e) old mid said added (inl (before, after, turns, (did, still, none))) = no-entries (λ x. (x.actor ≡ 0) × OrderedBy k (on_tree (erase e)) (Ok (Run numbers)) old x.change) added none
 there-ordered trusted places k numbers (restore r) old mid said added (inl (before, after, turns, (ran, gives, ends, still, none))) =
@@ -621,19 +670,25 @@ module _ (trusted : Type 0) (places : Places) (k : Client) (n : ℕ) (c : Comman
       absurd (never-refused trusted places k c old w f between first own rowless may (subst (λ (x : Refusal). halt_by x ≡ None) same mild) does)
 
   with-parts : (b : Behind) (w : Work) (said : Result Outcome Refusal) (added : List Entry) → (b ≡ no_more → ⊥) → IsRowless (Ok w) → WorksWith trusted places k c (Ok w) b old mid said added
-      → AreWith k b (own_of c) (Ok w) old added × Blames trusted places k n c (Ok w) b old mid answer said
+      → AreWith k b (own_of c) (Ok w) old added × Blames trusted places k n c (Ok w) b old mid answer said × HaveItems (own_of c) (Ok w) mid added
   with-parts b w said added some rowless h = (
     subst (λ (l : List Entry). AreWith k b (own_of c) (Ok w) old l) (sym h.parts)
         (both-ordered k b (own_of c) (Ok w) old h.first h.later some (work-ordered trusted places k c w old h.mid h.said h.first own rowless h.does) h.reused),
     λ why same is mild may. refused-behind b (Ok w) why h.said h.mid h.first some rowless is mild h.does (subst (λ (r : Result Outcome Refusal). EndsWith trusted places b h.said h.mid mid r) same h.ends) may,
+    subst (λ (l : List Entry). HaveItems (own_of c) (Ok w) mid l) (sym h.parts)
+        (both-items (own_of c) (Ok w) b mid h.first h.later (work-items trusted places k c w old h.mid mid h.said h.first own h.does (behind-bytes trusted places b h.said said h.mid mid some h.ends)) h.reused),
   )
 
   given-parts : (b : Behind) (given : Refusal) (said : Result Outcome Refusal) (added : List Entry) → IsKept k × Tells (Err given) old mid said added
-      → AreWith k b (own_of c) (Err given) old added × Blames trusted places k n c (Err given) b old mid answer said
-  given-parts b given said added h = (no-entries (λ e. (e.actor ≡ 0) × OrderedWith k b (own_of c) (Err given) old e.change) added h.1.1, λ why same is mild may. absurd may)
+      → AreWith k b (own_of c) (Err given) old added × Blames trusted places k n c (Err given) b old mid answer said × HaveItems (own_of c) (Err given) mid added
+  given-parts b given said added h = (
+    no-entries (λ e. (e.actor ≡ 0) × OrderedWith k b (own_of c) (Err given) old e.change) added h.1.1,
+    λ why same is mild may. absurd may,
+    no-entries (λ e. ItemsBy (own_of c) (Err given) mid e.change) added h.1.1,
+  )
 
   parts : (b : Behind) (w : Result Work Refusal) (said : Result Outcome Refusal) (added : List Entry) → (b ≡ no_more → ⊥) → IsRowless w → Works trusted places k c w b old mid said added
-      → AreWith k b (own_of c) w old added × Blames trusted places k n c w b old mid answer said
+      → AreWith k b (own_of c) w old added × Blames trusted places k n c w b old mid answer said × HaveItems (own_of c) w mid added
   parts no_more w said added some rowless h = absurd (some refl)
   parts forces (Err given) said added some rowless h = given-parts forces given said added h
   parts reuses (Err given) said added some rowless h = given-parts reuses given said added h
@@ -642,22 +697,22 @@ module _ (trusted : Type 0) (places : Places) (k : Client) (n : ℕ) (c : Comman
 
 module _ (trusted : Type 0) (places : Places) (k : Client) (n : ℕ) (c : Command) (p : IsProcess c) (old mid : Machine) (answer : Answer) (added : List Entry) where
   held-with : (b : Behind) (said : Result Outcome Refusal) → (b ≡ no_more → ⊥) → Works trusted places k c (work_over c (database old)) b old mid said added
-      → AreWith k b (own_of c) (work_over c (database old)) old added → Blames trusted places k n c (work_over c (database old)) b old mid answer said → IsShown n said answer
-      → HeldWith trusted places k n c b old mid answer added
-  held-with b (Ok it) some works are blames shown = record {
+      → AreWith k b (own_of c) (work_over c (database old)) old added → Blames trusted places k n c (work_over c (database old)) b old mid answer said
+      → HaveItems (own_of c) (work_over c (database old)) mid added → IsShown n said answer → HeldWith trusted places k n c b old mid answer added
+  held-with b (Ok it) some works are blames items shown = record {
     journal = are;
     queries = rows-none n (database old) (work_over c (database old)) answer (over-rowless c (database old) p);
     bytes = bytes-none trusted n (own_of c) (work_over c (database old)) old mid answer p.own;
-    items = all-items-none (own_of c) (work_over c (database old)) mid added p.own;
+    items = items;
     causes = λ one. absurd (zero-one answer.tally.refused (came-refused n it answer shown) one);
     done = λ none. did-with trusted places k n c b old mid answer it added some shown works;
     complete = λ rose may. inl (came-refused n it answer shown);
   }
-  held-with b (Err e) some works are blames shown = record {
+  held-with b (Err e) some works are blames items shown = record {
     journal = are;
     queries = rows-none n (database old) (work_over c (database old)) answer (over-rowless c (database old) p);
     bytes = bytes-none trusted n (own_of c) (work_over c (database old)) old mid answer p.own;
-    items = all-items-none (own_of c) (work_over c (database old)) mid added p.own;
+    items = items;
     causes = λ one. (e, shown.1, cause-with trusted places k c b old mid e added some works);
     done = λ none. absurd (zero-one answer.tally.refused none (one-refused n e answer shown.1));
     complete = λ rose may. inr (blames e refl shown.1 shown.0 may);
@@ -667,7 +722,7 @@ module _ (trusted : Type 0) (places : Places) (k : Client) (n : ℕ) (c : Comman
       → HeldWith trusted places k n c b old mid answer added
   process-held b said some works shown =
       let h = parts trusted places k n c p.own old mid answer b (work_over c (database old)) said added some (over-rowless c (database old) p) works in
-      held-with b said some works h.0 h.1 shown
+      held-with b said some works h.0 h.1 h.2 shown
 
 -- what holds of a command behind whose work nothing comes, with what may have come
 module _ (trusted : Type 0) (places : Places) (k : Client) (n : ℕ) (c : Command) (old mid : Machine) (answer : Answer) (added : List Entry) where

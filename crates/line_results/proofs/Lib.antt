@@ -11,10 +11,12 @@ pub mod Followed
 pub mod Forced
 pub mod Got
 pub mod Holding
+pub mod Keeping
 pub mod Leaving
 pub mod Line
 pub mod Mild
 pub mod Needs
+pub mod Opened
 pub mod Planned
 pub mod Processed
 pub mod Processing

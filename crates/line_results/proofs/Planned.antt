@@ -1,8 +1,9 @@
 -- What an incremental backup goes by where one actor has the machine alone: the plan over the database, and the transactions that it orders.
-use Rattle.std.proofs.Common.{◌≡◌, ◌⊎◌, inl, inr, ℕ, ◌==◌, true, false, if◌then◌else◌, List, [], ◌∷◌, ◌++◌, length, map, Option, None, Some, Result, Ok, Err, refl, sym, ap, subst, ◌∙◌}
-use Rattle.std.proofs.lemmas.Bool.{false≢true}
+use Rattle.std.proofs.Common.{◌≡◌, ◌⊎◌, inl, inr, ℕ, suc, ◌==◌, ◌≤◌, true, false, if◌then◌else◌, List, [], ◌∷◌, ◌++◌, length, map, Option, None, Some, Result, Ok, Err, refl, sym, ap, subst, ◌∙◌, arith}
+use Rattle.std.proofs.lemmas.Bool.{and_parts, eqb-true, false≢true}
 use Rattle.std.proofs.lemmas.Option.{same_Some}
 use Rattle.std.specs.List.{AllByRecursion}
+use Rattle.std.specs.Option.{option_map_or}
 use Rattle.kinds.specs.Refusals.{number_of}
 use Rattle.kinds.specs.declared.change.DefineOrDelete.TheVariants as two
 use Rattle.kinds.specs.declared.change.ObjectChange.TheVariants as client
@@ -32,9 +33,9 @@ use Rattle.client_plan.specs.Plans.{Lists, actives, plan_of, scheme}
 use Rattle.client_batches.specs.Listings.{named, rebound, stored, storing}
 use Rattle.client_batches.specs.declared.listing.SealedLine.{SealedLine}
 use Rattle.incrementals.specs.Asking.{AsksNode, AsksNodeRules, AsksRules, AsksVersions, number_found}
-use Rattle.incrementals.specs.Orders.{AreOfBackup, AreQuestions, IsOfBackup as IsStepOf, IsOfPlan, IsOrdered as IsAsked, IsQuestion, IsReadAs}
+use Rattle.client_batches.proofs.Ordering.{Each}
+use Rattle.incrementals.specs.Orders.{AreQuestions, IsQuestion, IsReadAs}
 use Rattle.incrementals.specs.Planning.{Begins}
-use Rattle.incrementals.specs.Process.{Only}
 use Rattle.incrementals.specs.declared.asking.Ruled.{Ruled}
 use Rattle.incrementals.specs.declared.planning.Begun.{Begun}
 use Rattle.steps.specs.declared.asked.Asked.{Asked}
@@ -44,14 +45,16 @@ use Rattle.steps.specs.Events.Deed.{Ask, Commit, DropTicket, Force, OpenNew, Sea
 use Rattle.machine.specs.Alone.{Alone}
 use Rattle.machine.specs.Changes.{all_tickets, are_so_many, paired, scratch_of, version_from}
 use Rattle.machine.specs.Machine.{Places, asked_change}
-use Rattle.machine.specs.State.{Core, Machine, Ticket, inventory, sight}
+use Rattle.machine.specs.State.{Core, Machine, Ticket, inventory, own_tickets, sight, ticket}
 use Rattle.line_results.specs.Resting.{EndsRun, IsAtRest, database}
-use Rattle.line_results.specs.Trees.{HasVersions, IsOfBackup, IsOrdered, IsPlan, IsSent}
+use Rattle.line_results.specs.Trees.{HasVersions, IsOfBackup, IsOrdered, IsPlan, IsSent, new_versions}
 use Rattle.line_results.proofs.Asked.{EndsBy, asked-step}
+use Rattle.line_results.proofs.Keeping.{BringsVersions, all-has, chosen, found-has}
 use Rattle.line_results.proofs.Leaving.{rest-as}
+use Rattle.line_results.proofs.Opened.{AreSized, IsOrderedBy, IsStepOf, Orders}
 use Rattle.line_results.proofs.PutHomes.{asks-to, err-of, node-of, ok-of, rules-told}
 use Rattle.line_results.proofs.Runs.{Became, alone-parts, became-still}
-use Rattle.line_results.proofs.Sending.{AllSend, Sends}
+use Rattle.line_results.proofs.Sending.{AllSend, AreOpened, IsOpened, Sends, WasOpened, opened-once}
 
 -- ---- questions
 
@@ -160,83 +163,139 @@ module _ (trusted : Type 0) (places : Places) where
 
 -- ---- transactions
 
-sent-all : (told : Option Files) (plan : Lists) (lines : List SealedLine) (tickets : List Ticket) → AllByRecursion (IsOfPlan told plan) lines → AllByRecursion (IsSent told plan) (paired version_from (map stored lines) tickets)
-sent-all told plan [] tickets h = tt
-sent-all told plan (line ∷ lines) [] h = tt
-sent-all told plan (line ∷ lines) (t ∷ tickets) ((l, digest, among, is, read), later) = (
-  (
-    l,
-    among,
-    ap (λ (x : SealedLine). x.path) is,
-    ap (λ (x : SealedLine). x.class) is,
-    ap (λ (x : SealedLine). x.mtime) is,
-    subst (λ (d : Digest). IsReadAs told l d) (sym (ap (λ (x : SealedLine). x.digest) is)) read,
-  ),
-  sent-all told plan lines tickets later,
-)
+few-chosen : (numbers : List ℕ) (tickets : List Ticket) → length (chosen numbers tickets) ≤ length numbers
+few-chosen [] tickets = omega arith
+few-chosen (number ∷ numbers) tickets =
+    let rest : length (chosen numbers tickets) ≤ length numbers = few-chosen numbers tickets in
+    elim (ticket number (own_tickets 0 tickets)) as (λ o. length (option_map_or (λ t. t ∷ []) o [] ++ chosen numbers tickets) ≤ suc (length numbers)) [
+      | None ↦ omega (arith, rest)
+      | Some t ↦ omega (arith, rest)
+    ]
 
-storing-ordered : (node : ℕ) (name : List ℕ) (told : Option Files) (plan : Lists) (filespace : ℕ) (lines : List SealedLine) (tickets : List ℕ) (c : Change) (core : Core) → AllByRecursion (IsOfPlan told plan) lines
-    → asked_change 0 (storing filespace lines) tickets core ≡ Some c → IsOrdered node name told plan c
-storing-ordered node name told plan filespace lines tickets c core h is =
-    let all = all_tickets tickets (sight 0 core) in
+module _ (told : Option Files) (plan : Lists) (whole : List Event) (tickets : List Ticket) (opened : AreOpened whole tickets)
+    (once : (number first second : ℕ) → WasOpened number first whole → WasOpened number second whole → first ≡ second) where
+  -- each ticket that is found was opened for as many bytes as were listed
+  sent-sized : (lines : List SealedLine) (numbers : List ℕ) → length (chosen numbers tickets) ≡ length numbers → AreSized told plan whole lines numbers
+      → AllByRecursion (IsSent told plan) (paired version_from (map stored lines) (chosen numbers tickets))
+  sent-sized [] numbers all h = tt
+  sent-sized (row ∷ lines) [] all h = tt
+  sent-sized (row ∷ lines) (number ∷ numbers) all ((l, digest, among, is, read, mine), later) =
+      elim (ticket number (own_tickets 0 tickets)) as (λ o. ticket number (own_tickets 0 tickets) ≡ o → length (option_map_or (λ t. t ∷ []) o [] ++ chosen numbers tickets) ≡ suc (length numbers)
+      → AllByRecursion (IsSent told plan) (paired version_from (stored row ∷ map stored lines) (option_map_or (λ t. t ∷ []) o [] ++ chosen numbers tickets))) [
+        | None ↦ λ at long.
+            (let few : length (chosen numbers tickets) ≤ length numbers = few-chosen numbers tickets in
+            let same : length (chosen numbers tickets) ≡ suc (length numbers) = long in
+            absurd (omega (arith, same, few)))
+        | Some t ↦ λ at long.
+            (let at_one = found-has number tickets t at in
+            let same : suc (length (chosen numbers tickets)) ≡ suc (length numbers) = long in (
+              (
+                l,
+                among,
+                ap (λ (x : SealedLine). x.path) is,
+                ap (λ (x : SealedLine). x.class) is,
+                ap (λ (x : SealedLine). x.mtime) is,
+                once number t.size l.file.size (subst (λ (n : ℕ). WasOpened n t.size whole) at_one.1 (all-has (IsOpened whole) tickets opened t at_one.0)) mine,
+                subst (λ (d : Digest). IsReadAs told l d) (sym (ap (λ (x : SealedLine). x.digest) is)) read,
+              ),
+              sent-sized lines numbers (omega (arith, same)) later,
+            ))
+      ] refl all
+
+storing-ordered : (node : ℕ) (name : List ℕ) (told : Option Files) (plan : Lists) (whole : List Event) (filespace : ℕ) (lines : List SealedLine) (numbers : List ℕ) (c : Change) (core : Core)
+    → ((number first second : ℕ) → WasOpened number first whole → WasOpened number second whole → first ≡ second) → AreOpened whole core.tickets → AreSized told plan whole lines numbers
+    → asked_change 0 (storing filespace lines) numbers core ≡ Some c → IsOrdered node name told plan c
+storing-ordered node name told plan whole filespace lines numbers c core once opened sized is =
+    let all = all_tickets numbers (sight 0 core) in
     let new = change.Backup (record { filespace = filespace; scratch = scratch_of (inventory core) all; items = paired version_from (map stored lines) all }) in
-    elim (are_so_many (length (map stored lines)) tickets (sight 0 core)) as (λ b. (if b then Some new else None) ≡ Some c → IsOrdered node name told plan c) [
-      | true ↦ λ same. inl (filespace, scratch_of (inventory core) all, paired version_from (map stored lines) all, sym (same_Some new c same), sent-all told plan lines all h)
-      | false ↦ λ odd. absurd cc
-    ] is
+    elim (are_so_many (length (map stored lines)) numbers (sight 0 core)) as (λ b. are_so_many (length (map stored lines)) numbers (sight 0 core) ≡ b → (if b then Some new else None) ≡ Some c → IsOrdered node name told plan c) [
+      | true ↦ λ many same.
+          (let parts = and_parts (length all == length (map stored lines)) (length numbers == length (map stored lines)) many in
+          let long : length all ≡ length numbers = eqb-true (length all) (length (map stored lines)) parts.0 ∙ sym (eqb-true (length numbers) (length (map stored lines)) parts.1) in
+          inl (filespace, scratch_of (inventory core) all, paired version_from (map stored lines) all, sym (same_Some new c same), sent-sized told plan whole core.tickets opened once lines numbers long sized))
+      | false ↦ λ many odd. absurd cc
+    ] refl is
 
 abbrev plain_change : Change → (tickets : List ℕ) → Core → Option Change
 plain_change w tickets core = asked_change 0 (asked.Plain w) tickets core
 
 -- what joins by what the plan orders is of the plan
-ordered : (told : Option Files) (name : List ℕ) (b : Begun) (given : Asked) (tickets : List ℕ) (c : Change) (core : Core) → IsAsked told name b given → asked_change 0 given tickets core ≡ Some c → IsOrdered b.node name told b.plan c
-ordered told name b given tickets c core (inl (filespace, lines, is, of)) joins =
-    storing-ordered b.node name told b.plan filespace lines tickets c core of (subst (λ (x : Asked). asked_change 0 x tickets core ≡ Some c) is joins)
-ordered told name b given tickets c core (inr (inl (filespace, lines, is, of))) joins =
+ordered : (told : Option Files) (name : List ℕ) (b : Begun) (whole : List Event) (given : Asked) (tickets : List ℕ) (c : Change) (core : Core)
+    → ((number first second : ℕ) → WasOpened number first whole → WasOpened number second whole → first ≡ second) → AreOpened whole core.tickets → IsOrderedBy told name b whole given tickets
+    → asked_change 0 given tickets core ≡ Some c → IsOrdered b.node name told b.plan c
+ordered told name b whole given tickets c core once opened (inl (filespace, files, is, sized)) joins =
+    storing-ordered b.node name told b.plan whole filespace files tickets c core once opened sized (subst (λ (x : Asked). asked_change 0 x tickets core ≡ Some c) is joins)
+ordered told name b whole given tickets c core once opened (inr (inl (filespace, lines, is, of))) joins =
     let same : change.Rebind (record { filespace = filespace; items = map rebound lines }) ≡ c = same_Some _ c (subst (λ (x : Asked). asked_change 0 x tickets core ≡ Some c) is joins) in
     inr (inl (filespace, lines, sym same, of))
-ordered told name b given tickets c core (inr (inr (inl (filespace, lines, is, of)))) joins =
+ordered told name b whole given tickets c core once opened (inr (inr (inl (filespace, lines, is, of)))) joins =
     let same : change.Gone (record { filespace = filespace; items = map named lines }) ≡ c = same_Some _ c (subst (λ (x : Asked). asked_change 0 x tickets core ≡ Some c) is joins) in
     inr (inr (inl (filespace, lines, sym same, of)))
-ordered told name b given tickets c core (inr (inr (inr is))) joins =
+ordered told name b whole given tickets c core once opened (inr (inr (inr is))) joins =
     let same : change.Object (client.Filespace two.Define b.node name (inventory core).next_filespace) ≡ c = same_Some _ c (subst (λ (x : Asked). asked_change 0 x tickets core ≡ Some c) is joins) in
     inr (inr (inr ((inventory core).next_filespace, sym same)))
 
+-- it brings versions from tickets, or none
+brings : (told : Option Files) (name : List ℕ) (b : Begun) (whole : List Event) (given : Asked) (numbers : List ℕ) → IsOrderedBy told name b whole given numbers → BringsVersions given
+brings told name b whole given numbers (inl (filespace, files, is, sized)) = inl (filespace, map stored files, is)
+brings told name b whole given numbers (inr (inl (filespace, lines, is, of))) =
+    inr (λ tickets core c joins. ap new_versions (sym (same_Some (change.Rebind (record { filespace = filespace; items = map rebound lines })) c (subst (λ (x : Asked). asked_change 0 x tickets core ≡ Some c) is joins))))
+brings told name b whole given numbers (inr (inr (inl (filespace, lines, is, of)))) =
+    inr (λ tickets core c joins. ap new_versions (sym (same_Some (change.Gone (record { filespace = filespace; items = map named lines })) c (subst (λ (x : Asked). asked_change 0 x tickets core ≡ Some c) is joins))))
+brings told name b whole given numbers (inr (inr (inr is))) =
+    inr (λ tickets core c joins. ap new_versions (sym (same_Some (change.Object (client.Filespace two.Define b.node name (inventory core).next_filespace)) c (subst (λ (x : Asked). asked_change 0 x tickets core ≡ Some c) is joins))))
+
 -- ---- steps
 
-question-sends : (P : Change → Type 0) (d : Deed) → IsQuestion d → Sends P d
-question-sends P (Ask query answer) h = tt
-question-sends P d h = absurd h
+question-sends : (P : Change → Type 0) (whole : List Event) (d : Deed) → IsQuestion d → Sends P whole d
+question-sends P whole (Ask query answer) h = tt
+question-sends P whole d h = absurd h
 
-step-sends : (P : Change → Type 0) (told : Option Files) (name : List ℕ) (b : Begun) → ((c : Change) → IsOrdered b.node name told b.plan c → P c) → (d : Deed) → IsStepOf told name b d → Sends P d
-step-sends P told name b may (OpenNew pool size prefer answer) h = tt
-step-sends P told name b may (WritePiece ticket bytes answer) h = tt
-step-sends P told name b may (Seal ticket answer) h = tt
-step-sends P told name b may (DropTicket ticket answer) h = tt
-step-sends P told name b may (Ask query answer) h = tt
-step-sends P told name b may (Force answer) h = tt
-step-sends P told name b may (Commit given tickets answer) h = λ c core joins. may c (ordered told name b given tickets c core h joins)
-step-sends P told name b may d h = absurd h
+module _ (P : Change → Type 0) (told : Option Files) (name : List ℕ) (b : Begun) (whole : List Event)
+    (may : (given : Asked) (tickets : List ℕ) (c : Change) (core : Core) → AreOpened whole core.tickets → IsOrderedBy told name b whole given tickets → asked_change 0 given tickets core ≡ Some c → P c) where
+  step-sends : (d : Deed) → IsStepOf told name b whole d → Sends P whole d
+  step-sends (OpenNew pool size prefer (Ok number)) h = h
+  step-sends (OpenNew pool size prefer (Err e)) h = tt
+  step-sends (WritePiece ticket bytes answer) h = tt
+  step-sends (Seal ticket answer) h = tt
+  step-sends (DropTicket ticket answer) h = tt
+  step-sends (Ask query answer) h = tt
+  step-sends (Force answer) h = tt
+  step-sends (Commit given tickets answer) h = (brings told name b whole given tickets h, λ c core opened joins. may given tickets c core opened h joins)
+  step-sends d h = absurd h
 
-questions-send : (P : Change → Type 0) (events : List Event) → AreQuestions events → AllSend P events
-questions-send P [] h = tt
-questions-send P (e ∷ events) h = (question-sends P e.deed h.0, questions-send P events h.1)
+  steps-send : (events : List Event) → Each (IsStepOf told name b whole) events → AllSend P whole events
+  steps-send [] h = tt
+  steps-send (e ∷ events) h = (step-sends e.deed h.0, steps-send events h.1)
 
-steps-send : (P : Change → Type 0) (told : Option Files) (name : List ℕ) (b : Begun) → ((c : Change) → IsOrdered b.node name told b.plan c → P c) → (events : List Event) → AreOfBackup told name b events → AllSend P events
-steps-send P told name b may [] h = tt
-steps-send P told name b may (e ∷ events) h = (step-sends P told name b may e.deed h.0, steps-send P told name b may events h.1)
+questions-send : (P : Change → Type 0) (whole events : List Event) → AreQuestions events → AllSend P whole events
+questions-send P whole [] h = tt
+questions-send P whole (e ∷ events) h = (question-sends P whole e.deed h.0, questions-send P whole events h.1)
 
-both-send : (P : Change → Type 0) (xs ys : List Event) → AllSend P xs → AllSend P ys → AllSend P (xs ++ ys)
-both-send P [] ys h k = k
-both-send P (x ∷ xs) ys h k = (h.0, both-send P xs ys h.1 k)
+both-send : (P : Change → Type 0) (whole xs ys : List Event) → AllSend P whole xs → AllSend P whole ys → AllSend P whole (xs ++ ys)
+both-send P whole [] ys h k = k
+both-send P whole (x ∷ xs) ys h k = (h.0, both-send P whole xs ys h.1 k)
+
+abbrev Any : Change → Type 0
+Any c = Unit {0}
+
+-- whatever joins by them
+any-sends : (choice : List Rule) (i : IncrementalBackup) (told : Option Files) (before : ℕ) (events : List Event) → Orders i.node i.filespace choice told before events → AllSend Any events events
+any-sends choice i told before events (inl questions) = questions-send Any events events questions
+any-sends choice i told before events (inr (b, count, (xs, ys, cut, (begins, questions), of))) =
+    subst (λ (l : List Event). AllSend Any events l) (sym cut)
+    (both-send Any events xs ys (questions-send Any events xs questions) (steps-send Any told i.filespace b events (λ given tickets c core opened is joins. tt) ys of))
 
 -- the steps of a backup, each transaction of which is of the plan over the database
 pub backup-sends : (trusted : Type 0) (places : Places) (choice : List Rule) (i : IncrementalBackup) (told : Option Files) (before : ℕ) (events : List Event) (old new : Machine) → IsAtRest old.core
-    → Only i.node i.filespace choice told before events → Alone trusted places 0 events old new → AllSend (IsOfBackup choice i told (database old)) events
-backup-sends trusted places choice i told before events old new rest (inl questions) a = questions-send (IsOfBackup choice i told (database old)) events questions
+    → Orders i.node i.filespace choice told before events → Alone trusted places 0 events old new → AllSend (IsOfBackup choice i told (database old)) events events
+backup-sends trusted places choice i told before events old new rest (inl questions) a = questions-send (IsOfBackup choice i told (database old)) events events questions
 backup-sends trusted places choice i told before events old new rest (inr (b, count, (xs, ys, cut, (begins, questions), of))) a =
     let parts = alone-parts trusted places 0 events xs ys old new cut a in
     let plan = begun-plan trusted places choice i told before count b xs old parts.0 rest begins parts.1 in
-    subst (λ (l : List Event). AllSend (IsOfBackup choice i told (database old)) l) (sym cut)
-    (both-send (IsOfBackup choice i told (database old)) xs ys (questions-send (IsOfBackup choice i told (database old)) xs questions)
-    (steps-send (IsOfBackup choice i told (database old)) told i.filespace b (λ c is. (b.plan, plan.0, subst (λ (n : ℕ). IsOrdered n i.filespace told b.plan c) (sym plan.1) is)) ys of))
+    let once = opened-once Any events trusted places events old new (any-sends choice i told before events (inr (b, count, (xs, ys, cut, (begins, questions), of)))) a in
+    let P : Change → Type 0 = IsOfBackup choice i told (database old) in
+    subst (λ (l : List Event). AllSend P events l) (sym cut)
+    (both-send P events xs ys (questions-send P events xs questions)
+    (steps-send P told i.filespace b events
+    (λ given tickets c core opened is joins. (b.plan, plan.0, subst (λ (n : ℕ). IsOrdered n i.filespace told b.plan c) (sym plan.1) (ordered told i.filespace b events given tickets c core once opened is joins))) ys of))

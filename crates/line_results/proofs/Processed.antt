@@ -68,7 +68,7 @@ use Rattle.command_steps.specs.declared.outcome.Outcome.{Outcome}
 use Rattle.command_steps.specs.declared.outcome.Outcome.TheVariants.{Said}
 use Rattle.line_results.specs.Commands.{Does, DoesAlone, DoesOwn, DoesThere, EndsWith, IsLoss, IsReuse, IsStill, IsStopped, MayMake, Processes, Ran, Tells, Works, WorksWith}
 use Rattle.line_results.specs.Resting.{Adds, EndsRun, IsAtRest, IsLate, SameBytes, SameImage, database}
-use Rattle.line_results.specs.Trees.{IsOfBackup}
+use Rattle.line_results.specs.Trees.{HasBytes, IsOfBackup}
 use Rattle.reports.specs.declared.shown.Shown.TheVariants.{Copied, Reused}
 use Rattle.line_results.proofs.Changed.{changes}
 use Rattle.line_results.proofs.Copying.{AllCopy, Copies, IsCopy, MayJoin, copied-none, copies-walk, settled-free}
@@ -76,6 +76,8 @@ use Rattle.line_results.proofs.Processing.{IsProcess, IsProcessOwn, IsProcessTre
 use Rattle.line_results.proofs.Leaving.{Left}
 use Rattle.line_results.proofs.Mild.{is_common}
 use Rattle.line_results.proofs.Needs.{IsPlainWork}
+use Rattle.line_results.proofs.Keeping.{IsStored, each-same}
+use Rattle.line_results.proofs.Opened.{orders-of}
 use Rattle.line_results.proofs.Planned.{backup-sends}
 use Rattle.line_results.proofs.Runs.{alone-none, alone-parts, onward-none}
 use Rattle.line_results.proofs.Sending.{Sends, Stored, has-tickets, sends-walk, stored-none}
@@ -351,8 +353,8 @@ kept-began : (trusted : Type 0) (places : Places) (k : Client) (Did : List Entry
     → OwnBegan trusted places (λ added. IsKept k × Did added) b old mid said
 kept-began trusted places k Did b old mid said kept r = record { first = r.first; does = (kept, r.does); grew = r.grew; free = r.free }
 
-stored-grew : (P Q : Change → Type 0) (first : List Entry) (old mid : Machine) → Stored P [] first old mid → Grew Q first [] (since_of old mid) mid
-stored-grew P Q first old mid w =
+stored-grew : (P Q : Change → Type 0) (whole : List Event) (first : List Entry) (old mid : Machine) → Stored P whole [] first old mid → Grew Q first [] (since_of old mid) mid
+stored-grew P Q whole first old mid w =
     grew-since Q first old mid w.grew.core (record { counts = w.grew.onward.counts; since = w.grew.onward.since })
     (rose-in-as old (with_contents old.contents mid) old mid (λ file h. h) mid.core.fault w.grew.fault)
 
@@ -367,13 +369,13 @@ module _ (trusted : Type 0) (places : Places) (k : Client) (b : Behind) where
       → OwnBegan trusted places (λ added. DoesThere trusted places k (back_up i) old mid said added) b old mid said
   back-up-began i said events old mid rest (inl (before, after, turns, (answer, made, same, shows))) f =
       let P : Change → Type 0 = IsOfBackup k.choice i before.files (database old) in
-      let all = backup-sends trusted places k.choice i before.files before.faults events old mid rest made.only f in
-      let r = sends-walk P trusted places [] events [] old old mid all (stored-none P old rest) f in
+      let all = backup-sends trusted places k.choice i before.files before.faults events old mid rest (orders-of i.node i.filespace k.choice before.files before.faults after.faults events answer made.order) f in
+      let r = sends-walk P events trusted places [] events [] old old mid all (stored-none P events old rest) f in
       record {
         first = r.0;
-        does = inl (before, after, turns, ((old, events, still-none old, f, (answer, made, same, shows)), r.1.grew.are, r.1.grew.core.generation, r.1.keeps));
-        grew = stored-grew P (IsReuse b) r.0 old mid r.1;
-        free = λ h. spent-free trusted places (Sends P) (has-tickets P) events old mid rest.tickets all (made.settled (sent-leaves answer said shows h)) f;
+        does = inl (before, after, turns, ((old, events, still-none old, f, (answer, made, same, shows)), r.1.grew.are, r.1.grew.core.generation, r.1.keeps, each-same (IsStored mid.contents mid.core.tickets mid.core.next_object) (HasBytes mid) (λ i h. h.0) r.0 r.1.kept.0));
+        grew = stored-grew P (IsReuse b) events r.0 old mid r.1;
+        free = λ h. spent-free trusted places (Sends P events) (has-tickets P events) events old mid rest.tickets all (made.settled (sent-leaves answer said shows h)) f;
       }
   back-up-began i said events old mid rest (inr (missing, kept, none, is)) f =
       let same : mid ≡ old = alone-none trusted places 0 events old mid none f in

@@ -101,7 +101,7 @@ still-due : (e : Event) (events : List Event) (t : Ticket) → spends t.number e
 still-due e events t other h = (h.0, sym (ap (λ b. b || is_spent t.number events) other) ∙ h.1)
 
 -- a ticket of the script's isn't among those with these numbers
-not-among : (numbers : List ℕ) (t : Ticket) → t.actor ≡ 0 → is_among 0 numbers t ≡ false → list_any (λ n. n == t.number) numbers ≡ false
+pub not-among : (numbers : List ℕ) (t : Ticket) → t.actor ≡ 0 → is_among 0 numbers t ≡ false → list_any (λ n. n == t.number) numbers ≡ false
 not-among numbers t own h = (let same : (t.actor == 0) ≡ true = ap (λ a. a == 0) own in sym (ap (λ b. b && list_any (λ n. n == t.number) numbers) same) ∙ h)
 
 not-one : (number : ℕ) (t : Ticket) → t.actor ≡ 0 → is_among 0 (number ∷ []) t ≡ false → (number == t.number) ≡ false

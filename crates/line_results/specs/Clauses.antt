@@ -50,7 +50,7 @@ use Rattle.admin_words.specs.declared.command.Command.{Command}
 use Rattle.line_results.specs.Commands.{Does, DoesThere, EndsWith, IsReuse, MayMake, Works, drawn, validated, work_over}
 use Rattle.line_results.specs.Files.{Gets, IsPlacedIn, Puts, backed_up, filespace_defined, why_no_place}
 use Rattle.line_results.specs.Resting.{Makes, RoseFrom, database, entry, why_not}
-use Rattle.line_results.specs.Trees.{IsChosen, IsOfTree}
+use Rattle.line_results.specs.Trees.{HasBytes, IsChosen, IsOfTree, new_versions}
 
 -- ---- journal: which transactions a line may make
 
@@ -141,6 +141,7 @@ HasText text mid item = (item.size ≡ length text) × (item.digest ≡ digest_w
 
 abbrev pub ItemsOwn : Own → (mid : Machine) → Change → Type 0
 ItemsOwn (put p) mid (change.Backup c) = AllByRecursion (HasText p.text mid) c.items
+ItemsOwn (on_tree (back_up i)) mid c = AllByRecursion (HasBytes mid) (new_versions c)
 ItemsOwn own mid c = Unit {0}
 
 abbrev pub ItemsBy : Own → Result Work Refusal → (mid : Machine) → Change → Type 0
@@ -154,7 +155,7 @@ ItemsOf comment old mid c = Unit {0}
 ItemsOf (refused why) old mid c = Unit {0}
 ItemsOf (asks command) old mid c = ItemsBy (own_of command) (work_over command (database old)) mid c
 
--- each item that a PUT's transaction has says so of the text that was put
+-- each item that a PUT's transaction has says so of the text that was put, and each that a backup's has of its object's bytes
 abbrev pub AreItems : Line → (old mid : Machine) → (added : List Entry) → Type 0
 AreItems line old mid added = AllByRecursion (λ e. ItemsOf line old mid e.change) added
 

@@ -1,6 +1,8 @@
 -- What DSMC INCREMENTAL and DSMC RESTORE go by where one actor has the machine alone: the plan over the tree and the database, the transactions that it orders, and the versions that are restored.
-use Rattle.std.specs.Prelude.{◌≡◌, ◌⊎◌, ℕ, ◌<◌, true, Contains, List, [], map, Option, Some, Result, Ok, Err}
+use Rattle.std.specs.Prelude.{◌≡◌, ◌⊎◌, ℕ, ◌<◌, true, Contains, List, [], length, map, Option, Some, Result, Ok, Err}
 use Rattle.std.specs.List.{AllByRecursion}
+use Rattle.sha2.specs.Sha256.{sha256}
+use Rattle.kinds.specs.ValueForms.{digest_with}
 use Rattle.kinds.specs.declared.change.DefineOrDelete.TheVariants as two
 use Rattle.kinds.specs.declared.change.ObjectChange.TheVariants as client
 use Rattle.kinds.specs.declared.refusal.Refusal.{Refusal}
@@ -10,6 +12,7 @@ use Rattle.entries.specs.change_items.declared.items.NewVersion.{NewVersion}
 use Rattle.entries.specs.change_items.declared.items.ScratchVolume.{ScratchVolume}
 use Rattle.entries.specs.declared.change.Change.{Change}
 use Rattle.entries.specs.declared.change.Change.TheVariants as change
+use Rattle.entries.specs.declared.entry.Entry.{Entry}
 use Rattle.inventory_rows.specs.object_rows.Names.{node_named}
 use Rattle.inventory_rows.specs.State.{Inv}
 use Rattle.inventory_work.specs.Rules.{rules_of}
@@ -59,10 +62,10 @@ pub record IsPlan (choice : List Rule) (i : IncrementalBackup) (told : Option Fi
   pub kept : HasVersions i.node i.filespace v versions
   pub value : AreActive (actives versions) → plan ≡ plan_of (scheme rules choice v.today) files (actives versions)
 
--- A file of the plan that is to be sent becomes a version of its path, under its class and with its time; and where the tree tells its files, the version's digest is the SHA-256 of the file's bytes, which
--- are as many as were listed.
+-- A file of the plan that is to be sent becomes a version of its path, under its class, with its time and as many bytes as were listed; and where the tree tells its files, the file has as many, and the
+-- version's digest is their SHA-256.
 abbrev pub IsSent : Option Files → Lists → NewVersion → Type 0
-IsSent told plan item = (l : SendLine) × Contains plan.send l × (item.path ≡ l.file.path) × (item.class ≡ l.class) × (item.mtime ≡ l.file.mtime) × IsReadAs told l item.digest
+IsSent told plan item = (l : SendLine) × Contains plan.send l × (item.path ≡ l.file.path) × (item.class ≡ l.class) × (item.mtime ≡ l.file.mtime) × (item.size ≡ l.file.size) × IsReadAs told l item.digest
 
 -- files of the plan are stored, paths of the plan are bound anew, or versions of the plan are ended; or the node's filespace with this name is defined
 abbrev pub IsOrdered : (node : ℕ) → (name : List ℕ) → Option Files → Lists → Change → Type 0
@@ -83,6 +86,19 @@ IsOfTree k i v c = (before : Known) × (after : Known) × Turns i.tree before af
 -- each object whose number was drawn already has the bytes that it had
 abbrev pub KeepsBytes : (old new : Machine) → Type 0
 KeepsBytes old new = (object : ℕ) → object < old.core.next_object → new.contents object ≡ old.contents object
+
+-- the versions that a transaction brings
+abbrev pub new_versions : Change → List NewVersion
+new_versions (change.Backup c) = c.items
+new_versions c = []
+
+-- its object has as many bytes as it says, and they have its digest
+abbrev pub HasBytes : Machine → NewVersion → Type 0
+HasBytes m item = (item.size ≡ length (m.contents item.object)) × (item.digest ≡ digest_with (sha256 (m.contents item.object)))
+
+-- each version that these transactions bring says so of its object, whose bytes are these from then on
+abbrev pub HaveBytes : Machine → List Entry → Type 0
+HaveBytes m added = AllByRecursion (λ e. AllByRecursion (HasBytes m) (new_versions e.change)) added
 
 -- ---- what a restore gives
 
