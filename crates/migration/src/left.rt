@@ -15,15 +15,16 @@ use inventory_work::{CopyLine, Listed};
 use kinds::Refusal;
 use space::Aim;
 use std::alloc::Global;
+use std::collections::VecDeque;
 use steps::Stepper;
 
 /// The copies of the last list that weren't tried yet, in ascending order of their objects.
 #[derive(Drop)]
 pub(crate) struct Left {
-    /// The copies.
-    pub candidates: Vec<Candidate>,
+    /// The copies. (A queue, since the first one is mostly what is taken.)
+    pub candidates: VecDeque<Candidate>,
     /// The number of the transaction that placed each of them.
-    pub placed: Vec<u64>,
+    pub placed: VecDeque<u64>,
     /// Behind which transaction the list was asked for, where one was.
     pub seen: Option<u64>,
 }
@@ -34,8 +35,8 @@ pub(crate) fn unasked(alloc: Global) -> Left
     ensures same { length result.placed.items ≡ length result.candidates.items }
 {
     Left {
-        candidates: Vec::new(alloc),
-        placed: Vec::new(alloc),
+        candidates: VecDeque::new(alloc),
+        placed: VecDeque::new(alloc),
         seen: None,
     }
 }
@@ -104,8 +105,8 @@ fn listed(
     let candidates = candidates(alloc, seen, lines)?;
     let placed = placings(alloc, seen, lines)?;
     Ok(Left {
-        candidates,
-        placed,
+        candidates: VecDeque::from_vec(candidates),
+        placed: VecDeque::from_vec(placed),
         seen: Some(number),
     })
 }
@@ -204,7 +205,7 @@ pub(crate) fn take<C: Chooser>(chooser: &C, pool: u32, to: u32, left: &mut Left)
     ensures picked { IsPicked (C.picks chooser.now) pool to (rest_of left.old) (rest_of left.new) result }
     ensures same { length left.new.placed.items ≡ length left.new.candidates.items }
 {
-    let place = chooser.pick(left.candidates.as_slice());
+    let place = chooser.pick(left.candidates.make_contiguous());
     let candidate = left.candidates[place];
     let placed = left.placed[place];
     let _ = left.candidates.remove(place);
