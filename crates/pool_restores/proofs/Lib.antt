@@ -1,3 +1,4 @@
 pub mod Beginning
 pub mod Destroying
+pub mod Known
 pub mod Restored

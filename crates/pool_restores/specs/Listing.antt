@@ -1,6 +1,7 @@
 -- Which copies are to be restored.
 use Rattle.std.specs.Prelude.{◌≡◌, ◌⊎◌, ℕ, ◌==◌, ◌&&◌, not, Bool, true, false, List, [], ◌∷◌, ◌++◌, if◌then◌else◌, Option, None, Some, Result, Ok, Err}
 use Rattle.std.specs.List.{find, flat_map, list_any}
+use Rattle.std.specs.Ordering.{is_eq, nat_cmp, ordering_then}
 use Rattle.kinds.specs.Refusals.{number_of}
 use Rattle.kinds.specs.declared.change.Verb.TheVariants as verb
 use Rattle.kinds.specs.declared.change.PoolChange.TheVariants as store
@@ -133,3 +134,13 @@ Collecting pool files events wanted = Collected pool files [] wanted events
 abbrev pub Adds : Option ℕ → List CopyLine → (from to : List Wanted) → Result (Unit {0}) Refusal → Type 0
 Adds pool lines from to (Ok done) = to ≡ with_all pool lines from
 Adds pool lines from to (Err e) = e ≡ refused.Memory
+
+-- ---- what is known of them
+
+-- one of these is the copy's: its object, its pool, and the transaction that placed it
+abbrev pub is_known : List (ℕ × ℕ × ℕ) → CopyLine → Bool
+is_known known line = list_any (λ k. is_eq (ordering_then (ordering_then (nat_cmp line.object k.0) (nat_cmp line.pool k.1)) (nat_cmp line.placed k.2))) known
+
+-- these are known of the copies that are wanted, and of no others
+abbrev pub AreWanted : List (ℕ × ℕ × ℕ) → List Wanted → Type 0
+AreWanted known wanted = (line : CopyLine) → is_known known line ≡ is_wanted_of line wanted

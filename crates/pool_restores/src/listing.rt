@@ -1,9 +1,11 @@
 //! Which copies are to be restored.
-ghost use Rattle.std.specs.Prelude.{◌≡◌, [], ◌∷◌};
+ghost use Rattle.std.specs.Prelude.{◌≡◌, [], ◌∷◌, ◌++◌, not, OnOk, IfErr};
 ghost use Rattle.std.specs.List.{flat_map};
 ghost use Rattle.kinds.specs.Answers.{AnswersBy};
+ghost use Rattle.kinds.specs.declared.refusal.Refusal.TheVariants.{Memory as NoMemory};
+ghost use Rattle.inventory_work.specs.Lists.{only};
 ghost use Rattle.steps.specs.Calls.{Call};
-ghost use Rattle.pool_restores.specs.Listing.{Adds, Collects, destroyed_file, destroyed_of, is_destroyed, is_of, is_that, is_there, is_wanted_of, restoring, with_one};
+ghost use Rattle.pool_restores.specs.Listing.{Adds, AreWanted, Collects, destroyed_file, destroyed_of, is_destroyed, is_of, is_there, is_wanted_of, restoring};
 
 use crate::asking::list;
 use copy_runs::Wanted;
@@ -12,6 +14,7 @@ use inventory_work::{CopyLine, Listed};
 use kinds::{Access, Refusal};
 use space::Aim;
 use std::alloc::Global;
+use std::collections::BTreeSet;
 use steps::Stepper;
 
 fn is_destroyed(access: Access) -> bool
@@ -62,28 +65,6 @@ fn restoring(line: &CopyLine) -> Wanted
     }
 }
 
-/// Whether the aim is of the copy in this pool that this transaction placed.
-fn is_that(pool: u32, placed: u64, aim: Aim) -> bool
-    ensures { result ≡ is_that pool placed aim }
-{
-    match aim {
-        Aim::New { .. } => false,
-        Aim::Move {
-            from,
-            placed: by,
-            ..
-        } => from == pool && by == placed,
-        Aim::Copy { .. } => false,
-    }
-}
-
-/// Whether the copy is wanted already.
-fn is_wanted_of(line: &CopyLine, wanted: &[Wanted]) -> bool
-    ensures { result ≡ is_wanted_of line.now wanted.now }
-{
-    wanted.iter().any(|x| x.object == line.object && is_that(line.pool, line.placed, x.aim))
-}
-
 /// Whether the copy lies in the pool that is to be restored, or any pool is.
 fn is_of(pool: Option<u32>, line: &CopyLine) -> bool
     ensures { result ≡ is_of pool line.now }
@@ -94,22 +75,54 @@ fn is_of(pool: Option<u32>, line: &CopyLine) -> bool
     }
 }
 
-/// Adds the copy, where it is of the pool and isn't wanted yet.
-fn add_one(wanted: &mut Vec<Wanted>, pool: Option<u32>, line: &CopyLine) -> Result<(), Refusal>
-    ensures { Adds pool (line.now ∷ []) wanted.old.items wanted.new.items result }
+/// Adds the copy, unless it is wanted already. The set has what is wanted, each copy by its object, its pool, and the transaction that placed it.
+fn add_new(
+    wanted: &mut Vec<Wanted>,
+    known: &mut BTreeSet<(u64, u32, u64)>,
+    line: &CopyLine,
+) -> Result<(), Refusal>
+    requires { AreWanted known.old.keys wanted.old.items }
+    ensures adds { OnOk result (wanted.new.items ≡ wanted.old.items ++ only (not (is_wanted_of line.now wanted.old.items)) (restoring line.now)) }
+    ensures known { OnOk result (AreWanted known.new.keys wanted.new.items) }
+    ensures memory { IfErr result (λ e. e ≡ NoMemory) }
 {
-    if is_of(pool, line) && !is_wanted_of(line, wanted.as_slice()) {
-        wanted.push(restoring(line))?;
+    if !known.insert((line.object, line.pool, line.placed))? {
+        return Ok(());
     }
+    wanted.push(restoring(line))?;
     Ok(())
 }
 
+/// Adds the copy, where it is of the pool and isn't wanted yet.
+fn add_one(
+    wanted: &mut Vec<Wanted>,
+    known: &mut BTreeSet<(u64, u32, u64)>,
+    pool: Option<u32>,
+    line: &CopyLine,
+) -> Result<(), Refusal>
+    requires { AreWanted known.old.keys wanted.old.items }
+    ensures adds { Adds pool (line.now ∷ []) wanted.old.items wanted.new.items result }
+    ensures known { OnOk result (AreWanted known.new.keys wanted.new.items) }
+{
+    if !is_of(pool, line) {
+        return Ok(());
+    }
+    add_new(wanted, known, line)
+}
+
 /// Adds these copies, those that are of the pool and aren't wanted yet.
-fn add_all(wanted: &mut Vec<Wanted>, pool: Option<u32>, lines: &[CopyLine]) -> Result<(), Refusal>
-    ensures { Adds pool lines.now wanted.old.items wanted.new.items result }
+fn add_all(
+    wanted: &mut Vec<Wanted>,
+    known: &mut BTreeSet<(u64, u32, u64)>,
+    pool: Option<u32>,
+    lines: &[CopyLine],
+) -> Result<(), Refusal>
+    requires { AreWanted known.old.keys wanted.old.items }
+    ensures adds { Adds pool lines.now wanted.old.items wanted.new.items result }
+    ensures known { OnOk result (AreWanted known.new.keys wanted.new.items) }
 {
     'lines: for line in lines {
-        match add_one(wanted, pool, line) {
+        match add_one(wanted, known, pool, line) {
             Ok(()) => (),
             Err(refusal) => return Err(refusal),
         }
@@ -127,12 +140,13 @@ pub(crate) fn collect<P: Stepper>(
     ensures { Call P.did p.old p.new (λ events. Collects pool files.now events result) }
 {
     let mut wanted = Vec::new(alloc);
+    let mut known = BTreeSet::new(alloc);
     'files: for place in 0..files.len() {
         let lines = match list(p, files[place]) {
             Ok(lines) => lines,
             Err(refusal) => return Err(refusal),
         };
-        match add_all(&mut wanted, pool, lines.as_slice()) {
+        match add_all(&mut wanted, &mut known, pool, lines.as_slice()) {
             Ok(()) => (),
             Err(refusal) => return Err(refusal),
         }
