@@ -1,5 +1,5 @@
 -- Look-ups: what the database answers to the queries of a command, one after the other.
-use Rattle.std.proofs.Common.{◌≡◌, ◌⊎◌, inl, inr, ℕ, Bool, true, false, List, [], ◌∷◌, ◌++◌, Some, Result, Ok, Err, refl, sym, ap, subst, ◌∙◌}
+use Rattle.std.proofs.Common.{◌≡◌, ◌⊎◌, inl, inr, ℕ, Bool, true, false, List, [], ◌∷◌, ◌++◌, None, Some, Result, Ok, Err, refl, sym, ap, subst, ◌∙◌}
 use Rattle.std.proofs.lemmas.Option.{same_Some}
 use Rattle.std.specs.List.{AllByRecursion}
 use Rattle.kinds.specs.Refusals.{foremost, refusal_of}
@@ -69,8 +69,8 @@ told-refused q e old new (inl (inl s, b)) last = record { still = b; told = inr 
 told-refused q e old new (inl (inr f, b)) last = record { still = b; told = inl (sym (refused-of (answered q (database old)) e f)); late = λ l. stopped-err Answer e (last l) }
 told-refused q e old new (inr (soon, none, never)) last = absurd never
 
-asked-one : (q : Query) (answer : Result Answer Refusal) (old new : Machine) → is_log q ≡ false → IsAtRest old.core → Later old new → Asks 0 q old new answer → Told q old new answer
-asked-one q (Ok a) old new unlogged rest later h =
+asked-one : (q : Query) (answer : Result Answer Refusal) (old new : Machine) → is_log q ≡ false → old.core.fault ≡ None → Later old new → Asks 0 q old new answer → Told q old new answer
+asked-one q (Ok a) old new unlogged none later h =
     let t = ends-ok (ask_refused q (sight 0 old.core)) (λ told after. IsAnswer old.core.log_length q (inventory old.core) told × Stays old after) Never old new a h in
     let is : IsAnswer old.core.log_length q (inventory old.core) a = t.2.0 in
     let same : a ≡ is.0 = is.2 ∙ with-same old.core.log_length q is.0 unlogged in
@@ -79,9 +79,9 @@ asked-one q (Ok a) old new unlogged rest later h =
       told = inl (sym (subst (λ (x : Answer). answered q (database old) ≡ Ok x) (sym same) is.1));
       late = λ l. absurd (t.0 l);
     }
-asked-one q (Err e) old new unlogged rest later h =
+asked-one q (Err e) old new unlogged none later h =
     told-refused q e old new
-    (ends-err (ask_refused q (sight 0 old.core)) (λ (told : Answer) (after : Machine). IsAnswer old.core.log_length q (inventory old.core) told × Stays old after) Never old new e rest.fault later h)
+    (ends-err (ask_refused q (sight 0 old.core)) (λ (told : Answer) (after : Machine). IsAnswer old.core.log_length q (inventory old.core) told × Stays old after) Never old new e none later h)
     (λ l. late-ends (ask_refused q (sight 0 old.core)) (λ (told : Answer) (after : Machine). IsAnswer old.core.log_length q (inventory old.core) told × Stays old after) Never old new e l h)
 
 not-asked : (q : Query) (answer : Result Answer Refusal) (old new : Machine) → refusal (Ask q answer) ≡ Some refused.Memory → new ≡ old → Told q old new answer
@@ -91,13 +91,18 @@ not-asked q (Err e) old new h same =
     record { still = became-same old new same; told = inr (e, refl, subst (λ (x : Refusal). EndsRun old new x) (sym is) tt); late = λ l. stopped-err Answer e (inr is) }
 
 module _ (trusted : Type 0) (places : Places) where
-  pub asked-step : (q : Query) (answer : Result Answer Refusal) (events : List Event) (old new : Machine) → is_log q ≡ false → IsAtRest old.core → Made (Ask q answer) events
+  -- where no fault has halted the machine
+  pub asked-unhalted : (q : Query) (answer : Result Answer Refusal) (events : List Event) (old new : Machine) → is_log q ≡ false → old.core.fault ≡ None → Made (Ask q answer) events
       → Alone trusted places 0 events old new → Told q old new answer
-  asked-step q answer events old new unlogged rest made f =
+  asked-unhalted q answer events old new unlogged none made f =
       elim (one-or-none trusted places (Ask q answer) events old new (λ contents seen h. h) (λ contents m. refl) made f) as (λ _. Told q old new answer) [
-        | inl s ↦ asked-one q answer old new unlogged rest s.0 s.1
+        | inl s ↦ asked-one q answer old new unlogged none s.0 s.1
         | inr s ↦ not-asked q answer old new s.0 s.1
       ]
+
+  pub asked-step : (q : Query) (answer : Result Answer Refusal) (events : List Event) (old new : Machine) → is_log q ≡ false → IsAtRest old.core → Made (Ask q answer) events
+      → Alone trusted places 0 events old new → Told q old new answer
+  asked-step q answer events old new unlogged rest made f = asked-unhalted q answer events old new unlogged rest.fault made f
 
 -- ---- all of them
 

@@ -156,7 +156,7 @@ join-not what (Err e) old new h same =
     (λ l. inr is, inl (inl (inr is), became-same old new same))
 
 module _ (trusted : Type 0) (places : Places) where
-  join-step : (what : Change) (answer : Result ℕ Refusal) (events : List Event) (old new : Machine) → is_plain what ≡ true → IsAtRest old.core → Made (Commit (Plain what) [] answer) events
+  pub join-step : (what : Change) (answer : Result ℕ Refusal) (events : List Event) (old new : Machine) → is_plain what ≡ true → IsAtRest old.core → Made (Commit (Plain what) [] answer) events
       → Alone trusted places 0 events old new → JoinEnds what old new answer
   join-step what answer events old new plain rest made f =
       elim (one-or-none trusted places (Commit (Plain what) [] answer) events old new (λ contents seen h. h) (λ contents m. refl) made f) as (λ _. JoinEnds what old new answer) [

@@ -15,6 +15,7 @@ use Rattle.inventory_work.specs.declared.lines.Rules.{Rules}
 use Rattle.admin_words.specs.declared.command.Command.{Command}
 use Rattle.admin_words.specs.declared.files.FileGet.{FileGet}
 use Rattle.admin_words.specs.declared.files.FilePut.{FilePut}
+use Rattle.admin_words.specs.declared.files.IncrementalBackup.{IncrementalBackup}
 use Rattle.admin_commands.specs.declared.work.Work.{Work}
 use Rattle.admin_commands.specs.declared.work.Work.TheVariants.{Commit, Show, Run}
 use Rattle.steps.specs.Events.{Event}
@@ -32,6 +33,7 @@ use Rattle.command_steps.specs.declared.outcome.Outcome.{Outcome}
 use Rattle.line_results.specs.Commands.{Does, DoesOn, DoesOwn, DoesThere, EndsSo, IsStill, Processes, Ran, Tells, Works, WorksWith, drawn}
 use Rattle.line_results.specs.Files.{Gets, GetsNot, GetsOf, GetsUnder, Puts, PutsBy, PutsHome, PutsOf, PutsUnder, Shows, ShowsFound, Stores, StoresAt, StoresBy, active_at, why_no_place}
 use Rattle.line_results.specs.Resting.{Breaks, EndsRun, RoseFrom, database}
+use Rattle.line_results.specs.Trees.{IsRefusedSo}
 use Rattle.line_results.proofs.Runs.{Became, is-as, onward-then, rose-from}
 use Rattle.line_results.proofs.Since.{came-as, commits-as, ends-as, later_of, on-later}
 
@@ -150,10 +152,14 @@ module _ (trusted : Type 0) (places : Places) (k : Client) (result : Result Outc
   ends-so-as : EndsSo (later_of old mid) new result → EndsSo old new result
   ends-so-as h e how is halts = ends-as old mid new e b (h e how is halts)
 
+  so-as : (i : IncrementalBackup) (before after : Known) (r : Result Outcome Refusal) → IsRefusedSo i before after (later_of old mid) r → IsRefusedSo i before after old r
+  so-as i before after (Ok it) why = tt
+  so-as i before after (Err e) why = why
+
   on-as : (work : OnTree) (before after : Known) → DoesOn trusted places k.choice work before after (later_of old mid) new result added → DoesOn trusted places k.choice work before after old new result added
   on-as (write w) before after (did, still, none) = (did, still-as new still, none)
   on-as (erase e) before after (did, still, none) = (did, still-as new still, none)
-  on-as (back_up i) before after (ran, are, image, bytes, have) = (ran-as (λ events. BacksUp k.choice i before after events result) ran, are, image, bytes, have)
+  on-as (back_up i) before after (ran, are, image, bytes, have, why) = (ran-as (λ events. BacksUp k.choice i before after events result) ran, are, image, bytes, have, so-as i before after result why)
   on-as (restore r) before after (ran, gives, ends, still, none) = (ran-as (λ events. GivesWanted r before after events result) ran, gives, ends-so-as ends, still-as new still, none)
 
   there-as : (work : OnTree) → DoesThere trusted places k work (later_of old mid) new result added → DoesThere trusted places k work old new result added

@@ -14,12 +14,14 @@ use Rattle.entries.specs.declared.change.Change.{Change}
 use Rattle.entries.specs.declared.change.Change.TheVariants as change
 use Rattle.entries.specs.declared.entry.Entry.{Entry}
 use Rattle.inventory_rows.specs.object_rows.Filespaces.{group_at}
-use Rattle.inventory_rows.specs.object_rows.Names.{filespace_named}
+use Rattle.inventory_rows.specs.object_rows.Names.{filespace_named, node_named}
 use Rattle.inventory_rows.specs.version_groups.Entries.{on_ok}
 use Rattle.inventory_rows.specs.version_groups.declared.copies.CopyRow.{CopyRow}
 use Rattle.inventory_rows.specs.version_groups.declared.group.Group.{Group}
 use Rattle.inventory_rows.specs.version_groups.declared.versions.Version.{Version}
 use Rattle.inventory_rows.specs.State.{Inv}
+use Rattle.inventory_work.specs.Rules.{rules_of}
+use Rattle.inventory_work.specs.declared.lines.Rules.{Rules}
 use Rattle.inventory_answers.specs.Answered.{answered}
 use Rattle.inventory_answers.specs.declared.query.Query.{Query}
 use Rattle.inventory_answers.specs.declared.reply.Answer as rows
@@ -52,9 +54,9 @@ use Rattle.command_steps.specs.Writing.{Erases, Writes, bytes_of}
 use Rattle.command_steps.specs.Owns.{OnTree, Own, back_up, back_up_pool, checkpoint, empty_filespace, empty_volume, erase, expire, get, last_of, moves, none_but_reuse, none_yet, on_tree, own_of, put, restore, validate, write}
 use Rattle.command_steps.specs.declared.outcome.Outcome.{Outcome}
 use Rattle.command_steps.specs.declared.outcome.Outcome.TheVariants.{Read, Rows, Said}
-use Rattle.line_results.specs.Clauses.{BytesBy, BytesOwn, CauseBy, CauseOwn, CauseWith, DidBy, DidWith, Holds, IsRefusedBehind, IsRows, ItemsBy, ItemsOf, ItemsOwn, MayBy, MayGet, MayGive, MayOn, MayOwn, OrderedBy, OrderedWith, RowsBy, orders}
+use Rattle.line_results.specs.Clauses.{BytesBy, BytesOwn, CauseBy, CauseOwn, CauseWith, DidBy, DidWith, Holds, IsAnsweredWith, IsRows, IsThereOrDefined, ItemsBy, ItemsOf, ItemsOwn, MayBackUp, MayBy, MayGet, MayGive, MayOn, MayOwn, OrderedBy, OrderedWith, RowsBy, orders}
 use Rattle.line_results.specs.Commands.{Comes, Does, DoesOwn, DoesThere, EndsWith, IsReuse, Tells, Works, WorksWith, drawn, validated, work_over}
-use Rattle.line_results.specs.Files.{Checkpoints, Gets, GetsOf, GetsUnder, Puts, ShowsFound, active_at}
+use Rattle.line_results.specs.Files.{Checkpoints, Gets, GetsOf, GetsUnder, Puts, ShowsFound, active_at, filespace_defined}
 use Rattle.line_results.specs.Lines.{Replies, Says}
 use Rattle.line_results.specs.Resting.{Commits, EndsRun, RoseFrom, SameBytes, database, why_not}
 use Rattle.admin_words.specs.declared.files.FilesRestore.{FilesRestore}
@@ -65,7 +67,7 @@ use Rattle.restores.specs.Chosen.{chosen}
 use Rattle.restores.specs.declared.choosing.RestoreLine.{RestoreLine}
 use Rattle.restores.specs.declared.choosing.Which.{Which}
 use Rattle.script_loop.specs.declared.ends.Halt.{Halt}
-use Rattle.line_results.specs.Trees.{GivesNothing, HasBytes, IsChosen, IsOfBackup, IsOfTree}
+use Rattle.line_results.specs.Trees.{GivesNothing, HasBytes, IsChosen, IsOfBackup, IsOfTree, IsRefusedSo, IsUndefinable, StoresNothing}
 use Rattle.line_results.proofs.Keeping.{each-same}
 use Rattle.line_results.proofs.Changing.{comes-trees}
 use Rattle.line_results.proofs.Processing.{IsPlainOwn, IsPlainTree, IsProcess, IsProcessOwn, IsProcessTree, IsRowless, kind, over-rowless}
@@ -351,14 +353,14 @@ module _ (trusted : Type 0) (places : Places) (k : Client) (n : ℕ) (old mid : 
   give-legal r v e mild (inr (inr (inl h))) may = absent-not r v h.1 may.0 h.2 may.1 h.3 may.2
   give-legal r v e mild (inr (inr (inr h))) may = halts-not e h.0 mild h.1
 
-  tree-legal : (work : OnTree) (e : Refusal) → halt_by e ≡ None → DoesThere trusted places k work old mid (Err e) added → MayOn k work old → ⊥
-  tree-legal (write w) e mild (inl (before, after, turns, ((r, writes, is), still, none))) may = may.1 before after turns (write-legal before after w.path (bytes_of w.contents) w.mtime r e writes is)
-  tree-legal (erase x) e mild (inl (before, after, turns, ((r, erases, is), still, none))) may = may.1 before after turns (erase-legal before after x.path r e erases is)
-  tree-legal (restore r) e mild (inl (before, after, turns, (ran, gives, ends, still, none))) may = give-legal r (database old) e mild gives may.0
-  tree-legal (back_up i) e mild h may = may
-  tree-legal (write w) e mild (inr (missing, kept, is, still, none)) may = (let there = may.0 in omega (arith, missing, there))
-  tree-legal (erase x) e mild (inr (missing, kept, is, still, none)) may = (let there = may.0 in omega (arith, missing, there))
-  tree-legal (restore r) e mild (inr (missing, kept, is, still, none)) may = (let there = may.1 in omega (arith, missing, there))
+  tree-legal : (work : OnTree) (e : Refusal) → IsPlainTree work → halt_by e ≡ None → DoesThere trusted places k work old mid (Err e) added → MayOn k work old → ⊥
+  tree-legal (write w) e so mild (inl (before, after, turns, ((r, writes, is), still, none))) may = may.1 before after turns (write-legal before after w.path (bytes_of w.contents) w.mtime r e writes is)
+  tree-legal (erase x) e so mild (inl (before, after, turns, ((r, erases, is), still, none))) may = may.1 before after turns (erase-legal before after x.path r e erases is)
+  tree-legal (restore r) e so mild (inl (before, after, turns, (ran, gives, ends, still, none))) may = give-legal r (database old) e mild gives may.0
+  tree-legal (back_up i) e so mild h may = absurd so
+  tree-legal (write w) e so mild (inr (missing, kept, is, still, none)) may = (let there = may.0 in omega (arith, missing, there))
+  tree-legal (erase x) e so mild (inr (missing, kept, is, still, none)) may = (let there = may.0 in omega (arith, missing, there))
+  tree-legal (restore r) e so mild (inr (missing, kept, is, still, none)) may = (let there = may.1 in omega (arith, missing, there))
 
   tree-held : (work : OnTree) (numbers : List ℕ) (said : Result Outcome Refusal) → IsPlainTree work → DoesThere trusted places k work old mid said added → IsShown n said answer
       → HeldBy trusted places k n (on_tree work) (Ok (Run numbers)) old mid answer added
@@ -376,7 +378,7 @@ module _ (trusted : Type 0) (places : Places) (k : Client) (n : ℕ) (old mid : 
   tree-held work numbers (Err e) so h shown =
       as-refused trusted places k n old mid answer added (on_tree work) (Ok (Run numbers)) e shown.1
       (no-entries (λ x. (x.actor ≡ 0) × OrderedBy k (on_tree work) (Ok (Run numbers)) old x.change) added (tree-quiet work (Err e) so h)) tt tt
-      (no-entries (λ x. ItemsBy (on_tree work) (Ok (Run numbers)) mid x.change) added (tree-quiet work (Err e) so h)) h (λ rose may. tree-legal work e shown.0 h may)
+      (no-entries (λ x. ItemsBy (on_tree work) (Ok (Run numbers)) mid x.change) added (tree-quiet work (Err e) so h)) h (λ rose may. tree-legal work e so shown.0 h may)
 
   own-held : (own : Own) (numbers : List ℕ) (said : Result Outcome Refusal) → IsPlainOwn own → DoesOwn trusted places k numbers own old mid said added → IsShown n said answer
       → HeldBy trusted places k n own (Ok (Run numbers)) old mid answer added
@@ -421,7 +423,7 @@ pub record HeldWith (trusted : Type 0) (places : Places) (k : Client) (n : ℕ) 
   pub items : AllByRecursion (λ e. ItemsBy (own_of c) (work_over c (database old)) mid e.change) added
   pub causes : answer.tally.refused ≡ 1 → (why : Refusal) × (answer ≡ refusal n why) × CauseWith trusted places k c b old mid why added
   pub done : answer.tally.refused ≡ 0 → DidWith trusted places k n c b old mid answer added
-  pub complete : ((file : ℕ) → RoseFrom old mid file → ⊥) → MayBy places k (own_of c) (work_over c (database old)) old → (answer.tally.refused ≡ 0) ⊎ IsRefusedBehind trusted places k n c b old mid answer
+  pub complete : ((file : ℕ) → RoseFrom old mid file → ⊥) → MayBy places k (own_of c) (work_over c (database old)) old → IsAnsweredWith trusted places k n c b old mid answer
 
 rows-none : (n : ℕ) (v : Inv) (w : Result Work Refusal) (answer : Answer) → IsRowless w → RowsBy n v w answer
 rows-none n v (Ok (Commit what)) answer so = tt
@@ -451,7 +453,7 @@ each-entry P so (e ∷ added) = (so e.change, each-entry P so added)
 -- what a backup stored keeps its bytes behind it
 there-items : (trusted : Type 0) (places : Places) (k : Client) (numbers : List ℕ) (work : OnTree) (old mid new : Machine) (said : Result Outcome Refusal) (added : List Entry)
     → DoesThere trusted places k work old mid said added → SameBytes mid new → HaveItems (on_tree work) (Ok (Run numbers)) new added
-there-items trusted places k numbers (back_up i) old mid new said added (inl (before, after, turns, (ran, are, image, keeps, have))) same =
+there-items trusted places k numbers (back_up i) old mid new said added (inl (before, after, turns, (ran, are, image, keeps, have, why))) same =
     each-same (HasBytes mid) (HasBytes new)
     (λ i h. (let is : mid.contents i.object ≡ new.contents i.object = ap (λ (f : ℕ → List ℕ). f i.object) (sym same) in (h.0 ∙ ap length is, h.1 ∙ ap (λ (l : List ℕ). digest_with (sha256 l)) is))) added have
 there-items trusted places k numbers (write w) old mid new said added (inl (before, after, turns, (did, still, none))) same = no-entries (λ x. ItemsBy (on_tree (write w)) (Ok (Run numbers)) new x.change) added none
@@ -518,7 +520,7 @@ of-tree k i before after old (e ∷ added) turns h = ((h.0.0, (before, after, tu
 
 there-ordered : (trusted : Type 0) (places : Places) (k : Client) (numbers : List ℕ) (work : OnTree) (old mid : Machine) (said : Result Outcome Refusal) (added : List Entry)
     → DoesThere trusted places k work old mid said added → AreBy k (on_tree work) (Ok (Run numbers)) old added
-there-ordered trusted places k numbers (back_up i) old mid said added (inl (before, after, turns, (ran, are, image, keeps, have))) = of-tree k i before after old added turns are
+there-ordered trusted places k numbers (back_up i) old mid said added (inl (before, after, turns, (ran, are, image, keeps, have, why))) = of-tree k i before after old added turns are
 there-ordered trusted places k numbers (write w) old mid said added (inl (before, after, turns, (did, still, none))) = no-entries (λ x. (x.actor ≡ 0) × OrderedBy k (on_tree (write w)) (Ok (Run numbers)) old x.change) added none
 there-ordered trusted places k numbers (erase e) old mid said added (inl (before, after, turns, (did, still, none))) = no-entries (λ x. (x.actor ≡ 0) × OrderedBy k (on_tree (erase e)) (Ok (Run numbers)) old x.change) added none
 there-ordered trusted places k numbers (restore r) old mid said added (inl (before, after, turns, (ran, gives, ends, still, none))) =
@@ -626,19 +628,48 @@ answer-legal : (what : Change) (f : Refusal) (r : Result ℕ Refusal) (old mid :
 answer-legal what f (Ok number) old mid added may mild is h = absurd cc
 answer-legal what f (Err x) old mid added may mild is h = commit-legal ℕ what x old mid added may (subst (λ (y : Refusal). halt_by y ≡ None) (said-same f x is) mild) h
 
-never-on : (k : Client) (work : OnTree) (old : Machine) → IsProcessTree work → MayOn k work old → ⊥
-never-on k (write w) old so may = so
-never-on k (erase e) old so may = so
-never-on k (restore r) old so may = so
-never-on k (back_up i) old so may = may
+rules-not : (node : ℕ) (v : Inv) (e : Refusal) (rules : Rules) → rules_of node v ≡ Ok rules → rules_of node v ≡ Err e → ⊥
+rules-not node v e rules h k = cc
 
-never-own : (places : Places) (k : Client) (own : Own) (old : Machine) → IsProcessOwn own → MayOwn places k own old → ⊥
-never-own places k (validate set) old so may = so
-never-own places k (put p) old so may = so
-never-own places k (get g) old so may = so
-never-own places k checkpoint old so may = so
-never-own places k (on_tree work) old so may = never-on k work old so may
-never-own places k own old so may = may
+defined-not : (o : Option ℕ) (node : ℕ) (name : List ℕ) (old : Machine) (e : Refusal) → o ≡ None → IsThereOrDefined o node name old → why_not (filespace_defined node name (database old)) old.core ≡ Some e → ⊥
+defined-not (Some filespace) node name old e none may why = cc
+defined-not None node name old e none may why = work-none (why_not (filespace_defined node name (database old)) old.core) e may why
+
+some-same : (o : Option ℕ) (a b : ℕ) → o ≡ Some a → o ≡ Some b → a ≡ b
+some-same o a b h k = same_Some a b (sym h ∙ k)
+
+-- a backup whose node and rules are there, and whose filespace is there or may be defined, isn't refused, unless the run ends
+module _ (i : IncrementalBackup) (before after : Known) (old : Machine) (e : Refusal) (may : MayBackUp i old) where
+  cause-legal : StoresNothing i before after old e → Rose before.faults after.faults
+  cause-legal (inl h) = absurd (let odd : None ≡ Some may.0 = sym h.0 ∙ may.1 in cc)
+  cause-legal (inr (inl (node, at, inl refuses))) =
+      absurd (rules-not may.0 (database old) e may.2 may.3 (subst (λ (n : ℕ). rules_of n (database old) ≡ Err e) (some-same (node_named i.node (database old).clients.nodes) node may.0 at may.1) refuses))
+  cause-legal (inr (inl (node, at, inr undefined))) =
+      absurd (let same : node ≡ may.0 = some-same (node_named i.node (database old).clients.nodes) node may.0 at may.1 in
+      let un : IsUndefinable may.0 i.filespace old e = subst (λ (n : ℕ). IsUndefinable n i.filespace old e) same undefined in
+      defined-not (filespace_named may.0 i.filespace (database old).clients.filespaces) may.0 i.filespace old e un.0 may.4 un.1)
+  cause-legal (inr (inr h)) = h.1
+
+  backup-legal : halt_by e ≡ None → IsRefusedSo i before after old (Err e) → Rose before.faults after.faults
+  backup-legal mild (inl h) = cause-legal h
+  backup-legal mild (inr (how, halts)) = absurd (let odd : None ≡ Some how = sym mild ∙ halts in cc)
+
+never-there : (trusted : Type 0) (places : Places) (k : Client) (work : OnTree) (f : Refusal) (old between : Machine) (first : List Entry) → IsProcessTree work → MayOn k work old → halt_by f ≡ None
+    → DoesThere trusted places k work old between (Err f) first → ⊥
+never-there trusted places k (write w) f old between first so may mild h = so
+never-there trusted places k (erase e) f old between first so may mild h = so
+never-there trusted places k (restore r) f old between first so may mild h = so
+never-there trusted places k (back_up i) f old between first so may mild (inl (before, after, turns, (ran, are, image, keeps, have, why))) = may.1.1 before after turns (backup-legal i before after old f may.0 mild why)
+never-there trusted places k (back_up i) f old between first so may mild (inr (missing, kept, is, still, none)) = (let there = may.1.0 in omega (arith, missing, there))
+
+never-own : (trusted : Type 0) (places : Places) (k : Client) (own : Own) (numbers : List ℕ) (f : Refusal) (old between : Machine) (first : List Entry) → IsProcessOwn own → MayOwn places k own old → halt_by f ≡ None
+    → DoesOwn trusted places k numbers own old between (Err f) first → ⊥
+never-own trusted places k (validate set) numbers f old between first so may mild h = so
+never-own trusted places k (put p) numbers f old between first so may mild h = so
+never-own trusted places k (get g) numbers f old between first so may mild h = so
+never-own trusted places k checkpoint numbers f old between first so may mild h = so
+never-own trusted places k (on_tree work) numbers f old between first so may mild h = never-there trusted places k work f old between first so may mild h
+never-own trusted places k own numbers f old between first so may mild h = may
 
 module _ (trusted : Type 0) (places : Places) (k : Client) (c : Command) (old : Machine) where
   -- work that is legal isn't refused
@@ -647,12 +678,12 @@ module _ (trusted : Type 0) (places : Places) (k : Client) (c : Command) (old : 
   never-refused (Err why) f between first so rowless may mild h = may
   never-refused (Ok (Commit what)) f between first so rowless may mild (kept, r, commits, is, image, bytes) = answer-legal what f r old between first may mild is commits
   never-refused (Ok (Show q)) f between first so rowless may mild h = rowless
-  never-refused (Ok (Run numbers)) f between first so rowless may mild h = never-own places k (own_of c) old so may
+  never-refused (Ok (Run numbers)) f between first so rowless may mild h = never-own trusted places k (own_of c) numbers f old between first so may mild h
 
--- what comes behind this work, which was done, was refused so
+-- what comes behind this work, which was done, was refused so, and the run goes on
 abbrev BehindIn : (trusted : Type 0) → Places → Client → (n : ℕ) → Command → Result Work Refusal → Behind → (old mid : Machine) → Answer → Type 0
 BehindIn trusted places k n c w b old mid answer =
-    (why : Refusal) × (answer ≡ refusal n why) × (it : Outcome) × (between : Machine) × (first : List Entry)
+    (why : Refusal) × (answer ≡ refusal n why) × (halt_by why ≡ None) × (it : Outcome) × (between : Machine) × (first : List Entry)
     × Does trusted places k c w old between (Ok it) first × EndsWith trusted places b (Ok it) between mid (Err why)
 
 -- where a result is a refusal by which no run ends, of work that is legal, what comes behind it was refused
@@ -664,7 +695,7 @@ module _ (trusted : Type 0) (places : Places) (k : Client) (n : ℕ) (c : Comman
   -- what comes behind it was refused, unless the work wasn't legal
   refused-behind : (b : Behind) (w : Result Work Refusal) (why : Refusal) (said : Result Outcome Refusal) (between : Machine) (first : List Entry) → (b ≡ no_more → ⊥) → IsRowless w → answer ≡ refusal n why → halt_by why ≡ None
       → Does trusted places k c w old between said first → EndsWith trusted places b said between mid (Err why) → MayBy places k (own_of c) w old → BehindIn trusted places k n c w b old mid answer
-  refused-behind b w why (Ok it) between first some rowless is mild does ends may = (why, is, it, between, first, does, ends)
+  refused-behind b w why (Ok it) between first some rowless is mild does ends may = (why, is, mild, it, between, first, does, ends)
   refused-behind b w why (Err f) between first some rowless is mild does ends may =
       let same : why ≡ f = own-refused trusted places b f why between mid some ends mild in
       absurd (never-refused trusted places k c old w f between first own rowless may (subst (λ (x : Refusal). halt_by x ≡ None) same mild) does)
@@ -695,6 +726,23 @@ module _ (trusted : Type 0) (places : Places) (k : Client) (n : ℕ) (c : Comman
   parts forces (Ok w) said added some rowless h = with-parts forces w said added some rowless h
   parts reuses (Ok w) said added some rowless h = with-parts reuses w said added some rowless h
 
+-- the force behind work that was done is refused by the end of a run alone
+forced-done : (it : Outcome) (why : Refusal) (events : List Event) → Forcing (Ok it) events (Err why) → halt_by why ≡ None → ⊥
+forced-done it why events (Ok number, made, is) mild = cc
+forced-done it why events (Err x, made, is) mild = force-ends x events made (subst (λ (y : Refusal). halt_by y ≡ None) (said-same why x is) mild)
+
+module _ (trusted : Type 0) (places : Places) (k : Client) (n : ℕ) (c : Command) where
+  answered-done : (b : Behind) (old mid : Machine) (answer : Answer) → answer.tally.refused ≡ 0 → IsAnsweredWith trusted places k n c b old mid answer
+  answered-done no_more old mid answer h = h
+  answered-done forces old mid answer h = h
+  answered-done reuses old mid answer h = inl h
+
+  answered-behind : (b : Behind) (old mid : Machine) (answer : Answer) → (b ≡ no_more → ⊥)
+      → BehindIn trusted places k n c (work_over c (database old)) b old mid answer → IsAnsweredWith trusted places k n c b old mid answer
+  answered-behind no_more old mid answer some h = absurd (some refl)
+  answered-behind forces old mid answer some (why, shown, halts, it, between, first, does, (events, alone, ends, image, bytes)) = absurd (forced-done it why events ends halts)
+  answered-behind reuses old mid answer some (why, shown, halts, it, between, first, does, ends) = inr (why, shown, it, between, first, does, ends)
+
 module _ (trusted : Type 0) (places : Places) (k : Client) (n : ℕ) (c : Command) (p : IsProcess c) (old mid : Machine) (answer : Answer) (added : List Entry) where
   held-with : (b : Behind) (said : Result Outcome Refusal) → (b ≡ no_more → ⊥) → Works trusted places k c (work_over c (database old)) b old mid said added
       → AreWith k b (own_of c) (work_over c (database old)) old added → Blames trusted places k n c (work_over c (database old)) b old mid answer said
@@ -706,7 +754,7 @@ module _ (trusted : Type 0) (places : Places) (k : Client) (n : ℕ) (c : Comman
     items = items;
     causes = λ one. absurd (zero-one answer.tally.refused (came-refused n it answer shown) one);
     done = λ none. did-with trusted places k n c b old mid answer it added some shown works;
-    complete = λ rose may. inl (came-refused n it answer shown);
+    complete = λ rose may. answered-done trusted places k n c b old mid answer (came-refused n it answer shown);
   }
   held-with b (Err e) some works are blames items shown = record {
     journal = are;
@@ -715,7 +763,7 @@ module _ (trusted : Type 0) (places : Places) (k : Client) (n : ℕ) (c : Comman
     items = items;
     causes = λ one. (e, shown.1, cause-with trusted places k c b old mid e added some works);
     done = λ none. absurd (zero-one answer.tally.refused none (one-refused n e answer shown.1));
-    complete = λ rose may. inr (blames e refl shown.1 shown.0 may);
+    complete = λ rose may. answered-behind trusted places k n c b old mid answer some (blames e refl shown.1 shown.0 may);
   }
 
   process-held : (b : Behind) (said : Result Outcome Refusal) → (b ≡ no_more → ⊥) → Works trusted places k c (work_over c (database old)) b old mid said added → IsShown n said answer
@@ -727,7 +775,7 @@ module _ (trusted : Type 0) (places : Places) (k : Client) (n : ℕ) (c : Comman
 -- what holds of a command behind whose work nothing comes, with what may have come
 module _ (trusted : Type 0) (places : Places) (k : Client) (n : ℕ) (c : Command) (old mid : Machine) (answer : Answer) (added : List Entry) where
   plain-held : HeldBy trusted places k n (own_of c) (work_over c (database old)) old mid answer added → HeldWith trusted places k n c no_more old mid answer added
-  plain-held h = record { journal = h.journal; queries = h.queries; bytes = h.bytes; items = h.items; causes = h.causes; done = h.done; complete = λ rose may. inl (h.complete rose may) }
+  plain-held h = record { journal = h.journal; queries = h.queries; bytes = h.bytes; items = h.items; causes = h.causes; done = h.done; complete = λ rose may. h.complete rose may }
 
   works-held : (said : Result Outcome Refusal) → Works trusted places k c (work_over c (database old)) (behind c) old mid said added → IsShown n said answer
       → HeldWith trusted places k n c (behind c) old mid answer added

@@ -1,4 +1,5 @@
 pub mod Asked
+pub mod BackupRefused
 pub mod Changed
 pub mod Changing
 pub mod Checkpointed
@@ -9,6 +10,7 @@ pub mod Earlier
 pub mod Ending
 pub mod Followed
 pub mod Forced
+pub mod Free
 pub mod Got
 pub mod Holding
 pub mod Keeping
@@ -36,5 +38,6 @@ pub mod Sending
 pub mod Settling
 pub mod Since
 pub mod Spent
+pub mod Stopping
 pub mod Treed
 pub mod Walking

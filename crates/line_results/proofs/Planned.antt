@@ -99,7 +99,7 @@ pub record AreRules (node : List ℕ) (r : Ruled) (v : Inv) : Type 0 where
   pub today : r.today ≡ v.today
 
 module _ (trusted : Type 0) (places : Places) where
-  asked-versions : (node filespace : List ℕ) (lines : List VersionLine) (events : List Event) (old new : Machine) → IsAtRest old.core → AsksVersions node filespace events (Ok lines) → Alone trusted places 0 events old new
+  pub asked-versions : (node filespace : List ℕ) (lines : List VersionLine) (events : List Event) (old new : Machine) → IsAtRest old.core → AsksVersions node filespace events (Ok lines) → Alone trusted places 0 events old new
       → Became old.core old new × HasVersions node filespace (database old) lines
   asked-versions node filespace lines events old new rest (inl told) f =
       let k = asks-to trusted places (query.Versions node filespace) rows.Versions (Ok lines) events old new refl rest told f in
@@ -108,20 +108,20 @@ module _ (trusted : Type 0) (places : Places) where
       let t = asked-step trusted places (query.Versions node filespace) (Err why) events old new refl rest made f in
       (t.still, inr (none-told node filespace why old new ten t.told, none))
 
-  asked-node : (node : List ℕ) (number : ℕ) (events : List Event) (old new : Machine) → IsAtRest old.core → AsksNode node events (Ok number) → Alone trusted places 0 events old new
+  pub asked-node : (node : List ℕ) (number : ℕ) (events : List Event) (old new : Machine) → IsAtRest old.core → AsksNode node events (Ok number) → Alone trusted places 0 events old new
       → Became old.core old new × (node_named node (database old).clients.nodes ≡ Some number)
   asked-node node number events old new rest (answer, (f, is, numbered), made) a =
       let k = asks-to trusted places (query.Lookup (thing.Node node)) (λ n. rows.Lookup (found.Number n)) (Ok number) events old new refl rest (answer, is ∙ ap rows.Lookup (found-is f number numbered), made) a in
       (k.0, node-of node number (database old) k.1)
 
-  asked-rules : (number : ℕ) (r : Ruled) (events : List Event) (old new : Machine) → IsAtRest old.core → AsksRules number events (Ok r) → Alone trusted places 0 events old new
+  pub asked-rules : (number : ℕ) (r : Ruled) (events : List Event) (old new : Machine) → IsAtRest old.core → AsksRules number events (Ok r) → Alone trusted places 0 events old new
       → Became old.core old new × (rules_of number (database old) ≡ Ok r.rules) × (r.today ≡ (database old).today) × (r.node ≡ number)
   asked-rules number r events old new rest (answer, (is, today, node), made) a =
       let k = asks-to trusted places (query.Rules number) rows.Rules (Ok r.rules) events old new refl rest (answer, is, made) a in
       let t = asked-step trusted places (query.Rules number) (Ok answer) events old new refl rest made a in
       (k.0, rules-told number r.rules (database old) k.1, today ∙ today-told number answer old new t.told, node)
 
-  asked-node-rules : (node : List ℕ) (r : Ruled) (events : List Event) (old new : Machine) → IsAtRest old.core → AsksNodeRules node events (Ok r) → Alone trusted places 0 events old new
+  pub asked-node-rules : (node : List ℕ) (r : Ruled) (events : List Event) (old new : Machine) → IsAtRest old.core → AsksNodeRules node events (Ok r) → Alone trusted places 0 events old new
       → Became old.core old new × AreRules node r (database old)
   asked-node-rules node r events old new rest (inl (number, (xs, ys, cut, first, next))) a =
       let parts = alone-parts trusted places 0 events xs ys old new cut a in

@@ -67,11 +67,13 @@ use Rattle.command_steps.specs.Trees.{DoesThere as DoesThereBy, ShowsSent}
 use Rattle.command_steps.specs.declared.outcome.Outcome.{Outcome}
 use Rattle.command_steps.specs.declared.outcome.Outcome.TheVariants.{Said}
 use Rattle.line_results.specs.Commands.{Does, DoesAlone, DoesOwn, DoesThere, EndsWith, IsLoss, IsReuse, IsStill, IsStopped, MayMake, Processes, Ran, Tells, Works, WorksWith}
-use Rattle.line_results.specs.Resting.{Adds, EndsRun, IsAtRest, IsLate, SameBytes, SameImage, database}
+use Rattle.line_results.specs.Resting.{Adds, EndsRun, IsAtRest, IsLate, NobodyHolds, SameBytes, SameImage, database}
 use Rattle.line_results.specs.Trees.{HasBytes, IsOfBackup}
 use Rattle.reports.specs.declared.shown.Shown.TheVariants.{Copied, Reused}
 use Rattle.line_results.proofs.Changed.{changes}
+use Rattle.line_results.proofs.BackupRefused.{backup-refused}
 use Rattle.line_results.proofs.Copying.{AllCopy, Copies, IsCopy, MayJoin, copied-none, copies-walk, settled-free}
+use Rattle.line_results.proofs.Free.{free-walk}
 use Rattle.line_results.proofs.Processing.{IsProcess, IsProcessOwn, IsProcessTree, IsRowless}
 use Rattle.line_results.proofs.Leaving.{Left}
 use Rattle.line_results.proofs.Mild.{is_common}
@@ -363,7 +365,7 @@ sent-leaves : (answer : Result Sent Refusal) (said : Result Outcome Refusal) →
 sent-leaves (Ok s) said h stays = refl
 sent-leaves (Err e) said h stays = ap may_stay (sym h) ∙ stays
 
-module _ (trusted : Type 0) (places : Places) (k : Client) (b : Behind) where
+module _ (trusted : Type 0) (places : Places) (nobody : NobodyHolds places) (k : Client) (b : Behind) where
   -- the backup of a tree; or there is no such tree
   back-up-began : (i : IncrementalBackup) (said : Result Outcome Refusal) (events : List Event) (old mid : Machine) → IsAtRest old.core → DoesThereBy k (back_up i) events said → Alone trusted places 0 events old mid
       → OwnBegan trusted places (λ added. DoesThere trusted places k (back_up i) old mid said added) b old mid said
@@ -371,9 +373,10 @@ module _ (trusted : Type 0) (places : Places) (k : Client) (b : Behind) where
       let P : Change → Type 0 = IsOfBackup k.choice i before.files (database old) in
       let all = backup-sends trusted places k.choice i before.files before.faults events old mid rest (orders-of i.node i.filespace k.choice before.files before.faults after.faults events answer made.order) f in
       let r = sends-walk P events trusted places [] events [] old old mid all (stored-none P events old rest) f in
+      let free = free-walk places nobody P events trusted [] events [] old old mid all (stored-none P events old rest) f in
       record {
         first = r.0;
-        does = inl (before, after, turns, ((old, events, still-none old, f, (answer, made, same, shows)), r.1.grew.are, r.1.grew.core.generation, r.1.keeps, each-same (IsStored mid.contents mid.core.tickets mid.core.next_object) (HasBytes mid) (λ i h. h.0) r.0 r.1.kept.0));
+        does = inl (before, after, turns, ((old, events, still-none old, f, (answer, made, same, shows)), r.1.grew.are, r.1.grew.core.generation, r.1.keeps, each-same (IsStored mid.contents mid.core.tickets mid.core.next_object) (HasBytes mid) (λ i h. h.0) r.0 r.1.kept.0, backup-refused trusted places k.choice i before after events answer said old mid rest made.order shows free f));
         grew = stored-grew P (IsReuse b) events r.0 old mid r.1;
         free = λ h. spent-free trusted places (Sends P events) (has-tickets P events) events old mid rest.tickets all (made.settled (sent-leaves answer said shows h)) f;
       }
@@ -469,7 +472,7 @@ reused-grew trusted places first (Err e) came events old mid new g free (none, i
       λ h. subst (λ (m : Machine). m.core.tickets ≡ []) (sym same) (free (ap may_stay (sym is) ∙ h)),
     )
 
-module _ (trusted : Type 0) (places : Places) (k : Client) (c : Command) (w : Work) where
+module _ (trusted : Type 0) (places : Places) (nobody : NobodyHolds places) (k : Client) (c : Command) (w : Work) where
   ended : (b : Behind) (said result : Result Outcome Refusal) (events : List Event) (old mid new : Machine) (g : Began trusted places k c w b old mid said) (later : List Entry) → AreOf (IsReuse b) later
       → EndsWith trusted places b said mid new result → Settled (g.first ++ later) (since_of old mid) new result → Processed trusted places k c w b old new result
   ended b said result events old mid new g later are ends s = record {
@@ -521,5 +524,5 @@ module _ (trusted : Type 0) (places : Places) (k : Client) (c : Command) (w : Wo
       → Alone trusted places 0 events old new → Processed trusted places k c w (behind c) old new result
   processed result events old new p rowless plain rest (said, (xs, ys, cut, does, ends)) f =
       let parts = alone-parts trusted places 0 events xs ys old new cut f in
-      let g = began trusted places k (behind c) c w said xs old parts.0 p.own rowless plain rest does parts.1 in
+      let g = began trusted places nobody k (behind c) c w said xs old parts.0 p.own rowless plain rest does parts.1 in
       behind-did (behind c) said result ys old parts.0 new p.some rest g ends parts.2

@@ -50,7 +50,7 @@ use Rattle.machine.specs.State.{Core, Machine, after, inventory, sight}
 use Rattle.machine.proofs.Elsewhere.{append-none, none-held}
 use Rattle.line_results.specs.Files.{filespace_defined}
 use Rattle.line_results.specs.Resting.{EndsRun, IsAtRest, database, why_not}
-use Rattle.line_results.proofs.Asked.{EndsBy, Told, asked-step, is_log}
+use Rattle.line_results.proofs.Asked.{EndsBy, Told, asked-unhalted, is_log}
 use Rattle.line_results.proofs.PutNaming.{at-self}
 use Rattle.line_results.proofs.Runs.{Became}
 
@@ -90,17 +90,22 @@ told-err : (q : Query) (why : Refusal) (old new : Machine) → (Err why ≡ answ
 told-err q why old new (inl h) = unasked-either q why old new (err-of (λ (x : Rows). record { n = (database old).number; today = (database old).today; rows = x }) (rows_of q (database old)) why (sym h))
 told-err q why old new (inr h) = (let same : why ≡ h.0 = cc in inr (subst (λ (x : Refusal). EndsRun old new (unasked x)) (sym same) (ends-unasked old new h.0 h.2)))
 
+-- where no fault has halted the machine
+pub asks-unhalted : {A : Type 0} (trusted : Type 0) (places : Places) (q : Query) (kind : A → Rows) (result : Result A Refusal) (events : List Event) (old new : Machine) → is_log q ≡ false → old.core.fault ≡ None
+    → Asks q kind events result → Alone trusted places 0 events old new → Became old.core old new × AskedAs q kind old new result
+asks-unhalted trusted places q kind (Ok lines) events old new unlogged none h a =
+    let t : Told q old new (Ok h.0) = asked-unhalted trusted places q (Ok h.0) events old new unlogged none h.2 a in
+    (t.still, told-rows q h.0 (kind lines) old new h.1 t.told)
+asks-unhalted trusted places q kind (Err e) events old new unlogged none (inl h) a =
+    let t : Told q old new (Err h.0) = asked-unhalted trusted places q (Err h.0) events old new unlogged none h.2 a in
+    (t.still, subst (λ (x : Refusal). (rows_of q (database old) ≡ Err x) ⊎ EndsRun old new x) (sym h.1) (told-err q h.0 old new t.told))
+asks-unhalted trusted places q kind (Err e) events old new unlogged none (inr h) a =
+    let t : Told q old new (Ok h.0) = asked-unhalted trusted places q (Ok h.0) events old new unlogged none h.2 a in
+    (t.still, subst (λ (x : Refusal). (rows_of q (database old) ≡ Err x) ⊎ EndsRun old new x) (sym h.1) (inr tt))
+
 pub asks-to : {A : Type 0} (trusted : Type 0) (places : Places) (q : Query) (kind : A → Rows) (result : Result A Refusal) (events : List Event) (old new : Machine) → is_log q ≡ false → IsAtRest old.core
     → Asks q kind events result → Alone trusted places 0 events old new → Became old.core old new × AskedAs q kind old new result
-asks-to trusted places q kind (Ok lines) events old new unlogged rest h a =
-    let t : Told q old new (Ok h.0) = asked-step trusted places q (Ok h.0) events old new unlogged rest h.2 a in
-    (t.still, told-rows q h.0 (kind lines) old new h.1 t.told)
-asks-to trusted places q kind (Err e) events old new unlogged rest (inl h) a =
-    let t : Told q old new (Err h.0) = asked-step trusted places q (Err h.0) events old new unlogged rest h.2 a in
-    (t.still, subst (λ (x : Refusal). (rows_of q (database old) ≡ Err x) ⊎ EndsRun old new x) (sym h.1) (told-err q h.0 old new t.told))
-asks-to trusted places q kind (Err e) events old new unlogged rest (inr h) a =
-    let t : Told q old new (Ok h.0) = asked-step trusted places q (Ok h.0) events old new unlogged rest h.2 a in
-    (t.still, subst (λ (x : Refusal). (rows_of q (database old) ≡ Err x) ⊎ EndsRun old new x) (sym h.1) (inr tt))
+asks-to trusted places q kind result events old new unlogged rest h a = asks-unhalted trusted places q kind result events old new unlogged rest.fault h a
 
 -- ---- what rows say
 
@@ -148,7 +153,7 @@ none-asked : (o : Option ℕ) (e : Refusal) → if_found o Ok ≡ Err e → (o �
 none-asked None e h = (refl, cc)
 none-asked (Some m) e h = absurd cc
 
-asked-there : (node name : List ℕ) (k : ℕ) (c : Clients) → node_named node c.nodes ≡ Some k → filespace_asked node name c ≡ if_found (filespace_named k name c.filespaces) Ok
+pub asked-there : (node name : List ℕ) (k : ℕ) (c : Clients) → node_named node c.nodes ≡ Some k → filespace_asked node name c ≡ if_found (filespace_named k name c.filespaces) Ok
 asked-there node name k c h = rw h refl
 
 pub filespace-of : (node name : List ℕ) (k n : ℕ) (v : Inv) → node_named node v.clients.nodes ≡ Some k → rows_of (query.Lookup (thing.Filespace node name)) v ≡ Ok (rows.Lookup (found.Number n))

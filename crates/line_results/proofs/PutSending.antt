@@ -87,7 +87,7 @@ nobody-held places pool size old placed nobody rest is e why =
     (unless-all IsNobody _ refused.NotFound (λ h s. absurd cc)))
     (append-all IsNobody (placing_refused (can_place_new pool size (sight 0 c)) placed) _
     (nobody-placed (can_place_new pool size (sight 0 c)) (places (inventory c) (space c) 0 size (aim.New pool) 0 0) placed
-    (λ h s. nobody (inventory c) (space c) 0 size (aim.New pool) 0 0 h rest.tickets (none-freed c rest.durable) s) is)
+    (λ h s. (nobody (inventory c) (space c) 0 size (aim.New pool) 0 0 h (subst (λ (ts : List Ticket). AllByRecursion (λ t. t.actor ≡ 0) ts) (sym rest.tickets) tt) s).1 (none-freed c rest.durable)) is)
     (append-all IsNobody (unless (nat_lt (c.next_object + 1) (2 ^ 62)) refused.InventoryFull) _
     (unless-all IsNobody (nat_lt (c.next_object + 1) (2 ^ 62)) refused.InventoryFull (λ h s. absurd cc))
     (unless-all IsNobody (nat_lt (c.next_ticket + 1) (2 ^ 62)) refused.InventoryFull (λ h s. absurd cc))))) e why

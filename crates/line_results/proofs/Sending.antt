@@ -74,10 +74,10 @@ has-tickets P whole d so = absurd so
 -- ---- tickets
 
 -- the script's, for an object whose number wasn't drawn before this one
-abbrev IsNew : (first : ℕ) → Ticket → Type 0
+abbrev pub IsNew : (first : ℕ) → Ticket → Type 0
 IsNew first t = (t.actor ≡ 0) × (object : ℕ) × (t.purpose ≡ storing object) × (first ≤ object)
 
-abbrev AreNew : (first : ℕ) → List Ticket → Type 0
+abbrev pub AreNew : (first : ℕ) → List Ticket → Type 0
 AreNew first tickets = AllByRecursion (IsNew first) tickets
 
 new-took : (first number : ℕ) (bytes : List ℕ) (t : Ticket) → IsNew first t → IsNew first (if is_ticket 0 number t then took bytes t else t)
@@ -150,7 +150,7 @@ pub record Stored (P : Change → Type 0) (whole : List Event) (first later : Li
   pub kept : Kept later m.core.tickets m.core.next_object m.core.next_ticket m.contents
   pub opened : AreOpened whole m.core.tickets
 
-abbrev Went : (P : Change → Type 0) → (whole : List Event) → (first : List Entry) → (old next : Machine) → Type 0
+abbrev pub Went : (P : Change → Type 0) → (whole : List Event) → (first : List Entry) → (old next : Machine) → Type 0
 Went P whole first old next = (more : List Entry) × Stored P whole first more old next
 
 -- which tickets there are
@@ -304,7 +304,7 @@ module _ (P : Change → Type 0) (whole : List Event) (first later : List Entry)
         (keeps-stored old m next (all_tickets tickets (sight 0 m.core)) (new-spent tickets) joins.1 w.keeps) w.next (new-left tickets) (joined-kept asked tickets c _ brings is none joins.1) (left-opened tickets),
   )
 
-  deed-stored : (places : Places) (d : Deed) → Sends P whole d → Case places 0 d m next → Went P whole first old next
+  pub deed-stored : (places : Places) (d : Deed) → Sends P whole d → Case places 0 d m next → Went P whole first old next
   deed-stored places (Ask query answer) so h = (later, ask-stored query answer h)
   deed-stored places (Force answer) so h = (later, force-stored answer h)
   deed-stored places (OpenNew pool size prefer answer) so h = (later, open-stored places pool size prefer answer so h)

@@ -26,6 +26,7 @@ use Rattle.placing.specs.Placing.{active_version, can_read}
 use Rattle.admin_words.specs.declared.files.FileGet.{FileGet}
 use Rattle.admin_words.specs.declared.files.FilePut.{FilePut}
 use Rattle.admin_words.specs.declared.files.FilesRestore.{FilesRestore}
+use Rattle.admin_words.specs.declared.files.IncrementalBackup.{IncrementalBackup}
 use Rattle.admin_commands.specs.declared.work.Work.{Work}
 use Rattle.admin_commands.specs.declared.work.Work.TheVariants.{Commit, Show, Run}
 use Rattle.restores.specs.declared.choosing.RestoreLine.{RestoreLine}
@@ -39,7 +40,7 @@ use Rattle.sessions.specs.Homes.{home_of}
 use Rattle.sessions.specs.declared.getting.FileRead.{FileRead}
 use Rattle.sessions.specs.declared.homes.Home.{Home}
 use Rattle.command_steps.specs.Answers.{answer_of, done, file_lines, refusal, row_lines}
-use Rattle.command_steps.specs.Behind.{Behind, behind, no_more}
+use Rattle.command_steps.specs.Behind.{Behind, behind, no_more, reuses}
 use Rattle.command_steps.specs.Clients.{Client, Known, Turns}
 use Rattle.command_steps.specs.Leaving.{ChangesOnly, tree_named}
 use Rattle.command_steps.specs.Trees.{is_absent}
@@ -261,12 +262,23 @@ IsSound tree k = (tree < length k.old) × ((before : Known) → (after : Known) 
 abbrev pub MayGive : FilesRestore → Inv → Type 0
 MayGive r v = (lines : List RestoreLine) × IsChosen r v lines × (is_absent r.wanted lines ≡ false)
 
--- a file may be written or erased where no call on its tree fails, and files may be restored into a tree that is there
+-- a filespace is there, or the database has no reason against defining it
+abbrev pub IsThereOrDefined : Option ℕ → (node : ℕ) → (name : List ℕ) → (old : Machine) → Type 0
+IsThereOrDefined (Some filespace) node name old = Unit {0}
+IsThereOrDefined None node name old = why_not (filespace_defined node name (database old)) old.core ≡ None
+
+-- a tree may be backed up: the node is there with the rules of its classes, and so is its filespace, or it may be defined
+abbrev pub MayBackUp : IncrementalBackup → (old : Machine) → Type 0
+MayBackUp i old =
+    (node : ℕ) × (node_named i.node (database old).clients.nodes ≡ Some node) × (rules : Rules) × (rules_of node (database old) ≡ Ok rules)
+    × IsThereOrDefined (filespace_named node i.filespace (database old).clients.filespaces) node i.filespace old
+
+-- a file may be written or erased where no call on its tree fails, so may a tree be backed up, and files may be restored into a tree that is there
 abbrev pub MayOn : Client → OnTree → (old : Machine) → Type 0
 MayOn k (write w) old = IsSound w.tree k
 MayOn k (erase e) old = IsSound e.tree k
 MayOn k (restore r) old = MayGive r (database old) × (r.tree < length k.old)
-MayOn k (back_up i) old = ⊥
+MayOn k (back_up i) old = MayBackUp i old × IsSound i.tree k
 
 abbrev pub MayOwn : Places → Client → Own → (old : Machine) → Type 0
 MayOwn places k (validate set) old = validated set (database old) ≡ Ok tt
@@ -295,11 +307,16 @@ IsRefusedBehind trusted places k n c b old mid answer =
     (why : Refusal) × (answer ≡ refusal n why) × (it : Outcome) × (between : Machine) × (first : List Entry)
     × Does trusted places k c (work_over c (database old)) old between (Ok it) first × EndsWith trusted places b (Ok it) between mid (Err why)
 
+-- only the reuse of volumes may be
+abbrev pub IsAnsweredWith : (trusted : Type 0) → Places → Client → (n : ℕ) → Command → Behind → (old mid : Machine) → Answer → Type 0
+IsAnsweredWith trusted places k n c reuses old mid answer = (answer.tally.refused ≡ 0) ⊎ IsRefusedBehind trusted places k n c reuses old mid answer
+IsAnsweredWith trusted places k n c b old mid answer = answer.tally.refused ≡ 0
+
 abbrev pub IsAnswered : (trusted : Type 0) → Places → Client → (n : ℕ) → Line → (old mid : Machine) → Answer → Type 0
-IsAnswered trusted places k n (asks c) old mid answer = (answer.tally.refused ≡ 0) ⊎ IsRefusedBehind trusted places k n c (behind c) old mid answer
+IsAnswered trusted places k n (asks c) old mid answer = IsAnsweredWith trusted places k n c (behind c) old mid answer
 IsAnswered trusted places k n line old mid answer = answer.tally.refused ≡ 0
 
--- A line that is legal, and in which no count of faults rose, doesn't count as refused, unless what comes behind its work is.
+-- A line that is legal, and in which no count of faults rose, doesn't count as refused, unless the reuse of volumes behind its work is.
 abbrev pub IsComplete : (trusted : Type 0) → Places → Client → (n : ℕ) → Line → (old mid : Machine) → Answer → Type 0
 IsComplete trusted places k n line old mid answer = ((file : ℕ) → RoseFrom old mid file → ⊥) → IsLegal places k line old → IsAnswered trusted places k n line old mid answer
 

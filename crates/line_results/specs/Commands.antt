@@ -54,7 +54,7 @@ use Rattle.command_steps.specs.declared.outcome.Outcome.{Outcome}
 use Rattle.command_steps.specs.declared.outcome.Outcome.TheVariants.{Read, Rows, Said}
 use Rattle.line_results.specs.Files.{Checkpoints, Gets, Puts}
 use Rattle.line_results.specs.Resting.{Adds, Commits, EndsRun, IsLate, Onward, SameBytes, SameImage, database}
-use Rattle.line_results.specs.Trees.{GivesChosen, HaveBytes, IsOfBackup, KeepsBytes}
+use Rattle.line_results.specs.Trees.{GivesChosen, HaveBytes, IsOfBackup, IsRefusedSo, KeepsBytes}
 
 -- ---- what a command asks for
 
@@ -156,13 +156,15 @@ DoesAlone trusted places choice numbers none_yet old new result added = Tells (E
 DoesAlone trusted places choice numbers (on_tree work) old new result added = ⊥
 
 -- What was done on a tree, which was `before` and is `after`. WRITE and ERASE do nothing but that. A backup ran: its own contract says what its steps did; each transaction that it made is of the plan
--- over the tree and the database; what was stored already keeps its bytes; and what it stored has as many bytes as each version says, with its digest. A restore ran, which changes no more of the machine than a query does.
+-- over the tree and the database; what was stored already keeps its bytes; what it stored has as many bytes as each version says, with its digest; and where it is refused, that has its cause. A restore ran, which
+-- changes no more of the machine than a query does.
 abbrev pub DoesOn : (trusted : Type 0) → Places → List Rule → OnTree → (before after : Known) → (old new : Machine) → Result Outcome Refusal → (added : List Entry) → Type 0
 DoesOn trusted places choice (write w) before after old new result added = WritesFile w before after result × IsStill old new × (added ≡ [])
 DoesOn trusted places choice (erase e) before after old new result added = ErasesFile e before after result × IsStill old new × (added ≡ [])
 DoesOn trusted places choice (back_up i) before after old new result added =
     Ran trusted places (λ events. BacksUp choice i before after events result) old new
     × AllByRecursion (λ e. (e.actor ≡ 0) × IsOfBackup choice i before.files (database old) e.change) added × SameImage old new × KeepsBytes old new × HaveBytes new added
+    × IsRefusedSo i before after old result
 DoesOn trusted places choice (restore r) before after old new result added =
     Ran trusted places (λ events. GivesWanted r before after events result) old new × GivesChosen r (database old) before after result × EndsSo old new result × IsStill old new × (added ≡ [])
 

@@ -4,6 +4,7 @@ use Rattle.std.specs.List.{AllByRecursion}
 use Rattle.store_api.specs.Cause.{NoneFell}
 use Rattle.kinds.specs.Refusals.{foremost}
 use Rattle.kinds.specs.declared.refusal.Holder.{Holder}
+use Rattle.kinds.specs.declared.refusal.Holder.TheVariants.{Unforced}
 use Rattle.kinds.specs.declared.refusal.Refusal.{Refusal}
 use Rattle.kinds.specs.declared.refusal.Refusal.TheVariants.{Busy, LogFault, Memory, RunFull}
 use Rattle.entries.specs.declared.change.Change.{Change}
@@ -72,10 +73,11 @@ LogEnds added old new =
 abbrev pub HasSizes : Machine → Type 0
 HasSizes m = AllByRecursion (λ w. length (m.contents w.object) ≡ w.size) (versions (database m))
 
--- where no ticket holds space, and nothing waits for a force, nobody has to be waited for
+-- where all tickets are the actor's own, nothing has to be waited for but a transaction that waits for its force, and only where there is one
 abbrev pub NobodyHolds : Places → Type 0
 NobodyHolds places =
-    (v : Inv) (s : Space) (actor size : ℕ) (a : Aim) (prefer avoid : ℕ) (h : Holder) → s.tickets ≡ [] → s.freed ≡ [] → places v s actor size a prefer avoid (Err (Busy h)) → ⊥
+    (v : Inv) (s : Space) (actor size : ℕ) (a : Aim) (prefer avoid : ℕ) (h : Holder) → AllByRecursion (λ t. t.actor ≡ actor) s.tickets → places v s actor size a prefer avoid (Err (Busy h))
+    → ((number : ℕ) × (h ≡ Unforced number)) × (s.freed ≡ [] → ⊥)
 
 -- where an object goes nowhere, that ends no run
 abbrev pub EndsNoRun : Places → Type 0

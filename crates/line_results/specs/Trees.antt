@@ -1,19 +1,19 @@
 -- What DSMC INCREMENTAL and DSMC RESTORE go by where one actor has the machine alone: the plan over the tree and the database, the transactions that it orders, and the versions that are restored.
-use Rattle.std.specs.Prelude.{◌≡◌, ◌⊎◌, ℕ, ◌<◌, true, Contains, List, [], length, map, Option, Some, Result, Ok, Err}
+use Rattle.std.specs.Prelude.{◌≡◌, ◌⊎◌, ℕ, ◌<◌, true, Contains, List, [], length, map, Option, None, Some, Result, Ok, Err}
 use Rattle.std.specs.List.{AllByRecursion}
 use Rattle.sha2.specs.Sha256.{sha256}
 use Rattle.kinds.specs.ValueForms.{digest_with}
 use Rattle.kinds.specs.declared.change.DefineOrDelete.TheVariants as two
 use Rattle.kinds.specs.declared.change.ObjectChange.TheVariants as client
 use Rattle.kinds.specs.declared.refusal.Refusal.{Refusal}
-use Rattle.kinds.specs.declared.refusal.Refusal.TheVariants.{NotFound}
+use Rattle.kinds.specs.declared.refusal.Refusal.TheVariants.{NotFound, TreeFault}
 use Rattle.choosers.specs.declared.rule.Rule.{Rule}
 use Rattle.entries.specs.change_items.declared.items.NewVersion.{NewVersion}
 use Rattle.entries.specs.change_items.declared.items.ScratchVolume.{ScratchVolume}
 use Rattle.entries.specs.declared.change.Change.{Change}
 use Rattle.entries.specs.declared.change.Change.TheVariants as change
 use Rattle.entries.specs.declared.entry.Entry.{Entry}
-use Rattle.inventory_rows.specs.object_rows.Names.{node_named}
+use Rattle.inventory_rows.specs.object_rows.Names.{filespace_named, node_named}
 use Rattle.inventory_rows.specs.State.{Inv}
 use Rattle.inventory_work.specs.Rules.{rules_of}
 use Rattle.inventory_work.specs.declared.lines.Rules.{Rules}
@@ -36,12 +36,15 @@ use Rattle.restores.specs.declared.choosing.RestoreLine.{RestoreLine}
 use Rattle.restores.specs.declared.choosing.Which.{Which}
 use Rattle.restores.specs.declared.process.Restored.{Restored}
 use Rattle.script_loop.specs.declared.ends.Halt.{Halt}
+use Rattle.tree_api.specs.Cause.{Rose}
 use Rattle.machine.specs.State.{Machine}
 use Rattle.command_steps.specs.Clients.{Client, Known, Turns}
 use Rattle.command_steps.specs.Answers.{halt_by}
 use Rattle.command_steps.specs.Trees.{is_absent, which_of}
 use Rattle.command_steps.specs.declared.outcome.Outcome.{Outcome}
 use Rattle.command_steps.specs.declared.outcome.Outcome.TheVariants as came
+use Rattle.line_results.specs.Files.{filespace_defined}
+use Rattle.line_results.specs.Resting.{database, why_not}
 
 -- ---- what an incremental backup may do
 
@@ -99,6 +102,24 @@ HasBytes m item = (item.size ≡ length (m.contents item.object)) × (item.diges
 -- each version that these transactions bring says so of its object, whose bytes are these from then on
 abbrev pub HaveBytes : Machine → List Entry → Type 0
 HaveBytes m added = AllByRecursion (λ e. AllByRecursion (HasBytes m) (new_versions e.change)) added
+
+-- ---- why a backup is refused
+
+-- the node's filespace isn't there, and the database has this reason against defining it
+abbrev pub IsUndefinable : (node : ℕ) → (name : List ℕ) → Machine → Refusal → Type 0
+IsUndefinable node name m why = (filespace_named node name (database m).clients.filespaces ≡ None) × (why_not (filespace_defined node name (database m)) m.core ≡ Some why)
+
+-- Why a backup is refused: its node isn't there; the node has no rules; a call that lists the tree failed, by which the tree's count of faults rose; or its filespace isn't there and can't be defined.
+abbrev pub StoresNothing : IncrementalBackup → (before after : Known) → Machine → Refusal → Type 0
+StoresNothing i before after m e =
+    ((node_named i.node (database m).clients.nodes ≡ None) × (e ≡ NotFound))
+    ⊎ ((node : ℕ) × (node_named i.node (database m).clients.nodes ≡ Some node) × ((rules_of node (database m) ≡ Err e) ⊎ IsUndefinable node i.filespace m e))
+    ⊎ ((e ≡ TreeFault) × Rose before.faults after.faults)
+
+-- where a backup is refused, that is the cause, or the run ended
+abbrev pub IsRefusedSo : IncrementalBackup → (before after : Known) → Machine → Result Outcome Refusal → Type 0
+IsRefusedSo i before after m (Ok it) = Unit {0}
+IsRefusedSo i before after m (Err e) = StoresNothing i before after m e ⊎ ((how : Halt) × (halt_by e ≡ Some how))
 
 -- ---- what a restore gives
 

@@ -21,7 +21,7 @@ pub trait Placing {
     /// Where an object goes, or why it goes nowhere.
     ghost places: { Places };
 
-    /// Where nobody holds space, nobody has to be waited for.
+    /// Where all tickets are the actor's own, nothing has to be waited for but a transaction that isn't forced yet, and only where there is one.
     ghost nobody: { NobodyHolds places };
 
     /// Where an object goes nowhere, that ends no run.
