@@ -6,7 +6,7 @@
 //!     benches entries [encode | decode | copy [COUNT]]
 //!     benches objects [COUNT [STEPS]]
 //!     benches words [LINES [split]]
-//!     benches space [random | sequential [VOLUMES [COUNT [ROOM [TICKETS]]]]]
+//!     benches space [random | sequential [VOLUMES [COUNT [ROOM [TICKETS [PARTS]]]]]]
 //!     benches inventory [COUNT [STEPS [TIMES]]]
 //!     benches vault [COUNT [STEPS]]
 //!     benches phases [COMMITS [VERSIONS [TIMES]]]
@@ -88,6 +88,7 @@ fn report_space(rt: &impl Print, alloc: Global, words: &[&str]) -> io::Result<()
         count,
         number(words.get(3).copied(), count),
         number(words.get(4).copied(), 0),
+        number(words.get(5).copied(), 1),
     )
 }
 

@@ -1,12 +1,13 @@
 //! Places objects of 1 to 65,536 bytes in a storage pool, of random access or sequential, with so many volumes that together have room for
 //! all of them, and removes half of them again: after every second object one that was placed 201 before. Beside so many live tickets, of the same
-//! actor or, where there are more volumes than tickets, every second one of another. It prints how many were placed, in how many segments, and how
-//! many were removed.
+//! actor or, where there are more volumes than tickets, every second one of another. It prints `ready` once the pool is made, and behind each part of
+//! the objects how many were placed, in how many segments, and how many were removed.
 
 ghost use Rattle.std.specs.Prelude.{OnOk};
 ghost use Rattle.space.specs.Claims.{Claims};
 ghost use Rattle.space_index.specs.Tails.{IsIndexOf};
 
+use crate::fault::Fault;
 use kinds::{Access, Capacity, Day, Name, PoolKind, PoolSettings, Refusal, Segment};
 use pool_rows::{Pool, Pools};
 use space::{Aim, Claim, Placed, Places, Request, Space};
@@ -22,6 +23,7 @@ pub(crate) const USUAL_VOLUMES: u32 = 10;
 pub(crate) const USUAL_COUNT: u32 = 1000;
 
 /// What was done.
+#[derive(Clone, Copy, Debug, PartialEq, Eq)]
 struct Totals {
     segments: u64,
     removed: u64,
@@ -198,30 +200,81 @@ fn remove_one(
     Ok(true)
 }
 
-/// Places so many objects, and removes every second one.
+/// Places the objects from the first number to below the end, and removes every second one.
 fn churn(
+    alloc: Global,
+    pools: &mut Pools,
+    index: &mut Index,
+    space: &Space,
+    objects: &mut Vec<Option<Places>>,
+    pool: u32,
+    first: u32,
+    end: u32,
+    today: Day,
+) -> Result<Totals, Refusal>
+    requires { IsIndexOf index.old pools.old space.now }
+    ensures { OnOk result (IsIndexOf index.new pools.new space.now) }
+{
+    let mut segments: u64 = 0;
+    let mut removed: u64 = 0;
+    'objects: for object in first..end {
+        let places = place(alloc, pools, index, space, object, pool)?;
+        segments = segments.wrapping_add(places.as_slice().len() as u64);
+        objects.push(Some(places))?;
+        if remove_one(pools, index, space, objects, object, today)? {
+            removed = removed.wrapping_add(1);
+        }
+    }
+    Ok(Totals { segments, removed })
+}
+
+/// Prints how far it is.
+fn say_totals(rt: &impl Print, count: u32, totals: &Totals) -> Result<(), Fault> {
+    let Totals { segments, removed } = totals;
+    println!(rt; "{count} objects in {segments} segments, {removed} removed")
+        .ok()
+        .ok_or(Fault::NotPrinted)
+}
+
+/// Places so many objects, and removes every second one; behind each of so many parts it prints how far it is.
+fn churn_all(
+    rt: &impl Print,
     alloc: Global,
     pools: &mut Pools,
     index: &mut Index,
     space: &Space,
     pool: u32,
     count: u32,
+    parts: u32,
     today: Day,
-) -> Result<Totals, Refusal>
+) -> Result<(), Fault>
     requires { IsIndexOf index.old pools.old space.now }
 {
     let mut objects = Vec::new(alloc);
-    let mut segments: u64 = 0;
-    let mut removed: u64 = 0;
-    'objects: for object in 0..count {
-        let places = place(alloc, pools, index, space, object, pool)?;
-        segments = segments.wrapping_add(places.as_slice().len() as u64);
-        objects.push(Some(places))?;
-        if remove_one(pools, index, space, &mut objects, object, today)? {
-            removed = removed.wrapping_add(1);
-        }
+    let mut totals = Totals {
+        segments: 0,
+        removed: 0,
+    };
+    let mut first: u32 = 0;
+    'parts: for part in 1..=parts {
+        let end = (u64::from(count) * u64::from(part) / u64::from(parts)) as u32;
+        let Totals { segments, removed } = churn(
+            alloc,
+            pools,
+            index,
+            space,
+            &mut objects,
+            pool,
+            first,
+            end,
+            today,
+        )?;
+        totals.segments = totals.segments.wrapping_add(segments);
+        totals.removed = totals.removed.wrapping_add(removed);
+        say_totals(rt, end, &totals)?;
+        first = end;
     }
-    Ok(Totals { segments, removed })
+    Ok(())
 }
 
 fn name(alloc: Global, text: &str) -> Result<Name, Refusal> {
@@ -316,28 +369,34 @@ fn rows_of(alloc: Global, pool: u32, volumes: u32, bytes: u64) -> Result<Pools, 
     made.ok_or(Refusal::NotFound)
 }
 
+/// Makes the pool, and places the objects in it.
 fn all(
+    rt: &impl Print,
     alloc: Global,
     pool: u32,
     volumes: u32,
     bytes: u64,
     count: u32,
     tickets: u32,
-) -> Result<Totals, Refusal> {
+    parts: u32,
+) -> Result<(), Fault> {
     let Some(today) = Day::new(1) else {
-        return Err(Refusal::NotFound);
+        return Err(Fault::NoCommand);
     };
     let mut pools = rows_of(alloc, pool, volumes, bytes)?;
     let mut space = Space::new(alloc, volumes.saturating_add(1));
     let Ok(mut index) = Index::of(alloc, &pools, &space) else {
-        return Err(Refusal::Memory);
+        return Err(Fault::Refused(Refusal::Memory));
     };
     let apart = tickets < volumes;
     open_all(alloc, &pools, &mut index, &mut space, pool, tickets, apart)?;
-    churn(alloc, &mut pools, &mut index, &space, pool, count, today)
+    println!(rt; "ready").ok().ok_or(Fault::NotPrinted)?;
+    churn_all(
+        rt, alloc, &mut pools, &mut index, &space, pool, count, parts, today,
+    )
 }
 
-/// Places so many objects on so many volumes with room for as many objects as `room` says, sequential or not, beside so many tickets.
+/// Places so many objects on so many volumes with room for as many objects as `room` says, sequential or not, beside so many tickets, and prints behind each of so many parts of them how far it is.
 pub(crate) fn report(
     rt: &impl Print,
     alloc: Global,
@@ -346,20 +405,21 @@ pub(crate) fn report(
     count: u32,
     room: u32,
     tickets: u32,
+    parts: u32,
 ) -> io::Result<()> {
     let pool = if sequential { 2 } else { 1 };
     match all(
+        rt,
         alloc,
         pool,
         volumes,
         40_960 * u64::from(room),
         count,
         tickets,
+        parts,
     ) {
-        Ok(Totals { segments, removed }) => println!(rt;
-            "{count} objects in {segments} segments, {removed} removed"
-        ),
-        Err(Refusal::Memory) => println!(rt; "want of memory"),
+        Ok(()) => Ok(()),
+        Err(Fault::Refused(Refusal::Memory)) => println!(rt; "want of memory"),
         Err(_) => println!(rt; "no room"),
     }
 }
