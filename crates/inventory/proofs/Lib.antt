@@ -1,5 +1,6 @@
 pub mod Forms
 pub mod Nothing
+pub mod OnVolumes
 pub mod Orders
 pub mod Sooner
 pub mod Sound

@@ -1,6 +1,7 @@
 ghost use Rattle.std.specs.Prelude.{◌≡◌};
 ghost use Rattle.kinds.specs.Answers.{Answers};
 ghost use Rattle.inventory_rows.specs.State.{inv_of};
+ghost use Rattle.inventory_work.specs.OnVolume.{RowsHoldObjects};
 ghost use Rattle.inventory_answers.specs.Answered.{rows_of, answered};
 
 use crate::clients::{filespaces_of, node_lines, path_versions_of, versions_of};
@@ -18,6 +19,7 @@ use kinds::Refusal;
 use std::alloc::Global;
 
 fn rows_of(alloc: Global, tables: &Tables, query: &Query) -> Result<Rows, Refusal>
+    requires held { RowsHoldObjects (inv_of tables.now) }
     ensures { Answers result (rows_of query.now (inv_of tables.now)) }
 {
     let domains = &tables.domains;
@@ -71,8 +73,10 @@ fn rows_of(alloc: Global, tables: &Tables, query: &Query) -> Result<Rows, Refusa
 }
 
 /// What the database answers to a query: the number of the last transaction, the day, and the rows that are asked for.
-/// `NotFound` exactly where something that the query names is not there; else its one refusal is want of memory.
+/// `NotFound` exactly where something that the query names is not there; else its one refusal is want of memory. The volumes' rows have to hold
+/// segments of the objects that have one there, as those of every valid database do: by them the copies on a volume are found.
 pub fn answer(alloc: Global, tables: &Tables, query: &Query) -> Result<Answer, Refusal>
+    requires held { RowsHoldObjects (inv_of tables.now) }
     ensures { Answers result (answered query.now (inv_of tables.now)) }
 {
     let rows = rows_of(alloc, tables, query)?;

@@ -95,7 +95,8 @@ with_all p s held =
       | Some n ↦ λ h. list_all-set_value p (is_at (held_cmp s)) held (n + 1) ∙ there p (is_at (held_cmp s)) s (held_same s) held n h
     ] refl
 
-holding_all : (p : HeldSegment → Bool) (segments : List (ℕ × Segment)) → list_all (λ e. p e.0) (holding segments) ≡ list_all (λ (x : ℕ × Segment). p (held_of x.0 x.1)) segments
+-- a test of the segments that a row holds is one of those that it is made of
+pub holding_all : (p : HeldSegment → Bool) (segments : List (ℕ × Segment)) → list_all (λ e. p e.0) (holding segments) ≡ list_all (λ (x : ℕ × Segment). p (held_of x.0 x.1)) segments
 holding_all p [] = refl
 holding_all p (x ∷ segments) = with_all p (held_of x.0 x.1) (holding segments) ∙ ap (λ b. p (held_of x.0 x.1) && b) (holding_all p segments)
 

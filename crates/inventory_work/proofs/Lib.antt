@@ -1,1 +1,3 @@
+pub mod OneObject
+pub mod RowObjects
 pub mod Sorting

@@ -1,6 +1,6 @@
 -- A stable sort by objects puts lines in the order of their objects.
-use Rattle.std.proofs.Common.{◌≡◌, ℕ, zero, suc, ◌<◌, ◌≤◌, Bool, true, false, cond, List, [], ◌∷◌, length, get_or, filter, nat_cmp, is_lt, refl, sym, ap, ◌∙◌, arith, inl, inr, leb, suc-le-suc, zero-le}
-use Rattle.std.proofs.lemmas.Bool.{cond-true, cond-false, cases_Bool, leb-true, leb-false}
+use Rattle.std.proofs.Common.{◌≡◌, ℕ, zero, suc, ◌<◌, ◌≤◌, Bool, true, false, cond, eqb, List, [], ◌∷◌, length, get_or, filter, nat_cmp, is_lt, refl, sym, ap, ◌∙◌, arith, inl, inr, leb, suc-le-suc, zero-le}
+use Rattle.std.proofs.lemmas.Bool.{cond-true, cond-false, cases_Bool, eq-eqb, false≢true, leb-true, leb-false, ne_eqb}
 use Rattle.std.proofs.lemmas.Bool.Decides.{nat_tests}
 use Rattle.std.specs.List.Sorted.{ties, IsNonDecreasingBy, IsStableByKey}
 use Rattle.inventory_work.specs.ByObject.{by_object, put_line}
@@ -61,11 +61,11 @@ module _ {A : Type 0} (object : A → ℕ) where
 
   -- they ascend
 
-  abbrev AreAtLeast : ℕ → List A → Type 0
+  abbrev pub AreAtLeast : ℕ → List A → Type 0
   AreAtLeast n [] = Unit {0}
   AreAtLeast n (y ∷ ys) = (n ≤ object y) × AreAtLeast n ys
 
-  abbrev Rises : List A → Type 0
+  abbrev pub Rises : List A → Type 0
   Rises [] = Unit {0}
   Rises (y ∷ ys) = AreAtLeast (object y) ys × Rises ys
 
@@ -139,3 +139,22 @@ module _ {A : Type 0} (object : A → ℕ) where
   by_object-from_sort xs ys sorted stable =
       same_from_objects ys (by_object object xs) (Rises-from_sort ys sorted) (Rises-by_object xs)
       (λ x. stable x ∙ sym (filter-by_object x xs))
+
+  one_is : (x y : A) → are_of_one x y ≡ eqb (object y) (object x)
+  one_is x y =
+      elim (cases_Bool (are_of_one x y)) [
+        | inl h ↦ h ∙ sym (eq-eqb (object y) (object x) (sym (one-true x y h)))
+        | inr h ↦ h ∙ sym (ne_eqb (object y) (object x) (λ e. false≢true (sym h ∙ one_from x y (sym e))))
+      ]
+
+  filter_is : (x : A) (ys : List A) → filter (are_of_one x) ys ≡ filter (λ y. eqb (object y) (object x)) ys
+  filter_is x [] = refl
+  filter_is x (y ∷ ys) =
+      ap (λ b. cond b (y ∷ filter (are_of_one x) ys) (filter (are_of_one x) ys)) (one_is x y)
+      ∙ ap (λ (l : List A). cond (eqb (object y) (object x)) (y ∷ l) l) (filter_is x ys)
+
+  -- lines that ascend, of each object the same that others have, are those others in the order of objects
+  pub by_object-from_objects : (ys cs : List A) → Rises ys → ((n : ℕ) → filter (λ y. eqb (object y) n) ys ≡ filter (λ y. eqb (object y) n) cs) → ys ≡ by_object object cs
+  by_object-from_objects ys cs rises same =
+      same_from_objects ys (by_object object cs) rises (Rises-by_object cs)
+      (λ x. filter_is x ys ∙ same (object x) ∙ sym (filter_is x cs) ∙ sym (filter-by_object x cs))

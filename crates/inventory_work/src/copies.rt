@@ -4,7 +4,7 @@ ghost use Rattle.std.specs.List.{flat_map, list_any};
 ghost use Rattle.kinds.specs.Answers.{Answers, AnswersBy};
 ghost use Rattle.inventory_rows.specs.State.{inv_of};
 ghost use Rattle.inventory_work.specs.Lists.{Writes};
-ghost use Rattle.inventory_work.specs.Copies.{lies_there, copy_lines, copies_of_version, copies_of_filespace, copies_of_filespaces, copies_of_held, copies_where, node_of, has_pool, has_volume, on_pool, on_volume, missing_lines, missing_of_filespace, missing_of_filespaces, missing_of_held, missing_in, missing};
+ghost use Rattle.inventory_work.specs.Copies.{lies_there, copy_lines, copies_of_version, copies_of_filespace, copies_of_filespaces, copies_of_held, copies_where, node_of, has_pool, on_pool, missing_lines, missing_of_filespace, missing_of_filespaces, missing_of_held, missing_in, missing};
 
 use crate::lines::{CopyLine, MissingLine};
 use crate::listed::Listed;
@@ -18,7 +18,7 @@ use std::collections::BTreeMap;
 
 /// Where a copy lies.
 #[derive(Clone, Copy)]
-enum Where {
+pub(crate) enum Where {
     /// In the pool with this number.
     Pool(u32),
     /// In part at least on the volume with this file number.
@@ -64,7 +64,7 @@ fn write_copy(
     Ok(())
 }
 
-fn write_copies(
+pub(crate) fn write_copies(
     lines: &mut Vec<CopyLine>,
     here: Where,
     node: u32,
@@ -120,7 +120,7 @@ fn write_copies_of_filespaces(
 }
 
 /// The number of a filespace's node; 0 where the filespace isn't there.
-fn node_of(filespaces: &BTreeMap<u32, Filespace>, filespace: u32) -> u32
+pub(crate) fn node_of(filespaces: &BTreeMap<u32, Filespace>, filespace: u32) -> u32
     ensures { result ≡ node_of filespace filespaces.now.entries }
 {
     match filespaces.get(&filespace) {
@@ -173,12 +173,6 @@ pub(crate) fn has_pool(tables: &Tables, pool: u32) -> bool
     tables.pools.pools().contains_key(&pool)
 }
 
-fn has_volume(tables: &Tables, file: u32) -> bool
-    ensures { result ≡ has_volume file (inv_of tables.now) }
-{
-    tables.pools.volumes().contains_key(&file)
-}
-
 /// The copies in a pool, in ascending order of their objects' numbers. `NotFound` where the pool is not there; else its one refusal is want of
 /// memory. It walks all objects, and sorts what it found.
 pub fn on_pool(alloc: Global, tables: &Tables, pool: u32) -> Result<Listed<CopyLine>, Refusal>
@@ -186,18 +180,6 @@ pub fn on_pool(alloc: Global, tables: &Tables, pool: u32) -> Result<Listed<CopyL
 {
     if has_pool(tables, pool) {
         copies_where(alloc, tables, Where::Pool(pool))
-    } else {
-        Err(Refusal::NotFound)
-    }
-}
-
-/// The copies with a segment on a volume, in ascending order of their objects' numbers. `NotFound` where the volume is not there; else its one
-/// refusal is want of memory. It walks all objects, and sorts what it found.
-pub fn on_volume(alloc: Global, tables: &Tables, file: u32) -> Result<Listed<CopyLine>, Refusal>
-    ensures { Answers result (on_volume file (inv_of tables.now)) }
-{
-    if has_volume(tables, file) {
-        copies_where(alloc, tables, Where::Volume(file))
     } else {
         Err(Refusal::NotFound)
     }

@@ -8,12 +8,14 @@ mod listed;
 mod order;
 mod rules;
 mod search;
+mod volume_copies;
 mod volumes;
 
-pub use copies::{missing, on_pool, on_volume};
+pub use copies::{missing, on_pool};
 pub use expiring::unretained;
 pub use lines::{ClassRule, CopyLine, MissingLine, Rules, UnretainedLine};
 pub use listed::Listed;
 pub use rules::rules_of;
 pub use search::{Found, Named, filespace_asked, find_named};
+pub use volume_copies::on_volume;
 pub use volumes::{eligible, emptied};
