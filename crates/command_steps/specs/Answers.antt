@@ -21,6 +21,8 @@ use Rattle.script_loop.specs.Tally.{no_tally}
 use Rattle.script_loop.specs.declared.ends.Halt.{Halt}
 use Rattle.script_loop.specs.declared.ends.Halt.TheVariants as halt
 use Rattle.sessions.specs.declared.getting.FileRead.{FileRead}
+use Rattle.volume_audits.specs.declared.audit.Audit.{Audit}
+use Rattle.volume_audits.specs.declared.audit.Damaged.{Damaged}
 use Rattle.command_steps.specs.declared.outcome.Outcome.{Outcome}
 use Rattle.command_steps.specs.declared.outcome.Outcome.TheVariants as came
 use Rattle.command_steps.specs.declared.outcome.Outcome.TheVariants.{Read, Rows, Said}
@@ -90,6 +92,14 @@ failed_gave (g ∷ given) = failed_weight g + failed_gave given
 abbrev pub restored_lines : (n : ℕ) → Restored → List ℕ
 restored_lines n r = given_lines n r.lines r.gave ++ shown_line n (shown.RestoredFiles (length r.gave - failed_gave r.gave) (failed_gave r.gave))
 
+-- the line of a copy that an audit found damaged
+abbrev pub damaged_line : (n : ℕ) → Damaged → List ℕ
+damaged_line n d = shown_line n (shown.Damaged d.object d.kept d.found)
+
+-- the lines of an audit
+abbrev pub audited_lines : (n : ℕ) → Audit → List ℕ
+audited_lines n a = flat_map (damaged_line n) a.damaged ++ shown_line n (shown.Audited a.sound (length a.damaged) a.fixed)
+
 -- the lines of what a command in line n came to
 abbrev pub outcome_lines : (n : ℕ) → Outcome → List ℕ
 outcome_lines n (Said line) = shown_line n line
@@ -97,6 +107,7 @@ outcome_lines n (Read file) = file_lines n file
 outcome_lines n (Rows answer) = row_lines n answer
 outcome_lines n (came.Sent s) = sent_lines n s
 outcome_lines n (came.Restored r) = restored_lines n r
+outcome_lines n (came.Audited a) = audited_lines n a
 
 -- ---- answers
 

@@ -3,7 +3,7 @@ use Rattle.std.specs.Prelude.{if◌then◌else◌, ℕ}
 use Rattle.admin_words.specs.declared.command.Command.{Command}
 use Rattle.admin_words.specs.declared.command.Command.TheVariants as commands
 use Rattle.admin_words.specs.declared.command.DatabaseCommand.{DatabaseCommand}
-use Rattle.admin_words.specs.declared.command.DatabaseCommand.TheVariants.{Day, ExpireInventory}
+use Rattle.admin_words.specs.declared.command.DatabaseCommand.TheVariants.{BackupDatabase, Day, DeleteHistory, ExpireInventory}
 use Rattle.admin_words.specs.declared.command.FileCommand.{FileCommand}
 use Rattle.admin_words.specs.declared.command.FileCommand.TheVariants.{Incremental}
 use Rattle.admin_words.specs.declared.command.NodeCommand.{NodeCommand}
@@ -11,7 +11,7 @@ use Rattle.admin_words.specs.declared.command.NodeCommand.TheVariants.{DeleteFil
 use Rattle.admin_words.specs.declared.command.PoolCommand.{PoolCommand}
 use Rattle.admin_words.specs.declared.command.PoolCommand.TheVariants.{BackupPool, MigrateAll, MigratePool, ReclaimPool, RestorePool}
 use Rattle.admin_words.specs.declared.command.VolumeCommand.{VolumeCommand}
-use Rattle.admin_words.specs.declared.command.VolumeCommand.TheVariants.{DeleteVolume, MoveData, RestoreVolume, ReuseVolumes}
+use Rattle.admin_words.specs.declared.command.VolumeCommand.TheVariants.{AuditVolume, DeleteVolume, MoveData, RestoreVolume, ReuseVolumes}
 use Rattle.reports.specs.declared.shown.Shown.{Shown}
 use Rattle.reports.specs.declared.shown.Shown.TheVariants.{DiscardedFilespace, Expired, Moved, RestoredCopies, Reused}
 use Rattle.command_steps.specs.declared.outcome.Outcome.{Outcome}
@@ -36,6 +36,7 @@ pool_behind (RestorePool p) = reuses
 pool_behind _ = no_more
 
 abbrev pub volume_behind : VolumeCommand → Behind
+volume_behind (AuditVolume a) = forces
 volume_behind (DeleteVolume d) = if d.discard_data then forces else no_more
 volume_behind (MoveData m) = reuses
 volume_behind (RestoreVolume v) = reuses
@@ -47,7 +48,9 @@ file_behind (Incremental i) = forces
 file_behind _ = no_more
 
 abbrev pub database_behind : DatabaseCommand → Behind
+database_behind (BackupDatabase b) = forces
 database_behind (Day d) = reuses
+database_behind (DeleteHistory h) = forces
 database_behind ExpireInventory = reuses
 database_behind _ = no_more
 

@@ -16,10 +16,13 @@ use Rattle.admin_commands.specs.Orders.{needs, work_of}
 use Rattle.admin_commands.specs.declared.work.Work.{Work}
 use Rattle.admin_commands.specs.declared.work.Work.TheVariants.{Commit, Show, Run}
 use Rattle.reports.specs.declared.shown.Shown.{Shown}
-use Rattle.reports.specs.declared.shown.Shown.TheVariants.{Copied, DeletedVolume, DiscardedFilespace, Done, Expired, RestoredCopies, Reused, Stored}
+use Rattle.reports.specs.declared.shown.Shown.TheVariants.{BackedUp, Copied, DeletedHistory, DeletedVolume, DiscardedFilespace, Done, Expired, RestoredCopies, Reused, Stored}
 use Rattle.reports.specs.declared.shown.Shown.TheVariants as shown
 use Rattle.copy_pools.specs.Backups.{Backup}
 use Rattle.copy_runs.specs.declared.wanted.Moved.{Moved}
+use Rattle.db_backup.specs.Backups.{DatabaseBackup, IncrementalBackup}
+use Rattle.db_backup.specs.Deleting.{HistoryDeletion}
+use Rattle.db_backup.specs.declared.taking.Taken.{Taken}
 use Rattle.deletions.specs.Filespaces.{FilespaceDeletion}
 use Rattle.deletions.specs.Volumes.{VolumeDeletion}
 use Rattle.deletions.specs.declared.copies.Removed.{Removed}
@@ -40,12 +43,13 @@ use Rattle.sessions.specs.Putting.{Puts}
 use Rattle.steps.specs.Calls.{IsStep, Made, Then}
 use Rattle.steps.specs.Events.{Event}
 use Rattle.steps.specs.Events.Deed.{Ask, Force}
+use Rattle.volume_audits.specs.Auditing.{VolumeAudit}
 use Rattle.command_steps.specs.Behind.{Behind, behind, forces, no_more, reuses, with_reused}
 use Rattle.command_steps.specs.Clients.{Client, IsKept}
-use Rattle.command_steps.specs.Owns.{Mover, Own, all_migrator, back_up_pool, checkpoint, data_mover, empty_filespace, empty_volume, expire, file_put, get, last_of, migrator, moves, none_but_reuse, none_yet, on_tree, own_of, pool_restorer, put, reclaimer, row_put, validate, volume_restorer}
+use Rattle.command_steps.specs.Owns.{Mover, Own, all_migrator, audit_volume, back_up_database, back_up_pool, back_up_since, checkpoint, data_mover, delete_history, empty_filespace, empty_volume, expire, file_put, get, last_of, migrator, moves, none_but_reuse, none_yet, on_tree, own_of, pool_restorer, put, reclaimer, row_put, validate, volume_restorer}
 use Rattle.command_steps.specs.Trees.{DoesThere}
 use Rattle.command_steps.specs.declared.outcome.Outcome.{Outcome}
-use Rattle.command_steps.specs.declared.outcome.Outcome.TheVariants.{Read, Rows, Said}
+use Rattle.command_steps.specs.declared.outcome.Outcome.TheVariants.{Audited, Read, Rows, Said}
 
 -- ---- look-ups
 
@@ -131,6 +135,10 @@ moved_line volume_restorer m = RestoredCopies m.moved m.failed 0
 moved_line migrator m = shown.Moved m.moved m.failed 0
 moved_line all_migrator m = shown.Moved m.moved m.failed 0
 
+-- the last line of a database backup: its file, and the number of the last transaction that it holds
+abbrev pub backed_up : Taken → Outcome
+backed_up t = Said (BackedUp t.file t.seq)
+
 -- work of a command's own that has nothing to do with trees, over the numbers of the things that it names; what isn't done so far is refused like an unknown word
 abbrev pub DoesAlone : List Rule → Own → List ℕ → List Event → Result Outcome Refusal → Type 0
 DoesAlone choice (validate set) numbers events result = Validates set events result
@@ -142,6 +150,10 @@ DoesAlone choice empty_filespace numbers events result = Gives (FilespaceDeletio
 DoesAlone choice empty_volume numbers events result = Gives (VolumeDeletion true (the_number numbers)) (λ (went : Removed). Said (DeletedVolume went.discarded went.dropped)) events result
 DoesAlone choice back_up_pool numbers events result = Gives (Backup (the_number numbers) (the_second numbers)) (λ (copies : Moved). Said (Copied copies.moved copies.failed)) events result
 DoesAlone choice (moves mover) numbers events result = Gives (MovesSo mover (the_number numbers) (the_second numbers)) (λ (m : Moved). Said (moved_line mover m)) events result
+DoesAlone choice back_up_database numbers events result = Gives (DatabaseBackup None) backed_up events result
+DoesAlone choice back_up_since numbers events result = Gives IncrementalBackup backed_up events result
+DoesAlone choice (delete_history to) numbers events result = Gives (HistoryDeletion to) (λ deleted. Said (DeletedHistory deleted)) events result
+DoesAlone choice (audit_volume fix) numbers events result = Gives (VolumeAudit fix (the_number numbers)) Audited events result
 DoesAlone choice none_but_reuse numbers events result = (events ≡ []) × (result ≡ Ok (Said (Reused 0)))
 DoesAlone choice none_yet numbers events result = (events ≡ []) × (result ≡ Err (UnknownWord 1))
 DoesAlone choice (on_tree work) numbers events result = ⊥

@@ -6,18 +6,12 @@ use Rattle.command_words.specs.Comments.{is_comment}
 use Rattle.admin_words.specs.Line.{command}
 use Rattle.admin_words.specs.declared.command.Command.{Command}
 use Rattle.admin_words.specs.declared.command.Command.TheVariants as commands
-use Rattle.admin_words.specs.declared.command.VolumeCommand.{VolumeCommand}
-use Rattle.admin_words.specs.declared.command.VolumeCommand.TheVariants.{AuditVolume}
 use Rattle.admin_words.specs.declared.command.FileCommand.{FileCommand}
 use Rattle.admin_words.specs.declared.command.FileCommand.TheVariants.{ArchiveFiles, RetrieveFiles}
 use Rattle.admin_words.specs.declared.command.DatabaseCommand.{DatabaseCommand}
-use Rattle.admin_words.specs.declared.command.DatabaseCommand.TheVariants.{BackupDatabase, DeleteHistory}
+use Rattle.admin_words.specs.declared.command.DatabaseCommand.TheVariants.{BackupDatabase}
 
 -- the commands of each family that the server does so far
-abbrev pub does_volume : VolumeCommand → Bool
-does_volume (AuditVolume a) = false
-does_volume _ = true
-
 abbrev pub does_file : FileCommand → Bool
 does_file (ArchiveFiles a) = false
 does_file (RetrieveFiles r) = false
@@ -25,7 +19,6 @@ does_file _ = true
 
 abbrev pub does_database : DatabaseCommand → Bool
 does_database (BackupDatabase b) = false
-does_database (DeleteHistory h) = false
 does_database _ = true
 
 -- whether the server does a command so far; every other one is refused like an unknown word
@@ -34,7 +27,7 @@ is_done (commands.Policy c) = true
 is_done (commands.Class c) = true
 is_done (commands.Node c) = true
 is_done (commands.Pool c) = true
-is_done (commands.Volume c) = does_volume c
+is_done (commands.Volume c) = true
 is_done (commands.File c) = does_file c
 is_done (commands.Database c) = does_database c
 is_done (commands.Block c) = false

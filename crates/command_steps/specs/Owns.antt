@@ -1,5 +1,5 @@
 -- Work of a command that is no one change and no one query.
-use Rattle.std.specs.Prelude.{if◌then◌else◌, length, ℕ}
+use Rattle.std.specs.Prelude.{if◌then◌else◌, length, ℕ, Bool}
 use Rattle.kinds.specs.declared.change.PoolChange.TheVariants as store
 use Rattle.kinds.specs.declared.change.Verb.TheVariants as verb
 use Rattle.client_trees.specs.Files.{ClientFile}
@@ -9,7 +9,7 @@ use Rattle.entries.specs.declared.change.Change.TheVariants as change
 use Rattle.admin_words.specs.declared.command.Command.{Command}
 use Rattle.admin_words.specs.declared.command.Command.TheVariants as commands
 use Rattle.admin_words.specs.declared.command.DatabaseCommand.{DatabaseCommand}
-use Rattle.admin_words.specs.declared.command.DatabaseCommand.TheVariants.{Checkpoint, ExpireInventory}
+use Rattle.admin_words.specs.declared.command.DatabaseCommand.TheVariants.{BackupDatabase, Checkpoint, DeleteHistory, ExpireInventory}
 use Rattle.admin_words.specs.declared.command.FileCommand.{FileCommand}
 use Rattle.admin_words.specs.declared.command.FileCommand.TheVariants.{Erase, Get, Incremental, Put, RestoreFiles, Write}
 use Rattle.admin_words.specs.declared.command.NodeCommand.{NodeCommand}
@@ -19,7 +19,7 @@ use Rattle.admin_words.specs.declared.command.PolicyCommand.TheVariants.{Validat
 use Rattle.admin_words.specs.declared.command.PoolCommand.{PoolCommand}
 use Rattle.admin_words.specs.declared.command.PoolCommand.TheVariants.{BackupPool, MigrateAll, MigratePool, ReclaimPool, RestorePool}
 use Rattle.admin_words.specs.declared.command.VolumeCommand.{VolumeCommand}
-use Rattle.admin_words.specs.declared.command.VolumeCommand.TheVariants.{DeleteVolume, MoveData, RestoreVolume, ReuseVolumes}
+use Rattle.admin_words.specs.declared.command.VolumeCommand.TheVariants.{AuditVolume, DeleteVolume, MoveData, RestoreVolume, ReuseVolumes}
 use Rattle.admin_words.specs.declared.files.FileErase.{FileErase}
 use Rattle.admin_words.specs.declared.files.FileGet.{FileGet}
 use Rattle.admin_words.specs.declared.files.FilePut.{FilePut}
@@ -27,6 +27,8 @@ use Rattle.admin_words.specs.declared.files.FilesRestore.{FilesRestore}
 use Rattle.admin_words.specs.declared.files.FileWrite.{FileWrite}
 use Rattle.admin_words.specs.declared.files.IncrementalBackup.{IncrementalBackup}
 use Rattle.admin_words.specs.declared.policy.NamedSet.{NamedSet}
+use Rattle.admin_words.specs.declared.words.BackupType.{BackupType}
+use Rattle.admin_words.specs.declared.words.BackupType.TheVariants.{Full, Incremental}
 use Rattle.reports.specs.declared.shown.Shown.{Shown}
 use Rattle.reports.specs.declared.shown.Shown.TheVariants.{DeletedVolume, Done, Reused}
 
@@ -55,7 +57,8 @@ tree_of (back_up i) = i.tree
 tree_of (restore r) = r.tree
 
 -- VALIDATE of a policy set, PUT, GET, work on a client's tree, CHECKPOINT, EXPIRE INVENTORY; DELETE FILESPACE, and DELETE VOLUME with its data, over the number of what they name; REUSE VOLUMES,
--- which does nothing but what comes behind it; BACKUP STGPOOL, over the numbers of a primary pool and of a copy pool; what moves copies; and what isn't done so far
+-- which does nothing but what comes behind it; BACKUP STGPOOL, over the numbers of a primary pool and of a copy pool; what moves copies; BACKUP DB of the whole database, and of what came behind the newest
+-- backup; DELETE VOLHISTORY up to a day; AUDIT VOLUME, over the number of the volume's file; and what isn't done so far
 pub data Own : Type 0 where
   validate : (set : NamedSet) → Own
   put : (file : FilePut) → Own
@@ -68,6 +71,10 @@ pub data Own : Type 0 where
   none_but_reuse : Own
   back_up_pool : Own
   moves : (mover : Mover) → Own
+  back_up_database : Own
+  back_up_since : Own
+  delete_history : (to : ℕ) → Own
+  audit_volume : (fix : Bool) → Own
   none_yet : Own
 
 abbrev pub policy_own : PolicyCommand → Own
@@ -83,8 +90,14 @@ file_own (RestoreFiles r) = on_tree (restore r)
 file_own (Write w) = on_tree (write w)
 file_own _ = none_yet
 
+abbrev pub backup_own : BackupType → Own
+backup_own Full = back_up_database
+backup_own Incremental = back_up_since
+
 abbrev pub database_own : DatabaseCommand → Own
+database_own (BackupDatabase b) = backup_own b.backup_type
 database_own Checkpoint = checkpoint
+database_own (DeleteHistory h) = delete_history h.to_date
 database_own ExpireInventory = expire
 database_own _ = none_yet
 
@@ -101,6 +114,7 @@ pool_own (RestorePool p) = moves pool_restorer
 pool_own _ = none_yet
 
 abbrev pub volume_own : VolumeCommand → Own
+volume_own (AuditVolume a) = audit_volume a.fix
 volume_own (DeleteVolume d) = if d.discard_data then empty_volume else none_yet
 volume_own (MoveData m) = moves data_mover
 volume_own (RestoreVolume v) = moves volume_restorer

@@ -7,7 +7,7 @@ use Rattle.command_steps.specs.declared.behind.Behind.TheVariants.{Forces, NoMor
 use Rattle.command_steps.specs.declared.lines.Line as code
 use Rattle.command_steps.specs.declared.lines.Line.TheVariants.{Asks, Comment, Refused}
 use Rattle.command_steps.specs.declared.own.Own.{Own}
-use Rattle.command_steps.specs.declared.own.Own.TheVariants.{BackUpPool, Checkpoint, EmptyFilespace, EmptyVolume, Expire, Get, Moves, NoneButReuse, NoneYet, OnATree, Put, Validate}
+use Rattle.command_steps.specs.declared.own.Own.TheVariants.{AuditVolume, BackUpDatabase, BackUpPool, BackUpSince, Checkpoint, DeleteHistory, EmptyFilespace, EmptyVolume, Expire, Get, Moves, NoneButReuse, NoneYet, OnATree, Put, Validate}
 use Rattle.command_steps.specs.declared.own.Mover.{Mover}
 use Rattle.command_steps.specs.declared.own.Mover.TheVariants.{Migrate, MigrateAll, MoveData, Reclaim, RestorePool, RestoreVolume}
 use Rattle.command_steps.specs.declared.own.OnTree.{OnTree}
@@ -45,6 +45,10 @@ own_view EmptyVolume = owns.empty_volume
 own_view NoneButReuse = owns.none_but_reuse
 own_view BackUpPool = owns.back_up_pool
 own_view (Moves mover) = owns.moves (mover_view mover)
+own_view BackUpDatabase = owns.back_up_database
+own_view BackUpSince = owns.back_up_since
+own_view (DeleteHistory to) = owns.delete_history to
+own_view (AuditVolume fix) = owns.audit_volume fix
 own_view NoneYet = owns.none_yet
 
 abbrev pub behind_view : Behind → comes.Behind

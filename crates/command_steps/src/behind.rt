@@ -50,6 +50,7 @@ fn volume_behind(command: &VolumeCommand) -> Behind
     ensures { behind_view result ≡ volume_behind command.now }
 {
     match command {
+        VolumeCommand::AuditVolume(_) => Behind::Forces,
         VolumeCommand::DeleteVolume(it) => {
             if it.discard_data {
                 Behind::Forces
@@ -77,6 +78,7 @@ fn database_behind(command: &DatabaseCommand) -> Behind
     ensures { behind_view result ≡ database_behind command.now }
 {
     match command {
+        DatabaseCommand::BackupDatabase(_) | DatabaseCommand::DeleteHistory(_) => Behind::Forces,
         DatabaseCommand::Day(_) | DatabaseCommand::ExpireInventory => Behind::Reuses,
         _ => Behind::NoMore,
     }

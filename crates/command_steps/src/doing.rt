@@ -1,5 +1,5 @@
 // What a command does.
-ghost use Rattle.std.specs.Prelude.{◌≡◌, ◌≤◌, ◌^◌, min, true, Ok, Some, length, IfErr, IfOk};
+ghost use Rattle.std.specs.Prelude.{◌≡◌, ◌≤◌, ◌^◌, min, true, Ok, None, Some, length, IfErr, IfOk};
 ghost use Rattle.kinds.specs.declared.refusal.Refusal.TheVariants.{Memory};
 ghost use Rattle.entries.specs.declared.change.Change.TheVariants.{Pool};
 ghost use Rattle.client_trees.specs.Files.{file_at};
@@ -12,11 +12,14 @@ ghost use Rattle.sessions.specs.Getting.{Gets};
 ghost use Rattle.sessions.specs.InTurn.{OrMemory};
 ghost use Rattle.steps.specs.Calls.{Call};
 ghost use Rattle.copy_pools.specs.Backups.{Backup};
+ghost use Rattle.db_backup.specs.Backups.{DatabaseBackup, IncrementalBackup};
+ghost use Rattle.db_backup.specs.Deleting.{HistoryDeletion};
 ghost use Rattle.deletions.specs.Filespaces.{FilespaceDeletion};
 ghost use Rattle.deletions.specs.Volumes.{VolumeDeletion};
 ghost use Rattle.expiration.specs.Expiring.{Expiration};
+ghost use Rattle.volume_audits.specs.Auditing.{VolumeAudit};
 ghost use Rattle.command_steps.specs.Clients.{client};
-ghost use Rattle.command_steps.specs.Doing.{Does, DoesOwn, DoesWork, Doing, Gives, MovesSo, PutsText, Told, Validates, WorksOrWants, moved_line, the_number, the_second, validated_by, validity, within_memory};
+ghost use Rattle.command_steps.specs.Doing.{Does, DoesOwn, DoesWork, Doing, Gives, MovesSo, PutsText, Told, Validates, WorksOrWants, backed_up, moved_line, the_number, the_second, validated_by, validity, within_memory};
 ghost use Rattle.command_steps.specs.Reading.{mover_view};
 ghost use Rattle.command_steps.specs.Owns.{file_put, last_of, own_of, row_put};
 ghost use Rattle.command_steps.specs.declared.outcome.Outcome.TheVariants as outcome;
@@ -34,11 +37,12 @@ use choosers::{Binder, First};
 use client_trees::{FileRow, MemTree, Tree};
 use copy_pools::backup_pool;
 use copy_runs::Moved;
+use db_backup::{Taken, backup_db, backup_db_since, delete_history};
 use deletions::{delete_filespace, delete_volume};
 use entries::Change;
 use expiration::expire;
 use inventory_answers::{Answer, Query, Rows};
-use kinds::{FilespaceName, Name, NodeName, Path, PoolChange, Refusal, Verb};
+use kinds::{Day, FilespaceName, Name, NodeName, Path, PoolChange, Refusal, Verb};
 use migration::{migrate, migrate_all};
 use pool_restores::{restore_pool, restore_volume};
 use reclamation::{move_data, reclaim};
@@ -46,6 +50,7 @@ use reports::Shown;
 use sessions::{checkpoint, commit_change, put_file, read_file, show};
 use std::alloc::Global;
 use steps::Stepper;
+use volume_audits::audit_volume;
 
 // ---- changes and queries
 
@@ -471,6 +476,65 @@ fn empty_volume<P: Stepper>(alloc: Global, p: &mut P, file: u32) -> Result<Outco
     }
 }
 
+/// The last line of a database backup.
+fn backed_up(taken: Taken) -> Outcome
+    ensures { result ≡ backed_up taken }
+{
+    Outcome::Said(Shown::BackedUp {
+        file: taken.file,
+        seq: taken.seq,
+    })
+}
+
+/// Backs up the whole database.
+fn back_up_database<P: Stepper>(p: &mut P) -> Result<Outcome, Refusal>
+    ensures { Call P.did p.old p.new (λ events. Gives (DatabaseBackup None) backed_up events result) }
+{
+    match backup_db(p) {
+        Ok(taken) => Ok(backed_up(taken)),
+        Err(refusal) => Err(refusal),
+    }
+}
+
+/// Backs up what came behind the newest backup of the database.
+fn back_up_since<P: Stepper>(p: &mut P) -> Result<Outcome, Refusal>
+    ensures { Call P.did p.old p.new (λ events. Gives IncrementalBackup backed_up events result) }
+{
+    match backup_db_since(p) {
+        Ok(taken) => Ok(backed_up(taken)),
+        Err(refusal) => Err(refusal),
+    }
+}
+
+/// Takes database backups off the list, up to a day.
+fn forget_backups<P: Stepper>(alloc: Global, p: &mut P, to: Day) -> Result<Outcome, Refusal>
+    ensures { Call P.did p.old p.new (λ events. Gives (HistoryDeletion to) (λ deleted. outcome.Said (shown.DeletedHistory deleted)) events result) }
+{
+    match delete_history(alloc, p, to) {
+        Ok(deleted) => Ok(Outcome::Said(Shown::DeletedHistory { deleted })),
+        Err(refusal) => Err(refusal),
+    }
+}
+
+/// Audits the copies on a volume.
+fn audit<P: Stepper>(
+    alloc: Global,
+    p: &mut P,
+    buffer: &mut [u8],
+    file: u32,
+    fix: bool,
+) -> Result<Outcome, Refusal>
+    requires some { 1 ≤ length buffer.old }
+    requires few { length buffer.old ≤ 2 ^ 16 }
+    ensures audits { Call P.did p.old p.new (λ events. Gives (VolumeAudit fix file) outcome.Audited events result) }
+    ensures long { length buffer.new ≡ length buffer.old }
+{
+    match audit_volume(alloc, p, file, fix, buffer) {
+        Ok(audit) => Ok(Outcome::Audited(audit)),
+        Err(refusal) => Err(refusal),
+    }
+}
+
 /// Does what is no one change and no one query, over the numbers of the things that the command names.
 fn run_own<P: Stepper, T: Tree>(
     alloc: Global,
@@ -497,6 +561,10 @@ fn run_own<P: Stepper, T: Tree>(
         Own::EmptyVolume => empty_volume(alloc, p, the_number(numbers)),
         Own::BackUpPool => { back_up_pool(alloc, p, the_number(numbers), the_second(numbers)) }
         Own::Moves(mover) => { move_all(alloc, p, mover, the_number(numbers), the_second(numbers)) }
+        Own::BackUpDatabase => back_up_database(p),
+        Own::BackUpSince => back_up_since(p),
+        Own::DeleteHistory(to) => forget_backups(alloc, p, to),
+        Own::AuditVolume(fix) => audit(alloc, p, buffer, the_number(numbers), fix),
         Own::NoneButReuse => Ok(Outcome::Said(Shown::Reused { reused: 0 })),
         Own::NoneYet => Err(Refusal::UnknownWord(1)),
     }

@@ -1,10 +1,10 @@
 // What a line of the script is.
 ghost use Rattle.std.specs.Prelude.{◌≡◌, ◌<◌, ◌-◌, ◌^◌, false, length, IfOk, IfErr};
 ghost use Rattle.kinds.specs.declared.refusal.Refusal.TheVariants.{Memory};
-ghost use Rattle.command_steps.specs.Lines.{does_volume, does_file, does_database, is_done, line_of};
+ghost use Rattle.command_steps.specs.Lines.{does_file, does_database, is_done, line_of};
 ghost use Rattle.command_steps.specs.Reading.{line_view};
 
-use admin_words::command::{DatabaseCommand, FileCommand, VolumeCommand};
+use admin_words::command::{DatabaseCommand, FileCommand};
 use admin_words::{Command, read_line};
 use command_words::is_comment;
 use kinds::Refusal;
@@ -21,15 +21,6 @@ pub(crate) enum Line {
     Asks(Command),
 }
 
-fn does_volume(command: &VolumeCommand) -> bool
-    ensures { result ≡ does_volume command.now }
-{
-    match command {
-        VolumeCommand::AuditVolume(_) => false,
-        _ => true,
-    }
-}
-
 fn does_file(command: &FileCommand) -> bool
     ensures { result ≡ does_file command.now }
 {
@@ -43,7 +34,7 @@ fn does_database(command: &DatabaseCommand) -> bool
     ensures { result ≡ does_database command.now }
 {
     match command {
-        DatabaseCommand::BackupDatabase(_) | DatabaseCommand::DeleteHistory(_) => false,
+        DatabaseCommand::BackupDatabase(_) => false,
         _ => true,
     }
 }
@@ -53,8 +44,11 @@ fn is_done(command: &Command) -> bool
     ensures { result ≡ is_done command.now }
 {
     match command {
-        Command::Policy(_) | Command::Class(_) | Command::Node(_) | Command::Pool(_) => true,
-        Command::Volume(it) => does_volume(it),
+        Command::Policy(_)
+        | Command::Class(_)
+        | Command::Node(_)
+        | Command::Pool(_)
+        | Command::Volume(_) => true,
         Command::File(it) => does_file(it),
         Command::Database(it) => does_database(it),
         Command::Block(_) => false,

@@ -5,6 +5,7 @@ use inventory_answers::Answer;
 use reports::Shown;
 use restores::Restored;
 use sessions::FileRead;
+use volume_audits::Audit;
 
 /// What a command came to, which is printed.
 #[derive(Drop)]
@@ -19,4 +20,6 @@ pub enum Outcome {
     Sent(Sent),
     /// These objects were to be restored, and this came of them.
     Restored(Restored),
+    /// The copies on a volume were audited so; the damaged ones stand by the numbers of their objects.
+    Audited(Audit),
 }

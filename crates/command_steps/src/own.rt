@@ -1,6 +1,6 @@
 // Work that is no one change and no one query.
 ghost use Rattle.std.specs.Prelude.{◌≡◌};
-ghost use Rattle.command_steps.specs.Owns.{policy_own, node_own, pool_own, volume_own, file_own, database_own, own_of, tree_of};
+ghost use Rattle.command_steps.specs.Owns.{policy_own, node_own, pool_own, volume_own, file_own, backup_own, database_own, own_of, tree_of};
 ghost use Rattle.command_steps.specs.Reading.{own_view, tree_view};
 
 use admin_words::Command;
@@ -9,6 +9,8 @@ use admin_words::command::{
 };
 use admin_words::files::{FileErase, FileGet, FilePut, FileWrite, FilesRestore, IncrementalBackup};
 use admin_words::policy::NamedSet;
+use admin_words::words::BackupType;
+use kinds::Day;
 
 /// What moves copies.
 #[derive(Clone, Copy)]
@@ -77,6 +79,14 @@ pub(crate) enum Own<'a> {
     BackUpPool,
     /// What moves copies.
     Moves(Mover),
+    /// BACKUP DB of the whole database.
+    BackUpDatabase,
+    /// BACKUP DB of what came behind the newest backup.
+    BackUpSince,
+    /// DELETE VOLHISTORY, of backups that were taken on or before this day.
+    DeleteHistory(Day),
+    /// AUDIT VOLUME, over the number of the volume's file, and whether damaged copies go.
+    AuditVolume(bool),
     /// What isn't done so far.
     NoneYet,
 }
@@ -104,11 +114,22 @@ fn file_own(command: &FileCommand) -> Own<'_>
     }
 }
 
+fn backup_own<'a>(kind: BackupType) -> Own<'a>
+    ensures { own_view result ≡ backup_own kind }
+{
+    match kind {
+        BackupType::Full => Own::BackUpDatabase,
+        BackupType::Incremental => Own::BackUpSince,
+    }
+}
+
 fn database_own(command: &DatabaseCommand) -> Own<'_>
     ensures { own_view result ≡ database_own command.now }
 {
     match command {
+        DatabaseCommand::BackupDatabase(it) => backup_own(it.backup_type),
         DatabaseCommand::Checkpoint => Own::Checkpoint,
+        DatabaseCommand::DeleteHistory(it) => Own::DeleteHistory(it.to_date),
         DatabaseCommand::ExpireInventory => Own::Expire,
         _ => Own::NoneYet,
     }
@@ -140,6 +161,7 @@ fn volume_own(command: &VolumeCommand) -> Own<'_>
     ensures { own_view result ≡ volume_own command.now }
 {
     match command {
+        VolumeCommand::AuditVolume(it) => Own::AuditVolume(it.fix),
         VolumeCommand::DeleteVolume(it) => {
             if it.discard_data {
                 Own::EmptyVolume

@@ -6,7 +6,7 @@ ghost use Rattle.kinds.specs.Answers.{AnswersBy};
 ghost use Rattle.kinds.specs.declared.refusal.Refusal.TheVariants.{Memory};
 ghost use Rattle.reports.specs.Pieces.{numbered};
 ghost use Rattle.reports.specs.Lines.{shown_line};
-ghost use Rattle.command_steps.specs.Answers.{piece_of, data_line, data_lines, data_width, failed_gave, failed_weight, failure_line, file_lines, given_lines, restored_lines, row_lines, sent_lines, shown_of, outcome_lines};
+ghost use Rattle.command_steps.specs.Answers.{audited_lines, damaged_line, piece_of, data_line, data_lines, data_width, failed_gave, failed_weight, failure_line, file_lines, given_lines, restored_lines, row_lines, sent_lines, shown_of, outcome_lines};
 
 use crate::outcome::Outcome;
 use client_files::Gave;
@@ -17,6 +17,7 @@ use reports::{Shown, print_line, print_rows, row_count};
 use restores::{RestoreLine, Restored};
 use sessions::FileRead;
 use std::alloc::Global;
+use volume_audits::{Audit, Damaged};
 
 /// The bytes that a DATA line shows at the most.
 const WIDTH: usize = 64;
@@ -278,6 +279,57 @@ fn restored_lines(alloc: Global, line: u32, restored: &Restored) -> Result<Vec<u
     Ok(text)
 }
 
+/// The line of a copy that an audit found damaged.
+fn damaged_line(alloc: Global, line: u32, copy: &Damaged) -> Result<Vec<u8>, Refusal>
+    ensures { AnswersBy (λ text. text.items) result (damaged_line line copy.now) }
+{
+    print_line(
+        alloc,
+        line,
+        &Shown::Damaged {
+            object: copy.object,
+            kept: copy.kept,
+            found: copy.found,
+        },
+    )
+}
+
+/// Puts the lines of the copies that an audit found damaged.
+fn put_damaged(
+    alloc: Global,
+    out: &mut Vec<u8>,
+    line: u32,
+    copies: &[Damaged],
+) -> Result<(), Refusal>
+    ensures put { OnOk result (out.new.items ≡ out.old.items ++ flat_map (damaged_line line) copies.now) }
+    ensures memory { IfErr result (λ e. e ≡ Memory) }
+{
+    'copies: for copy in copies {
+        let text = damaged_line(alloc, line, copy)?;
+        out.extend_from_slice(text.as_slice())?;
+    }
+    Ok(())
+}
+
+/// The lines of an audit.
+fn audited_lines(alloc: Global, line: u32, audit: &Audit) -> Result<Vec<u8>, Refusal>
+    ensures { AnswersBy (λ text. text.items) result (audited_lines line audit.now) }
+{
+    let mut text = Vec::new(alloc);
+    put_damaged(alloc, &mut text, line, audit.damaged.as_slice())?;
+    let last = print_line(
+        alloc,
+        line,
+        &Shown::Audited {
+            sound: audit.sound,
+            damaged: audit.damaged.as_slice().len() as u64,
+            fixed: audit.fixed,
+        },
+    )?;
+    text.extend_from_slice(&last)?;
+    Ok(text)
+}
+
 /// The lines of what a command in this line came to. Its one refusal is want of memory.
 pub(crate) fn outcome_lines(alloc: Global, line: u32, outcome: &Outcome) -> Result<Vec<u8>, Refusal>
     ensures { AnswersBy (λ text. text.items) result (outcome_lines line outcome.now) }
@@ -288,5 +340,6 @@ pub(crate) fn outcome_lines(alloc: Global, line: u32, outcome: &Outcome) -> Resu
         Outcome::Rows(answer) => row_lines(alloc, line, answer),
         Outcome::Sent(sent) => sent_lines(alloc, line, sent),
         Outcome::Restored(it) => restored_lines(alloc, line, it),
+        Outcome::Audited(it) => audited_lines(alloc, line, it),
     }
 }

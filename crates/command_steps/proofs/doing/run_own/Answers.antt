@@ -1,7 +1,7 @@
 use Rattle.command_steps.proofs.Worked.{owned, owned-alone}
 use Rattle.command_steps.specs.Doing.{DoesAlone, Gives, MovesSo, moved_line, the_second}
 use Rattle.command_steps.specs.Reading.{mover_view}
-use Rattle.command_steps.specs.Owns.{back_up_pool, checkpoint, empty_filespace, empty_volume, expire, get, none_but_reuse, none_yet, on_tree, own_of, put, validate}
+use Rattle.command_steps.specs.Owns.{audit_volume, back_up_database, back_up_pool, back_up_since, checkpoint, delete_history, empty_filespace, empty_volume, expire, get, none_but_reuse, none_yet, on_tree, own_of, put, validate}
 use Rattle.command_steps.specs.Owns as owns
 use Rattle.kinds.specs.declared.refusal.Refusal.TheVariants.{UnknownWord}
 use Rattle.std.proofs.Common.{ℕ, true, Err, Ok, refl, subst}
@@ -11,8 +11,9 @@ use Rattle.deletions.specs.Filespaces.{FilespaceDeletion}
 use Rattle.deletions.specs.Volumes.{VolumeDeletion}
 use Rattle.deletions.specs.declared.copies.Removed.{Removed}
 use Rattle.reports.specs.declared.shown.Shown.TheVariants.{Copied, DeletedVolume, DiscardedFilespace, Reused}
-use Rattle.command_steps.specs.declared.outcome.Outcome.TheVariants.{Said}
+use Rattle.command_steps.specs.declared.outcome.Outcome.TheVariants.{Audited, Said}
 use Rattle.steps.specs.Calls.{Call}
+use Rattle.volume_audits.specs.Auditing.{VolumeAudit}
 use Rattle.steps.proofs.Joining.{call_of_none}
 use Rattle.command_steps.specs.Reading.{tree_view}
 use Rattle.command_steps.specs.Clients.{client}
@@ -61,3 +62,16 @@ returns-in-Moves-clause-does g c = owned-alone g.P.Stepper.did c.args.p.now c.mo
 
 pub returns-in-OnATree-clause-does : goal.returns-in-OnATree-clause-does
 returns-in-OnATree-clause-does g c = owned g.P.Stepper.did c.args.p.now c.do_there.new.p (client g.T.Tree.files g.T.Tree.fault_count c.args.binder.now c.args.trees.now c.do_there.new.trees) (on_tree (tree_view c.in-OnATree.work)) (own_of c.args.command.now) c.args.numbers.now c.do_there.result c.in-OnATree.ensures c.do_there.ensures
+
+pub returns-in-BackUpDatabase-clause-does : goal.returns-in-BackUpDatabase-clause-does
+returns-in-BackUpDatabase-clause-does g c = owned-alone g.P.Stepper.did c.args.p.now c.back_up_database.new.p (client g.T.Tree.files g.T.Tree.fault_count c.args.binder.now c.args.trees.now c.args.trees.now) back_up_database (own_of c.args.command.now) c.args.numbers.now c.back_up_database.result c.in-BackUpDatabase.ensures refl c.back_up_database.ensures
+
+pub returns-in-BackUpSince-clause-does : goal.returns-in-BackUpSince-clause-does
+returns-in-BackUpSince-clause-does g c = owned-alone g.P.Stepper.did c.args.p.now c.back_up_since.new.p (client g.T.Tree.files g.T.Tree.fault_count c.args.binder.now c.args.trees.now c.args.trees.now) back_up_since (own_of c.args.command.now) c.args.numbers.now c.back_up_since.result c.in-BackUpSince.ensures refl c.back_up_since.ensures
+
+pub returns-in-DeleteHistory-clause-does : goal.returns-in-DeleteHistory-clause-does
+returns-in-DeleteHistory-clause-does g c = owned-alone g.P.Stepper.did c.args.p.now c.forget_backups.new.p (client g.T.Tree.files g.T.Tree.fault_count c.args.binder.now c.args.trees.now c.args.trees.now) (delete_history c.in-DeleteHistory.to) (own_of c.args.command.now) c.args.numbers.now c.forget_backups.result c.in-DeleteHistory.ensures refl c.forget_backups.ensures
+
+pub returns-in-AuditVolume-clause-does : goal.returns-in-AuditVolume-clause-does
+returns-in-AuditVolume-clause-does g c = owned-alone g.P.Stepper.did c.args.p.now c.audit.new.p (client g.T.Tree.files g.T.Tree.fault_count c.args.binder.now c.args.trees.now c.args.trees.now) (audit_volume c.in-AuditVolume.fix) (own_of c.args.command.now) c.args.numbers.now c.audit.result c.in-AuditVolume.ensures refl
+    (subst (λ (k : ℕ). Call g.P.Stepper.did c.args.p.now c.audit.new.p (λ events. Gives (VolumeAudit c.in-AuditVolume.fix k) Audited events c.audit.result)) c.the_number-in-AuditVolume.ensures c.audit.ensures.audits)
