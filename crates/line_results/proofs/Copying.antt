@@ -26,6 +26,7 @@ use Rattle.machine.specs.Machine.{Asks, Becomes, Case, Commits, CopiesPiece, Dro
 use Rattle.machine.specs.State.{Core, Machine, Place, Purpose, Ticket, copying, inventory, is_storing, is_ticket, object_of, own_tickets, sealed, sealing, taking, ticket, took, without}
 use Rattle.line_results.specs.Resting.{IsAtRest, Onward, entry}
 use Rattle.line_results.proofs.Runs.{onward-later}
+use Rattle.line_results.proofs.Idle.{IsSameIn, still-idle}
 use Rattle.line_results.proofs.Spent.{HasTickets, all-map, all-push, all-without, spent-free, ticket-step}
 use Rattle.line_results.proofs.Walking.{Grew, Under, are-more, force-free, force-grew, grew-as, grew-halts, grew-none, grew-stays, grew-tickets, joined-under, under-tickets}
 
@@ -132,7 +133,7 @@ abbrev Went : (moves : Bool) → (P : Change → Type 0) → (first : List Entry
 Went moves P first old next = (more : List Entry) × Copied moves P first more old next
 
 opened-under : (added : List Entry) (actor size : ℕ) (p : Purpose) (place : Place) (old c : Core) → Under added old c → Under added old (opened actor size p place c)
-opened-under added actor size p place old c u = record { base = u.base; journal = u.journal; generation = u.generation; log_length = u.log_length; image = u.image; fresh = u.fresh; stamps = u.stamps; few = u.few }
+opened-under added actor size p place old c u = record { base = u.base; journal = u.journal; generation = u.generation; log_length = u.log_length; fresh = u.fresh; stamps = u.stamps; few = u.few }
 
 module _ (moves : Bool) (P : Change → Type 0) (first later : List Entry) (old m next : Machine) (w : Copied moves P first later old m) (since : Onward m next) where
   stays-copied : Stays m next → Copied moves P first later old next
@@ -273,3 +274,7 @@ module _ (moves : Bool) (P : Change → Type 0) (trusted : Type 0) (places : Pla
   -- where each was spent none is left
   pub settled-free : (events : List Event) (m new : Machine) → m.core.tickets ≡ [] → AllCopy moves P events → AreSettled events → Alone trusted places 0 events m new → new.core.tickets ≡ []
   settled-free events m new none all settled f = spent-free trusted places (Copies moves P) (has-tickets moves P) events m new none all settled f
+
+  -- and the image in progress is what it was
+  pub copies-idle : (events : List Event) (m new : Machine) → AllCopy moves P events → Alone trusted places 0 events m new → IsSameIn m new
+  copies-idle events m new all f = still-idle trusted places (Copies moves P) (has-tickets moves P) events m new all f

@@ -27,7 +27,7 @@ use Rattle.sessions.specs.declared.getting.FileRead.{FileRead}
 use Rattle.sessions.specs.declared.homes.Home.{Home}
 use Rattle.command_steps.specs.Behind.{Behind, forces, no_more, reuses}
 use Rattle.command_steps.specs.Clients.{Client, Known}
-use Rattle.command_steps.specs.Owns.{OnTree, Own, back_up, back_up_pool, checkpoint, empty_filespace, empty_volume, erase, expire, get, moves, none_but_reuse, none_yet, on_tree, own_of, put, restore, validate, write}
+use Rattle.command_steps.specs.Owns.{OnTree, Own, audit_volume, back_up, back_up_database, back_up_pool, back_up_since, checkpoint, delete_history, empty_filespace, empty_volume, erase, expire, get, moves, none_but_reuse, none_yet, on_tree, own_of, put, restore, validate, write}
 use Rattle.command_steps.specs.Trees.{BacksUp, GivesWanted}
 use Rattle.command_steps.specs.declared.outcome.Outcome.{Outcome}
 use Rattle.line_results.specs.Commands.{Does, DoesOn, DoesOwn, DoesThere, EndsSo, IsStill, Processes, Ran, Tells, Works, WorksWith, drawn}
@@ -176,6 +176,10 @@ module _ (trusted : Type 0) (places : Places) (k : Client) (result : Result Outc
   own-as numbers empty_volume (kept, h) = (kept, processes-as numbers empty_volume h)
   own-as numbers back_up_pool (kept, h) = (kept, processes-as numbers back_up_pool h)
   own-as numbers (moves mover) (kept, h) = (kept, processes-as numbers (moves mover) h)
+  own-as numbers back_up_database (kept, h) = (kept, processes-as numbers back_up_database h)
+  own-as numbers back_up_since (kept, h) = (kept, processes-as numbers back_up_since h)
+  own-as numbers (delete_history to) (kept, h) = (kept, processes-as numbers (delete_history to) h)
+  own-as numbers (audit_volume fix) (kept, h) = (kept, processes-as numbers (audit_volume fix) h)
   own-as numbers none_but_reuse (kept, h) = (kept, tells-as _ result added old mid new b h)
   own-as numbers (on_tree work) h = there-as work h
   own-as numbers none_yet (kept, h) = (kept, tells-as _ result added old mid new b h)

@@ -51,7 +51,7 @@ use Rattle.command_steps.specs.Lines.{Line, asks, comment, refused as refused_li
 use Rattle.command_steps.specs.Behind.{Behind, behind, forces, no_more, reuses}
 use Rattle.command_steps.specs.Doing.{Forcing, Reusing, within_run}
 use Rattle.command_steps.specs.Writing.{Erases, Writes, bytes_of}
-use Rattle.command_steps.specs.Owns.{OnTree, Own, back_up, back_up_pool, checkpoint, empty_filespace, empty_volume, erase, expire, get, last_of, moves, none_but_reuse, none_yet, on_tree, own_of, put, restore, validate, write}
+use Rattle.command_steps.specs.Owns.{OnTree, Own, audit_volume, back_up, back_up_database, back_up_pool, back_up_since, checkpoint, delete_history, empty_filespace, empty_volume, erase, expire, get, last_of, moves, none_but_reuse, none_yet, on_tree, own_of, put, restore, validate, write}
 use Rattle.command_steps.specs.declared.outcome.Outcome.{Outcome}
 use Rattle.command_steps.specs.declared.outcome.Outcome.TheVariants.{Read, Rows, Said}
 use Rattle.line_results.specs.Clauses.{BytesBy, BytesOwn, CauseBy, CauseOwn, CauseWith, DidBy, DidWith, Holds, IsAnsweredWith, IsRows, IsThereOrDefined, ItemsBy, ItemsOf, ItemsOwn, MayBackUp, MayBy, MayGet, MayGive, MayOn, MayOwn, OrderedBy, OrderedWith, RowsBy, orders}
@@ -535,6 +535,10 @@ process-ordered trusted places k numbers empty_filespace old mid said added so h
 process-ordered trusted places k numbers empty_volume old mid said added so h = h.1.1
 process-ordered trusted places k numbers back_up_pool old mid said added so h = h.1.1
 process-ordered trusted places k numbers (moves mover) old mid said added so h = h.1.1
+process-ordered trusted places k numbers back_up_database old mid said added so h = h.1.1
+process-ordered trusted places k numbers back_up_since old mid said added so h = h.1.1
+process-ordered trusted places k numbers (delete_history to) old mid said added so h = h.1.1
+process-ordered trusted places k numbers (audit_volume fix) old mid said added so h = h.1.1
 process-ordered trusted places k numbers none_but_reuse old mid said added so h = no-entries (λ x. (x.actor ≡ 0) × OrderedBy k none_but_reuse (Ok (Run numbers)) old x.change) added h.1.1
 process-ordered trusted places k numbers none_yet old mid said added so h = no-entries (λ x. (x.actor ≡ 0) × OrderedBy k none_yet (Ok (Run numbers)) old x.change) added h.1.1
 process-ordered trusted places k numbers own old mid said added so h = absurd so

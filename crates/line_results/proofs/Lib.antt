@@ -1,4 +1,5 @@
 pub mod Asked
+pub mod Backing
 pub mod BackupRefused
 pub mod Changed
 pub mod Changing
@@ -13,6 +14,7 @@ pub mod Forced
 pub mod Free
 pub mod Got
 pub mod Holding
+pub mod Idle
 pub mod Keeping
 pub mod Leaving
 pub mod Line

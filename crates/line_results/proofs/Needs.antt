@@ -45,10 +45,12 @@ use Rattle.admin_commands.specs.declared.work.Work.{Work}
 use Rattle.admin_commands.specs.declared.work.Work.TheVariants as work
 use Rattle.admin_commands.specs.Found.{archive_of, behind, device_found, device_named, domain_named, filespace_named, group_of, next_found, node_named, number_found, pool_called, pool_named, set_named, the_pool, the_volume}
 use Rattle.admin_commands.specs.Policy.{archive_changed, destination_for, group_changed, new_archive, new_rule, other_archive, other_rule, update_archive_rule, update_rule}
+use Rattle.admin_words.specs.declared.words.BackupType.{BackupType}
+use Rattle.admin_words.specs.declared.words.BackupType.TheVariants.{Full, Incremental}
 use Rattle.admin_commands.specs.Orders.{class_needs, class_work, clients, database_needs, database_work, dev_class, file_needs, file_work, for_move, if_given, if_next, needs, node_needs, node_work, policies, policy_needs, policy_work, pool, pool_needs, pool_row, pool_work, run, run_found, run_in, show, stores, volume, volume_needs, volume_row, volume_work, work_of}
 use Rattle.admin_commands.specs.Stores.{access_changed, capacity_for, class_deleted, collocates_disk, delete_volume, is_definition, is_ordered, may_move, move_data, moved, moved_from, new_settings, new_volume, next_for, other_settings, pool_changed, update_found, update_settings, volume_deleted}
 use Rattle.machine.specs.Causes.{is_plain}
-use Rattle.command_steps.specs.Owns.{OnTree, Own, back_up, database_own, empty_volume, file_own, node_own, none_yet, on_tree, own_of, policy_own, pool_own, put, restore, volume_own}
+use Rattle.command_steps.specs.Owns.{OnTree, Own, back_up, backup_own, database_own, empty_volume, file_own, node_own, none_yet, on_tree, own_of, policy_own, pool_own, put, restore, volume_own}
 use Rattle.command_steps.specs.Answers.{halt_by}
 use Rattle.line_results.proofs.Asked.{AreUnlogged, is_log}
 use Rattle.line_results.proofs.Mild.{is_common}
@@ -339,7 +341,12 @@ file-asks (Incremental i) h none = cc
 file-asks (RestoreFiles r) h none = cc
 file-asks c h none = cc
 
+backup-asks : (kind : BackupType) → looks_up (backup_own kind) ≡ true → ⊥
+backup-asks Full h = cc
+backup-asks Incremental h = cc
+
 database-asks : (c : DatabaseCommand) → looks_up (database_own c) ≡ true → ⊥
+database-asks (BackupDatabase b) h = backup-asks b.backup_type h
 database-asks Checkpoint h = cc
 database-asks c h = cc
 

@@ -27,6 +27,11 @@ use Rattle.steps.specs.Spent.{AreSettled}
 use Rattle.copy_pools.specs.Backups.{IsBackup, Came as BackupCame}
 use Rattle.copy_runs.specs.Ends.{IsEnding}
 use Rattle.copy_runs.specs.declared.wanted.Moved.{Moved}
+use Rattle.db_backup.specs.Backups.{IsFollowing}
+use Rattle.db_backup.specs.Deleting.{IsDeleting}
+use Rattle.db_backup.specs.Listing.{due_files}
+use Rattle.db_backup.specs.Taking.{IsOf as IsOfImage, kind_of, may_leave as may_leave_image}
+use Rattle.db_backup.specs.declared.taking.Taken.{Taken}
 use Rattle.deletions.specs.Discarding.{IsDiscarding, discarded}
 use Rattle.deletions.specs.Dropping.{IsTaking, dropped}
 use Rattle.deletions.specs.Filespaces as filespaces
@@ -50,9 +55,11 @@ use Rattle.space.specs.declared.aim.Aim.TheVariants as aim
 use Rattle.script_loop.specs.declared.ends.Halt.{Halt}
 use Rattle.sessions.specs.Changing.{Changing, IsOf}
 use Rattle.steps.specs.declared.asked.Asked.{Asked}
+use Rattle.steps.specs.declared.image.ImageKind.{ImageKind}
+use Rattle.steps.specs.declared.image.ImageKind.TheVariants as image
 use Rattle.steps.specs.declared.asked.Asked.TheVariants.{Plain}
 use Rattle.steps.specs.Events.{Deed, Event}
-use Rattle.steps.specs.Events.Deed.{Ask, Commit, CopyPiece, DropTicket, Force, OpenCopy, Reuse, Seal}
+use Rattle.steps.specs.Events.Deed.{Ask, Commit, CopyPiece, DropTicket, Force, Image, OpenCopy, Reuse, Seal}
 use Rattle.machine.specs.Alone.{Alone, with_contents}
 use Rattle.machine.specs.Causes.{is_plain}
 use Rattle.machine.specs.Changes.{filled, is_moving}
@@ -61,19 +68,23 @@ use Rattle.machine.specs.State.{Core, Machine, inventory}
 use Rattle.command_steps.specs.Answers.{halt_by}
 use Rattle.command_steps.specs.Behind.{Behind, behind, forces, no_more, reuses, with_reused}
 use Rattle.command_steps.specs.Clients.{Client, IsKept}
-use Rattle.command_steps.specs.Doing.{Does as DoesBy, DoesAlone as DoesAloneBy, DoesOwn as DoesOwnBy, DoesWork, EndsWork, Forcing, MovesSo, Reusing, moved_line, the_number, the_second}
-use Rattle.command_steps.specs.Owns.{Mover, OnTree, Own, all_migrator, back_up, back_up_pool, checkpoint, data_mover, empty_filespace, empty_volume, expire, get, last_of, migrator, moves, none_but_reuse, none_yet, on_tree, own_of, pool_restorer, put, reclaimer, validate, volume_restorer}
+use Rattle.command_steps.specs.Doing.{Does as DoesBy, DoesAlone as DoesAloneBy, DoesOwn as DoesOwnBy, DoesWork, EndsWork, Forcing, MovesSo, Reusing, backed_up, moved_line, the_number, the_second}
+use Rattle.command_steps.specs.Owns.{Mover, OnTree, Own, all_migrator, audit_volume, back_up, back_up_database, back_up_pool, back_up_since, checkpoint, data_mover, delete_history, empty_filespace, empty_volume, expire, get, last_of, migrator, moves, none_but_reuse, none_yet, on_tree, own_of, pool_restorer, put, reclaimer, validate, volume_restorer}
 use Rattle.command_steps.specs.Trees.{DoesThere as DoesThereBy, ShowsSent}
+use Rattle.volume_audits.specs.Auditing.{IsAuditing}
+use Rattle.volume_audits.specs.Mending.{IsMending}
 use Rattle.command_steps.specs.declared.outcome.Outcome.{Outcome}
 use Rattle.command_steps.specs.declared.outcome.Outcome.TheVariants.{Said}
 use Rattle.line_results.specs.Commands.{Does, DoesAlone, DoesOwn, DoesThere, EndsWith, IsLoss, IsReuse, IsStill, IsStopped, MayMake, Processes, Ran, Tells, Works, WorksWith}
-use Rattle.line_results.specs.Resting.{Adds, EndsRun, IsAtRest, IsLate, NobodyHolds, SameBytes, SameImage, database}
+use Rattle.line_results.specs.Resting.{Adds, EndsRun, IsAtRest, IsLate, NobodyHolds, SameBytes, SameImage, database, has_ended}
 use Rattle.line_results.specs.Trees.{HasBytes, IsOfBackup}
 use Rattle.reports.specs.declared.shown.Shown.TheVariants.{Copied, Reused}
+use Rattle.line_results.proofs.Backing.{AllBack, MayBack, back-walk, backed-none, backs-none, left_by, newest-none}
 use Rattle.line_results.proofs.Changed.{changes}
 use Rattle.line_results.proofs.BackupRefused.{backup-refused}
-use Rattle.line_results.proofs.Copying.{AllCopy, Copies, IsCopy, MayJoin, copied-none, copies-walk, settled-free}
+use Rattle.line_results.proofs.Copying.{AllCopy, Copies, IsCopy, MayJoin, copied-none, copies-idle, copies-walk, settled-free}
 use Rattle.line_results.proofs.Free.{free-walk}
+use Rattle.line_results.proofs.Idle.{still-idle}
 use Rattle.line_results.proofs.Processing.{IsProcess, IsProcessOwn, IsProcessTree, IsRowless}
 use Rattle.line_results.proofs.Leaving.{Left}
 use Rattle.line_results.proofs.Mild.{is_common}
@@ -85,7 +96,7 @@ use Rattle.line_results.proofs.Runs.{alone-none, alone-parts, onward-none}
 use Rattle.line_results.proofs.Sending.{Sends, Stored, has-tickets, sends-walk, stored-none}
 use Rattle.line_results.proofs.Settling.{Settled, may_stay, settles}
 use Rattle.line_results.proofs.Spent.{spent-free}
-use Rattle.line_results.proofs.Walking.{AllWalk, AreOf, Grew, Under, Walked, Walks, all-walk, are-as, grew-none, grew-since, rose-in-as, walk, walked-none}
+use Rattle.line_results.proofs.Walking.{AllWalk, AreOf, Grew, MayWalk, Under, Walked, Walks, all-may-walk, all-walk, are-as, grew-none, grew-since, rose-in-as, walk, walked-none}
 
 -- ---- steps of processes
 
@@ -135,6 +146,52 @@ volume-walks numbers d (inr h) = taking-walks numbers d h
 reusing-walks : (files : List ℕ) (d : Deed) → IsReusing files d → Walks (IsReuse reuses) d
 reusing-walks files d (inl h) = ending-walks (IsReuse reuses) d h
 reusing-walks files d (inr (file, answer, among, is)) = subst (λ (x : Deed). Walks (IsReuse reuses) x) (sym is) (file, refl)
+
+-- a backup that is taken off the list
+history-walks : (to : ℕ) (numbers files : List ℕ) (d : Deed) → IsDeleting files d → Walks (MayMake numbers (delete_history to)) d
+history-walks to numbers files d (inl h) = ending-walks (MayMake numbers (delete_history to)) d h
+history-walks to numbers files d (inr (file, answer, among, is)) = plain-walks (MayMake numbers (delete_history to)) d (change.DbDelete file) answer (λ next_file v. (file, refl)) is
+
+-- a copy that is read, or mended where that is asked
+mending-walks : (fix : Bool) (numbers : List ℕ) (d : Deed) → fix ≡ true → IsMending (the_number numbers) d → Walks (MayMake numbers (audit_volume fix)) d
+mending-walks fix numbers d asked (line, found, answer, inl is) = plain-walks (MayMake numbers (audit_volume fix)) d _ answer (λ next_file v. (asked, inl (_, refl))) is
+mending-walks fix numbers d asked (line, found, answer, inr is) = plain-walks (MayMake numbers (audit_volume fix)) d _ answer (λ next_file v. (asked, inr (_, refl))) is
+
+auditing-walks : (fix : Bool) (numbers : List ℕ) (d : Deed) → IsAuditing fix (the_number numbers) d → MayWalk (MayMake numbers (audit_volume fix)) d
+auditing-walks fix numbers d (inl h) = inl (ending-walks (MayMake numbers (audit_volume fix)) d h)
+auditing-walks fix numbers d (inr (inl (line, offset, wanted, answer, is))) = subst (λ (x : Deed). MayWalk (MayMake numbers (audit_volume fix)) x) (sym is) (inr tt)
+auditing-walks fix numbers d (inr (inr (asked, h))) = inl (mending-walks fix numbers d asked h)
+
+-- a step of a backup of the whole database
+backup-backs : (numbers : List ℕ) (d : Deed) → IsOfImage (kind_of None) d → MayBack (MayMake numbers back_up_database) d
+backup-backs numbers (Image other answer) (inl same) = subst (λ (k : ImageKind). MayBack (MayMake numbers back_up_database) (Image k answer)) (sym same) (λ file. (file, inl refl))
+backup-backs numbers (Image other answer) (inr same) = subst (λ (k : ImageKind). MayBack (MayMake numbers back_up_database) (Image k answer)) (sym same) (λ file. (file, inr (inl refl)))
+backup-backs numbers (Commit asked tickets answer) (file, is, none) =
+    asked-walks (MayMake numbers back_up_database) asked tickets answer (change.DbDelete file) (λ next_file v. (file, inr (inr refl))) is none
+backup-backs numbers (Force answer) h = tt
+backup-backs numbers d h = absurd h
+
+-- and of one that follows another
+since-backs : (numbers : List ℕ) (after : ℕ) (d : Deed) → IsOfImage (image.Since after) d → MayBack (MayMake numbers back_up_since) d
+since-backs numbers after (Image other answer) (inl same) = subst (λ (k : ImageKind). MayBack (MayMake numbers back_up_since) (Image k answer)) (sym same) (λ file. (file, inl (after, refl)))
+since-backs numbers after (Image other answer) (inr same) = subst (λ (k : ImageKind). MayBack (MayMake numbers back_up_since) (Image k answer)) (sym same) (λ file. (file, inr (inl refl)))
+since-backs numbers after (Commit asked tickets answer) (file, is, none) =
+    asked-walks (MayMake numbers back_up_since) asked tickets answer (change.DbDelete file) (λ next_file v. (file, inr (inr refl))) is none
+since-backs numbers after (Force answer) h = tt
+since-backs numbers after d h = absurd h
+
+following-backs : (numbers : List ℕ) (d : Deed) → IsFollowing d → MayBack (MayMake numbers back_up_since) d
+following-backs numbers d (inl (q, answer, is)) = subst (λ (x : Deed). MayBack (MayMake numbers back_up_since) x) (sym is) tt
+following-backs numbers d (inr (after, h)) = since-backs numbers after d h
+
+all-back : (P : Change → Type 0) (Is : Deed → Type 0) → ((d : Deed) → Is d → MayBack P d) → (events : List Event) → AllByRecursion (λ e. Is e.deed) events → AllBack P events
+all-back P Is so [] h = tt
+all-back P Is so (e ∷ events) h = (so e.deed h.0, all-back P Is so events h.1)
+
+-- where the run goes on the backup leaves no image
+leaves-none : (answer : Result Taken Refusal) (said : Result Outcome Refusal) → said ≡ on_ok backed_up answer → has_ended said ≡ false → may_leave_image answer ≡ false
+leaves-none (Ok t) said is h = refl
+leaves-none (Err e) said is h = ap (λ (r : Result Outcome Refusal). has_ended r) (sym is) ∙ h
 
 -- P holds of nothing
 abbrev NoOther : Change → Type 0
@@ -254,6 +311,7 @@ pub record Began (trusted : Type 0) (places : Places) (k : Client) (c : Command)
   pub does : Does trusted places k c (Ok w) old mid said first
   pub grew : Grew (IsReuse b) first [] (since_of old mid) mid
   pub free : may_stay said ≡ false → mid.core.tickets ≡ []
+  pub idle : has_ended said ≡ false → mid.core.image ≡ None
 
 -- work of a command's own
 pub record OwnBegan (trusted : Type 0) (places : Places) (Did : List Entry → Type 0) (b : Behind) (old mid : Machine) (said : Result Outcome Refusal) : Type 0 where
@@ -261,6 +319,7 @@ pub record OwnBegan (trusted : Type 0) (places : Places) (Did : List Entry → T
   pub does : Did first
   pub grew : Grew (IsReuse b) first [] (since_of old mid) mid
   pub free : may_stay said ≡ false → mid.core.tickets ≡ []
+  pub idle : has_ended said ≡ false → mid.core.image ≡ None
 
 still-none : (m : Machine) → IsStill m m
 still-none m = record { core = refl; contents = refl; onward = onward-none m }
@@ -280,6 +339,20 @@ module _ (trusted : Type 0) (places : Places) (choice : List Rule) (b : Behind) 
         does = ((old, events, still-none old, f, did), r.1.grew.are, r.1.grew.core.generation, r.1.grew.contents);
         grew = began-grew (MayMake numbers own) (IsReuse b) r.0 old mid r.1.grew;
         free = λ h. r.1.free;
+        idle = λ h. r.1.idle;
+      }
+
+  -- steps that begin images of database backups, and leave none where the run goes on
+  images-began : (numbers : List ℕ) (own : Own) (said : Result Outcome Refusal) (events : List Event) (old mid : Machine) → IsAtRest old.core → DoesAloneBy choice own numbers events said → AllBack (MayMake numbers own) events
+      → (has_ended said ≡ false → left_by false events ≡ false) → Alone trusted places 0 events old mid → OwnBegan trusted places (λ added. Processes trusted places choice numbers own old mid said added) b old mid said
+  images-began numbers own said events old mid rest did all none f =
+      let r = back-walk trusted places (MayMake numbers own) [] events false [] old old mid all (backed-none (MayMake numbers own) old rest) f in
+      record {
+        first = r.0;
+        does = ((old, events, still-none old, f, did), r.1.grew.are, r.1.grew.core.generation, r.1.grew.contents);
+        grew = began-grew (MayMake numbers own) (IsReuse b) r.0 old mid r.1.grew;
+        free = λ h. r.1.free;
+        idle = λ h. r.1.idle (none h);
       }
 
   -- steps that make further copies, or move some
@@ -293,6 +366,7 @@ module _ (trusted : Type 0) (places : Places) (choice : List Rule) (b : Behind) 
         does = ((old, events, still-none old, f, did), are-as (MayJoin moving P) (MayMake numbers own) may r.0 r.1.grew.are, r.1.grew.core.generation, r.1.grew.contents);
         grew = began-grew (MayJoin moving P) (IsReuse b) r.0 old mid r.1.grew;
         free = λ h. settled-free moving P trusted places events old mid rest.tickets all (settled h) f;
+        idle = λ h. copies-idle moving P trusted places events old mid all f ∙ rest.image;
       }
 
   -- what made no step
@@ -305,6 +379,7 @@ module _ (trusted : Type 0) (places : Places) (choice : List Rule) (b : Behind) 
         does = (inl is, refl, ap (λ (m : Machine). m.core.generation) same, ap (λ (m : Machine). m.contents) same);
         grew = subst (λ (m : Machine). Grew (IsReuse b) [] [] (since_of old m) m) (sym same) (began-grew (IsReuse b) (IsReuse b) [] old old (grew-none (IsReuse b) old rest));
         free = λ h. subst (λ (m : Machine). m.core.tickets ≡ []) (sym same) rest.tickets;
+        idle = λ h. subst (λ (m : Machine). m.core.image ≡ None) (sym same) rest.image;
       }
 
   no-other : (c : Change) (moving : Bool) → MayJoin moving NoOther c → IsCopy moving c
@@ -345,6 +420,17 @@ module _ (trusted : Type 0) (places : Places) (choice : List Rule) (b : Behind) 
   alone-began back_up_pool numbers said events old mid so rest h f =
       copies-began false NoOther numbers back_up_pool said events old mid (λ c is. no-other c false is) rest h (backup-copies (the_second numbers) events h.1.only) (backup-settled (the_number numbers) (the_second numbers) events h.0 said h.1.came h.2) f
   alone-began (moves mover) numbers said events old mid so rest h f = moves-began mover numbers said events old mid rest h f
+  alone-began back_up_database numbers said events old mid so rest (answer, made, is) f =
+      images-began numbers back_up_database said events old mid rest (answer, made, is) (all-back (MayMake numbers back_up_database) (IsOfImage (kind_of None)) (backup-backs numbers) events made.only)
+      (λ h. backs-none None events answer made.order (leaves-none answer said is h)) f
+  alone-began back_up_since numbers said events old mid so rest (answer, made, is) f =
+      images-began numbers back_up_since said events old mid rest (answer, made, is) (all-back (MayMake numbers back_up_since) IsFollowing (following-backs numbers) events made.only)
+      (λ h. newest-none events answer made.order (leaves-none answer said is h)) f
+  alone-began (delete_history to) numbers said events old mid so rest h f =
+      process-began numbers (delete_history to) said events old mid rest h (all-walk (IsDeleting (due_files to h.1.lines)) (MayMake numbers (delete_history to)) (history-walks to numbers (due_files to h.1.lines)) events h.1.only) f
+  alone-began (audit_volume fix) numbers said events old mid so rest h f =
+      process-began numbers (audit_volume fix) said events old mid rest h
+      (all-may-walk (IsAuditing fix (the_number numbers)) (MayMake numbers (audit_volume fix)) (auditing-walks fix numbers) events h.1.only) f
   alone-began none_but_reuse numbers said events old mid so rest h f = none-began (Ok (Said (Reused 0))) said events old mid rest h.0 h.1 f
   alone-began none_yet numbers said events old mid so rest h f = none-began (Err (refused.UnknownWord 1)) said events old mid rest h.0 h.1 f
   alone-began (on_tree work) numbers said events old mid so rest h f = absurd h
@@ -353,7 +439,7 @@ module _ (trusted : Type 0) (places : Places) (choice : List Rule) (b : Behind) 
 -- all trees are as they were
 kept-began : (trusted : Type 0) (places : Places) (k : Client) (Did : List Entry → Type 0) (b : Behind) (old mid : Machine) (said : Result Outcome Refusal) → IsKept k → OwnBegan trusted places Did b old mid said
     → OwnBegan trusted places (λ added. IsKept k × Did added) b old mid said
-kept-began trusted places k Did b old mid said kept r = record { first = r.first; does = (kept, r.does); grew = r.grew; free = r.free }
+kept-began trusted places k Did b old mid said kept r = record { first = r.first; does = (kept, r.does); grew = r.grew; free = r.free; idle = r.idle }
 
 stored-grew : (P Q : Change → Type 0) (whole : List Event) (first : List Entry) (old mid : Machine) → Stored P whole [] first old mid → Grew Q first [] (since_of old mid) mid
 stored-grew P Q whole first old mid w =
@@ -379,6 +465,7 @@ module _ (trusted : Type 0) (places : Places) (nobody : NobodyHolds places) (k :
         does = inl (before, after, turns, ((old, events, still-none old, f, (answer, made, same, shows)), r.1.grew.are, r.1.grew.core.generation, r.1.keeps, each-same (IsStored mid.contents mid.core.tickets mid.core.next_object) (HasBytes mid) (λ i h. h.0) r.0 r.1.kept.0, backup-refused trusted places k.choice i before after events answer said old mid rest made.order shows free f));
         grew = stored-grew P (IsReuse b) events r.0 old mid r.1;
         free = λ h. spent-free trusted places (Sends P events) (has-tickets P events) events old mid rest.tickets all (made.settled (sent-leaves answer said shows h)) f;
+        idle = λ h. still-idle trusted places (Sends P events) (has-tickets P events) events old mid all f ∙ rest.image;
       }
   back-up-began i said events old mid rest (inr (missing, kept, none, is)) f =
       let same : mid ≡ old = alone-none trusted places 0 events old mid none f in
@@ -387,6 +474,7 @@ module _ (trusted : Type 0) (places : Places) (nobody : NobodyHolds places) (k :
         does = inr (missing, kept, is, subst (λ (m : Machine). IsStill old m) (sym same) (still-none old), refl);
         grew = subst (λ (m : Machine). Grew (IsReuse b) [] [] (since_of old m) m) (sym same) (began-grew (IsReuse b) (IsReuse b) [] old old (grew-none (IsReuse b) old rest));
         free = λ h. subst (λ (m : Machine). m.core.tickets ≡ []) (sym same) rest.tickets;
+        idle = λ h. subst (λ (m : Machine). m.core.image ≡ None) (sym same) rest.image;
       }
 
   tree-began : (work : OnTree) (said : Result Outcome Refusal) (events : List Event) (old mid : Machine) → IsProcessTree work → IsAtRest old.core → DoesThereBy k work events said → Alone trusted places 0 events old mid
@@ -407,6 +495,10 @@ module _ (trusted : Type 0) (places : Places) (nobody : NobodyHolds places) (k :
   own-began empty_volume numbers said events old mid so rest h f = alone empty_volume numbers said events old mid so rest h f
   own-began back_up_pool numbers said events old mid so rest h f = alone back_up_pool numbers said events old mid so rest h f
   own-began (moves mover) numbers said events old mid so rest h f = alone (moves mover) numbers said events old mid so rest h f
+  own-began back_up_database numbers said events old mid so rest h f = alone back_up_database numbers said events old mid so rest h f
+  own-began back_up_since numbers said events old mid so rest h f = alone back_up_since numbers said events old mid so rest h f
+  own-began (delete_history to) numbers said events old mid so rest h f = alone (delete_history to) numbers said events old mid so rest h f
+  own-began (audit_volume fix) numbers said events old mid so rest h f = alone (audit_volume fix) numbers said events old mid so rest h f
   own-began none_but_reuse numbers said events old mid so rest h f = alone none_but_reuse numbers said events old mid so rest h f
   own-began none_yet numbers said events old mid so rest h f = alone none_yet numbers said events old mid so rest h f
   own-began own numbers said events old mid so rest h f = absurd so
@@ -422,7 +514,7 @@ module _ (trusted : Type 0) (places : Places) (nobody : NobodyHolds places) (k :
   change-began c what said events old mid plain rest (kept, (answer, called, is)) f =
       let r = changes trusted places what events answer old mid plain rest called.order f in
       let w = walk trusted places IsAny [] events [] old old mid (all-walk (IsOf what) IsAny (changing-walks what) events called.only) (walked-none IsAny old rest) f in
-      record { first = r.added; does = (kept, answer, r.commits, is, r.image, r.bytes); grew = same-first r.added w.0 old mid r.leaves.adds w.1.grew; free = λ h. w.1.free }
+      record { first = r.added; does = (kept, answer, r.commits, is, r.image, r.bytes); grew = same-first r.added w.0 old mid r.leaves.adds w.1.grew; free = λ h. w.1.free; idle = λ h. w.1.idle }
 
   began : (c : Command) (w : Work) (said : Result Outcome Refusal) (events : List Event) (old mid : Machine) → IsProcessOwn (own_of c) → IsRowless (Ok w) → IsPlainWork (Ok w) → IsAtRest old.core → DoesBy k c w events said
       → Alone trusted places 0 events old mid → Began trusted places k c w b old mid said
@@ -430,7 +522,7 @@ module _ (trusted : Type 0) (places : Places) (nobody : NobodyHolds places) (k :
   began c (Show q) said events old mid own rowless plain rest h f = absurd rowless
   began c (Run numbers) said events old mid own rowless plain rest h f =
       let r = own-began (own_of c) numbers said events old mid own rest h f in
-      record { first = r.first; does = r.does; grew = r.grew; free = r.free }
+      record { first = r.first; does = r.does; grew = r.grew; free = r.free; idle = r.idle }
 
 -- ---- what comes behind it
 
@@ -460,16 +552,17 @@ ends-with contents old new e h = absurd h
 
 -- the reuse of volumes behind work that came to this
 reused-grew : (trusted : Type 0) (places : Places) (first : List Entry) (said came : Result Outcome Refusal) (events : List Event) (old mid new : Machine) → Grew (IsReuse reuses) first [] old mid
-    → (may_stay said ≡ false → mid.core.tickets ≡ []) → Reusing said events came → Alone trusted places 0 events mid new
-    → (more : List Entry) × Grew (IsReuse reuses) first more old new × (may_stay came ≡ false → new.core.tickets ≡ [])
-reused-grew trusted places first (Ok it) came events old mid new g free (answer, called, is) f =
-    let r = walk trusted places (IsReuse reuses) first events [] old mid new (all-walk (IsReusing called.files) (IsReuse reuses) (reusing-walks called.files) events called.only) (record { grew = g; free = free refl }) f in
-    (r.0, r.1.grew, λ h. r.1.free)
-reused-grew trusted places first (Err e) came events old mid new g free (none, is) f =
+    → (may_stay said ≡ false → mid.core.tickets ≡ []) → (has_ended said ≡ false → mid.core.image ≡ None) → Reusing said events came → Alone trusted places 0 events mid new
+    → (more : List Entry) × Grew (IsReuse reuses) first more old new × (may_stay came ≡ false → new.core.tickets ≡ []) × (has_ended came ≡ false → new.core.image ≡ None)
+reused-grew trusted places first (Ok it) came events old mid new g free idle (answer, called, is) f =
+    let r = walk trusted places (IsReuse reuses) first events [] old mid new (all-walk (IsReusing called.files) (IsReuse reuses) (reusing-walks called.files) events called.only) (record { grew = g; free = free refl; idle = idle refl }) f in
+    (r.0, r.1.grew, (λ h. r.1.free), λ h. r.1.idle)
+reused-grew trusted places first (Err e) came events old mid new g free idle (none, is) f =
     let same : new ≡ mid = alone-none trusted places 0 events mid new none f in (
       [],
       subst (λ (m : Machine). Grew (IsReuse reuses) first [] old m) (sym same) g,
-      λ h. subst (λ (m : Machine). m.core.tickets ≡ []) (sym same) (free (ap may_stay (sym is) ∙ h)),
+      (λ h. subst (λ (m : Machine). m.core.tickets ≡ []) (sym same) (free (ap may_stay (sym is) ∙ h))),
+      λ h. subst (λ (m : Machine). m.core.image ≡ None) (sym same) (idle (ap (λ (r : Result Outcome Refusal). has_ended r) (sym is) ∙ h)),
     )
 
 module _ (trusted : Type 0) (places : Places) (nobody : NobodyHolds places) (k : Client) (c : Command) (w : Work) where
@@ -505,13 +598,13 @@ module _ (trusted : Type 0) (places : Places) (nobody : NobodyHolds places) (k :
       → Alone trusted places 0 events mid new → Processed trusted places k c w b old new result
   behind-did no_more said result events old mid new some rest g h f = absurd (some refl)
   behind-did forces said result events old mid new some rest g h f =
-      let s = settles trusted places (IsReuse forces) g.first [] said result events (since_of old mid) mid new rest g.grew g.free h f in
+      let s = settles trusted places (IsReuse forces) g.first [] said result events (since_of old mid) mid new rest g.grew g.free g.idle h f in
       ended forces said result events old mid new g [] tt
       (events, f, h, since-image (g.first ++ []) forces g.first old mid new result g.grew s, since-bytes (g.first ++ []) old mid new result s) s
   behind-did reuses said result events old mid new some rest g (came, (xs, ys, cut, reusing, forcing)) f =
       let parts = alone-parts trusted places 0 events xs ys mid new cut f in
-      let r = reused-grew trusted places g.first said came xs (since_of old mid) mid parts.0 g.grew g.free reusing parts.1 in
-      let s = settles trusted places (IsReuse reuses) g.first r.0 came result ys (since_of old mid) parts.0 new rest r.1 r.2 forcing parts.2 in
+      let r = reused-grew trusted places g.first said came xs (since_of old mid) mid parts.0 g.grew g.free g.idle reusing parts.1 in
+      let s = settles trusted places (IsReuse reuses) g.first r.0 came result ys (since_of old mid) parts.0 new rest r.1 r.2 r.3 forcing parts.2 in
       ended reuses said result events old mid new g r.0 r.1.are (
         events,
         f,

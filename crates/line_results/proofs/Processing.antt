@@ -10,7 +10,7 @@ use Rattle.command_words.specs.Reading.{◌>>=◌}
 use Rattle.admin_words.specs.declared.command.Command.{Command}
 use Rattle.admin_words.specs.declared.command.Command.TheVariants as commands
 use Rattle.admin_words.specs.declared.command.DatabaseCommand.{DatabaseCommand}
-use Rattle.admin_words.specs.declared.command.DatabaseCommand.TheVariants.{Checkpoint, Day, ExpireInventory}
+use Rattle.admin_words.specs.declared.command.DatabaseCommand.TheVariants.{BackupDatabase, Checkpoint, Day, DeleteHistory, ExpireInventory}
 use Rattle.admin_words.specs.declared.command.FileCommand.{FileCommand}
 use Rattle.admin_words.specs.declared.command.FileCommand.TheVariants.{Erase, Get, Incremental, Put, RestoreFiles, Write}
 use Rattle.admin_words.specs.declared.command.NodeCommand.{NodeCommand}
@@ -18,17 +18,19 @@ use Rattle.admin_words.specs.declared.command.NodeCommand.TheVariants.{DeleteFil
 use Rattle.admin_words.specs.declared.command.PolicyCommand.{PolicyCommand}
 use Rattle.admin_words.specs.declared.command.PolicyCommand.TheVariants.{ValidateSet}
 use Rattle.admin_words.specs.declared.command.VolumeCommand.{VolumeCommand}
-use Rattle.admin_words.specs.declared.command.VolumeCommand.TheVariants.{DeleteVolume, MoveData, RestoreVolume, ReuseVolumes}
+use Rattle.admin_words.specs.declared.command.VolumeCommand.TheVariants.{AuditVolume, DeleteVolume, MoveData, RestoreVolume, ReuseVolumes}
 use Rattle.admin_words.specs.declared.command.PoolCommand.{PoolCommand}
 use Rattle.admin_words.specs.declared.command.PoolCommand.TheVariants.{BackupPool, MigrateAll, MigratePool, ReclaimPool, RestorePool}
-use Rattle.admin_commands.specs.Found.{behind as others, filespace_named, number_found, pool_called, pool_named, the_pool, the_volume}
+use Rattle.admin_words.specs.declared.words.BackupType.{BackupType}
+use Rattle.admin_words.specs.declared.words.BackupType.TheVariants.{Full, Incremental}
+use Rattle.admin_commands.specs.Found.{behind as others, device_found, filespace_named, number_found, pool_called, pool_named, the_pool, the_volume}
 use Rattle.admin_commands.specs.Orders.{needs, run, work_of}
 use Rattle.admin_commands.specs.Stores.{delete_volume, may_move, move_data, moved, moved_from}
-use Rattle.admin_commands.specs.Orders.{run_found}
+use Rattle.admin_commands.specs.Orders.{run_found, run_in}
 use Rattle.admin_commands.specs.declared.work.Work.{Work}
 use Rattle.admin_commands.specs.declared.work.Work.TheVariants as work
 use Rattle.command_steps.specs.Behind.{Behind, behind, database_behind, forces, node_behind, no_more, pool_behind, reuses, volume_behind}
-use Rattle.command_steps.specs.Owns.{OnTree, Own, back_up, back_up_pool, checkpoint, database_own, empty_filespace, empty_volume, expire, file_own, get, moves, node_own, none_but_reuse, none_yet, on_tree, own_of, policy_own, pool_own, put, validate, volume_own}
+use Rattle.command_steps.specs.Owns.{OnTree, Own, audit_volume, back_up, back_up_database, back_up_pool, back_up_since, backup_own, checkpoint, database_own, delete_history, empty_filespace, empty_volume, expire, file_own, get, moves, node_own, none_but_reuse, none_yet, on_tree, own_of, policy_own, pool_own, put, validate, volume_own}
 use Rattle.line_results.specs.Commands.{answers_to, work_over}
 
 -- work on a tree behind which something comes: a backup
@@ -58,6 +60,10 @@ IsPlainOwn empty_volume = ⊥
 IsPlainOwn back_up_pool = ⊥
 IsPlainOwn (moves mover) = ⊥
 IsPlainOwn none_but_reuse = ⊥
+IsPlainOwn back_up_database = ⊥
+IsPlainOwn back_up_since = ⊥
+IsPlainOwn (delete_history to) = ⊥
+IsPlainOwn (audit_volume fix) = ⊥
 IsPlainOwn own = Unit {0}
 
 -- it shows no rows
@@ -142,6 +148,7 @@ volume-kind (DeleteVolume d) = elim (deleted-kind d.discard_data d.volume) as (�
 ]
 volume-kind (MoveData m) = inr (record { some = λ is. cc; own = tt; rowless = λ answers. data-rowless m.pool answers })
 volume-kind (RestoreVolume v) = inr (record { some = λ is. cc; own = tt; rowless = λ answers. found-rowless (number_found answers) (λ number. run (number ∷ [])) (λ number. tt) })
+volume-kind (AuditVolume a) = inr (record { some = λ is. cc; own = tt; rowless = λ answers. found-rowless (number_found answers) (λ number. run (number ∷ [])) (λ number. tt) })
 volume-kind ReuseVolumes = inr (record { some = λ is. cc; own = tt; rowless = λ answers. tt })
 volume-kind c = inl (refl, tt)
 
@@ -154,7 +161,18 @@ file-kind (RestoreFiles r) = inl (refl, tt)
 file-kind (Incremental i) = inr (record { some = λ is. cc; own = tt; rowless = λ answers. found-rowless (number_found answers) (λ number. run (number ∷ [])) (λ number. tt) })
 file-kind c = inl (refl, tt)
 
+-- BACKUP DB is one, of whichever type, whether a device class is named or not
+backup-process : (kind : BackupType) → IsProcessOwn (backup_own kind)
+backup-process Full = tt
+backup-process Incremental = tt
+
+in-rowless : (class : Option (List ℕ)) (answers : List Answer) → IsRowless (run_in class answers)
+in-rowless None answers = tt
+in-rowless (Some class) answers = found-rowless (device_found answers) (λ device. run []) (λ device. tt)
+
 database-kind : (c : DatabaseCommand) → Kind (commands.Database c)
+database-kind (BackupDatabase b) = inr (record { some = λ is. cc; own = backup-process b.backup_type; rowless = λ answers. in-rowless b.dev_class answers })
+database-kind (DeleteHistory h) = inr (record { some = λ is. cc; own = tt; rowless = λ answers. tt })
 database-kind (Day d) = inr (record { some = λ is. cc; own = tt; rowless = λ answers. tt })
 database-kind ExpireInventory = inr (record { some = λ is. cc; own = tt; rowless = λ answers. tt })
 database-kind Checkpoint = inl (refl, tt)

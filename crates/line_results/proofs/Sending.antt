@@ -164,7 +164,7 @@ opened-one whole number f so t h = elim (is_ticket 0 number t) as (λ b. IsOpene
 ]
 
 opened-under : (added : List Entry) (size : ℕ) (place : Place) (old c : Core) → Under added old c → Under added old (opened_new 0 size place c)
-opened-under added size place old c u = record { base = u.base; journal = u.journal; generation = u.generation; log_length = u.log_length; image = u.image; fresh = u.fresh; stamps = u.stamps; few = u.few }
+opened-under added size place old c u = record { base = u.base; journal = u.journal; generation = u.generation; log_length = u.log_length; fresh = u.fresh; stamps = u.stamps; few = u.few }
 
 over-onward : (old m next : Machine) → Onward m next → Onward (over old m) (over old next)
 over-onward old m next x = record { counts = x.counts; since = x.since }

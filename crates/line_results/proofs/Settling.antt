@@ -1,4 +1,4 @@
--- All is made durable behind steps of the script that takes no ticket and begins no image: what is left then, and how it may end the run.
+-- All is made durable behind steps of the script that leave no ticket and no image in progress: what is left then, and how it may end the run.
 use Rattle.std.proofs.Common.{◌≡◌, ◌⊎◌, inl, inr, ℕ, ◌+◌, ◌<◌, ◌≤◌, max, nat_lt, Bool, true, false, List, [], ◌∷◌, ◌++◌, length, Option, None, Some, Result, Ok, Err, refl, sym, ap, subst, ◌∙◌, arith}
 use Rattle.std.proofs.lemmas.Bool.{false≢true, ltb-false, ltb-true}
 use Rattle.std.proofs.lemmas.List.{append-nil, length-append}
@@ -24,7 +24,7 @@ use Rattle.line_results.proofs.Asked.{stopped-err}
 use Rattle.line_results.proofs.Forced.{stamped-durable}
 use Rattle.line_results.proofs.Leaving.{Left}
 use Rattle.line_results.proofs.Runs.{AreLast, ends-since, late-first, late-on, none-full, one-or-none, onward-later, onward-none, onward-then, rose-from, rose-on}
-use Rattle.line_results.proofs.Walking.{Grew, RoseIn, Under, force-free, force-grew}
+use Rattle.line_results.proofs.Walking.{Grew, RoseIn, Under, force-free, force-grew, force-image}
 
 -- ---- why a force is refused
 
@@ -91,6 +91,7 @@ not-made old m new (Err e) h = inr (inl (same_Some e refused.Memory h))
 pub record WasForced (P : Change → Type 0) (first later : List Entry) (old m new : Machine) (answer : Result ℕ Refusal) : Type 0 where
   pub grew : Grew P first later old new
   pub free : m.core.tickets ≡ [] → new.core.tickets ≡ []
+  pub idle : m.core.image ≡ None → new.core.image ≡ None
   pub forced : Forced old m new answer
 
 module _ (trusted : Type 0) (places : Places) (P : Change → Type 0) (first later : List Entry) where
@@ -101,11 +102,13 @@ module _ (trusted : Type 0) (places : Places) (P : Change → Type 0) (first lat
         | inl s ↦ record {
           grew = force-grew P first later old m new answer w (onward-later m new s.0) s.1;
           free = λ none. force-free m new answer s.1 ∙ none;
+          idle = λ none. force-image m new answer s.1 ∙ none;
           forced = made-forced old m new answer w.fault w.onward s.0 s.1;
         }
         | inr s ↦ record {
           grew = subst (λ (x : Machine). Grew P first later old x) (sym s.1) w;
           free = λ none. subst (λ (x : Machine). x.core.tickets ≡ []) (sym s.1) none;
+          idle = λ none. subst (λ (x : Machine). x.core.image ≡ None) (sym s.1) none;
           forced = not-made old m new answer s.0;
         }
       ]
@@ -169,17 +172,21 @@ durable-or : (added rest : List Entry) (old new : Core) (over : Bool) → added 
 durable-or added [] old new over is so at u = inl (under-durable added old new at u is)
 durable-or added (e ∷ rest) old new over is so at u = inr (so, λ none. (let odd : e ∷ rest ≡ [] = sym is ∙ none in cc))
 
+-- it has no ticket and no image in progress
+abbrev IsClear : Machine → Type 0
+IsClear m = (m.core.tickets ≡ []) × (m.core.image ≡ None)
+
 -- at rest, behind a force that was made
-forced-rest : (added : List Entry) (moment : ℕ) (m : Core) (old new : Core) → Under added old m → Under added old new → new.tickets ≡ [] → m.fault ≡ None → new ≡ stamped moment m → IsAtRest new
-forced-rest added moment m old new u v free none is = record {
+forced-rest : (added : List Entry) (moment : ℕ) (m : Core) (old new : Core) → Under added old m → new.tickets ≡ [] → new.image ≡ None → m.fault ≡ None → new ≡ stamped moment m → IsAtRest new
+forced-rest added moment m old new u free idle none is = record {
   tickets = free;
-  image = v.image;
+  image = idle;
   durable = subst (λ (k : Core). length k.stamps ≡ length k.journal) (sym is) (stamped-durable moment m u.few);
   fault = ap (λ (k : Core). k.fault) is ∙ none;
 }
 
 module _ (P : Change → Type 0) (first later : List Entry) (old m new : Machine) (rest : IsAtRest old.core) (w : Grew P first later old m) where
-  forced-settled : (number : ℕ) (came result : Result Outcome Refusal) → (has_ended result ≡ false → m.core.tickets ≡ []) → WasForced P first later old m new (Ok number) → result ≡ within_run came → Settled (first ++ later) old new result
+  forced-settled : (number : ℕ) (came result : Result Outcome Refusal) → (has_ended result ≡ false → IsClear m) → WasForced P first later old m new (Ok number) → result ≡ within_run came → Settled (first ++ later) old new result
   forced-settled number came result free f is =
       let v : Under (first ++ later) old.core new.core = f.grew.core in
       let all : length new.core.stamps ≡ length new.core.journal = subst (λ (k : Core). length k.stamps ≡ length k.journal) (sym f.forced.2) (stamped-durable new.moment m.core w.core.few) in
@@ -188,7 +195,7 @@ module _ (P : Change → Type 0) (first later : List Entry) (old m new : Machine
           adds = under-adds (first ++ later) old new v;
           onward = f.grew.onward;
           log = under-log (first ++ later) old new v;
-          rests = λ h. forced-rest (first ++ later) new.moment m.core old.core new.core w.core v (f.free (free h)) f.forced.0 f.forced.2;
+          rests = λ h. forced-rest (first ++ later) new.moment m.core old.core new.core w.core (f.free (free h).0) (f.idle (free h).1) f.forced.0 f.forced.2;
           durable = λ h. inl all;
         };
         doubt = under-doubt (first ++ later) old.core new.core rest v;
@@ -217,7 +224,7 @@ module _ (P : Change → Type 0) (first later : List Entry) (old m new : Machine
         late = λ l. subst (λ (r : Result Outcome Refusal). IsStopped r) (sym is) (stopped-err Outcome e (last-of old m new e f.forced (late-on old m w.onward l)));
       }
 
-  settled : (answer : Result ℕ Refusal) (came result : Result Outcome Refusal) → (has_ended result ≡ false → m.core.tickets ≡ []) → WasForced P first later old m new answer → result ≡ behind_force came answer → Settled (first ++ later) old new result
+  settled : (answer : Result ℕ Refusal) (came result : Result Outcome Refusal) → (has_ended result ≡ false → IsClear m) → WasForced P first later old m new answer → result ≡ behind_force came answer → Settled (first ++ later) old new result
   settled (Ok number) came result free f is = forced-settled number came result free f is
   settled (Err e) came result free f is = refused-settled e result f is
 
@@ -228,11 +235,18 @@ abbrev pub may_stay : Result Outcome Refusal → Bool
 may_stay (Ok it) = false
 may_stay (Err e) = has_number (40 ∷ 41 ∷ []) e
 
-within-stays : (came : Result Outcome Refusal) → has_ended (within_run came) ≡ false → may_stay came ≡ false
-within-stays (Ok it) h = refl
-within-stays (Err (refused.LogFault file count)) h = absurd (false≢true (sym h))
-within-stays (Err refused.RunFull) h = absurd (false≢true (sym h))
-within-stays (Err e) h = refl
+-- and an image where memory was wanted, too: where the run goes on neither is
+within-over : (came : Result Outcome Refusal) → has_ended (within_run came) ≡ false → has_ended came ≡ false
+within-over (Ok it) h = refl
+within-over (Err (refused.LogFault file count)) h = absurd (false≢true (sym h))
+within-over (Err refused.RunFull) h = absurd (false≢true (sym h))
+within-over (Err e) h = h
+
+pub over-stays : (came : Result Outcome Refusal) → has_ended came ≡ false → may_stay came ≡ false
+over-stays (Ok it) h = refl
+over-stays (Err (refused.LogFault file count)) h = absurd (false≢true (sym h))
+over-stays (Err refused.RunFull) h = absurd (false≢true (sym h))
+over-stays (Err e) h = refl
 
 refused-over : (e : Refusal) (events : List Event) → Made (Force (Err e)) events → has_number (40 ∷ 41 ∷ 50 ∷ []) e ≡ true
 unfolding is_listed
@@ -243,13 +257,14 @@ refused-over e events (inl (n, is, listed)) = over-listed e listed where
   over-listed x h = absurd (false≢true h)
 refused-over e events (inr (memory, none)) = ap (λ (x : Refusal). has_number (40 ∷ 41 ∷ 50 ∷ []) x) (same_Some e refused.Memory memory)
 
--- where the run goes on none may
-pub goes-on : (came result : Result Outcome Refusal) (events : List Event) → Forcing came events result → has_ended result ≡ false → may_stay came ≡ false
-goes-on came result events (Ok number, made, is) h = within-stays came (ap (λ (r : Result Outcome Refusal). has_ended r) (sym is) ∙ h)
+goes-on : (came result : Result Outcome Refusal) (events : List Event) → Forcing came events result → has_ended result ≡ false → has_ended came ≡ false
+goes-on came result events (Ok number, made, is) h = within-over came (ap (λ (r : Result Outcome Refusal). has_ended r) (sym is) ∙ h)
 goes-on came result events (Err e, made, is) h = absurd (false≢true (sym h ∙ (ap (λ (r : Result Outcome Refusal). has_ended r) is ∙ refused-over e events made)))
 
--- steps of which P holds, and then the force; no ticket is left, unless one may be
+-- steps of which P holds, and then the force; no ticket and no image is left, unless one may be
 pub settles : (trusted : Type 0) (places : Places) (P : Change → Type 0) (first later : List Entry) (came result : Result Outcome Refusal) (events : List Event) (old m new : Machine) → IsAtRest old.core
-    → Grew P first later old m → (may_stay came ≡ false → m.core.tickets ≡ []) → Forcing came events result → Alone trusted places 0 events m new → Settled (first ++ later) old new result
-settles trusted places P first later came result events old m new rest w free (answer, made, is) f =
-    settled P first later old m new rest w answer came result (λ h. free (goes-on came result events (answer, made, is) h)) (forced-behind trusted places P first later answer events old m new w made f) is
+    → Grew P first later old m → (may_stay came ≡ false → m.core.tickets ≡ []) → (has_ended came ≡ false → m.core.image ≡ None) → Forcing came events result → Alone trusted places 0 events m new
+    → Settled (first ++ later) old new result
+settles trusted places P first later came result events old m new rest w free idle (answer, made, is) f =
+    settled P first later old m new rest w answer came result
+    (λ h. (let over = goes-on came result events (answer, made, is) h in (free (over-stays came over), idle over))) (forced-behind trusted places P first later answer events old m new w made f) is

@@ -3,17 +3,18 @@ use Rattle.std.proofs.Common.{◌≡◌, ◌⊎◌, inl, inr, ℕ, ◌+◌, ◌<
 use Rattle.std.proofs.lemmas.List.{append-nil, append_assoc, length-append, length-replicate}
 use Rattle.std.specs.List.{AllByRecursion}
 use Rattle.kinds.specs.declared.refusal.Refusal.{Refusal}
+use Rattle.kinds.specs.declared.segment.Digest.{Digest}
 use Rattle.entries.specs.declared.change.Change.{Change}
 use Rattle.entries.specs.declared.change.Change.TheVariants as change
 use Rattle.entries.specs.declared.entry.Entry.{Entry}
 use Rattle.inventory_answers.specs.declared.query.Query.{Query}
 use Rattle.inventory_answers.specs.declared.reply.Answer.{Answer}
 use Rattle.steps.specs.declared.asked.Asked.{Asked}
-use Rattle.steps.specs.Events.{Deed, Event}
-use Rattle.steps.specs.Events.Deed.{Ask, Commit, Force, Reuse}
-use Rattle.machine.specs.Alone.{Alone, AreBytes, behind, with_contents}
-use Rattle.machine.specs.Machine.{Asks, Case, Commits, Forces, IsLogFault, Later, Places, Reuses, Stays, asked_change, committed, halting, made, record_length, records_length, stamped, with_tickets}
-use Rattle.machine.specs.State.{Core, Machine, Ticket, unforced, without}
+use Rattle.steps.specs.Events.{Deed, Event, event}
+use Rattle.steps.specs.Events.Deed.{Ask, Commit, Force, ReadPiece, Reuse}
+use Rattle.machine.specs.Alone.{Alone, AreBytes, Moves, behind, with_contents}
+use Rattle.machine.specs.Machine.{Asks, Case, Commits, Forces, IsLogFault, Later, Places, Reads, Reuses, Stays, asked_change, committed, halting, made, record_length, records_length, stamped, with_image, with_tickets}
+use Rattle.machine.specs.State.{Core, Image, Machine, Ticket, unforced, without}
 use Rattle.line_results.specs.Resting.{IsAtRest, Onward, RoseFrom, entry}
 use Rattle.line_results.proofs.Changed.{spent-none}
 use Rattle.line_results.proofs.Forced.{stamped-durable}
@@ -29,8 +30,16 @@ Walks P (Commit asked tickets answer) = (tickets ≡ []) × ((c : Change) (core 
 Walks P (Reuse file answer) = P (change.Reuse file)
 Walks P _ = ⊥
 
+-- it reads a piece of an object
+abbrev pub IsRead : Deed → Type 0
+IsRead (ReadPiece object kept from offset wanted answer) = Unit {0}
+IsRead _ = ⊥
+
+abbrev pub MayWalk : (P : Change → Type 0) → Deed → Type 0
+MayWalk P d = Walks P d ⊎ IsRead d
+
 abbrev pub AllWalk : (P : Change → Type 0) → List Event → Type 0
-AllWalk P events = AllByRecursion (λ e. Walks P e.deed) events
+AllWalk P events = AllByRecursion (λ e. MayWalk P e.deed) events
 
 -- transactions of the script, of which P holds
 abbrev pub AreOf : (P : Change → Type 0) → List Entry → Type 0
@@ -38,7 +47,12 @@ AreOf P added = AllByRecursion (λ e. (e.actor ≡ 0) × P e.change) added
 
 pub all-walk : (Is : Deed → Type 0) (P : Change → Type 0) → ((d : Deed) → Is d → Walks P d) → (events : List Event) → AllByRecursion (λ e. Is e.deed) events → AllWalk P events
 all-walk Is P so [] h = tt
-all-walk Is P so (e ∷ events) h = (so e.deed h.0, all-walk Is P so events h.1)
+all-walk Is P so (e ∷ events) h = (inl (so e.deed h.0), all-walk Is P so events h.1)
+
+-- where some of them read
+pub all-may-walk : (Is : Deed → Type 0) (P : Change → Type 0) → ((d : Deed) → Is d → MayWalk P d) → (events : List Event) → AllByRecursion (λ e. Is e.deed) events → AllWalk P events
+all-may-walk Is P so [] h = tt
+all-may-walk Is P so (e ∷ events) h = (so e.deed h.0, all-may-walk Is P so events h.1)
 
 pub are-more : (P : Change → Type 0) (added : List Entry) (w : Change) → AreOf P added → P w → AreOf P (added ++ entry w ∷ [])
 are-more P [] w h p = ((refl, p), tt)
@@ -51,13 +65,12 @@ are-as P Q so (e ∷ added) h = ((h.0.0, so e.change h.0.1), are-as P Q so added
 
 -- ---- the hall
 
--- behind these transactions of the script no image is in progress, and what had a stamp has it
+-- behind these transactions of the script the newest image is the one that was there, and what had a stamp has it
 pub record Under (added : List Entry) (old c : Core) : Type 0 where
   pub base : c.base ≡ old.base
   pub journal : c.journal ≡ old.journal ++ added
   pub generation : c.generation ≡ old.generation
   pub log_length : c.log_length ≡ old.log_length + records_length added
-  pub image : c.image ≡ None
   pub fresh : List ℕ
   pub stamps : c.stamps ≡ old.stamps ++ fresh
   pub few : length c.stamps ≤ length c.journal
@@ -71,7 +84,6 @@ under-none c rest = record {
   journal = sym (append-nil c.journal);
   generation = refl;
   log_length = no-records c.log_length;
-  image = rest.image;
   fresh = [];
   stamps = sym (append-nil c.stamps);
   few = (let all : length c.stamps ≡ length c.journal = rest.durable in omega (arith, all));
@@ -91,7 +103,6 @@ made-under added w old c u = record {
   journal = ap (λ (l : List Entry). l ++ entry w ∷ []) u.journal ∙ append_assoc old.journal added (entry w ∷ []);
   generation = u.generation;
   log_length = (let more = records-more added (entry w) in let long : c.log_length ≡ old.log_length + records_length added = u.log_length in omega (arith, more, long));
-  image = u.image;
   fresh = u.fresh;
   stamps = u.stamps;
   few = (let long : length (c.journal ++ entry w ∷ []) ≡ length c.journal + 1 = length-append c.journal (entry w ∷ []) in let few : length c.stamps ≤ length c.journal = u.few in omega (arith, long, few));
@@ -103,7 +114,6 @@ halting-under added file count old c u = record {
   journal = u.journal;
   generation = u.generation;
   log_length = u.log_length;
-  image = u.image;
   fresh = u.fresh;
   stamps = u.stamps;
   few = u.few;
@@ -115,7 +125,6 @@ stamped-under added moment old c u = record {
   journal = u.journal;
   generation = u.generation;
   log_length = u.log_length;
-  image = u.image;
   fresh = u.fresh ++ replicate (length (unforced c)) moment;
   stamps = ap (λ (l : List ℕ). l ++ replicate (length (unforced c)) moment) u.stamps ∙ append_assoc old.stamps u.fresh (replicate (length (unforced c)) moment);
   few = (let all : length (stamped moment c).stamps ≡ length (stamped moment c).journal = stamped-durable moment c u.few in omega (arith, all));
@@ -129,10 +138,13 @@ pub joined-under : (first later : List Entry) (w : Change) (old c : Core) → Un
 joined-under first later w old c u = subst (λ (l : List Entry). Under l old (made 0 w c)) (append_assoc first later (entry w ∷ [])) (made-under (first ++ later) w old c u)
 
 pub under-tickets : (added : List Entry) (tickets : List Ticket) (old c : Core) → Under added old c → Under added old (with_tickets tickets c)
-under-tickets added tickets old c u = record { base = u.base; journal = u.journal; generation = u.generation; log_length = u.log_length; image = u.image; fresh = u.fresh; stamps = u.stamps; few = u.few }
+under-tickets added tickets old c u = record { base = u.base; journal = u.journal; generation = u.generation; log_length = u.log_length; fresh = u.fresh; stamps = u.stamps; few = u.few }
+
+pub under-image : (added : List Entry) (i : Option Image) (old c : Core) → Under added old c → Under added old (with_image i c)
+under-image added i old c u = record { base = u.base; journal = u.journal; generation = u.generation; log_length = u.log_length; fresh = u.fresh; stamps = u.stamps; few = u.few }
 
 -- no ticket is spent
-spent-same : (w : Change) (c : Core) → c.tickets ≡ [] → committed 0 w [] c ≡ made 0 w c
+pub spent-same : (w : Change) (c : Core) → c.tickets ≡ [] → committed 0 w [] c ≡ made 0 w c
 spent-same w c none = ap (λ (k : Core). made 0 w k) (spent-none c none)
 
 -- ---- the machine
@@ -208,22 +220,35 @@ force-free m next (Ok number) h = ap (λ (c : Core). c.tickets) h.1.1.core
 force-free m next (Err e) (inl h) = ap (λ (c : Core). c.tickets) h.1.core
 force-free m next (Err e) (inr (none, (file, count, is, fault, becomes))) = ap (λ (c : Core). c.tickets) becomes.core
 
+-- and the image in progress
+pub force-image : (m next : Machine) (answer : Result ℕ Refusal) → Forces 0 m next answer → next.core.image ≡ m.core.image
+force-image m next (Ok number) h = ap (λ (c : Core). c.image) h.1.1.core
+force-image m next (Err e) (inl h) = ap (λ (c : Core). c.image) h.1.core
+force-image m next (Err e) (inr (none, (file, count, is, fault, becomes))) = ap (λ (c : Core). c.image) becomes.core
+
+-- a read leaves the hall
+read-core : (object : ℕ) (kept : Digest) (from offset wanted : ℕ) (answer : Result (List ℕ) Refusal) (m next : Machine) → Reads 0 object kept from offset wanted m next answer → next.core ≡ m.core
+read-core object kept from offset wanted (Ok bytes) m next h = h.1.2.core
+read-core object kept from offset wanted (Err e) m next (inl h) = h.1.core
+read-core object kept from offset wanted (Err e) m next (inr (none, (is, lost, stays))) = stays.core
+
 -- ---- each step
 
--- So it is, and no ticket is held.
+-- So it is, no ticket is held, and no image is in progress.
 pub record Walked (P : Change → Type 0) (first later : List Entry) (old m : Machine) : Type 0 where
   pub grew : Grew P first later old m
   pub free : m.core.tickets ≡ []
+  pub idle : m.core.image ≡ None
 
 pub walked-none : (P : Change → Type 0) (m : Machine) → IsAtRest m.core → Walked P [] [] m m
-walked-none P m rest = record { grew = grew-none P m rest; free = rest.tickets }
+walked-none P m rest = record { grew = grew-none P m rest; free = rest.tickets; idle = rest.image }
 
 abbrev Went : (P : Change → Type 0) → (first : List Entry) → (old next : Machine) → Type 0
 Went P first old next = (more : List Entry) × Walked P first more old next
 
 module _ (P : Change → Type 0) (first later : List Entry) (old m next : Machine) (w : Walked P first later old m) (since : Onward m next) where
   stays-walk : Stays m next → Walked P first later old next
-  stays-walk h = record { grew = grew-stays P first later old m next w.grew since h; free = ap (λ (c : Core). c.tickets) h.core ∙ w.free }
+  stays-walk h = record { grew = grew-stays P first later old m next w.grew since h; free = ap (λ (c : Core). c.tickets) h.core ∙ w.free; idle = ap (λ (c : Core). c.image) h.core ∙ w.idle }
 
   ask-walk : (query : Query) (answer : Result Answer Refusal) → Asks 0 query m next answer → Walked P first later old next
   ask-walk query (Ok told) h = stays-walk h.1.1
@@ -231,7 +256,7 @@ module _ (P : Change → Type 0) (first later : List Entry) (old m next : Machin
   ask-walk query (Err e) (inr h) = absurd h.1
 
   force-walk : (answer : Result ℕ Refusal) → Forces 0 m next answer → Walked P first later old next
-  force-walk answer h = record { grew = force-grew P first later old m next answer w.grew since h; free = force-free m next answer h ∙ w.free }
+  force-walk answer h = record { grew = force-grew P first later old m next answer w.grew since h; free = force-free m next answer h ∙ w.free; idle = force-image m next answer h ∙ w.idle }
 
   -- one more joined
   join-made : (c : Change) → P c → next.core ≡ committed 0 c [] m.core → next.contents ≡ m.contents → Walked P first (later ++ entry c ∷ []) old next
@@ -240,6 +265,7 @@ module _ (P : Change → Type 0) (first later : List Entry) (old m next : Machin
       record {
         grew = grew-as P first later (later ++ entry c ∷ []) (made 0 c m.core) old m next w.grew (joined-under first later c old.core m.core w.grew.core) (are-more P later c w.grew.are p) refl since same bytes;
         free = ap (λ (k : Core). k.tickets) same ∙ w.free;
+        idle = ap (λ (k : Core). k.image) same ∙ w.idle;
       }
 
   -- one more joined, and a fault halted the machine
@@ -249,6 +275,7 @@ module _ (P : Change → Type 0) (first later : List Entry) (old m next : Machin
       record {
         grew = grew-halts P first later (later ++ entry c ∷ []) (made 0 c m.core) file count old m next w.grew (joined-under first later c old.core m.core w.grew.core) (are-more P later c w.grew.are p) fault since same bytes;
         free = ap (λ (k : Core). k.tickets) same ∙ w.free;
+        idle = ap (λ (k : Core). k.image) same ∙ w.idle;
       }
 
   join-walk : (asked : Asked) (answer : Result ℕ Refusal) → ((c : Change) (core : Core) → asked_change 0 asked [] core ≡ Some c → P c) → Commits 0 asked [] m next answer → Went P first old next
@@ -264,6 +291,7 @@ module _ (P : Change → Type 0) (first later : List Entry) (old m next : Machin
           (stamped-under (first ++ (later ++ entry (change.Reuse file) ∷ [])) next.moment old.core (made 0 (change.Reuse file) m.core) (joined-under first later (change.Reuse file) old.core m.core w.grew.core))
           (are-more P later (change.Reuse file) w.grew.are p) refl since h.1.1.core h.1.1.contents;
       free = ap (λ (k : Core). k.tickets) h.1.1.core ∙ w.free;
+      idle = ap (λ (k : Core). k.image) h.1.1.core ∙ w.idle;
     },
   )
   reuse-walk file (Err e) p (inl h) = (later, stays-walk h.1)
@@ -273,6 +301,7 @@ module _ (P : Change → Type 0) (first later : List Entry) (old m next : Machin
       grew = grew-halts P first later (later ++ entry (change.Reuse file) ∷ []) (made 0 (change.Reuse file) m.core) log count old m next w.grew
           (joined-under first later (change.Reuse file) old.core m.core w.grew.core) (are-more P later (change.Reuse file) w.grew.are p) fault since becomes.core becomes.contents;
       free = ap (λ (k : Core). k.tickets) becomes.core ∙ w.free;
+      idle = ap (λ (k : Core). k.image) becomes.core ∙ w.idle;
     },
   )
 
@@ -301,11 +330,25 @@ left-same P d so contents m = absurd so
 -- ---- all steps
 
 module _ (trusted : Type 0) (places : Places) (P : Change → Type 0) (first : List Entry) where
+  -- what is read is looked at nowhere
+  read-walk : (n : ℕ) (d : Deed) (later : List Entry) (old m next : Machine) → IsRead d → Walked P first later old m → Moves trusted places 0 (event n d) m next → Walked P first later old next
+  read-walk n (ReadPiece object kept from offset wanted answer) later old m next so w moved =
+      let core : moved.next.core ≡ m.core = read-core object kept from offset wanted answer (with_contents moved.seen m) moved.next moved.made.step in
+      let end : Machine = with_contents m.contents moved.next in
+      subst (λ (x : Machine). Walked P first later old x) (sym moved.left)
+      (stays-walk P first later old m end w (record { counts = moved.made.later.counts; since = moved.made.later.since }) (record { core = core; contents = refl }))
+  read-walk n d later old m next so w moved = absurd so
+
+  event-walk : (e : Event) (later : List Entry) (old m next : Machine) → MayWalk P e.deed → Walked P first later old m → Moves trusted places 0 e m next → Went P first old next
+  event-walk e later old m next (inl so) w moved =
+      let s = stepped trusted places e.n e.deed (e ∷ []) m next (seen-same trusted P e.deed so) (left-same P e.deed so) refl (next, moved, refl) in
+      deed-walk P first later old m next w (onward-later m next s.0) places e.deed so s.1
+  event-walk e later old m next (inr so) w moved = (later, read-walk e.n e.deed later old m next so w moved)
+
   pub walk : (events : List Event) (later : List Entry) (old m new : Machine) → AllWalk P events → Walked P first later old m → Alone trusted places 0 events m new → (more : List Entry) × Walked P first more old new
   walk [] later old m new all w same = (later, subst (λ (x : Machine). Walked P first later old x) (sym same) w)
   walk (e ∷ events) later old m new all w (next, moved, rest) =
-      let s = stepped trusted places e.n e.deed (e ∷ []) m next (seen-same trusted P e.deed all.0) (left-same P e.deed all.0) refl (next, moved, refl) in
-      let r = deed-walk P first later old m next w (onward-later m next s.0) places e.deed all.0 s.1 in
+      let r = event-walk e later old m next all.0 w moved in
       walk events r.0 old next new all.1 r.1 rest
 
 pub rose-in-as : (old m p q : Machine) → ((file : ℕ) → RoseFrom old m file → RoseFrom p q file) → (fault : Option (ℕ × ℕ)) → RoseIn old m fault → RoseIn p q fault

@@ -1,5 +1,5 @@
 -- What a command comes to where one actor has the machine alone.
-use Rattle.std.specs.Prelude.{◌≡◌, ◌⊎◌, ℕ, Bool, true, false, List, [], ◌∷◌, ◌++◌, Some, Result, Ok, Err}
+use Rattle.std.specs.Prelude.{◌≡◌, ◌⊎◌, ℕ, Bool, true, false, List, [], ◌∷◌, ◌++◌, None, Some, Result, Ok, Err}
 use Rattle.std.specs.List.{AllByRecursion}
 use Rattle.kinds.specs.declared.change.DefineOrDelete.TheVariants as two
 use Rattle.kinds.specs.declared.change.ObjectChange.TheVariants as client
@@ -48,7 +48,7 @@ use Rattle.command_steps.specs.Behind.{Behind, behind, no_more, reuses}
 use Rattle.command_steps.specs.Clients.{Client, IsKept, IsNone, Known, Turns}
 use Rattle.command_steps.specs.Doing as steps
 use Rattle.command_steps.specs.Doing.{EndsWork, the_number}
-use Rattle.command_steps.specs.Owns.{Mover, OnTree, Own, back_up, back_up_pool, checkpoint, empty_filespace, empty_volume, erase, expire, get, last_of, moves, none_but_reuse, none_yet, on_tree, own_of, put, restore, tree_of, validate, volume_restorer, write}
+use Rattle.command_steps.specs.Owns.{Mover, OnTree, Own, audit_volume, back_up, back_up_database, back_up_pool, back_up_since, checkpoint, delete_history, empty_filespace, empty_volume, erase, expire, get, last_of, moves, none_but_reuse, none_yet, on_tree, own_of, put, restore, tree_of, validate, volume_restorer, write}
 use Rattle.command_steps.specs.Trees.{BacksUp, ErasesFile, GivesWanted, WritesFile}
 use Rattle.command_steps.specs.declared.outcome.Outcome.{Outcome}
 use Rattle.command_steps.specs.declared.outcome.Outcome.TheVariants.{Read, Rows, Said}
@@ -116,8 +116,17 @@ abbrev pub MayMove : Mover → (file : ℕ) → Change → Type 0
 MayMove volume_restorer file c = IsMove c ⊎ IsLoss file c
 MayMove mover file c = IsMove c
 
+-- a database backup in this file ends, or is taken off the list
+abbrev pub IsEndOrRemoval : (file : ℕ) → Change → Type 0
+IsEndOrRemoval file c = (c ≡ change.DbEnd file) ⊎ (c ≡ change.DbDelete file)
+
+-- what an audit of the volume found damaged is dropped, or discarded
+abbrev pub IsMend : (file : ℕ) → Change → Type 0
+IsMend file c = ((items : List DroppedCopy) × (c ≡ change.DropCopies (record { reason = since.Audit file; items = items }))) ⊎ IsDiscard (because.Audit file) c
+
 -- the transactions that a process may make over the numbers of the things that it names: objects that aren't retained go; objects of the filespace are discarded, or its row goes; copies on the
--- volume are dropped, objects are discarded for it, or its row goes; copies are added, or moved
+-- volume are dropped, objects are discarded for it, or its row goes; copies are added, or moved; a database backup begins, the whole one following none and the other one following one, ends, or is taken
+-- off the list; copies or objects that an audit found damaged go, where that is asked
 abbrev pub MayMake : (numbers : List ℕ) → Own → Change → Type 0
 MayMake numbers expire c = (filespace : ℕ) × (items : List NamedVersion) × (c ≡ change.Expire (record { filespace = filespace; items = items }))
 MayMake numbers empty_filespace c =
@@ -128,6 +137,10 @@ MayMake numbers empty_volume c =
     ⊎ ((name : List ℕ) × (capacity : ℕ) × (access : Access) × (c ≡ change.Pool (store.Volume verb.Delete name 0 (the_number numbers) capacity access)))
 MayMake numbers back_up_pool c = (scratch : List ScratchVolume) × (items : List NewCopy) × (c ≡ change.Copy (record { scratch = scratch; items = items }))
 MayMake numbers (moves mover) c = MayMove mover (the_number numbers) c
+MayMake numbers back_up_database c = (file : ℕ) × ((c ≡ change.DbBegin file None) ⊎ IsEndOrRemoval file c)
+MayMake numbers back_up_since c = (file : ℕ) × (((after : ℕ) × (c ≡ change.DbBegin file (Some after))) ⊎ IsEndOrRemoval file c)
+MayMake numbers (delete_history to) c = (file : ℕ) × (c ≡ change.DbDelete file)
+MayMake numbers (audit_volume fix) c = (fix ≡ true) × IsMend (the_number numbers) c
 MayMake numbers _ c = ⊥
 
 -- A process ran: its own contract says what its steps did; and each transaction that it made is one of these.
@@ -151,6 +164,10 @@ DoesAlone trusted places choice numbers empty_filespace old new result added = P
 DoesAlone trusted places choice numbers empty_volume old new result added = Processes trusted places choice numbers empty_volume old new result added
 DoesAlone trusted places choice numbers back_up_pool old new result added = Processes trusted places choice numbers back_up_pool old new result added
 DoesAlone trusted places choice numbers (moves mover) old new result added = Processes trusted places choice numbers (moves mover) old new result added
+DoesAlone trusted places choice numbers back_up_database old new result added = Processes trusted places choice numbers back_up_database old new result added
+DoesAlone trusted places choice numbers back_up_since old new result added = Processes trusted places choice numbers back_up_since old new result added
+DoesAlone trusted places choice numbers (delete_history to) old new result added = Processes trusted places choice numbers (delete_history to) old new result added
+DoesAlone trusted places choice numbers (audit_volume fix) old new result added = Processes trusted places choice numbers (audit_volume fix) old new result added
 DoesAlone trusted places choice numbers none_but_reuse old new result added = Tells (Ok (Said (Reused 0))) old new result added
 DoesAlone trusted places choice numbers none_yet old new result added = Tells (Err (UnknownWord 1)) old new result added
 DoesAlone trusted places choice numbers (on_tree work) old new result added = ⊥
