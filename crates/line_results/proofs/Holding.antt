@@ -72,6 +72,7 @@ use Rattle.line_results.proofs.Keeping.{each-same}
 use Rattle.line_results.proofs.Changing.{comes-trees}
 use Rattle.line_results.proofs.Processing.{IsPlainOwn, IsPlainTree, IsProcess, IsProcessOwn, IsProcessTree, IsRowless, kind, over-rowless}
 use Rattle.line_results.proofs.PutHeld.{IsMild, PutHeld, no-end, no-put, put-held}
+use Rattle.line_results.proofs.Told.{told-by}
 
 -- ---- answers
 
@@ -575,7 +576,7 @@ cause-with trusted places k c reuses old mid why added some h = h
 did-with : (trusted : Type 0) (places : Places) (k : Client) (n : ℕ) (c : Command) (b : Behind) (old mid : Machine) (answer : Answer) (it : Outcome) (added : List Entry) → (b ≡ no_more → ⊥)
     → answer ≡ answer_of n it → Works trusted places k c (work_over c (database old)) b old mid (Ok it) added → DidWith trusted places k n c b old mid answer added
 did-with trusted places k n c no_more old mid answer it added some is h = absurd (some refl)
-did-with trusted places k n c forces old mid answer it added some is h = (it, is, h)
+did-with trusted places k n c forces old mid answer it added some is h = (it, is, h, told-by trusted places k c old mid it added (work_over c (database old)) h)
 did-with trusted places k n c reuses old mid answer it added some is h = (it, is, h)
 
 -- ---- a process that was refused

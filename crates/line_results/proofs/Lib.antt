@@ -41,5 +41,6 @@ pub mod Settling
 pub mod Since
 pub mod Spent
 pub mod Stopping
+pub mod Told
 pub mod Treed
 pub mod Walking

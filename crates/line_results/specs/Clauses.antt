@@ -31,7 +31,7 @@ use Rattle.admin_commands.specs.declared.work.Work.{Work}
 use Rattle.admin_commands.specs.declared.work.Work.TheVariants.{Commit, Show, Run}
 use Rattle.restores.specs.declared.choosing.RestoreLine.{RestoreLine}
 use Rattle.reports.specs.Lines.{shown_line}
-use Rattle.reports.specs.declared.shown.Shown.TheVariants.{Stored}
+use Rattle.reports.specs.declared.shown.Shown.TheVariants.{BackedUp, Stored}
 use Rattle.script_loop.specs.Reply.{Answer}
 use Rattle.tree_api.specs.Cause.{Rose}
 use Rattle.machine.specs.Machine.{Places}
@@ -40,13 +40,14 @@ use Rattle.sessions.specs.Homes.{home_of}
 use Rattle.sessions.specs.declared.getting.FileRead.{FileRead}
 use Rattle.sessions.specs.declared.homes.Home.{Home}
 use Rattle.command_steps.specs.Answers.{answer_of, done, file_lines, refusal, row_lines}
-use Rattle.command_steps.specs.Behind.{Behind, behind, no_more, reuses}
+use Rattle.command_steps.specs.Behind.{Behind, behind, forces, no_more, reuses}
 use Rattle.command_steps.specs.Clients.{Client, Known, Turns}
 use Rattle.command_steps.specs.Leaving.{ChangesOnly, tree_named}
 use Rattle.command_steps.specs.Trees.{is_absent}
 use Rattle.command_steps.specs.Lines.{Line, asks, comment, refused}
-use Rattle.command_steps.specs.Owns.{OnTree, Own, back_up, checkpoint, erase, get, last_of, on_tree, own_of, put, restore, validate, write}
+use Rattle.command_steps.specs.Owns.{OnTree, Own, back_up, back_up_database, checkpoint, erase, get, last_of, on_tree, own_of, put, restore, validate, write}
 use Rattle.command_steps.specs.declared.outcome.Outcome.{Outcome}
+use Rattle.command_steps.specs.declared.outcome.Outcome.TheVariants.{Said}
 use Rattle.admin_words.specs.declared.command.Command.{Command}
 use Rattle.line_results.specs.Commands.{Does, DoesThere, EndsWith, IsReuse, MayMake, Works, drawn, validated, work_over}
 use Rattle.line_results.specs.Files.{Gets, IsPlacedIn, Puts, backed_up, filespace_defined, why_no_place}
@@ -212,9 +213,28 @@ DidBy trusted places k n own (Ok (Commit what)) old mid answer added = (added �
 DidBy trusted places k n own (Ok (Show query)) old mid answer added = added ≡ []
 DidBy trusted places k n own (Ok (Run numbers)) old mid answer added = DidOwn trusted places k n own old mid answer added
 
+-- A backup of the whole database is as it is said: its file is the next one that is drawn, its number that of the transaction by which it begins, and by this one and that of its end it was made.
+abbrev pub IsBackedUp : (old : Machine) → Outcome → (added : List Entry) → Type 0
+IsBackedUp old it added =
+    (it ≡ Said (BackedUp old.core.next_file ((database old).number + 1)))
+    × (added ≡ entry (change.DbBegin old.core.next_file None) ∷ entry (change.DbEnd old.core.next_file) ∷ [])
+
+abbrev pub ToldOwn : Own → (old : Machine) → Outcome → (added : List Entry) → Type 0
+ToldOwn back_up_database old it added = IsBackedUp old it added
+ToldOwn own old it added = Unit {0}
+
+-- what is said beside that of a process behind which all is forced
+abbrev pub ToldBy : Own → Result Work Refusal → (old : Machine) → Outcome → (added : List Entry) → Type 0
+ToldBy own (Ok (Run numbers)) old it added = ToldOwn own old it added
+ToldBy own (Ok (Commit what)) old it added = Unit {0}
+ToldBy own (Ok (Show query)) old it added = Unit {0}
+ToldBy own (Err why) old it added = Unit {0}
+
 -- where something comes behind a command's work, the steps of both say what was done, and that is printed
 abbrev pub DidWith : (trusted : Type 0) → Places → Client → (n : ℕ) → Command → Behind → (old mid : Machine) → Answer → (added : List Entry) → Type 0
 DidWith trusted places k n c no_more old mid answer added = DidBy trusted places k n (own_of c) (work_over c (database old)) old mid answer added
+DidWith trusted places k n c forces old mid answer added =
+    (it : Outcome) × (answer ≡ answer_of n it) × Works trusted places k c (work_over c (database old)) forces old mid (Ok it) added × ToldBy (own_of c) (work_over c (database old)) old it added
 DidWith trusted places k n c b old mid answer added =
     (it : Outcome) × (answer ≡ answer_of n it) × Works trusted places k c (work_over c (database old)) b old mid (Ok it) added
 
