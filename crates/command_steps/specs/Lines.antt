@@ -10,6 +10,8 @@ use Rattle.admin_words.specs.declared.command.FileCommand.{FileCommand}
 use Rattle.admin_words.specs.declared.command.FileCommand.TheVariants.{ArchiveFiles, RetrieveFiles}
 use Rattle.admin_words.specs.declared.command.DatabaseCommand.{DatabaseCommand}
 use Rattle.admin_words.specs.declared.command.DatabaseCommand.TheVariants.{BackupDatabase}
+use Rattle.admin_words.specs.declared.words.BackupType.{BackupType}
+use Rattle.admin_words.specs.declared.words.BackupType.TheVariants.{Full, Incremental}
 
 -- the commands of each family that the server does so far
 abbrev pub does_file : FileCommand → Bool
@@ -17,8 +19,13 @@ does_file (ArchiveFiles a) = false
 does_file (RetrieveFiles r) = false
 does_file _ = true
 
+-- the whole database is backed up, and not what came behind another backup
+abbrev pub does_backup : BackupType → Bool
+does_backup Full = true
+does_backup Incremental = false
+
 abbrev pub does_database : DatabaseCommand → Bool
-does_database (BackupDatabase b) = false
+does_database (BackupDatabase b) = does_backup b.backup_type
 does_database _ = true
 
 -- whether the server does a command so far; every other one is refused like an unknown word

@@ -1,10 +1,11 @@
 // What a line of the script is.
 ghost use Rattle.std.specs.Prelude.{◌≡◌, ◌<◌, ◌-◌, ◌^◌, false, length, IfOk, IfErr};
 ghost use Rattle.kinds.specs.declared.refusal.Refusal.TheVariants.{Memory};
-ghost use Rattle.command_steps.specs.Lines.{does_file, does_database, is_done, line_of};
+ghost use Rattle.command_steps.specs.Lines.{does_file, does_backup, does_database, is_done, line_of};
 ghost use Rattle.command_steps.specs.Reading.{line_view};
 
 use admin_words::command::{DatabaseCommand, FileCommand};
+use admin_words::words::BackupType;
 use admin_words::{Command, read_line};
 use command_words::is_comment;
 use kinds::Refusal;
@@ -30,11 +31,20 @@ fn does_file(command: &FileCommand) -> bool
     }
 }
 
+fn does_backup(kind: BackupType) -> bool
+    ensures { result ≡ does_backup kind }
+{
+    match kind {
+        BackupType::Full => true,
+        BackupType::Incremental => false,
+    }
+}
+
 fn does_database(command: &DatabaseCommand) -> bool
     ensures { result ≡ does_database command.now }
 {
     match command {
-        DatabaseCommand::BackupDatabase(_) => false,
+        DatabaseCommand::BackupDatabase(it) => does_backup(it.backup_type),
         _ => true,
     }
 }
