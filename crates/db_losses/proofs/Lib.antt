@@ -1,0 +1,11 @@
+pub mod Building
+pub mod Counts
+pub mod Each
+pub mod Flat
+pub mod Going
+pub mod Kept
+pub mod Losing
+pub mod Named
+pub mod Rows
+pub mod Staying
+pub mod Valid
