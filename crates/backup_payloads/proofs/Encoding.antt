@@ -5,7 +5,7 @@ use Rattle.std.specs.List.{flat_map, AllByRecursion}
 use Rattle.std.proofs.lemmas.Bool.{lt-ltb}
 use Rattle.std.specs.Prelude.{get_or}
 use Rattle.std.proofs.lemmas.Grind.{take_at_read}
-use Rattle.std.proofs.lemmas.List.{length-map, flat_map_more}
+use Rattle.std.proofs.lemmas.List.{length-append, length-map, flat_map_more}
 use Rattle.std.proofs.lemmas.List.Folds.{flat_map-map}
 use Rattle.std.proofs.lemmas.List.Elements.{All-head, All-tail, All-push}
 use Rattle.entries.specs.declared.entry.Entry.{Entry}
@@ -51,3 +51,11 @@ whole after number made nothing begun all file few last short none first then = 
   fits after number made file few last short,
   then ∙ ap (λ (bytes : List ℕ). bytes ++ flat_map record_of made) (first ∙ ap (λ (bytes : List ℕ). bytes ++ front_bytes after number (length made)) none) ∙ spelled after number made,
 )
+
+-- the same with one transaction more
+pub whole_and : (after number : ℕ) (made : List Entry) (x : Entry) (nothing begun front all : List ℕ) → after < 2 ^ 32 → length made + 1 < 2 ^ 32 → number + length made + 1 < 2 ^ 62 → All IsShort made → IsShort x
+    → nothing ≡ [] → begun ≡ nothing ++ front_bytes after number (length made + 1) → front ≡ begun ++ flat_map record_of made → all ≡ front ++ record_of x → IsIncrement all (holding after number (made ++ x ∷ []))
+whole_and after number made x nothing begun front all file few last short one none first then more =
+    let longer : length (made ++ (x ∷ [])) ≡ length made + 1 = length-append made (x ∷ []) in
+    whole after number (made ++ (x ∷ [])) nothing begun all file (omega (arith, few, longer)) (omega (arith, last, longer)) (All-push IsShort made x short one) none
+    (first ∙ ap (λ (n : ℕ). nothing ++ front_bytes after number n) (sym longer)) (more ∙ ap (λ (bytes : List ℕ). bytes ++ record_of x) then ∙ flat_map_more record_of begun made x)

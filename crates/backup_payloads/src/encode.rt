@@ -86,3 +86,30 @@ pub fn encode_increment(
         Err(refusal) => Err(refusal),
     }
 }
+
+/// The same of one transaction more, which comes behind these.
+pub fn encode_increment_and(
+    alloc: Global,
+    after: u32,
+    number: u64,
+    made: &[Entry],
+    last: &Entry,
+) -> Result<Vec<u8>, Refusal>
+    requires few { length made.now + 1 < 2 ^ 32 }
+    requires numbered { number + length made.now + 1 < 2 ^ 62 }
+    ensures spelled { IfOk result (λ v. IsIncrement v.items (holding after number (made.now ++ last.now ∷ []))) }
+    ensures alone { IfOk result (λ v. IsAlone v.items (holding after number (made.now ++ last.now ∷ []))) }
+    ensures short { IfOk result (λ _. All IsShort (made.now ++ last.now ∷ [])) }
+    ensures full { IfErr result (λ e. (e ≡ NoMemory) ⊎ ((e ≡ RecordFull) × (Any IsLong made.now ⊎ IsLong last.now))) }
+{
+    let mut out = Vec::new(alloc);
+    put_front(&mut out, after, number, made.len() as u32 + 1)?;
+    match put_entries(alloc, &mut out, made) {
+        Ok(()) => {}
+        Err(refusal) => return Err(refusal),
+    }
+    match put_entry(alloc, &mut out, last) {
+        Ok(()) => Ok(out),
+        Err(refusal) => Err(refusal),
+    }
+}
