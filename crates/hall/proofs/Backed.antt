@@ -18,10 +18,11 @@ use Rattle.kinds.specs.declared.refusal.Refusal.{Refusal}
 use Rattle.kinds.specs.declared.refusal.Refusal.TheVariants as refusal
 use Rattle.store_api.specs.declared.store.Failed.{Failed}
 use Rattle.fields.specs.Editions.{second_form}
+use Rattle.entries.specs.Meaning.{Spells}
 use Rattle.entries.specs.declared.change.Change.{Change}
 use Rattle.entries.specs.declared.change.Change.TheVariants as change
 use Rattle.entries.specs.declared.entry.Entry.{Entry}
-use Rattle.backup_payloads.specs.Increments.{increment}
+use Rattle.backup_payloads.specs.Increments.{IsIncrement}
 use Rattle.backup_payloads.specs.Holding.{holding}
 use Rattle.db_image.specs.Steps.{CanShut, Job}
 use Rattle.db_image.specs.declared.phase.Phase.TheVariants.{Begun}
@@ -101,7 +102,7 @@ legal_of actor (Some file) h free =
     (back_nil (since_refused file (sight_of actor h)) (listed (refused (journal_of h.base h.vault.journal) (begin_of (Some file) h) h.vault.database)) free)
 
 -- a backup that it follows is of this run
-since_first : (actor file : ℕ) (h : Held) (b : Backup) → image_refused (kind_of (Some file)) (sight_of actor h) ≡ [] → backup_at file h.vault.database ≡ Some b → h.base.number ≤ b.number
+pub since_first : (actor file : ℕ) (h : Held) (b : Backup) → image_refused (kind_of (Some file)) (sight_of actor h) ≡ [] → backup_at file h.vault.database ≡ Some b → h.base.number ≤ b.number
 since_first actor file h b free at =
     let first : Bool = option_map_or (λ (b : Backup). nat_le h.base.number b.number) (backup_at file h.vault.database) false in
     let front : unless (is_done (backup_at file h.vault.database) && first) refusal.NotFound ≡ [] =
@@ -159,7 +160,7 @@ begins_from j file after v legal =
 some_is : {A : Type 0} {a b : A} → Some a ≡ Some b → a ≡ b
 some_is e = cc
 
-found_number : (file n : ℕ) (rows : List (ℕ × Backup)) (b : Backup) → list_all (λ b. nat_le b.1.number n) rows ≡ true → lookup (is_at (nat_cmp file)) rows ≡ Some b → nat_le b.number n ≡ true
+pub found_number : (file n : ℕ) (rows : List (ℕ × Backup)) (b : Backup) → list_all (λ b. nat_le b.1.number n) rows ≡ true → lookup (is_at (nat_cmp file)) rows ≡ Some b → nat_le b.number n ≡ true
 found_number file n [] b all at = absurd cc
 found_number file n (e ∷ rows) b all at =
     let parts = and_parts (nat_le e.1.number n) (list_all (λ (b : ℕ × Backup). nat_le b.1.number n) rows) all in
@@ -183,8 +184,10 @@ its_payload actor None h bytes c base journal behind number valid free holds =
     let longer : length (h.vault.journal ++ (begin_entry actor None h ∷ [])) ≡ length h.vault.journal + 1 = length-append h.vault.journal (begin_entry actor None h ∷ []) in
     let all : length c.journal ≡ length (h.vault.journal ++ (begin_entry actor None h ∷ [])) = ap (λ (l : List Entry). length l) journal in
     let first : c.base.number ≡ h.base.number = ap (λ (v : Inv). v.number) base in
-    inl (holds ∙ ap (meaning.spelled second_form) (sym behind ∙ sym (all_of_it c (h.vault.database.number + 1 - c.base.number) (omega (arith, longer, all, first, number)))))
-its_payload actor (Some file) h bytes c base journal behind number valid free (b, at, holds) =
+    inl (subst (Spells meaning second_form bytes) (sym behind ∙ sym (all_of_it c (h.vault.database.number + 1 - c.base.number) (omega (arith, longer, all, first, number)))) holds)
+its_payload actor (Some file) h bytes c base journal behind number valid free holds =
+    let b : Backup = holds.row in
+    let at : backup_at file h.vault.database ≡ Some b = holds.listed in
     let e : Entry = begin_entry actor (Some file) h in
     let from : h.base.number ≤ b.number = since_first actor file h b free at in
     let to : b.number ≤ h.vault.database.number = leb-true b.number h.vault.database.number (found_number file h.vault.database.number h.vault.database.backups b (facts_of h.vault.database valid).backups_past at) in
@@ -194,11 +197,10 @@ its_payload actor (Some file) h bytes c base journal behind number valid free (b
       b.number,
       omega (arith, first, from),
       omega (arith, to),
-      holds
-          ∙ ap (λ (es : List Entry). increment.spell (holding file b.number es))
+      subst (λ (es : List Entry). IsIncrement bytes (holding file b.number es))
           (sym (from_place (b.number - h.base.number) (h.vault.database.number + 1 - b.number) h.vault.journal e (omega (arith, number, to)) (omega (arith, number, from, to)))
           ∙ ap (λ (n : ℕ). take (h.vault.database.number + 1 - b.number) (drop (b.number - n) (h.vault.journal ++ (e ∷ [])))) (sym first)
-          ∙ ap (λ (l : List Entry). take (h.vault.database.number + 1 - b.number) (drop (b.number - c.base.number) l)) (sym journal)),
+          ∙ ap (λ (l : List Entry). take (h.vault.database.number + 1 - b.number) (drop (b.number - c.base.number) l)) (sym journal)) holds.spelled,
     )
 
 -- ---- it begins

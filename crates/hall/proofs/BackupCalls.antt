@@ -11,6 +11,7 @@ use Rattle.store_api.specs.declared.store.Failed.{Failed}
 use Rattle.kinds.specs.Refusals.{foremost, unless}
 use Rattle.kinds.specs.declared.refusal.Refusal.{Refusal}
 use Rattle.kinds.specs.declared.refusal.Refusal.TheVariants as refusal
+use Rattle.entries.specs.Meaning.{Spells}
 use Rattle.entries.specs.declared.change.Change.{Change}
 use Rattle.entries.specs.declared.change.Change.TheVariants as change
 use Rattle.entries.specs.declared.entry.Entry.{Entry}
@@ -86,8 +87,8 @@ pub drawn_in : (actor moment : ℕ) (after : Option ℕ) (h : Held) → foremost
 drawn_in actor moment after h free file is = subst (λ n. n + 1 < 2 ^ 32) (sym is) (drawn_to_join actor moment after h free)
 
 -- a database isn't spelled by nothing
-pub some_bytes : (bytes : List ℕ) (v : Inv) → bytes ≡ meaning.spelled second_form v → 0 < length bytes
-some_bytes bytes v is = let first = begins second_form v in subst (λ (l : List ℕ). 0 < length l) (sym (is ∙ first.1)) (omega arith)
+pub some_bytes : (bytes : List ℕ) (v : Inv) → Spells meaning second_form bytes v → 0 < length bytes
+some_bytes bytes v is = let first = begins second_form v in subst (λ (l : List ℕ). 0 < length l) (sym (is.1 ∙ first.1)) (omega arith)
 
 -- all of the journal has at most as many stamps
 pub few_stamps : {S : Type 0} (told : S → Option History) (moment : S → ℕ) (faults : S → ℕ → ℕ) (hall : Hall S) → ((m : Machine) × Is told moment faults hall m) → length hall.held.stamps ≤ length hall.held.vault.journal

@@ -36,7 +36,7 @@ use Rattle.steps.specs.declared.image.ImageKind.TheVariants as kind
 use Rattle.machine.specs.Causes.{image_refused, listed, since_refused}
 use Rattle.machine.proofs.Elsewhere.{append-all, foremost-all, unless-all}
 use Rattle.machine.specs.State.{Machine, backup, inventory}
-use Rattle.hall.specs.Backing.{backing_causes, backup_refused, begin_of, kind_of}
+use Rattle.hall.specs.Backing.{backing_causes, backup_refused, begin_of, kind_of, unfollowed}
 use Rattle.hall.specs.Covered.{left_open}
 use Rattle.hall.specs.Good.{Is, IsListed}
 use Rattle.hall.specs.Held.{BegunImage, Hall, Held, IsImage}
@@ -146,24 +146,51 @@ listed_first : (o : Option Refusal) → foremost (listed o) ≡ o
 listed_first None = refl
 listed_first (Some e) = refl
 
-by_image : (actor moment : ℕ) (h : Held) (o : Option Refusal) → foremost (ended_at moment h) ≡ None → o ≡ refused (journal_of h.base h.vault.journal) (begin_of None h) h.vault.database
-    → foremost (backup_refused actor moment None h) ≡ sooner_of o (foremost (image_held h.image))
-by_image actor moment h o free is =
-    next_answers (ended_at moment h) (backing_causes actor None h) free
-    ∙ foremost_append (listed (refused (journal_of h.base h.vault.journal) (begin_of None h) h.vault.database)) (image_held h.image)
-    ∙ ap (λ r. sooner_of r (foremost (image_held h.image))) (listed_first (refused (journal_of h.base h.vault.journal) (begin_of None h) h.vault.database) ∙ sym is)
-
 alone : (o : Option Refusal) → sooner_of o None ≡ o
 alone None = refl
 alone (Some e) = refl
 
-pub said_none : (actor moment : ℕ) (h : Held) (o : Option Refusal) → foremost (ended_at moment h) ≡ None → o ≡ refused (journal_of h.base h.vault.journal) (begin_of None h) h.vault.database → h.image ≡ None
-    → o ≡ foremost (backup_refused actor moment None h)
-said_none actor moment h o free is none = sym (by_image actor moment h o free is ∙ ap (λ (i : Option BegunImage). sooner_of o (foremost (image_held i))) none ∙ alone o)
+none_sooner : (o : Option Refusal) → sooner_of None o ≡ o
+none_sooner None = refl
+none_sooner (Some e) = refl
 
-pub said_busy : (actor moment : ℕ) (h : Held) (o : Option Refusal) (i : BegunImage) → foremost (ended_at moment h) ≡ None → o ≡ refused (journal_of h.base h.vault.journal) (begin_of None h) h.vault.database → h.image ≡ Some i
-    → sooner_of o (Some (refusal.Busy (holder.Image i.actor))) ≡ foremost (backup_refused actor moment None h)
-said_busy actor moment h o i free is there = sym (by_image actor moment h o free is ∙ ap (λ (i : Option BegunImage). sooner_of o (foremost (image_held i))) there)
+-- the rules' causes, of a backup that may follow another
+by_rules : (actor : ℕ) (after : Option ℕ) (h : Held) (u o : Option Refusal) → u ≡ foremost (unfollowed after h) → o ≡ refused (journal_of h.base h.vault.journal) (begin_of after h) h.vault.database
+    → foremost (image_refused (kind_of after) (sight_of actor h)) ≡ sooner_of u o
+by_rules actor None h u o follows is =
+    listed_first (refused (journal_of h.base h.vault.journal) (begin_of None h) h.vault.database) ∙ sym is ∙ sym (none_sooner o) ∙ ap (λ r. sooner_of r o) (sym follows)
+by_rules actor (Some file) h u o follows is =
+    foremost_append (unfollowed (Some file) h) (listed (refused (journal_of h.base h.vault.journal) (begin_of (Some file) h) h.vault.database))
+    ∙ ap (λ r. sooner_of r (foremost (listed (refused (journal_of h.base h.vault.journal) (begin_of (Some file) h) h.vault.database)))) (sym follows)
+    ∙ ap (sooner_of u) (listed_first (refused (journal_of h.base h.vault.journal) (begin_of (Some file) h) h.vault.database) ∙ sym is)
+
+by_image : (actor moment : ℕ) (after : Option ℕ) (h : Held) (u o : Option Refusal) → foremost (ended_at moment h) ≡ None → u ≡ foremost (unfollowed after h)
+    → o ≡ refused (journal_of h.base h.vault.journal) (begin_of after h) h.vault.database → foremost (backup_refused actor moment after h) ≡ sooner_of (sooner_of u o) (foremost (image_held h.image))
+by_image actor moment after h u o free follows is =
+    next_answers (ended_at moment h) (backing_causes actor after h) free
+    ∙ foremost_append (image_refused (kind_of after) (sight_of actor h)) (image_held h.image)
+    ∙ ap (λ r. sooner_of r (foremost (image_held h.image))) (by_rules actor after h u o follows is)
+
+pub said_none : (actor moment : ℕ) (after : Option ℕ) (h : Held) (u o : Option Refusal) → foremost (ended_at moment h) ≡ None → u ≡ foremost (unfollowed after h)
+    → o ≡ refused (journal_of h.base h.vault.journal) (begin_of after h) h.vault.database → h.image ≡ None → sooner_of u o ≡ foremost (backup_refused actor moment after h)
+said_none actor moment after h u o free follows is none =
+    sym (by_image actor moment after h u o free follows is ∙ ap (λ (i : Option BegunImage). sooner_of (sooner_of u o) (foremost (image_held i))) none ∙ alone (sooner_of u o))
+
+pub said_busy : (actor moment : ℕ) (after : Option ℕ) (h : Held) (u o cause : Option Refusal) (i : BegunImage) → foremost (ended_at moment h) ≡ None → u ≡ foremost (unfollowed after h)
+    → o ≡ refused (journal_of h.base h.vault.journal) (begin_of after h) h.vault.database → cause ≡ sooner_of u o → h.image ≡ Some i
+    → sooner_of cause (Some (refusal.Busy (holder.Image i.actor))) ≡ foremost (backup_refused actor moment after h)
+said_busy actor moment after h u o cause i free follows is both there =
+    ap (λ r. sooner_of r (Some (refusal.Busy (holder.Image i.actor)))) both
+    ∙ sym (by_image actor moment after h u o free follows is ∙ ap (λ (i : Option BegunImage). sooner_of (sooner_of u o) (foremost (image_held i))) there)
+
+-- as the calls tell them
+pub busy_told : (actor moment : ℕ) (after : Option ℕ) (h : Held) (over u o cause result : Option Refusal) (k : ℕ) (i : BegunImage) → over ≡ foremost (ended_at moment h) → over ≡ None → u ≡ foremost (unfollowed after h) → k ≡ h.claims.next_file
+    → (h.vault.fault ≡ None → o ≡ refused (journal_of h.base h.vault.journal) (change.DbBegin k after) h.vault.database) → cause ≡ sooner_of u o → h.image ≡ Some i
+    → result ≡ sooner_of cause (Some (refusal.Busy (holder.Image i.actor))) → result ≡ foremost (backup_refused actor moment after h)
+busy_told actor moment after h over u o cause result k i is none follows drawn illegal both there told =
+    let free : foremost (ended_at moment h) ≡ None = sym is ∙ none in
+    told
+    ∙ said_busy actor moment after h u o cause i free follows (illegal (none_halted moment h free) ∙ ap (λ (n : ℕ). refused (journal_of h.base h.vault.journal) (change.DbBegin n after) h.vault.database) drawn) both there
 
 -- only that a number or the items would be too many refuses the end of a listed backup
 pub end_full : (j : Journal) (file : ℕ) (v : Inv) → is_valid v ≡ true → IsTied v → is_unfinished (backup_at file v) ≡ true → (e : Refusal) → refused j (change.DbEnd file) v ≡ Some e → e ≡ refusal.InventoryFull

@@ -13,7 +13,8 @@ use Rattle.entries.specs.declared.entry.Entry.{Entry}
 use Rattle.contents.specs.Contents.{HasAll, HasVersion, HaveAll, Holds, InImage, InStore}
 use Rattle.contents.proofs.Brought.{have_after, have_same}
 use Rattle.backup_payloads.specs.Holding.{holding}
-use Rattle.backup_payloads.specs.Increments.{increment}
+use Rattle.entries.specs.Meaning.{Spells}
+use Rattle.backup_payloads.specs.Increments.{IsIncrement}
 use Rattle.db_image.specs.Steps.{Job}
 use Rattle.fields.specs.Editions.{second_form}
 use Rattle.inventory.specs.Meant.{meaning}
@@ -234,9 +235,9 @@ module _ (actor : ℕ) (x : Change) (numbers : List ℕ) (m : Machine) (held : H
           ∙ take-append-le (i.seq - number) (drop n c.journal) (entry_of actor x numbers c ∷ []) (omega (arith, room, low, high, to, few))
 
       payload_over : (payload : List ℕ) → IsPayload c i.seq payload → IsPayload next i.seq payload
-      payload_over payload (inl whole) = inl (whole ∙ ap (meaning.spelled second_form) (sym at_seq))
+      payload_over payload (inl whole) = inl (subst (Spells meaning second_form payload) (sym at_seq) whole)
       payload_over payload (inr p) =
-          inr (p.0, p.1, p.2, p.3, p.4 ∙ ap (λ (es : List Entry). increment.spell (holding p.0 p.1 es)) (sym (same_between p.1 p.2 p.3)))
+          inr (p.0, p.1, p.2, p.3, subst (λ (es : List Entry). IsIncrement payload (holding p.0 p.1 es)) (sym (same_between p.1 p.2 p.3)) p.4)
 
       stands_over : (job : Option Job) → IfSome job (λ b. KeepsBackup b.file x) → StandsOn c held.vault job i h → StandsOn next vault job i new
       stands_over None keeps s = subst (λ v. IsPending meaning vault v new) (sym at_seq) (pends (inv_at (i.seq - c.base.number) c) s)

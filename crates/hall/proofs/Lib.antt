@@ -38,6 +38,7 @@ pub mod Ending
 pub mod Exact
 pub mod Firm
 pub mod Flagged
+pub mod Following
 pub mod Forced
 pub mod Forcing
 pub mod Found

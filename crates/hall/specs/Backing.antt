@@ -1,17 +1,20 @@
 -- What the steps of a database backup make of what the hall holds.
-use Rattle.std.specs.Prelude.{◌≡◌, ◌⊎◌, ℕ, ◌+◌, ◌-◌, Bool, true, false, List, [], ◌∷◌, ◌++◌, drop, length, Option, None, Some, Result, Ok, Err}
+use Rattle.std.specs.Prelude.{◌≡◌, ◌⊎◌, ℕ, ◌+◌, ◌-◌, ◌^◌, ◌&&◌, Bool, true, false, nat_le, nat_lt, All, List, [], ◌∷◌, ◌++◌, drop, length, Option, None, Some, Result, Ok, Err}
+use Rattle.std.specs.Option.{option_map_or}
 use Rattle.store_api.specs.Cause.{Rose}
 use Rattle.store_api.specs.Disk.{History}
 use Rattle.store_api.specs.Runs.{GoesOn}
 use Rattle.store_api.specs.declared.store.Failed.{Failed}
+use Rattle.kinds.specs.Refusals.{unless}
 use Rattle.kinds.specs.declared.refusal.Refusal.{Refusal}
 use Rattle.kinds.specs.declared.refusal.Refusal.TheVariants as refusal
 use Rattle.fields.specs.Editions.{second_form}
+use Rattle.entries.specs.Meaning.{Spells}
 use Rattle.entries.specs.declared.change.Change.{Change}
 use Rattle.entries.specs.declared.change.Change.TheVariants as change
 use Rattle.entries.specs.declared.entry.Entry.{Entry}
-use Rattle.backup_payloads.specs.Increments.{increment}
-use Rattle.backup_payloads.specs.Holding.{holding}
+use Rattle.backup_payloads.specs.Increments.{IsIncrement}
+use Rattle.backup_payloads.specs.Holding.{IsShort, holding}
 use Rattle.db_image.specs.declared.mark.Mark.TheVariants.{Backup}
 use Rattle.db_image.specs.declared.phase.Phase.TheVariants.{Begun}
 use Rattle.db_image.specs.declared.phase.Progress.{Progress}
@@ -19,7 +22,7 @@ use Rattle.db_image.specs.Steps.{Job, Stepped, at_phase, further, progress_at}
 use Rattle.inventory.specs.Meant.{meaning}
 use Rattle.inventory_rows.specs.declared.backup.Backup.{Backup as BackupRow}
 use Rattle.inventory_rows.specs.State.{Inv}
-use Rattle.inventory_rules.specs.Backups.{backup_at}
+use Rattle.inventory_rules.specs.Backups.{backup_at, is_done}
 use Rattle.inventory_rules.specs.Run.{journal_of}
 use Rattle.inventory_rules.specs.Transactions.{effect, refused}
 use Rattle.steps.specs.declared.image.ImageKind.{ImageKind}
@@ -41,6 +44,13 @@ use Rattle.hall.specs.Sights.{sight_of}
 abbrev pub kind_of : (after : Option ℕ) → ImageKind
 kind_of None = kind.Backup
 kind_of (Some file) = kind.Since file
+
+-- Why a backup follows none: the one in this file isn't a whole one of this run, or the transactions behind it, with that by which the backup begins, are 2^32 or more.
+abbrev pub unfollowed : (after : Option ℕ) → Held → List Refusal
+unfollowed None h = []
+unfollowed (Some file) h =
+    unless (is_done (backup_at file h.vault.database) && option_map_or (λ (b : BackupRow). nat_le h.base.number b.number) (backup_at file h.vault.database) false) refusal.NotFound
+    ++ unless (option_map_or (λ (b : BackupRow). nat_lt (h.vault.database.number + 1 - b.number) (2 ^ 32)) (backup_at file h.vault.database) true) refusal.InventoryFull
 
 -- why no such backup begins by a step that may begin: the rules refuse it, or another image is in progress
 abbrev pub backing_causes : (actor : ℕ) → (after : Option ℕ) → Held → List Refusal
@@ -67,11 +77,17 @@ backed_up after h = effect (begin_of after h) h.vault.database
 abbrev pub since_number : (actor number : ℕ) → (after : Option ℕ) → Held → List Entry
 since_number actor number after h = drop (number - h.base.number) h.vault.journal ++ begin_entry actor after h ∷ []
 
+-- The bytes of a backup that follows the one in a file: an increment of the transactions behind that one's number, each of which has few enough bytes for a record.
+pub record IsHeldBehind (actor file : ℕ) (h : Held) (bytes : List ℕ) : Type 0 where
+  pub row : BackupRow
+  pub listed : backup_at file h.vault.database ≡ Some row
+  pub short : All IsShort (since_number actor row.number (Some file) h)
+  pub spelled : IsIncrement bytes (holding file row.number (since_number actor row.number (Some file) h))
+
 -- A backup's bytes: the database behind its transaction; or, where it follows another, the transactions behind that one's number.
 abbrev pub IsHolding : (actor : ℕ) → (after : Option ℕ) → Held → List ℕ → Type 0
-IsHolding actor None h bytes = bytes ≡ meaning.spelled second_form (backed_up None h)
-IsHolding actor (Some file) h bytes =
-    (b : BackupRow) × (backup_at file h.vault.database ≡ Some b) × (bytes ≡ increment.spell (holding file b.number (since_number actor b.number (Some file) h)))
+IsHolding actor None h bytes = Spells meaning second_form bytes (backed_up None h)
+IsHolding actor (Some file) h bytes = IsHeldBehind actor file h bytes
 
 -- ---- what is held then
 

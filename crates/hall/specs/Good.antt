@@ -4,6 +4,7 @@ use Rattle.std.specs.List.{AllByRecursion, slice_get}
 use Rattle.store_api.specs.Disk.{History, reads, now, ImageAt}
 use Rattle.fields.specs.Editions.{second_form}
 use Rattle.entries.specs.EntryForm.{entry as entry_form}
+use Rattle.entries.specs.Meaning.{Spells}
 use Rattle.entries.specs.declared.entry.Entry.{Entry}
 use Rattle.contents.specs.Contents.{FramesHave, HaveAll, Holds, InImage, InStore, TookHave}
 use Rattle.inventory.specs.Meant.{meaning}
@@ -14,7 +15,7 @@ use Rattle.inventory_rules.specs.Run.{journal_of}
 use Rattle.inventory_rules.specs.Transactions.{refused}
 use Rattle.inventory_rules.specs.Held.{IsTied}
 use Rattle.inventory_rules.specs.Valid.{is_valid}
-use Rattle.backup_payloads.specs.Increments.{increment}
+use Rattle.backup_payloads.specs.Increments.{IsIncrement}
 use Rattle.backup_payloads.specs.Holding.{holding}
 use Rattle.db_image.specs.Steps.{Job, Underway}
 use Rattle.log_file.specs.Safety.{acknowledged}
@@ -93,8 +94,8 @@ between first last c = take (last - first) (drop (first - c.base.number) c.journ
 -- a backup is of the database of its number, whole or as the transactions behind another backup's number
 abbrev pub IsPayload : Core → (seq : ℕ) → List ℕ → Type 0
 IsPayload c seq payload =
-    (payload ≡ meaning.spelled second_form (inv_at (seq - c.base.number) c))
-    ⊎ ((file : ℕ) × (number : ℕ) × (c.base.number ≤ number) × (number ≤ seq) × (payload ≡ increment.spell (holding file number (between number seq c))))
+    Spells meaning second_form payload (inv_at (seq - c.base.number) c)
+    ⊎ ((file : ℕ) × (number : ℕ) × (c.base.number ≤ number) × (number ≤ seq) × IsIncrement payload (holding file number (between number seq c)))
 
 abbrev pub StandsOn : Core → State Inv → Option Job → Image → History → Type 0
 StandsOn c vault None i h = IsPending meaning vault (inv_at (i.seq - c.base.number) c) h

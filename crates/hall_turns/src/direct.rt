@@ -12,8 +12,7 @@ use space::Aim;
 use steps::{Asked, ImageKind, ImageReply, Stepper};
 use store_api::Store;
 
-/// An actor who makes steps on a hall that it has alone as long as this lives. Each step is the hall's, and the events that the steps make are a run of this actor alone (`Did` of the hall). A
-/// step that the hall doesn't make yet, as a database backup that follows another, is answered with `Memory`, and nothing is done.
+/// An actor who makes steps on a hall that it has alone as long as this lives. Each step is the hall's, and the events that the steps make are a run of this actor alone (`Did` of the hall).
 #[derive(Drop)]
 pub struct Direct<'a, S: Store> {
     /// The hall.

@@ -15,8 +15,7 @@ use store_api::Store;
 /// A piece has at most so many bytes.
 const MOST_BYTES: u32 = 1 << 16;
 
-/// Begins a checkpoint or a backup of the whole database, or goes on with the actor's image, as `checkpoint`, `backup` and `next_image` of the hall. The hall makes no backups that follow
-/// others: to `Since` the answer is `Memory`, and nothing is done.
+/// Begins a checkpoint or a database backup, whole or behind another one, or goes on with the actor's image, as `checkpoint`, `backup`, `backup_since` and `next_image` of the hall.
 pub fn image<S: Store>(
     hall: &mut Hall<S>,
     actor: u32,
@@ -29,7 +28,7 @@ pub fn image<S: Store>(
     match kind {
         ImageKind::Checkpoint => hall.checkpoint(actor),
         ImageKind::Backup => hall.backup(actor),
-        ImageKind::Since { .. } => Err(Refusal::Memory),
+        ImageKind::Since { after } => hall.backup_since(actor, after),
         ImageKind::Next => hall.next_image(actor),
     }
 }
@@ -82,8 +81,7 @@ fn read_listed<S: Store>(
 }
 
 /// Makes an actor's step that is given as a value, as the hall's method with its name does. A length that breaks a condition of that method of `Stepper` is answered with `BadValue`, as the hall
-/// answers it. A read takes memory for what it reads, 65,537 bytes at most. A step that the hall doesn't make yet, as a database backup that follows another, is answered with `Memory`, and
-/// nothing is done.
+/// answers it. A read takes memory for what it reads, 65,537 bytes at most.
 pub fn step<S: Store>(alloc: Global, hall: &mut Hall<S>, actor: u32, step: &Step) -> Reply
     ensures { Answers S.told S.moment_of S.faults_of actor step.now result hall.old hall.new }
 {
