@@ -16,6 +16,7 @@ pub mod Placed
 pub mod Plays
 pub mod Protected
 pub mod Reading
+pub mod Rest
 pub mod Reusing
 pub mod Seats
 pub mod Sights

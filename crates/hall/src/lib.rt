@@ -16,6 +16,7 @@ pub mod laws;
 mod noting;
 mod parts;
 mod reading;
+mod resting;
 mod reusing;
 mod seat;
 mod seated;

@@ -24,7 +24,7 @@ use store_api::Store;
 use vault::Vault;
 
 /// From this moment on a run is full: no step begins any more.
-const LAST_MOMENT: u64 = (1 << 62) - (1 << 24);
+pub(crate) const LAST_MOMENT: u64 = (1 << 62) - (1 << 24);
 
 /// What a hall holds: the database that it was opened with, and the store's moment then; the vault; the stamps of this run's transactions, oldest first; the live tickets by number;
 /// the space that is held beside the copies, and the index of the free space beside both; the object and ticket numbers that are drawn next; and the image in progress; and what the
