@@ -26,7 +26,7 @@ same_increment i j e = cc
 same_whole : {D : Type 0} (d e : D) → (let a : Payload D = Whole d in let b : Payload D = Whole e in a ≡ b) → d ≡ e
 same_whole d e same = cc
 
-not_both : {D : Type 0} (d : D) (i : Increment) → (let a : Payload D = Whole d in a ≡ Since i) → ⊥
+pub not_both : {D : Type 0} (d : D) (i : Increment) → (let a : Payload D = Whole d in a ≡ Since i) → ⊥
 not_both d i e = absurd cc
 
 -- bytes are the spelling of one increment

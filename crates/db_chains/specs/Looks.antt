@@ -75,6 +75,11 @@ abbrev pub FindsBackup : {D : Type 0} → Meaning D → (ℕ → List ℕ) → �
 FindsBackup m files file None = NoBackup m files file
 FindsBackup m files file (Some found) = IsOfKind m files file found.number found.payload.items found.kind
 
+-- the whole database that a backup holds, where it holds one
+abbrev pub whole_of : {D : Type 0} → Kind D → Option D
+whole_of (Whole d) = Some d
+whole_of (Since after base) = None
+
 -- The backup in a file was looked for. Nothing that is read changed, a stop leaves no more of the file than it might have before, and where there is a backup the file is on the disk.
 pub record Looks {D : Type 0} (m : Meaning D) (file : ℕ) (result : Result (Option (Found D)) ChainRefused) (old new : History) : Type 0 where
   pub goes : GoesOn (λ other. other ≡ file) old new

@@ -41,6 +41,29 @@ pub record ReadChain {D : Type 0} (m : Meaning D) (file : ℕ) (result : Result 
   pub gives : IfOk result (λ d. IsReadFrom m file d old new)
   pub says : IfErr result (SaysBroken m (reads old) file)
 
+-- the backup in the file holds this database, and the file is on the disk
+pub record IsWholeIn {D : Type 0} (m : Meaning D) (file : ℕ) (d : D) (old new : History) : Type 0 where
+  pub number : ℕ
+  pub backup : IsBackup m (reads old) file number (Whole d)
+  pub settled : standing new file ≡ settled (reads new file)
+
+-- the file has no backup that holds a whole database
+abbrev pub NoWhole : {D : Type 0} → Meaning D → (ℕ → List ℕ) → ℕ → Type 0
+NoWhole {D} m files file = (number : ℕ) (d : D) → IsBackup m files file number (Whole d) → ⊥
+
+-- a refusal that names a file names this one, and is right
+abbrev pub SaysNoWhole : {D : Type 0} → Meaning D → (ℕ → List ℕ) → ℕ → ChainRefused → Type 0
+SaysNoWhole m files file (refused.NotABackup at) = (at ≡ file) × NoWhole m files file
+SaysNoWhole m files file (refused.ReadFault at) = Unit {0}
+SaysNoWhole m files file refused.RunFull = Unit {0}
+SaysNoWhole m files file refused.Memory = Unit {0}
+
+-- The backup in the file was read for the whole database that it holds, which changed nothing that is read. On Ok it holds this database, and the file is on the disk; what refuses for what the file is is right.
+pub record ReadWhole {D : Type 0} (m : Meaning D) (file : ℕ) (result : Result D ChainRefused) (old new : History) : Type 0 where
+  pub settles : OnlySettles old new
+  pub gives : IfOk result (λ d. IsWholeIn m file d old new)
+  pub says : IfErr result (SaysNoWhole m (reads old) file)
+
 -- Why a chain wasn't read: a call on a file of it failed, the moment is all but the last, what a file is, or want of memory.
 abbrev pub MayRefuseChain : (before after : ℕ → ℕ) (moment : ℕ) → ChainRefused → Type 0
 MayRefuseChain before after moment (refused.ReadFault file) = IsBackupFile file × Rose (before file) (after file)

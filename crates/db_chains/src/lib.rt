@@ -8,6 +8,8 @@ mod chain;
 pub mod laws;
 mod made;
 mod refused;
+mod whole;
 
 pub use chain::read_chain;
 pub use refused::ChainRefused;
+pub use whole::read_whole;
