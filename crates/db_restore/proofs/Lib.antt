@@ -1,0 +1,11 @@
+pub mod Facts
+pub mod Finding
+pub mod Holding
+pub mod Judging
+pub mod Leaving
+pub mod Putting
+pub mod Reaching
+pub mod Refusing
+pub mod Settling
+pub mod Staying
+pub mod Wholes

@@ -1,0 +1,15 @@
+use Rattle.std.proofs.Common.{◌≡◌, length}
+use Rattle.store_api.specs.Told.{Told}
+use Rattle.log_file.specs.Windows.{Onward}
+use Rattle.copy_checks.specs.Looks.{Saw}
+use Rattle.db_restore.specs.Missing.{groups_miss}
+use Rattle.db_restore.proofs.Finding.{IsUnderway}
+use Rattle.db_restore.proofs.looking.look_for_groups.Given as goal
+
+abbrev pub invariant-groups : goal.invariant-groups
+invariant-groups g l =
+    record {
+      told : Told (g.S.Store.told l.fn.store) (g.S.Store.told l.store) (Saw (λ image. IsUnderway (groups_miss image l.skipped l.group-iterator) (groups_miss image l.skipped l.groups.entries) l.fn.losses l.losses));
+      long : length l.buffer ≡ length l.fn.buffer;
+      onward : Onward (g.S.Store.moment_of l.fn.store) (g.S.Store.moment_of l.store) (g.S.Store.faults_of l.fn.store) (g.S.Store.faults_of l.store);
+    }
