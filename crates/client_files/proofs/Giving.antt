@@ -261,10 +261,10 @@ out-whole did p q s path old mid then_ new first before between after digest mad
 -- ---- all of it
 
 pub restores-whole : {S : Type 0} (did : S → List Event → S → Type 0) (p q : S) (s : Stored) (path : List ℕ) (old new : Option Files) (before after : ℕ)
-    → Call did p q (λ events. CopiesOut s path before after old new events (Ok tt)) → Call did p q (λ events. Restoring s path before after old new events (Ok gave.Restored))
-restores-whole did p q s path old new before after a =
+    → before ≤ after → Call did p q (λ events. CopiesOut s path before after old new events (Ok tt)) → Call did p q (λ events. Restoring s path before after old new events (Ok gave.Restored))
+restores-whole did p q s path old new before after rises a =
     so_call did (λ events. CopiesOut s path before after old new events (Ok tt)) (λ events. Restoring s path before after old new events (Ok gave.Restored)) p q a
-    (λ xs w. record { order = inl (w.0, refl); tree = w.1 })
+    (λ xs w. record { order = inl (w.0, refl); tree = w.1; rises = rises })
 
 leads_gone : (path : List ℕ) (old mid new : Option Files) (before after : ℕ) → Leads (HasOthers path) old mid → new ≡ option_map (removed path) mid → IsGone path new → Leads (HasNone path before after) old new
 leads_gone path None mid new before after a h gone = tt
@@ -303,4 +303,5 @@ restores-not did p q s path old mid new first before after e removing result a l
       order = inr (e, breaks_in s first before after e xs high w.0, is);
       tree = subst (λ (r : Result Gave Refusal). LeavesTree s path first after xs old new r) (sym is)
           (given_leaves s path first after xs old new e (cleared path old mid new first before after removing w.1 leaves gone rose low));
+      rises = omega (arith, low, high);
     })

@@ -122,12 +122,12 @@ put_file file pool size before after t digest events (inl h) = absurd (unopened_
 put_file file pool size before after t digest events (inr h) =
     behind_none file size digest events h.1.0 h.1.1 h.1.2 (opened_writes pool size h.0 h.1.0 h.1.3) (kept_with file h.0 t size before after digest h.1.1 h.1.4)
 
-pub writing-of : (file : Option ClientFile) (pool size before after : ℕ) (events : List Event) (result : Result Came Refusal) → Puts file pool size before after events result
+pub writing-of : (file : Option ClientFile) (pool size before after : ℕ) (events : List Event) (result : Result Came Refusal) → before ≤ after → Puts file pool size before after events result
     → Writing file pool size before after events result
-writing-of file pool size before after events (Ok (came.Written ticket digest)) h = record { order = h; stored = put_file file pool size before after ticket digest events h }
-writing-of file pool size before after events (Ok (came.Failed e)) h = record { order = h; stored = tt }
-writing-of file pool size before after events (Ok (came.Held holder)) h = record { order = h; stored = tt }
-writing-of file pool size before after events (Err e) h = record { order = h; stored = tt }
+writing-of file pool size before after events (Ok (came.Written ticket digest)) rises h = record { order = h; stored = put_file file pool size before after ticket digest events h; rises = rises }
+writing-of file pool size before after events (Ok (came.Failed e)) rises h = record { order = h; stored = tt; rises = rises }
+writing-of file pool size before after events (Ok (came.Held holder)) rises h = record { order = h; stored = tt; rises = rises }
+writing-of file pool size before after events (Err e) rises h = record { order = h; stored = tt; rises = rises }
 
 -- ---- and is sealed then
 

@@ -1,5 +1,5 @@
 -- What came of a file that was sent.
-use Rattle.std.specs.Prelude.{◌≡◌, ℕ, List, length, Option, IfSome, Result, Ok}
+use Rattle.std.specs.Prelude.{◌≡◌, ℕ, ◌≤◌, List, length, Option, IfSome, Result, Ok}
 use Rattle.sha2.specs.Sha256.{sha256}
 use Rattle.kinds.specs.ValueForms.{digest_with}
 use Rattle.kinds.specs.declared.refusal.Refusal.{Refusal}
@@ -26,7 +26,8 @@ pub record Sending (file : Option ClientFile) (pool size before after : ℕ) (ev
   pub order : Sends file pool size before after events result
   pub stored : Stores file size events result
 
--- A file was written by these steps, in their order, into a ticket that isn't sealed yet; and the ticket has the file.
+-- A file was written by these steps, in their order, into a ticket that isn't sealed yet; the ticket has the file; and the tree's count of faults didn't fall.
 pub record Writing (file : Option ClientFile) (pool size before after : ℕ) (events : List Event) (result : Result Came Refusal) : Type 0 where
   pub order : Puts file pool size before after events result
   pub stored : Stores file size events result
+  pub rises : before ≤ after

@@ -125,7 +125,8 @@ abbrev pub LeavesTree : Stored → (path : List ℕ) → (before after : ℕ) �
 LeavesTree s path before after events old new (Ok gave.Restored) = Leads (HasFile path (read_in events) s.mtime) old new
 LeavesTree s path before after events old new _ = Leads (HasNone path before after) old new
 
--- An object was restored by these steps, in their order, and this is what the tree has.
+-- An object was restored by these steps, in their order, and this is what the tree has, whose count of faults didn't fall.
 pub record Restoring (s : Stored) (path : List ℕ) (before after : ℕ) (old new : Option Files) (events : List Event) (result : Result Gave Refusal) : Type 0 where
   pub order : Restores s before after events result
   pub tree : LeavesTree s path before after events old new result
+  pub rises : before ≤ after

@@ -1,5 +1,5 @@
 -- What an incremental backup begins with: questions, the listing of the tree, and the plan.
-use Rattle.std.specs.Prelude.{◌≡◌, ◌⊎◌, ℕ, List, map, Option, IfSome, Result, Ok, Err}
+use Rattle.std.specs.Prelude.{◌≡◌, ◌⊎◌, ℕ, ◌≤◌, List, map, Option, IfSome, Result, Ok, Err}
 use Rattle.kinds.specs.declared.refusal.Refusal.{Refusal}
 use Rattle.kinds.specs.declared.refusal.Refusal.TheVariants as refused
 use Rattle.choosers.specs.declared.rule.Rule.{Rule}
@@ -15,6 +15,11 @@ use Rattle.incrementals.specs.declared.planning.Begun.{Begun}
 -- these are all files of a tree that tells them, and of any tree each once, by path
 abbrev pub IsListing : Option Files → List FileRow → Type 0
 IsListing told files = AreListed files × IfSome told (λ f. files ≡ map row_of f)
+
+-- they were listed, by which the tree's count of faults didn't fall
+pub record WereListed (told : Option Files) (before after : ℕ) (files : List FileRow) : Type 0 where
+  pub listing : IsListing told files
+  pub rises : before ≤ after
 
 -- memory was wanted, or the tree's count of faults rose
 abbrev pub Unlisted : (before after : ℕ) → Refusal → Type 0
@@ -35,7 +40,7 @@ PlansFiles choice files basis (Ok b) = IsPlanned choice files basis b
 PlansFiles choice files basis (Err e) = e ≡ refused.Memory
 
 abbrev pub Plans : List Rule → Option Files → Basis → (before after : ℕ) → Result Begun Refusal → Type 0
-Plans choice told basis before after (Ok b) = (files : List FileRow) × IsListing told files × IsPlanned choice files basis b
+Plans choice told basis before after (Ok b) = (files : List FileRow) × WereListed told before after files × IsPlanned choice files basis b
 Plans choice told basis before after (Err e) = Unlisted before after e
 
 -- It asked, listed the tree, and planned.

@@ -12,4 +12,4 @@ returns-clause-writes g c =
     let before = g.T.Tree.fault_count c.args.tree.now in
     let after = g.T.Tree.fault_count c.open_and_keep.new.tree in
     so_call g.P.Stepper.did (λ events. Puts file c.args.pool size before after events c.open_and_keep.result) (λ events. Writing file c.args.pool size before after events c.open_and_keep.result)
-    c.args.p.now c.open_and_keep.new.p c.open_and_keep.ensures.puts (λ events h. writing-of file c.args.pool size before after events c.open_and_keep.result h)
+    c.args.p.now c.open_and_keep.new.p c.open_and_keep.ensures.puts (λ events h. writing-of file c.args.pool size before after events c.open_and_keep.result c.open_and_keep.ensures.rises h)
