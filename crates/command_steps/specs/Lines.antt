@@ -8,25 +8,12 @@ use Rattle.admin_words.specs.declared.command.Command.{Command}
 use Rattle.admin_words.specs.declared.command.Command.TheVariants as commands
 use Rattle.admin_words.specs.declared.command.FileCommand.{FileCommand}
 use Rattle.admin_words.specs.declared.command.FileCommand.TheVariants.{ArchiveFiles, RetrieveFiles}
-use Rattle.admin_words.specs.declared.command.DatabaseCommand.{DatabaseCommand}
-use Rattle.admin_words.specs.declared.command.DatabaseCommand.TheVariants.{BackupDatabase}
-use Rattle.admin_words.specs.declared.words.BackupType.{BackupType}
-use Rattle.admin_words.specs.declared.words.BackupType.TheVariants.{Full, Incremental}
 
--- the commands of each family that the server does so far
+-- the commands on a client's files that the server does so far
 abbrev pub does_file : FileCommand → Bool
 does_file (ArchiveFiles a) = false
 does_file (RetrieveFiles r) = false
 does_file _ = true
-
--- the whole database is backed up, and not what came behind another backup
-abbrev pub does_backup : BackupType → Bool
-does_backup Full = true
-does_backup Incremental = false
-
-abbrev pub does_database : DatabaseCommand → Bool
-does_database (BackupDatabase b) = does_backup b.backup_type
-does_database _ = true
 
 -- whether the server does a command so far; every other one is refused like an unknown word
 abbrev pub is_done : Command → Bool
@@ -36,7 +23,7 @@ is_done (commands.Node c) = true
 is_done (commands.Pool c) = true
 is_done (commands.Volume c) = true
 is_done (commands.File c) = does_file c
-is_done (commands.Database c) = does_database c
+is_done (commands.Database c) = true
 is_done (commands.Block c) = false
 
 -- what a line is: a comment; a line that is refused as it stands; or a command that is to be done

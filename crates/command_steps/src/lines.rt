@@ -1,11 +1,10 @@
 // What a line of the script is.
 ghost use Rattle.std.specs.Prelude.{◌≡◌, ◌<◌, ◌-◌, ◌^◌, false, length, IfOk, IfErr};
 ghost use Rattle.kinds.specs.declared.refusal.Refusal.TheVariants.{Memory};
-ghost use Rattle.command_steps.specs.Lines.{does_file, does_backup, does_database, is_done, line_of};
+ghost use Rattle.command_steps.specs.Lines.{does_file, is_done, line_of};
 ghost use Rattle.command_steps.specs.Reading.{line_view};
 
-use admin_words::command::{DatabaseCommand, FileCommand};
-use admin_words::words::BackupType;
+use admin_words::command::FileCommand;
 use admin_words::{Command, read_line};
 use command_words::is_comment;
 use kinds::Refusal;
@@ -31,24 +30,6 @@ fn does_file(command: &FileCommand) -> bool
     }
 }
 
-fn does_backup(kind: BackupType) -> bool
-    ensures { result ≡ does_backup kind }
-{
-    match kind {
-        BackupType::Full => true,
-        BackupType::Incremental => false,
-    }
-}
-
-fn does_database(command: &DatabaseCommand) -> bool
-    ensures { result ≡ does_database command.now }
-{
-    match command {
-        DatabaseCommand::BackupDatabase(it) => does_backup(it.backup_type),
-        _ => true,
-    }
-}
-
 /// Whether the server does a command so far.
 fn is_done(command: &Command) -> bool
     ensures { result ≡ is_done command.now }
@@ -58,9 +39,9 @@ fn is_done(command: &Command) -> bool
         | Command::Class(_)
         | Command::Node(_)
         | Command::Pool(_)
-        | Command::Volume(_) => true,
+        | Command::Volume(_)
+        | Command::Database(_) => true,
         Command::File(it) => does_file(it),
-        Command::Database(it) => does_database(it),
         Command::Block(_) => false,
     }
 }

@@ -1,8 +1,7 @@
 -- A backup that follows the newest one, and when there is none to follow.
-use Rattle.std.proofs.Common.{◌≡◌, ◌⊎◌, inl, inr, ℕ, ◌+◌, ◌-◌, ◌^◌, ◌≤◌, ◌==◌, ◌&&◌, not, nat_le, nat_lt, Bool, true, false, if◌then◌else◌, List, [], ◌∷◌, ◌++◌, append_assoc, Option, None, Some, Result, Ok, Err, refl, sym, ap, subst, ◌∙◌, arith}
+use Rattle.std.proofs.Common.{◌≡◌, ◌⊎◌, inl, inr, ℕ, ◌+◌, ◌-◌, ◌^◌, ◌≤◌, ◌==◌, ◌&&◌, nat_le, nat_lt, Bool, true, false, if◌then◌else◌, List, [], ◌∷◌, ◌++◌, Option, None, Some, Result, Ok, Err, refl, sym, ap, subst, ◌∙◌, arith}
 use Rattle.std.proofs.lemmas.Bool.{false≢true}
 use Rattle.std.proofs.lemmas.List.{append-nil}
-use Rattle.std.specs.List.{list_all}
 use Rattle.std.specs.Option.{option_map_or}
 use Rattle.kinds.specs.Refusals.{bad_value, foremost, number_of, unless}
 use Rattle.kinds.specs.declared.refusal.Refusal.{Refusal}
@@ -16,6 +15,7 @@ use Rattle.inventory_rules.specs.Backups.{after_refused, backup_at, is_done}
 use Rattle.inventory_rules.specs.Common.{file_bound, files_refused}
 use Rattle.inventory_rules.specs.Journal.{Journal}
 use Rattle.inventory_rules.specs.Transactions.{refused as change_refused}
+use Rattle.inventory_rows.specs.declared.backup.Backup.{Backup}
 use Rattle.inventory_rows.specs.State.{Inv}
 use Rattle.item_refusals.proofs.Foremost.{foremost_append}
 use Rattle.copy_attempts.proofs.Facts.{some-memory}
@@ -26,10 +26,11 @@ use Rattle.copy_runs.specs.Ends.{first_of, last_of}
 use Rattle.machine.proofs.Elsewhere.{append-all, foremost-all, sooner-one, unless-all}
 use Rattle.machine.proofs.Runs.{fits-cut, fits-first, fits-one, fits-rises}
 use Rattle.machine.specs.Causes.{change_illegal, image_refused, since_refused}
-use Rattle.machine.specs.Fits.{Fits, History, Own, Step, inv, sight_at}
+use Rattle.machine.specs.Fits.{Fits, History, Own, Step, sight_at}
 use Rattle.machine.specs.Says.{Says}
 use Rattle.machine.specs.State.{Sight}
 use Rattle.reuse_delay.proofs.Causes.{listed-is, own-cause, refused-for}
+use Rattle.sessions.specs.Waiting.{Waited}
 use Rattle.steps.specs.declared.image.ImageKind.TheVariants as image
 use Rattle.steps.specs.Events.{Event, event, has_number}
 use Rattle.steps.specs.Events.Deed.{Ask, Image}
@@ -37,7 +38,7 @@ use Rattle.db_backup.specs.declared.taking.Taken.{Taken}
 use Rattle.db_backup.specs.Backups.{Follows, FollowsNewest}
 use Rattle.db_backup.specs.Listing.{newest_file}
 use Rattle.db_backup.specs.Rows.{FollowsAt, IsNoneToFollow, IsUnfollowed, lines_at}
-use Rattle.db_backup.specs.Taking.{Backs, Begins, BreaksOff, Completes, Continues, GivesUp, Opens, Starts, TakesOff, begun_file, failed_file, gone_by, since_numbers, unbegun, unwritten}
+use Rattle.db_backup.specs.Taking.{Backs, Begins, Completes, Continues, GivesUp, Opens, Starts, TakesOff, begun_file, failed_file, since_numbers}
 use Rattle.db_backup.proofs.Journaled.{backed-up}
 use Rattle.db_backup.proofs.Rows.{IsTen, asked-lines, awaits-ten}
 
@@ -93,9 +94,10 @@ completes-not t events (inr (seq, why, same, h)) = not-stopping why (is_stopping
 
 -- ---- the step that was so refused
 
--- it is the last of these
-abbrev EndsSo : (file : ℕ) → List Event → Type 0
-EndsSo file events = (us : List Event) × (k : ℕ) × (events ≡ us ++ (event k (Image (image.Since file) (Err refused.NotFound)) ∷ []))
+-- it is the last of these, behind tries that waited
+abbrev pub EndsSo : (file : ℕ) → List Event → Type 0
+EndsSo file events =
+    (us : List Event) × (k : ℕ) × (events ≡ us ++ (event k (Image (image.Since file) (Err refused.NotFound)) ∷ [])) × (number : ℕ) × Waited (Begins (image.Since file)) number us
 
 unbegun-is : (why : Refusal) (t : Bool) → refused.NotFound ≡ (if t then why else refused.Memory) → why ≡ refused.NotFound
 unbegun-is why true same = sym same
@@ -104,7 +106,7 @@ unbegun-is why false same = absurd cc
 opens-so : (file : ℕ) (events : List Event) → Opens (image.Since file) events (Err refused.NotFound) → EndsSo file events
 opens-so file events (waited, (us, vs, cut, some, inl (none, inl (why, same, inl it)))) =
     let is : why ≡ refused.NotFound = unbegun-is why (has_number since_numbers why) same in
-    (us, it.0, cut ∙ ap (λ (l : List Event). us ++ l) (it.1 ∙ ap (λ (e : Refusal). event it.0 (Image (image.Since file) (Err e)) ∷ []) is))
+    (us, it.0, cut ∙ ap (λ (l : List Event). us ++ l) (it.1 ∙ ap (λ (e : Refusal). event it.0 (Image (image.Since file) (Err e)) ∷ []) is), waited, some)
 opens-so file events (waited, (us, vs, cut, some, inl (none, inl (why, same, inr m)))) =
     let is : why ≡ refused.NotFound = unbegun-is why (has_number since_numbers why) same in
     absurd (let never : refused.NotFound ≡ refused.Memory = sym is ∙ some-memory why (Image (image.Since file) (Err why)) refl m.0 in cc)
@@ -119,9 +121,9 @@ starts-so file events e is (why, (xs, ys, cut, opens, gives)) =
     let given = given-up (failed_file why) why ys (subst (λ (x : Refusal). GivesUp (failed_file why) why ys x) is gives) in
     let so : EndsSo file xs = opens-so file xs (subst (λ (x : Refusal). Opens (image.Since file) xs (Err x)) given.1 opens) in
     let none : ys ≡ [] = given.0 (ap failed_file given.1) in
-    (so.0, so.1, cut ∙ ap (λ (l : List Event). xs ++ l) none ∙ append-nil xs ∙ so.2)
+    (so.0, so.1, cut ∙ ap (λ (l : List Event). xs ++ l) none ∙ append-nil xs ∙ so.2, so.3, so.4)
 
-backs-so : (file : ℕ) (events : List Event) → Backs (image.Since file) events (Err refused.NotFound) → EndsSo file events
+pub backs-so : (file : ℕ) (events : List Event) → Backs (image.Since file) events (Err refused.NotFound) → EndsSo file events
 backs-so file events (inl (e, starts, is)) = (let same : e ≡ refused.NotFound = cc in starts-so file events e same starts)
 backs-so file events (inr (t, (xs, ys, cut, starts, completes))) = absurd (completes-not t ys completes)
 
@@ -148,23 +150,29 @@ begin-refused j next file v h = elim (refused-for j (DbBegin next (Some file)) v
   | inr size ↦ elim size as (λ _. is_done (backup_at file v) ≡ false) [ inl full ↦ absurd cc | inr bad ↦ absurd cc ]
 ]
 
+-- what is so refused isn't a whole one, or is of an earlier run
+pub not-followed : (file : ℕ) (v : Sight) → foremost (image_refused (image.Since file) v) ≡ Some refused.NotFound
+    → (is_done (backup_at file v.inventory) ≡ false) ⊎ (option_map_or (λ (b : Backup). nat_le v.first b.number) (backup_at file v.inventory) false ≡ false)
+not-followed file v held =
+    let begins = change_illegal (DbBegin v.next_file (Some file)) v in
+    let done : Bool = is_done (backup_at file v.inventory) in
+    let late : Bool = option_map_or (λ (b : Backup). nat_le v.first b.number) (backup_at file v.inventory) false in
+    let few : Bool = option_map_or (λ (b : Backup). nat_lt (v.inventory.number + 1 - b.number) (2 ^ 32)) (backup_at file v.inventory) true in
+    elim (sooner-one (foremost (since_refused file v)) (foremost begins) refused.NotFound (sym (foremost_append (since_refused file v) begins) ∙ held)) as (λ _. (done ≡ false) ⊎ (late ≡ false)) [
+      | inl since ↦ elim (sooner-one (foremost (unless (done && late) refused.NotFound)) _ refused.NotFound (sym (foremost_append (unless (done && late) refused.NotFound) (unless few refused.InventoryFull)) ∙ since)) as
+          (λ _. (done ≡ false) ⊎ (late ≡ false)) [
+            | inl first ↦ both-not done late (unless-is (done && late) refused.NotFound refused.NotFound first)
+            | inr full ↦ absurd (foremost-all IsNot (unless few refused.InventoryFull) (unless-all IsNot few refused.InventoryFull (λ x. absurd cc)) refused.NotFound full refl)
+          ]
+      | inr begin ↦ inl (begin-refused v.journal v.next_file file v.inventory (listed-is (change_refused v.journal (DbBegin v.next_file (Some file)) v.inventory) refused.NotFound begin))
+    ]
+
 said : (w : History) (actor : ℕ) (a b : Own) (n file : ℕ) → Step w actor a (event n (Image (image.Since file) (Err refused.NotFound))) b → IsUnfollowed file w n
 unfolding Says
 said w actor a b n file s =
     let v : Sight = sight_at w a n s.next_file in
     let held : foremost (image_refused (image.Since file) v) ≡ Some refused.NotFound = own-cause (10 ∷ []) (image_refused (image.Since file) v) refused.NotFound refl s.says refl in
-    let begins = change_illegal (DbBegin s.next_file (Some file)) v in
-    let done : Bool = is_done (backup_at file v.inventory) in
-    let late : Bool = option_map_or (λ b. nat_le v.first b.number) (backup_at file v.inventory) false in
-    let few : Bool = option_map_or (λ b. nat_lt (v.inventory.number + 1 - b.number) (2 ^ 32)) (backup_at file v.inventory) true in
-    elim (sooner-one (foremost (since_refused file v)) (foremost begins) refused.NotFound (sym (foremost_append (since_refused file v) begins) ∙ held)) as (λ _. IsUnfollowed file w n) [
-      | inl since ↦ elim (sooner-one (foremost (unless (done && late) refused.NotFound)) _ refused.NotFound (sym (foremost_append (unless (done && late) refused.NotFound) (unless few refused.InventoryFull)) ∙ since)) as
-          (λ _. IsUnfollowed file w n) [
-            | inl first ↦ both-not done late (unless-is (done && late) refused.NotFound refused.NotFound first)
-            | inr full ↦ absurd (foremost-all IsNot (unless few refused.InventoryFull) (unless-all IsNot few refused.InventoryFull (λ x. absurd cc)) refused.NotFound full refl)
-          ]
-      | inr begin ↦ inl (begin-refused v.journal s.next_file file (inv w n) (listed-is (change_refused v.journal (DbBegin s.next_file (Some file)) v.inventory) refused.NotFound begin))
-    ]
+    not-followed file v held
 
 -- ---- the whole
 
