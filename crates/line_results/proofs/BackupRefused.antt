@@ -2,6 +2,7 @@
 use Rattle.std.proofs.Common.{◌≡◌, ◌⊎◌, inl, inr, ℕ, ◌+◌, ◌^◌, ◌-◌, ◌==◌, ◌≤◌, ◌&&◌, nat_le, nat_lt, Bool, true, false, cond, true≢false, is_some, if◌then◌else◌, find, List, [], ◌∷◌, ◌++◌, length, map, Option, None, Some, Result, Ok, Err, refl, sym, ap, subst, ◌∙◌, arith}
 use Rattle.std.proofs.lemmas.Bool.{ltb-false}
 use Rattle.std.proofs.lemmas.Cmp.{nat_list_eq_equiv}
+use Rattle.std.proofs.lemmas.List.{append-nil, append_cancel_left}
 use Rattle.std.proofs.lemmas.Map.Text.{is_eq-slice_cmp}
 use Rattle.std.specs.BTreeMap.{insert_entry}
 use Rattle.std.specs.List.{AllByRecursion, flat_map}
@@ -26,6 +27,7 @@ use Rattle.client_trees.specs.Files.{Files}
 use Rattle.client_trees.specs.declared.tree.FileRow.{FileRow}
 use Rattle.entries.specs.declared.change.Change.{Change}
 use Rattle.entries.specs.declared.change.Change.TheVariants as change
+use Rattle.entries.specs.declared.entry.Entry.{Entry}
 use Rattle.inventory_rows.specs.object_rows.Changes.{rows_changed}
 use Rattle.inventory_rows.specs.object_rows.Filespaces.{at_number}
 use Rattle.inventory_rows.specs.object_rows.Names.{at_name, filespace_named, named_of, node_named}
@@ -57,6 +59,7 @@ use Rattle.incrementals.specs.Filespaces.{DefinesAndFinds, DefinesOne, FindsOne,
 use Rattle.incrementals.specs.Planning.{Begins}
 use Rattle.incrementals.specs.Process.{Finishes, Increments, Works, is_idle, is_sending}
 use Rattle.incrementals.specs.declared.answering.Outs.{Outs}
+use Rattle.incrementals.specs.declared.asking.Basis.{Basis}
 use Rattle.incrementals.specs.declared.answering.Sent.{Sent}
 use Rattle.incrementals.specs.declared.planning.Begun.{Begun}
 use Rattle.steps.specs.Events.{Event, has_number}
@@ -225,12 +228,13 @@ not-there-yet node name core e none h =
 module _ (trusted : Type 0) (places : Places) where
   -- a question that is refused, by which no run ends, is refused so by the database
   question-refused : (q : Query) (events : List Event) (e : Refusal) (m new : Machine) → is_log q ≡ false → m.core.fault ≡ None → Unanswered q events e → Alone trusted places 0 events m new → halt_by e ≡ None
-      → rows_of q (database m) ≡ Err e
+      → (rows_of q (database m) ≡ Err e) × Became m.core m new
   question-refused q events e m new unlogged none (inl (memory, empty)) a mild = absurd (ends-halt e (subst Ends (sym memory) refl) mild)
   question-refused q events e m new unlogged none (inr (inl (answer, memory, made))) a mild = absurd (ends-halt e (subst Ends (sym memory) refl) mild)
   question-refused q events e m new unlogged none (inr (inr (why, is, made))) a mild =
-      elim (asks-unhalted trusted places q rows.Versions (Err e) events m new unlogged none (inl (why, is, made)) a).1 as (λ _. rows_of q (database m) ≡ Err e) [
-        | inl h ↦ h
+      let t = asks-unhalted trusted places q rows.Versions (Err e) events m new unlogged none (inl (why, is, made)) a in
+      elim t.1 as (λ _. (rows_of q (database m) ≡ Err e) × Became m.core m new) [
+        | inl h ↦ (h, t.0)
         | inr ends ↦ absurd (no-end e m new ends mild)
       ]
 
@@ -238,7 +242,7 @@ module _ (trusted : Type 0) (places : Places) where
   filespaces-told : (node : List ℕ) (k : ℕ) (events : List Event) (e : Refusal) (m new : Machine) → node_named node (database m).clients.nodes ≡ Some k → m.core.fault ≡ None
       → Unanswered (query.Filespaces (Some node)) events e → Alone trusted places 0 events m new → halt_by e ≡ None → ⊥
   filespaces-told node k events e m new known none h a mild =
-      (let odd : rows_of (query.Filespaces (Some node)) (database m) ≡ Err e = question-refused (query.Filespaces (Some node)) events e m new refl none h a mild in
+      (let odd : rows_of (query.Filespaces (Some node)) (database m) ≡ Err e = (question-refused (query.Filespaces (Some node)) events e m new refl none h a mild).0 in
       let is = shown-there node k (database m) known in
       let no : ◌≡◌ {A = Result Rows Refusal} (Ok (rows.Filespaces (filespace_lines (database m).clients (Some k)))) (Err e) = sym is ∙ odd in
       cc)
@@ -290,14 +294,14 @@ module _ (trusted : Type 0) (places : Places) where
   mild-defined e why false is mild = mild-undefined e why (has_number (10 ∷ 31 ∷ []) why) (same-err (Unit {0}) e (undefined why) is) mild
 
   undefinable : (k : ℕ) (name : List ℕ) (e : Refusal) (m new : Machine) → halt_by e ≡ None → JoinFails (change.Object (client.Filespace two.Define k name 0)) m new e
-      → why_not (filespace_defined k name (database m)) m.core ≡ Some e
+      → (why_not (filespace_defined k name (database m)) m.core ≡ Some e) × Became m.core m new
   undefinable k name e m new mild (inl (inl (inl (full, late)), b)) = absurd (ends-halt e (subst Ends (sym full) refl) mild)
   undefinable k name e m new mild (inl (inl (inr memory), b)) = absurd (ends-halt e (subst Ends (sym memory) refl) mild)
-  undefinable k name e m new mild (inl (inr refuses, b)) = refuses
+  undefinable k name e m new mild (inl (inr refuses, b)) = (refuses, b)
   undefinable k name e m new mild (inr (legal, (file, count, fault, rose, b))) = absurd (ends-halt e (subst Ends (sym fault) refl) mild)
 
   defines-not : (k : ℕ) (name : List ℕ) (events : List Event) (e : Refusal) (m new : Machine) → IsAtRest m.core → DefinesOne k name events (Err e) → Alone trusted places 0 events m new → halt_by e ≡ None
-      → why_not (filespace_defined k name (database m)) m.core ≡ Some e
+      → (why_not (filespace_defined k name (database m)) m.core ≡ Some e) × Became m.core m new
   defines-not k name events e m new rest (inl (empty, is)) a mild = absurd (ends-halt e (ends-as (Unit {0}) e refused.Memory is refl) mild)
   defines-not k name events e m new rest (inr (Ok number, made, is)) a mild = absurd cc
   defines-not k name events e m new rest (inr (Err why, made, is)) a mild =
@@ -324,7 +328,7 @@ module _ (trusted : Type 0) (places : Places) where
 
   defines-finds : (node name : List ℕ) (k : ℕ) (events : List Event) (e : Refusal) (m new : Machine) → IsAtRest m.core → node_named node (database m).clients.nodes ≡ Some k
       → filespace_named k name (database m).clients.filespaces ≡ None → DefinesAndFinds node k name events (Err e) → Alone trusted places 0 events m new → halt_by e ≡ None
-      → why_not (filespace_defined k name (database m)) m.core ≡ Some e
+      → (why_not (filespace_defined k name (database m)) m.core ≡ Some e) × Became m.core m new
   defines-finds node name k events e m new rest known none (inl (found, (xs, ys, cut, defining, finding), is)) a mild =
       let parts = alone-parts trusted places 0 events xs ys m new cut a in
       let d = defines k name xs m parts.0 rest none defining parts.1 in
@@ -343,7 +347,7 @@ module _ (trusted : Type 0) (places : Places) where
 
   filespace-not : (node name : List ℕ) (k : ℕ) (sends : Bool) (events : List Event) (e : Refusal) (m new : Machine) → IsAtRest m.core → node_named node (database m).clients.nodes ≡ Some k
       → (sends ≡ false → filespace_named k name (database m).clients.filespaces ≡ None → ⊥) → HasFilespace node k name sends events (Err e) → Alone trusted places 0 events m new → halt_by e ≡ None
-      → IsUndefinable k name m e
+      → IsUndefinable k name m e × Became m.core m new
   filespace-not node name k sends events e m new rest known some (inl (found, finding, is)) a mild = absurd cc
   filespace-not node name k sends events e m new rest known some (inr (inl (why, finding, is))) a mild =
       let same : e ≡ why = same-err ℕ e why is in
@@ -356,31 +360,37 @@ module _ (trusted : Type 0) (places : Places) where
       let none : filespace_named k name (database m).clients.filespaces ≡ None = sym f.1 in
       let at = ap (λ (c : Core). node_named node (inventory c).clients.nodes) f.0.core ∙ known in
       let missing = ap (λ (c : Core). filespace_named k name (inventory c).clients.filespaces) f.0.core ∙ none in
-      let no : why_not (filespace_defined k name (database parts.0)) parts.0.core ≡ Some e = defines-finds node name k ys e parts.0 new (rest-as parts.0.core m.core f.0.core rest) at missing defining parts.2 mild in
-      (none, subst (λ (c : Core). why_not (filespace_defined k name (inventory c)) c ≡ Some e) f.0.core no)
+      let no = defines-finds node name k ys e parts.0 new (rest-as parts.0.core m.core f.0.core rest) at missing defining parts.2 mild in
+      ((none, subst (λ (c : Core). why_not (filespace_defined k name (inventory c)) c ≡ Some e) f.0.core no.0), became-still m.core m parts.0 new f.0 no.1)
 
 -- ---- the beginning
 
 module _ (trusted : Type 0) (places : Places) (choice : List Rule) (i : IncrementalBackup) where
+  -- that is its cause, and nothing was made
+  abbrev StoredNothing : (before after : Known) → Refusal → (m new : Machine) → Type 0
+  StoredNothing before after e m new = StoresNothing i before after m e × Became m.core m new
+
   -- the same of an earlier state with the same database
-  nothing-since : (before after : Known) (e : Refusal) (old m : Machine) → Became old.core old m → StoresNothing i before after m e → StoresNothing i before after old e
-  nothing-since before after e old m b h = subst (λ (x : Machine). StoresNothing i before after x e) (is-as old.core old m b) h
+  nothing-since : (before after : Known) (e : Refusal) (old m new : Machine) → Became old.core old m → StoredNothing before after e m new → StoredNothing before after e old new
+  nothing-since before after e old m new b h = (subst (λ (x : Machine). StoresNothing i before after x e) (is-as old.core old m b) h.0, became-still old.core old m new b h.1)
 
   rules-refused : (before after : Known) (events : List Event) (e : Refusal) (m new : Machine) → IsAtRest m.core → AsksNodeRules i.node events (Err e) → Alone trusted places 0 events m new → halt_by e ≡ None
-      → StoresNothing i before after m e
+      → StoredNothing before after e m new
   rules-refused before after events e m new rest (inl (number, (xs, ys, cut, first, next))) a mild =
       let parts = alone-parts trusted places 0 events xs ys m new cut a in
       let n = asked-node trusted places i.node number xs m parts.0 rest first parts.1 in
-      let no = no-rules number e (database parts.0) (question-refused trusted places (query.Rules number) ys e parts.0 new refl (rest-as parts.0.core m.core n.0.core rest).fault next parts.2 mild) in
-      inr (inl (number, n.1, inl (subst (λ (c : Core). rules_of number (inventory c) ≡ Err e) n.0.core no)))
+      let q = question-refused trusted places (query.Rules number) ys e parts.0 new refl (rest-as parts.0.core m.core n.0.core rest).fault next parts.2 mild in
+      let no = no-rules number e (database parts.0) q.0 in
+      (inr (inl (number, n.1, inl (subst (λ (c : Core). rules_of number (inventory c) ≡ Err e) n.0.core no))), became-still m.core m parts.0 new n.0 q.1)
   rules-refused before after events e m new rest (inr (why, asks, is)) a mild =
       let same : e ≡ why = same-err _ e why is in
-      inl (no-node i.node e (database m) (question-refused trusted places (query.Lookup (thing.Node i.node)) events e m new refl rest.fault (subst (λ (x : Refusal). Unanswered (query.Lookup (thing.Node i.node)) events x) (sym same) asks) a mild))
+      let q = question-refused trusted places (query.Lookup (thing.Node i.node)) events e m new refl rest.fault (subst (λ (x : Refusal). Unanswered (query.Lookup (thing.Node i.node)) events x) (sym same) asks) a mild in
+      (inl (no-node i.node e (database m) q.0), q.1)
 
   asked-refused : (before after : Known) (events : List Event) (e : Refusal) (old new : Machine) → IsAtRest old.core → AsksAll i.node i.filespace events (Err e) → Alone trusted places 0 events old new → halt_by e ≡ None
-      → StoresNothing i before after old e
+      → StoredNothing before after e old new
   asked-refused before after events e old new rest (inl (there_not, asks)) a mild =
-      let no = question-refused trusted places (query.Versions i.node i.filespace) events e old new refl rest.fault asks a mild in
+      let no = (question-refused trusted places (query.Versions i.node i.filespace) events e old new refl rest.fault asks a mild).0 in
       let missing : e ≡ refused.NotFound =
       asked-missing i.node i.filespace (database old).clients e
       (err-of (λ n. versions_at n (database old)) (filespace_asked i.node i.filespace (database old).clients) e (err-of rows.Versions (versions_of i.node i.filespace (database old)) e no)) in
@@ -388,13 +398,20 @@ module _ (trusted : Type 0) (places : Places) (choice : List Rule) (i : Incremen
   asked-refused before after events e old new rest (inr (versions, (xs, ys, cut, first, next))) a mild =
       let parts = alone-parts trusted places 0 events xs ys old new cut a in
       let n = asked-versions trusted places i.node i.filespace versions xs old parts.0 rest first parts.1 in
-      nothing-since before after e old parts.0 n.0 (rules-refused before after ys e parts.0 new (rest-as parts.0.core old.core n.0.core rest) next parts.2 mild)
+      nothing-since before after e old parts.0 new n.0 (rules-refused before after ys e parts.0 new (rest-as parts.0.core old.core n.0.core rest) next parts.2 mild)
+
+  -- questions that were answered changed nothing
+  asked-still : (basis : Basis) (events : List Event) (old m : Machine) → IsAtRest old.core → AsksAll i.node i.filespace events (Ok basis) → Alone trusted places 0 events old m → Became old.core old m
+  asked-still basis events old m rest (xs, ys, cut, first, next) a =
+      let parts = alone-parts trusted places 0 events xs ys old m cut a in
+      let n = asked-versions trusted places i.node i.filespace basis.versions xs old parts.0 rest first parts.1 in
+      became-still old.core old parts.0 m n.0 (asked-node-rules trusted places i.node basis.ruled ys parts.0 m (rest-as parts.0.core old.core n.0.core rest) next parts.2).0
 
   begins-refused : (before after : Known) (events : List Event) (e : Refusal) (old new : Machine) → IsAtRest old.core → Begins i.node i.filespace choice before.files before.faults after.faults events (Err e)
-      → Alone trusted places 0 events old new → halt_by e ≡ None → StoresNothing i before after old e
+      → Alone trusted places 0 events old new → halt_by e ≡ None → StoredNothing before after e old new
   begins-refused before after events e old new rest (inl (asks, same)) a mild = asked-refused before after events e old new rest asks a mild
   begins-refused before after events e old new rest (inr (basis, asks, inl memory)) a mild = absurd (ends-halt e (subst Ends (sym memory) refl) mild)
-  begins-refused before after events e old new rest (inr (basis, asks, inr rose)) a mild = inr (inr rose)
+  begins-refused before after events e old new rest (inr (basis, asks, inr rose)) a mild = (inr (inr rose), asked-still basis events old new rest asks a)
 
   -- it began: the node is there, and where nothing is to be sent but the plan isn't idle, so is the filespace
   pub record HasBegun (b : Begun) (old m : Machine) : Type 0 where
@@ -425,26 +442,23 @@ module _ (trusted : Type 0) (places : Places) (choice : List Rule) (i : Incremen
   -- ---- behind it
 
   works-refused : (before after : Known) (b : Begun) (told : Option Files) (first last : ℕ) (events : List Event) (e : Refusal) (old m new : Machine) → IsAtRest m.core → HasBegun b old m
-      → Works i.node i.filespace b told first last events (Err e) → AreFree events → Alone trusted places 0 events m new → halt_by e ≡ None → StoresNothing i before after m e
+      → Works i.node i.filespace b told first last events (Err e) → AreFree events → Alone trusted places 0 events m new → halt_by e ≡ None → StoredNothing before after e m new
   works-refused before after b told first last events e old m new rest has (inl (idle, empty, same, is)) free a mild = absurd cc
   works-refused before after b told first last events e old m new rest has (inr (inl (busy, number, (xs, ys, cut, filespace, carries)))) free a mild =
       absurd (ends-halt e (carries-end number b told first last ys e carries (free-parts events xs ys cut free).1) mild)
   works-refused before after b told first last events e old m new rest has (inr (inr (busy, why, filespace, same, is))) free a mild =
       let one : e ≡ why = same-err Outs e why is in
-      inr (inl (
-        b.node,
-        has.known,
-        inr (filespace-not trusted places i.node i.filespace b.node (is_sending b.plan) events e m new rest has.known (λ unsent none. has.some busy unsent none)
-            (subst (λ (x : Refusal). HasFilespace i.node b.node i.filespace (is_sending b.plan) events (Err x)) (sym one) filespace) a mild),
-      ))
+      let no = filespace-not trusted places i.node i.filespace b.node (is_sending b.plan) events e m new rest has.known (λ unsent none. has.some busy unsent none)
+      (subst (λ (x : Refusal). HasFilespace i.node b.node i.filespace (is_sending b.plan) events (Err x)) (sym one) filespace) a mild in
+      (inr (inl (b.node, has.known, inr no.0)), no.1)
 
   finishes-refused : (before after : Known) (b : Begun) (told : Option Files) (first last : ℕ) (events : List Event) (e : Refusal) (old m new : Machine) → IsAtRest m.core → HasBegun b old m
-      → Finishes i.node i.filespace b told first last events (Err e) → AreFree events → Alone trusted places 0 events m new → halt_by e ≡ None → StoresNothing i before after m e
+      → Finishes i.node i.filespace b told first last events (Err e) → AreFree events → Alone trusted places 0 events m new → halt_by e ≡ None → StoredNothing before after e m new
   finishes-refused before after b told first last events e old m new rest has (inl works) free a mild = works-refused before after b told first last events e old m new rest has works free a mild
   finishes-refused before after b told first last events e old m new rest has (inr (outs, (xs, ys, cut, works, (answer, made, is)))) free a mild = absurd (ends-halt e (finish-ends e answer is) mild)
 
   increments-refused : (before after : Known) (events : List Event) (e : Refusal) (old new : Machine) → IsAtRest old.core → Increments i.node i.filespace choice before.files before.faults after.faults events (Err e)
-      → AreFree events → Alone trusted places 0 events old new → halt_by e ≡ None → StoresNothing i before after old e
+      → AreFree events → Alone trusted places 0 events old new → halt_by e ≡ None → StoredNothing before after e old new
   increments-refused before after events e old new rest (inl (why, begins, is)) free a mild =
       let same : e ≡ why = same-err Sent e why is in
       begins-refused before after events e old new rest (subst (λ (x : Refusal). Begins i.node i.filespace choice before.files before.faults after.faults events (Err x)) (sym same) begins) a mild
@@ -452,21 +466,28 @@ module _ (trusted : Type 0) (places : Places) (choice : List Rule) (i : Incremen
       let same : e ≡ why = same-err Sent e why is in
       let parts = alone-parts trusted places 0 events xs ys old new cut a in
       let has = begun-has before.files before.faults count b xs old parts.0 rest begins parts.1 in
-      nothing-since before after e old parts.0 has.still
+      nothing-since before after e old parts.0 new has.still
       (finishes-refused before after b before.files count after.faults ys e old parts.0 new (rest-as parts.0.core old.core has.still.core rest) has
       (subst (λ (x : Refusal). Finishes i.node i.filespace b before.files count after.faults ys (Err x)) (sym same) finishes) (free-parts events xs ys cut free).1 parts.2 mild)
   increments-refused before after events e old new rest (inr (inr (b, count, outs, steps, memory))) free a mild = absurd (ends-halt e (subst Ends (sym memory) refl) mild)
 
-  refused-so : (before after : Known) (events : List Event) (e : Refusal) (old new : Machine) → IsAtRest old.core → Increments i.node i.filespace choice before.files before.faults after.faults events (Err e)
-      → AreFree events → Alone trusted places 0 events old new → IsRefusedSo i before after old (Err e)
-  refused-so before after events e old new rest order free a = elim (halt_by e) as (λ o. halt_by e ≡ o → StoresNothing i before after old e ⊎ ((how : Halt) × (halt_by e ≡ Some how))) [
-    | None ↦ λ mild. inl (increments-refused before after events e old new rest order free a mild)
-    | Some how ↦ λ halts. inr (how, halts)
-  ] refl
+  -- none of the transactions that came are its own
+  none-added : (added : List Entry) (old new : Machine) → Became old.core old new → new.core.journal ≡ old.core.journal ++ added → added ≡ []
+  none-added added old new b is = append_cancel_left old.core.journal added [] (sym is ∙ ap (λ (c : Core). c.journal) b.core ∙ sym (append-nil old.core.journal))
 
-  -- Where a backup is refused that has its cause, or the run ended.
-  pub backup-refused : (before after : Known) (events : List Event) (answer : Result Sent Refusal) (result : Result Outcome Refusal) (old new : Machine) → IsAtRest old.core
-      → Increments i.node i.filespace choice before.files before.faults after.faults events answer → ShowsSent answer result → AreFree events → Alone trusted places 0 events old new → IsRefusedSo i before after old result
-  backup-refused before after events (Ok told) (Ok it) old new rest order shows free a = tt
-  backup-refused before after events (Ok told) (Err e) old new rest order shows free a = absurd shows
-  backup-refused before after events (Err e) result old new rest order shows free a = subst (λ (r : Result Outcome Refusal). IsRefusedSo i before after old r) (sym shows) (refused-so before after events e old new rest order free a)
+  refused-so : (before after : Known) (events : List Event) (e : Refusal) (old new : Machine) (added : List Entry) → IsAtRest old.core → Increments i.node i.filespace choice before.files before.faults after.faults events (Err e)
+      → AreFree events → Alone trusted places 0 events old new → new.core.journal ≡ old.core.journal ++ added → IsRefusedSo i before after old (Err e) added
+  refused-so before after events e old new added rest order free a is =
+      elim (halt_by e) as (λ o. halt_by e ≡ o → (StoresNothing i before after old e × (added ≡ [])) ⊎ ((how : Halt) × (halt_by e ≡ Some how))) [
+        | None ↦ λ mild. (let h = increments-refused before after events e old new rest order free a mild in inl (h.0, none-added added old new h.1 is))
+        | Some how ↦ λ halts. inr (how, halts)
+      ] refl
+
+  -- Where a backup is refused that has its cause, and it made nothing; or the run ended.
+  pub backup-refused : (before after : Known) (events : List Event) (answer : Result Sent Refusal) (result : Result Outcome Refusal) (old new : Machine) (added : List Entry) → IsAtRest old.core
+      → Increments i.node i.filespace choice before.files before.faults after.faults events answer → ShowsSent answer result → AreFree events → Alone trusted places 0 events old new
+      → new.core.journal ≡ old.core.journal ++ added → IsRefusedSo i before after old result added
+  backup-refused before after events (Ok told) (Ok it) old new added rest order shows free a is = tt
+  backup-refused before after events (Ok told) (Err e) old new added rest order shows free a is = absurd shows
+  backup-refused before after events (Err e) result old new added rest order shows free a is =
+      subst (λ (r : Result Outcome Refusal). IsRefusedSo i before after old r added) (sym shows) (refused-so before after events e old new added rest order free a is)

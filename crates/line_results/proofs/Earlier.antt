@@ -30,6 +30,7 @@ use Rattle.command_steps.specs.Clients.{Client, Known}
 use Rattle.command_steps.specs.Owns.{OnTree, Own, audit_volume, back_up, back_up_database, back_up_pool, back_up_since, checkpoint, delete_history, empty_filespace, empty_volume, erase, expire, get, moves, none_but_reuse, none_yet, on_tree, own_of, put, restore, validate, write}
 use Rattle.command_steps.specs.Trees.{BacksUp, GivesWanted}
 use Rattle.command_steps.specs.declared.outcome.Outcome.{Outcome}
+use Rattle.line_results.specs.Bounds.{HasReason, IsReasoned, IsUnmade}
 use Rattle.line_results.specs.Commands.{Does, DoesOn, DoesOwn, DoesThere, EndsSo, IsStill, Processes, Ran, Tells, Works, WorksWith, drawn}
 use Rattle.line_results.specs.Files.{Gets, GetsNot, GetsOf, GetsUnder, Puts, PutsBy, PutsHome, PutsOf, PutsUnder, Shows, ShowsFound, Stores, StoresAt, StoresBy, active_at, why_no_place}
 use Rattle.line_results.specs.Resting.{Breaks, EndsRun, RoseFrom, database}
@@ -138,12 +139,30 @@ module _ (trusted : Type 0) (places : Places) (k : Client) (result : Result Outc
   still-as : (end : Machine) → IsStill (later_of old mid) end → IsStill old end
   still-as end still = record { core = still.core; contents = still.contents; onward = onward-then old (later_of old mid) end (on-later old mid b) still.onward }
 
+  unmade-as : (e : Refusal) → IsUnmade (later_of old mid) new e → IsUnmade old new e
+  unmade-as e (inl illegal) = inl illegal
+  unmade-as e (inr (inl refused_end)) = inr (inl refused_end)
+  unmade-as e (inr (inr rose)) = inr (inr (rose-from old (later_of old mid) new old.core.next_file (on-later old mid b) rose))
+
+  reason-as : (numbers : List ℕ) (own : Own) (e : Refusal) → HasReason numbers own (later_of old mid) new e → HasReason numbers own old new e
+  reason-as numbers expire e h = h
+  reason-as numbers back_up_database e h = unmade-as e h
+  reason-as numbers (delete_history to) e h = h
+  reason-as numbers (audit_volume fix) e h = h
+  reason-as numbers own e h = tt
+
+  reasoned-as : (numbers : List ℕ) (own : Own) (r : Result Outcome Refusal) → IsReasoned numbers own (later_of old mid) new r → IsReasoned numbers own old new r
+  reasoned-as numbers own (Ok it) h = tt
+  reasoned-as numbers own (Err e) (inl h) = inl (reason-as numbers own e h)
+  reasoned-as numbers own (Err e) (inr h) = inr h
+
   processes-as : (numbers : List ℕ) (own : Own) → Processes trusted places k.choice numbers own (later_of old mid) new result added → Processes trusted places k.choice numbers own old new result added
-  processes-as numbers own ((start, events, still, alone, did), are, image, bytes) = (
+  processes-as numbers own ((start, events, still, alone, did), are, image, bytes, why) = (
     (start, events, still-as start still, alone, did),
     are,
     image,
     bytes,
+    reasoned-as numbers own result why,
   )
 
   ran-as : (Did : List Event → Type 0) → Ran trusted places Did (later_of old mid) new → Ran trusted places Did old new
@@ -152,7 +171,7 @@ module _ (trusted : Type 0) (places : Places) (k : Client) (result : Result Outc
   ends-so-as : EndsSo (later_of old mid) new result → EndsSo old new result
   ends-so-as h e how is halts = ends-as old mid new e b (h e how is halts)
 
-  so-as : (i : IncrementalBackup) (before after : Known) (r : Result Outcome Refusal) → IsRefusedSo i before after (later_of old mid) r → IsRefusedSo i before after old r
+  so-as : (i : IncrementalBackup) (before after : Known) (r : Result Outcome Refusal) → IsRefusedSo i before after (later_of old mid) r added → IsRefusedSo i before after old r added
   so-as i before after (Ok it) why = tt
   so-as i before after (Err e) why = why
 

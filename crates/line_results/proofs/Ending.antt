@@ -1,5 +1,5 @@
 -- A command ends the run by a fault, a full run or want of memory alone.
-use Rattle.std.proofs.Common.{◌≡◌, ◌⊎◌, inl, inr, ℕ, ◌+◌, ◌^◌, ◌&&◌, nat_le, nat_lt, is_some, Bool, true, false, if◌then◌else◌, List, [], ◌∷◌, ◌++◌, length, Option, None, Some, Result, Ok, Err, refl, sym, ap, subst, ◌∙◌}
+use Rattle.std.proofs.Common.{◌≡◌, ◌⊎◌, inl, inr, ℕ, ◌+◌, ◌^◌, nat_le, nat_lt, Bool, true, false, List, [], ◌∷◌, ◌++◌, length, Option, None, Some, Result, Ok, Err, refl, sym, ap, subst, ◌∙◌}
 use Rattle.std.proofs.lemmas.Bool.{and_parts}
 use Rattle.std.specs.List.{AllByRecursion}
 use Rattle.kinds.specs.Refusals.{bad_value, unless}
@@ -17,37 +17,18 @@ use Rattle.entries.specs.EntryForm.{entry as entry_form}
 use Rattle.entries.specs.declared.change.Change.{Change}
 use Rattle.entries.specs.declared.change.Change.TheVariants as change
 use Rattle.entries.specs.declared.entry.Entry.{Entry}
-use Rattle.inventory_rows.specs.object_rows.Filespaces.{filespace_at}
 use Rattle.inventory_rows.specs.object_rows.Names.{filespace_named, node_named}
-use Rattle.inventory_rows.specs.object_rows.Rows.{Rows as Clients}
 use Rattle.inventory_rows.specs.policy_domains.Changes.{after}
-use Rattle.inventory_rows.specs.policy_domains.Rows.{DomainRow, row_of}
-use Rattle.inventory_rows.specs.pool_rows.PoolRows.{PoolRows, pool_named, volume_named}
-use Rattle.inventory_rows.specs.pool_tables.Rows.{named}
-use Rattle.inventory_rows.specs.version_groups.Entries.{if_found, on_ok}
+use Rattle.inventory_rows.specs.version_groups.Entries.{on_ok}
 use Rattle.inventory_rows.specs.version_groups.declared.versions.Version.{Version}
-use Rattle.inventory_rows.specs.Search.{domain_of_node, is_primary}
+use Rattle.inventory_rows.specs.Search.{is_primary}
 use Rattle.inventory_rows.specs.State.{Inv}
 use Rattle.inventory_rules.specs.Transactions.{refused as refused_change}
-use Rattle.inventory_work.specs.Copies.{has_pool, has_volume, missing, missing_in, on_pool, on_volume}
-use Rattle.inventory_work.specs.Found.{filespace_asked, find_named}
-use Rattle.inventory_work.specs.Rules.{rules_in, rules_of}
-use Rattle.inventory_work.specs.Volumes.{eligible, eligible_in}
+use Rattle.inventory_work.specs.Rules.{rules_of}
 use Rattle.inventory_work.specs.declared.lines.Rules.{Rules}
-use Rattle.inventory_work.specs.declared.search.Found.TheVariants as found
-use Rattle.inventory_work.specs.declared.search.Named.{Named}
-use Rattle.inventory_work.specs.declared.search.Named.TheVariants as thing
-use Rattle.inventory_answers.specs.Answered.{answered, rows_of}
-use Rattle.inventory_answers.specs.Clients.{filespace_lines, filespaces_of, path_versions_of, versions_at, versions_of, versions_under}
-use Rattle.inventory_answers.specs.Content.{content_lines, content_of, volume_at}
-use Rattle.inventory_answers.specs.Held.{held_lines, held_of}
-use Rattle.inventory_answers.specs.Look.{asked, node_asked, pool_asked, set_row, volume_asked}
-use Rattle.inventory_answers.specs.Policy.{class_lines, classes_of, group_lines, groups_of, set_lines, sets_of}
-use Rattle.inventory_answers.specs.Stores.{pool_lines, pools_of, volumes_asked, volumes_of}
+use Rattle.inventory_answers.specs.Answered.{answered}
 use Rattle.inventory_answers.specs.declared.query.Query.{Query}
-use Rattle.inventory_answers.specs.declared.query.Query.TheVariants as query
 use Rattle.inventory_answers.specs.declared.reply.Answer as rows
-use Rattle.inventory_answers.specs.declared.reply.Rows.TheVariants as kind
 use Rattle.command_words.specs.Reading.{◌>>=◌}
 use Rattle.admin_words.specs.declared.command.Command.{Command}
 use Rattle.admin_words.specs.declared.files.FileGet.{FileGet}
@@ -77,73 +58,18 @@ use Rattle.line_results.specs.Commands.{Comes, Does, DoesOn, DoesOwn, DoesThere,
 use Rattle.line_results.specs.Files.{Checkpoints, Gets, GetsOf, GetsUnder, IsPlacedIn, Puts, PutsBy, PutsHome, PutsOf, PutsUnder, ShowsFound, Stores, StoresAt, StoresBy, active_at, backed_up, filespace_defined, why_no_place}
 use Rattle.line_results.specs.Resting.{Commits, EndsNoRun, EndsRun, database, why_not}
 use Rattle.line_results.proofs.Processing.{IsPlainOwn, IsPlainTree, kind}
-use Rattle.line_results.proofs.Mild.{IsMild, is_common, m-after, m-found, m-if, m-on, m-refused, mild-err}
+use Rattle.line_results.proofs.Mild.{IsMild, is_common, m-after, m-if, m-on, m-refused, mild-err}
 use Rattle.line_results.proofs.Needs.{IsPlainWork, work-plain}
 use Rattle.line_results.proofs.Runs.{ends-since}
+use Rattle.line_results.proofs.Unfound.{answered-found, found-mild, rules-found}
 
 -- ---- queries
 
-m-set-row : (domain set : List ℕ) (domains : List (List ℕ × DomainRow)) → IsMild (set_row domain set domains)
-m-set-row domain set domains = m-found (row_of domain domains) (λ row. if_found (row_of set row.sets) Ok) (λ row. m-found (row_of set row.sets) Ok (λ it. tt))
-
-m-asked : (find : List ℕ → Option ℕ) (name : Option (List ℕ)) → IsMild (asked find name)
-m-asked find None = tt
-m-asked find (Some name) = m-found (find name) (λ number. Ok (Some number)) (λ number. tt)
-
-m-volumes : (s : PoolRows) (volume pool : Result (Option ℕ) Refusal) → IsMild volume → IsMild pool → IsMild (volumes_asked volume pool s)
-m-volumes s (Err e) pool h k = h
-m-volumes s (Ok file) (Err e) h k = k
-m-volumes s (Ok file) (Ok pool) h k = tt
-
-m-filespace : (node filespace : List ℕ) (clients : Clients) → IsMild (filespace_asked node filespace clients)
-m-filespace node filespace clients =
-    m-found (node_named node clients.nodes) (λ n. if_found (filespace_named n filespace clients.filespaces) Ok) (λ n. m-found (filespace_named n filespace clients.filespaces) Ok (λ it. tt))
-
-m-named : (name : Named) (v : Inv) → IsMild (find_named name v)
-m-named (thing.Node name) v = m-found (node_named name v.clients.nodes) (λ n. Ok (found.Number n)) (λ n. tt)
-m-named (thing.DevClass name) v = m-found (named name v.stores.classes) (λ capacity. Ok (found.DevClass capacity)) (λ n. tt)
-m-named (thing.Pool name) v = m-found (pool_named name v.stores) (λ n. Ok (found.Number n)) (λ n. tt)
-m-named (thing.Volume name) v = m-found (volume_named name v.stores) (λ n. Ok (found.Number n)) (λ n. tt)
-m-named (thing.Filespace node filespace) v = m-on found.Number (filespace_asked node filespace v.clients) (m-filespace node filespace v.clients)
-
 m-rules : (node : ℕ) (v : Inv) → IsMild (rules_of node v)
-m-rules node v = m-found (domain_of_node node v) (λ domain. Ok (rules_in domain v.domains)) (λ domain. tt)
-
-m-there : {A : Type 0} (b : Bool) (x : A) → IsMild (if b then Ok x else Err refused.NotFound)
-m-there true x = tt
-m-there false x = refl
-
-m-rows-of : (q : Query) (v : Inv) → IsMild (rows_of q v)
-m-rows-of query.Today v = tt
-m-rows-of query.Domains v = tt
-m-rows-of (query.Sets domain) v = m-on kind.Sets (sets_of domain v.domains) (m-found (row_of domain v.domains) (λ row. Ok (set_lines domain row)) (λ row. tt))
-m-rows-of (query.Classes domain set) v = m-on kind.Classes (classes_of domain set v.domains) (m-on (class_lines domain set) (set_row domain set v.domains) (m-set-row domain set v.domains))
-m-rows-of (query.Groups domain set) v = m-on kind.Groups (groups_of domain set v.domains v.stores) (m-on (group_lines domain set v.stores) (set_row domain set v.domains) (m-set-row domain set v.domains))
-m-rows-of (query.Validated domain set) v = tt
-m-rows-of query.Nodes v = tt
-m-rows-of (query.Filespaces node) v = m-on kind.Filespaces (filespaces_of node v.clients) (m-on (filespace_lines v.clients) (node_asked node v.clients) (m-asked (λ n. node_named n v.clients.nodes) node))
-m-rows-of query.Devices v = tt
-m-rows-of (query.Pools pool) v = m-on kind.Pools (pools_of pool v.stores) (m-on (λ number. pool_lines number v.stores) (pool_asked pool v.stores) (m-asked (λ n. pool_named n v.stores) pool))
-m-rows-of (query.Volumes volume pool) v =
-    m-on kind.Volumes (volumes_of volume pool v.stores)
-    (m-volumes v.stores (volume_asked volume v.stores) (pool_asked pool v.stores) (m-asked (λ n. volume_named n v.stores) volume) (m-asked (λ n. pool_named n v.stores) pool))
-m-rows-of (query.Content volume) v = m-on kind.Content (content_of volume v) (m-found (volume_at volume v.stores) (λ it. Ok (content_lines v it)) (λ it. tt))
-m-rows-of query.History v = tt
-m-rows-of (query.Versions node filespace) v = m-on kind.Versions (versions_of node filespace v) (m-on (λ n. versions_at n v) (filespace_asked node filespace v.clients) (m-filespace node filespace v.clients))
-m-rows-of (query.Path node filespace path) v = m-on kind.Versions (path_versions_of node filespace path v) (m-on (λ n. versions_under n path v) (filespace_asked node filespace v.clients) (m-filespace node filespace v.clients))
-m-rows-of (query.Held filespace) v = m-on kind.Held (held_of filespace v) (m-if (is_some (filespace_at filespace v.clients.filespaces)) (Ok (held_lines v.today filespace v.clients.held)) (Err refused.NotFound) tt refl)
-m-rows-of (query.Lookup name) v = m-on kind.Lookup (find_named name v) (m-named name v)
-m-rows-of (query.Rules node) v = m-on kind.Rules (rules_of node v) (m-rules node v)
-m-rows-of (query.OnPool pool) v = m-on kind.OnPool (on_pool pool v) (m-there (has_pool pool v) _)
-m-rows-of (query.OnVolume file) v = m-on kind.OnVolume (on_volume file v) (m-there (has_volume file v) _)
-m-rows-of (query.Missing primary copy) v = m-on kind.Missing (missing primary copy v) (m-if (has_pool primary v && has_pool copy v) (Ok (missing_in primary copy v)) (Err refused.NotFound) tt refl)
-m-rows-of (query.Eligible pool threshold) v = m-on kind.Eligible (eligible pool threshold v) (m-if (has_pool pool v) (Ok (eligible_in pool threshold v.stores)) (Err refused.NotFound) tt refl)
-m-rows-of query.Unretained v = tt
-m-rows-of query.Emptied v = tt
-m-rows-of query.LogBytes v = tt
+m-rules node v = found-mild (rules_of node v) (rules-found node v)
 
 pub m-answered : (q : Query) (v : Inv) → IsMild (answered q v)
-m-answered q v = m-on (λ it. record { n = v.number; today = v.today; rows = it }) (rows_of q v) (m-rows-of q v)
+m-answered q v = found-mild (answered q v) (answered-found q v)
 
 m-then : {A B : Type 0} (r : Result A Refusal) (f : A → Result B Refusal) → IsMild r → ((x : A) → IsMild (f x)) → IsMild (r >>= f)
 m-then (Ok x) f h k = k x

@@ -1,15 +1,12 @@
 -- What holds of a line that was answered.
-use Rattle.std.proofs.Common.{◌≡◌, ◌⊎◌, inl, inr, ℕ, zero, suc, ◌+◌, ◌^◌, ◌<◌, ◌≤◌, ◌&&◌, nat_lt, true, false, if◌then◌else◌, Contains, slice_index_or, is_none, find, option_and_then, List, [], ◌∷◌, ◌++◌, length, Option, None, Some, Result, Ok, Err, refl, sym, ap, subst, ◌∙◌, true≢false, arith}
+use Rattle.std.proofs.Common.{◌≡◌, ◌⊎◌, inl, inr, ℕ, zero, suc, ◌+◌, ◌^◌, ◌<◌, ◌≤◌, ◌&&◌, nat_lt, Bool, true, false, if◌then◌else◌, Contains, slice_index_or, is_none, find, option_and_then, List, [], ◌∷◌, ◌++◌, length, Option, None, Some, Result, Ok, Err, refl, sym, ap, subst, ◌∙◌, true≢false, arith}
 use Rattle.std.proofs.lemmas.Bool.{and_parts, false≢true}
 use Rattle.std.proofs.lemmas.Option.{same_Some}
-use Rattle.std.specs.List.{AllByRecursion, list_all}
+use Rattle.std.specs.List.{AllByRecursion}
 use Rattle.sha2.specs.Sha256.{sha256}
 use Rattle.kinds.specs.ValueForms.{digest_with}
 use Rattle.kinds.specs.declared.refusal.Refusal.{Refusal}
 use Rattle.kinds.specs.declared.refusal.Refusal.TheVariants as refused
-use Rattle.kinds.specs.declared.segment.Segment.{Segment}
-use Rattle.kinds.specs.declared.change.PoolChange.TheVariants as store
-use Rattle.kinds.specs.declared.change.Verb.TheVariants as verb
 use Rattle.entries.specs.declared.change.Change.{Change}
 use Rattle.entries.specs.declared.change.Change.TheVariants as change
 use Rattle.entries.specs.declared.entry.Entry.{Entry}
@@ -25,8 +22,7 @@ use Rattle.inventory_work.specs.declared.lines.Rules.{Rules}
 use Rattle.inventory_answers.specs.Answered.{answered}
 use Rattle.inventory_answers.specs.declared.query.Query.{Query}
 use Rattle.inventory_answers.specs.declared.reply.Answer as rows
-use Rattle.contents.specs.Reading.{segments_in}
-use Rattle.placing.specs.Placing.{active_of, active_version, can_read, is_readable}
+use Rattle.placing.specs.Placing.{active_of, active_version, can_read}
 use Rattle.admin_words.specs.declared.command.Command.{Command}
 use Rattle.admin_words.specs.declared.files.FileGet.{FileGet}
 use Rattle.admin_words.specs.declared.files.FilePut.{FilePut}
@@ -35,30 +31,29 @@ use Rattle.admin_words.specs.declared.policy.NamedSet.{NamedSet}
 use Rattle.admin_commands.specs.declared.work.Work.{Work}
 use Rattle.admin_commands.specs.declared.work.Work.TheVariants.{Commit, Show, Run}
 use Rattle.reports.specs.Lines.{shown_line}
-use Rattle.reports.specs.declared.shown.Shown.TheVariants.{Done, Stored}
+use Rattle.reports.specs.declared.shown.Shown.TheVariants.{Done, Reused, Stored}
 use Rattle.script_loop.specs.Reply.{Answer}
-use Rattle.steps.specs.Calls.{Made}
-use Rattle.steps.specs.Events.{Event, has_number, is_listed}
-use Rattle.steps.specs.Events.Deed.{Force}
+use Rattle.steps.specs.Events.{Event}
 use Rattle.machine.specs.Machine.{Places}
 use Rattle.machine.specs.Pieces.{IsCopyLost, IsUnavailable}
 use Rattle.machine.specs.State.{Machine}
 use Rattle.sessions.specs.declared.getting.FileRead.{FileRead}
-use Rattle.command_steps.specs.Answers.{Ends, answer_of, counting, done, failed_in, halt_by, outcome_lines, refusal, row_lines}
+use Rattle.command_steps.specs.Answers.{Ends, answer_of, counting, done, halt_by, outcome_lines, refusal, row_lines}
 use Rattle.tree_api.specs.Cause.{Rose}
 use Rattle.command_steps.specs.Clients.{Client, IsKept, Known, Turns}
 use Rattle.command_steps.specs.Lines.{Line, asks, comment, refused as refused_line}
 use Rattle.command_steps.specs.Behind.{Behind, behind, forces, no_more, reuses}
-use Rattle.command_steps.specs.Doing.{Forcing, Reusing, within_run}
+use Rattle.command_steps.specs.Doing.{Forcing, Reusing, the_number}
 use Rattle.command_steps.specs.Writing.{Erases, Writes, bytes_of}
 use Rattle.command_steps.specs.Owns.{OnTree, Own, audit_volume, back_up, back_up_database, back_up_pool, back_up_since, checkpoint, delete_history, empty_filespace, empty_volume, erase, expire, get, last_of, moves, none_but_reuse, none_yet, on_tree, own_of, put, restore, validate, write}
 use Rattle.command_steps.specs.declared.outcome.Outcome.{Outcome}
 use Rattle.command_steps.specs.declared.outcome.Outcome.TheVariants.{Read, Rows, Said}
-use Rattle.line_results.specs.Clauses.{BytesBy, BytesOwn, CauseBy, CauseOwn, CauseWith, DidBy, DidWith, Holds, IsAnsweredWith, IsRows, IsThereOrDefined, ItemsBy, ItemsOf, ItemsOwn, MayBackUp, MayBy, MayGet, MayGive, MayOn, MayOwn, OrderedBy, OrderedWith, RowsBy, orders}
+use Rattle.line_results.specs.Bounds.{IsBounded, IsUnaudited, IsUnmade, ReachesBound, begins, end_refused, illegal}
+use Rattle.line_results.specs.Clauses.{BytesBy, BytesOwn, CauseBy, CauseOwn, CauseWith, DidBy, DidWith, Holds, IsAnsweredWith, IsRows, IsThereOrDefined, ItemsBy, ItemsOf, ItemsOwn, MayAudit, MayBackUp, MayBackUpDatabase, MayBy, MayGet, MayGive, MayOn, MayOwn, OrderedBy, OrderedWith, RowsBy, StaysWithin, orders}
 use Rattle.line_results.specs.Commands.{Comes, Does, DoesOwn, DoesThere, EndsWith, IsReuse, Tells, Works, WorksWith, drawn, validated, work_over}
 use Rattle.line_results.specs.Files.{Checkpoints, Gets, GetsOf, GetsUnder, Puts, ShowsFound, active_at, filespace_defined}
 use Rattle.line_results.specs.Lines.{Replies, Says}
-use Rattle.line_results.specs.Resting.{Commits, EndsRun, RoseFrom, SameBytes, database, why_not}
+use Rattle.line_results.specs.Resting.{Commits, EndsRun, Onward, RoseFrom, SameBytes, database, why_not}
 use Rattle.admin_words.specs.declared.files.FilesRestore.{FilesRestore}
 use Rattle.command_steps.specs.Trees.{is_absent, which_of}
 use Rattle.inventory_answers.specs.Clients.{versions_of}
@@ -68,10 +63,17 @@ use Rattle.restores.specs.declared.choosing.RestoreLine.{RestoreLine}
 use Rattle.restores.specs.declared.choosing.Which.{Which}
 use Rattle.script_loop.specs.declared.ends.Halt.{Halt}
 use Rattle.line_results.specs.Trees.{GivesNothing, HasBytes, IsChosen, IsOfBackup, IsOfTree, IsRefusedSo, IsUndefinable, StoresNothing}
+use Rattle.line_results.proofs.ForceEnds.{forced-done, forced-same, no_said, said-same}
+use Rattle.line_results.proofs.Growing.{Grows, grown-number}
 use Rattle.line_results.proofs.Keeping.{each-same}
+use Rattle.line_results.proofs.Meeting.{alone-grows}
 use Rattle.line_results.proofs.Changing.{comes-trees}
 use Rattle.line_results.proofs.Processing.{IsPlainOwn, IsPlainTree, IsProcess, IsProcessOwn, IsProcessTree, IsRowless, kind, over-rowless}
+use Rattle.line_results.proofs.Readable.{contained_holds, not-lost}
 use Rattle.line_results.proofs.PutHeld.{IsMild, PutHeld, no-end, no-put, put-held}
+use Rattle.line_results.proofs.Denied.{denied-by}
+use Rattle.line_results.proofs.Roomy.{last-failed, says-none}
+use Rattle.line_results.proofs.Runs.{rose-on}
 use Rattle.line_results.proofs.Told.{told-by}
 
 -- ---- answers
@@ -87,12 +89,6 @@ shown-of n (Err e) answer why h = (h.0, ap (λ (p : Answer × Option Refusal). p
 
 came-refused : (n : ℕ) (it : Outcome) (answer : Answer) → answer ≡ answer_of n it → answer.tally.refused ≡ 0
 came-refused n it answer h = ap (λ (a : Answer). a.tally.refused) h
-
--- no file fails in a change
-last-failed : (what : Change) → failed_in (Said (last_of what)) ≡ 0
-last-failed (change.Day day) = refl
-last-failed (change.Pool (store.Volume verb.Delete name pool file capacity access)) = refl
-last-failed what = refl
 
 last-shown : (n : ℕ) (what : Change) (answer : Answer) → answer ≡ answer_of n (Said (last_of what)) → answer ≡ done (shown_line n (last_of what))
 last-shown n what answer h = h ∙ ap (λ (k : ℕ). counting (shown_line n (last_of what)) k) (last-failed what)
@@ -114,7 +110,7 @@ pub record HeldBy (trusted : Type 0) (places : Places) (k : Client) (n : ℕ) (o
   pub items : AllByRecursion (λ e. ItemsBy own w mid e.change) added
   pub causes : answer.tally.refused ≡ 1 → (why : Refusal) × (answer ≡ refusal n why) × CauseBy trusted places k own w old mid why added
   pub done : answer.tally.refused ≡ 0 → DidBy trusted places k n own w old mid answer added
-  pub complete : ((file : ℕ) → RoseFrom old mid file → ⊥) → MayBy places k own w old → answer.tally.refused ≡ 0
+  pub complete : ((file : ℕ) → RoseFrom old mid file → ⊥) → MayBy places k own w old mid → answer.tally.refused ≡ 0
 
 no-entries : (P : Entry → Type 0) (added : List Entry) → added ≡ [] → AllByRecursion P added
 no-entries P added none = subst (λ (l : List Entry). AllByRecursion P l) (sym none) tt
@@ -123,7 +119,7 @@ module _ (trusted : Type 0) (places : Places) (k : Client) (n : ℕ) (old mid : 
   -- it was refused
   as-refused : (own : Own) (w : Result Work Refusal) (e : Refusal) → answer ≡ refusal n e → AllByRecursion (λ x. (x.actor ≡ 0) × OrderedBy k own w old x.change) added → RowsBy n (database old) w answer
       → BytesBy trusted n own w old mid answer → AllByRecursion (λ x. ItemsBy own w mid x.change) added → CauseBy trusted places k own w old mid e added
-      → (((file : ℕ) → RoseFrom old mid file → ⊥) → MayBy places k own w old → ⊥) → HeldBy trusted places k n own w old mid answer added
+      → (((file : ℕ) → RoseFrom old mid file → ⊥) → MayBy places k own w old mid → ⊥) → HeldBy trusted places k n own w old mid answer added
   as-refused own w e is journal rows bytes items cause never = record {
     journal = journal;
     queries = rows;
@@ -188,30 +184,6 @@ module _ (trusted : Type 0) (places : Places) (k : Client) (n : ℕ) (own : Own)
 
 -- ---- a file that may be read
 
--- each segment of a copy that may be read lies on a volume that may be read
-readable-in : (v : Inv) (start offset count : ℕ) (segments : List Segment) → list_all (λ s. is_readable s.file v) segments ≡ true
-    → AllByRecursion (λ s. is_readable s.file v ≡ true) (segments_in start offset count segments)
-readable-in v start offset count [] all = tt
-readable-in v start offset count (s ∷ segments) all =
-    let parts = and_parts (is_readable s.file v) (list_all (λ x. is_readable x.file v) segments) all in
-    elim (nat_lt start (offset + count) && nat_lt offset (start + s.len)) as (λ b. AllByRecursion (λ x. is_readable x.file v ≡ true) ((if b then s ∷ [] else []) ++ segments_in (start + s.len) offset count segments)) [
-      | true ↦ (parts.0, readable-in v (start + s.len) offset count segments parts.1)
-      | false ↦ readable-in v (start + s.len) offset count segments parts.1
-    ]
-
-holds_at : {X : Type 0} (P : X → Type 0) (xs : List X) (k : ℕ) (x : X) → k < length xs → slice_index_or xs k x ≡ x → AllByRecursion P xs → P x
-holds_at P [] k x lt is h = absurd (omega (arith, lt))
-holds_at P (y ∷ xs) zero x lt is h = subst P is h.0
-holds_at P (y ∷ xs) (suc k) x lt is h = holds_at P xs k x (omega (arith, lt)) is h.1
-
-contained_holds : {X : Type 0} (P : X → Type 0) (xs : List X) (x : X) → Contains xs x → AllByRecursion P xs → P x
-contained_holds P xs x c h = holds_at P xs c.0 x c.1 c.2 h
-
-not-lost : (rose : ℕ → Type 0) (v : Inv) (offset count : ℕ) (copy : CopyRow) → ((file : ℕ) → rose file → ⊥) → can_read copy v ≡ true → IsCopyLost rose v offset count copy → ⊥
-not-lost rose v offset count copy none readable (s, has, inl unreadable) =
-    false≢true (sym unreadable ∙ contained_holds (λ (x : Segment). is_readable x.file v ≡ true) (segments_in 0 offset count copy.segments) s has (readable-in v 0 offset count copy.segments readable))
-not-lost rose v offset count copy none readable (s, has, inr rises) = none s.file rises
-
 -- the active version is the first that isn't inactive
 newest-first : (list : List Version) (w : Version) → active_of list ≡ Some w → find (λ x. is_none x.since) list ≡ Some w
 newest-first [] w h = absurd cc
@@ -263,7 +235,7 @@ number-same e f h = ap number_error h
 
 module _ (trusted : Type 0) (places : Places) (k : Client) (n : ℕ) (numbers : List ℕ) (old mid : Machine) (answer : Answer) (added : List Entry) where
   refused-own : (own : Own) (e : Refusal) → answer ≡ refusal n e → added ≡ [] → BytesBy trusted n own (Ok (Run numbers)) old mid answer → CauseOwn trusted places k own old mid e added
-      → (((file : ℕ) → RoseFrom old mid file → ⊥) → MayOwn places k own old → ⊥) → HeldBy trusted places k n own (Ok (Run numbers)) old mid answer added
+      → (((file : ℕ) → RoseFrom old mid file → ⊥) → MayOwn places k numbers own old mid → ⊥) → HeldBy trusted places k n own (Ok (Run numbers)) old mid answer added
   refused-own own e is none bytes cause never =
       as-refused trusted places k n old mid answer added own (Ok (Run numbers)) e is (no-entries (λ x. (x.actor ≡ 0) × OrderedBy k own (Ok (Run numbers)) old x.change) added none) tt bytes
       (no-entries (λ x. ItemsBy own (Ok (Run numbers)) mid x.change) added none) cause never
@@ -307,9 +279,6 @@ told-as n old mid answer told said shown (inl is) = is
 told-as n old mid answer told said shown (inr (e, is, ends)) =
     let by : IsShown n (Err e) answer = subst (λ (r : Result Outcome Refusal). IsShown n r answer) is shown in
     absurd (no-end e old mid ends by.0)
-
-abbrev no_said : Refusal → Result Outcome Refusal
-no_said e = Err e
 
 module _ (trusted : Type 0) (places : Places) (k : Client) (n : ℕ) (old mid : Machine) (answer : Answer) (added : List Entry) where
   -- work on a tree, behind which nothing comes, makes no transaction
@@ -424,7 +393,7 @@ pub record HeldWith (trusted : Type 0) (places : Places) (k : Client) (n : ℕ) 
   pub items : AllByRecursion (λ e. ItemsBy (own_of c) (work_over c (database old)) mid e.change) added
   pub causes : answer.tally.refused ≡ 1 → (why : Refusal) × (answer ≡ refusal n why) × CauseWith trusted places k c b old mid why added
   pub done : answer.tally.refused ≡ 0 → DidWith trusted places k n c b old mid answer added
-  pub complete : ((file : ℕ) → RoseFrom old mid file → ⊥) → MayBy places k (own_of c) (work_over c (database old)) old → IsAnsweredWith trusted places k n c b old mid answer
+  pub complete : ((file : ℕ) → RoseFrom old mid file → ⊥) → MayBy places k (own_of c) (work_over c (database old)) old mid → IsAnsweredWith trusted places k n c b old mid answer
 
 rows-none : (n : ℕ) (v : Inv) (w : Result Work Refusal) (answer : Answer) → IsRowless w → RowsBy n v w answer
 rows-none n v (Ok (Commit what)) answer so = tt
@@ -499,8 +468,8 @@ both-items own w b mid (e ∷ first) later h l = (h.0, both-items own w b mid fi
 -- what comes behind a command's work changes no bytes
 behind-bytes : (trusted : Type 0) (places : Places) (b : Behind) (said result : Result Outcome Refusal) (mid new : Machine) → (b ≡ no_more → ⊥) → EndsWith trusted places b said mid new result → SameBytes mid new
 behind-bytes trusted places no_more said result mid new some h = absurd (some refl)
-behind-bytes trusted places forces said result mid new some (events, alone, ends, image, bytes) = bytes
-behind-bytes trusted places reuses said result mid new some (events, alone, ends, image, bytes) = bytes
+behind-bytes trusted places forces said result mid new some (events, alone, ends, image, bytes, reason) = bytes
+behind-bytes trusted places reuses said result mid new some (events, alone, ends, image, bytes, reason) = bytes
 
 -- ---- which transactions
 
@@ -570,7 +539,7 @@ both-ordered k b own w old (e ∷ first) later some h l = ((h.0.0, some-with k b
 cause-with : (trusted : Type 0) (places : Places) (k : Client) (c : Command) (b : Behind) (old mid : Machine) (why : Refusal) (added : List Entry) → (b ≡ no_more → ⊥)
     → Works trusted places k c (work_over c (database old)) b old mid (Err why) added → CauseWith trusted places k c b old mid why added
 cause-with trusted places k c no_more old mid why added some h = absurd (some refl)
-cause-with trusted places k c forces old mid why added some h = h
+cause-with trusted places k c forces old mid why added some h = (h, denied-by trusted places k c old mid why added (work_over c (database old)) h)
 cause-with trusted places k c reuses old mid why added some h = h
 
 did-with : (trusted : Type 0) (places : Places) (k : Client) (n : ℕ) (c : Command) (b : Behind) (old mid : Machine) (answer : Answer) (it : Outcome) (added : List Entry) → (b ≡ no_more → ⊥)
@@ -581,48 +550,14 @@ did-with trusted places k n c reuses old mid answer it added some is h = (it, is
 
 -- ---- a process that was refused
 
--- the refusal of a force ends the run
-abbrev IsEnd : Refusal → Type 0
-IsEnd e = halt_by e ≡ None → ⊥
-
-force-listed : (e : Refusal) → has_number (40 ∷ 41 ∷ []) e ≡ true → IsEnd e
-force-listed (refused.LogFault file count) h = λ none. cc
-force-listed refused.RunFull h = λ none. cc
-force-listed e h = absurd cc
-
-listed-force : (e : Refusal) → is_listed (Force (Err e)) ≡ true → has_number (40 ∷ 41 ∷ []) e ≡ true
-unfolding is_listed
-listed-force e h = h
-
-force-ends : (e : Refusal) (events : List Event) → Made (Force (Err e)) events → IsEnd e
-force-ends e events (inl (number, is, listed)) = force-listed e (listed-force e listed)
-force-ends e events (inr (memory, none)) = λ mild. (let is : e ≡ refused.Memory = same_Some e refused.Memory memory in let odd : None ≡ halt_by refused.Memory = sym mild ∙ ap (λ (x : Refusal). halt_by x) is in absurd cc)
-
-abbrev said_error : Result Outcome Refusal → Refusal
-said_error (Ok it) = refused.Memory
-said_error (Err e) = e
-
-said-same : (e f : Refusal) → no_said e ≡ no_said f → e ≡ f
-said-same e f h = ap said_error h
-
--- what a force that was made leaves of a refusal by which no run ends is that
-within-same : (f e : Refusal) → no_said e ≡ within_run (Err f) → halt_by e ≡ None → e ≡ f
-within-same (refused.LogFault file count) e h mild = (let is : e ≡ refused.Memory = said-same e refused.Memory h in let odd : None ≡ halt_by refused.Memory = sym mild ∙ ap (λ (x : Refusal). halt_by x) is in absurd cc)
-within-same refused.RunFull e h mild = (let is : e ≡ refused.Memory = said-same e refused.Memory h in let odd : None ≡ halt_by refused.Memory = sym mild ∙ ap (λ (x : Refusal). halt_by x) is in absurd cc)
-within-same f e h mild = said-same e f h
-
-forced-same : (f e : Refusal) (events : List Event) → Forcing (Err f) events (Err e) → halt_by e ≡ None → e ≡ f
-forced-same f e events (Ok number, made, is) mild = within-same f e is mild
-forced-same f e events (Err x, made, is) mild = absurd (force-ends x events made (subst (λ (y : Refusal). halt_by y ≡ None) (said-same e x is) mild))
-
 reused-same : (f : Refusal) (came : Result Outcome Refusal) (e : Refusal) (xs ys : List Event) → Reusing (Err f) xs came → Forcing came ys (Err e) → halt_by e ≡ None → e ≡ f
 reused-same f came e xs ys (none, is) forcing mild = forced-same f e ys (subst (λ (r : Result Outcome Refusal). Forcing r ys (Err e)) is forcing) mild
 
 -- the work's own refusal is answered, if no run ends
 own-refused : (trusted : Type 0) (places : Places) (b : Behind) (f e : Refusal) (mid new : Machine) → (b ≡ no_more → ⊥) → EndsWith trusted places b (Err f) mid new (Err e) → halt_by e ≡ None → e ≡ f
 own-refused trusted places no_more f e mid new some h mild = absurd (some refl)
-own-refused trusted places forces f e mid new some (events, alone, ends, image, bytes) mild = forced-same f e events ends mild
-own-refused trusted places reuses f e mid new some (events, alone, (came, (xs, ys, cut, reusing, forcing)), image, bytes) mild = reused-same f came e xs ys reusing forcing mild
+own-refused trusted places forces f e mid new some (events, alone, ends, image, bytes, reason) mild = forced-same f e events ends mild
+own-refused trusted places reuses f e mid new some (events, alone, (came, (xs, ys, cut, reusing, forcing)), image, bytes, reason) mild = reused-same f came e xs ys reusing forcing mild
 
 commit-legal : (A : Type 0) (what : Change) (f : Refusal) (old mid : Machine) (added : List Entry) → why_not (drawn what old) old.core ≡ None → halt_by f ≡ None → Commits {A = A} (drawn what old) old mid (Err f) added → ⊥
 commit-legal A what f old mid added may mild (inl h) = work-none (why_not (drawn what old) old.core) f may h.0
@@ -655,35 +590,80 @@ module _ (i : IncrementalBackup) (before after : Known) (old : Machine) (e : Ref
       defined-not (filespace_named may.0 i.filespace (database old).clients.filespaces) may.0 i.filespace old e un.0 may.4 un.1)
   cause-legal (inr (inr h)) = h.1
 
-  backup-legal : halt_by e ≡ None → IsRefusedSo i before after old (Err e) → Rose before.faults after.faults
-  backup-legal mild (inl h) = cause-legal h
-  backup-legal mild (inr (how, halts)) = absurd (let odd : None ≡ Some how = sym mild ∙ halts in cc)
+  backup-legal : (added : List Entry) → halt_by e ≡ None → IsRefusedSo i before after old (Err e) added → Rose before.faults after.faults
+  backup-legal added mild (inl h) = cause-legal h.0
+  backup-legal added mild (inr (how, halts)) = absurd (let odd : None ≡ Some how = sym mild ∙ halts in cc)
 
 never-there : (trusted : Type 0) (places : Places) (k : Client) (work : OnTree) (f : Refusal) (old between : Machine) (first : List Entry) → IsProcessTree work → MayOn k work old → halt_by f ≡ None
     → DoesThere trusted places k work old between (Err f) first → ⊥
 never-there trusted places k (write w) f old between first so may mild h = so
 never-there trusted places k (erase e) f old between first so may mild h = so
 never-there trusted places k (restore r) f old between first so may mild h = so
-never-there trusted places k (back_up i) f old between first so may mild (inl (before, after, turns, (ran, are, image, keeps, have, why))) = may.1.1 before after turns (backup-legal i before after old f may.0 mild why)
+never-there trusted places k (back_up i) f old between first so may mild (inl (before, after, turns, (ran, are, image, keeps, have, why))) = may.1.1 before after turns (backup-legal i before after old f may.0 first mild why)
 never-there trusted places k (back_up i) f old between first so may mild (inr (missing, kept, is, still, none)) = (let there = may.1.0 in omega (arith, missing, there))
 
-never-own : (trusted : Type 0) (places : Places) (k : Client) (own : Own) (numbers : List ℕ) (f : Refusal) (old between : Machine) (first : List Entry) → IsProcessOwn own → MayOwn places k own old → halt_by f ≡ None
-    → DoesOwn trusted places k numbers own old between (Err f) first → ⊥
-never-own trusted places k (validate set) numbers f old between first so may mild h = so
-never-own trusted places k (put p) numbers f old between first so may mild h = so
-never-own trusted places k (get g) numbers f old between first so may mild h = so
-never-own trusted places k checkpoint numbers f old between first so may mild h = so
-never-own trusted places k (on_tree work) numbers f old between first so may mild h = never-there trusted places k work f old between first so may mild h
-never-own trusted places k own numbers f old between first so may mild h = may
+-- no count of faults rose
+abbrev NoneRose : (old mid : Machine) → Type 0
+NoneRose old mid = (file : ℕ) → RoseFrom old mid file → ⊥
+
+-- the one state comes behind the other, with what it had made
+abbrev IsBehind : (between mid : Machine) → Type 0
+IsBehind between mid = Onward between mid × Grows between.core mid.core
+
+reaches-on : (old between mid : Machine) → IsBehind between mid → ReachesBound old between → ReachesBound old mid
+reaches-on old between mid on (inl many) = inl many
+reaches-on old between mid on (inr last) =
+    let more : (database between).number ≤ (database mid).number = grown-number between.core mid.core on.1 in
+    inr (omega (arith, last, more))
+
+some-not : (f : Refusal) (how : Halt) → halt_by f ≡ None → halt_by f ≡ Some how → ⊥
+some-not f how mild halts = (let odd : None ≡ Some how = sym mild ∙ halts in cc)
+
+module _ (old between mid : Machine) (on : IsBehind between mid) (rose : NoneRose old mid) (f : Refusal) (mild : halt_by f ≡ None) where
+  within-bounds : IsBounded old between f ⊎ ((how : Halt) × (halt_by f ≡ Some how)) → StaysWithin old mid → ⊥
+  within-bounds (inl bounded) may = may (reaches-on old between mid on bounded.1)
+  within-bounds (inr halts) may = some-not f halts.0 mild halts.1
+
+  database-backed : IsUnmade old between f ⊎ ((how : Halt) × (halt_by f ≡ Some how)) → MayBackUpDatabase old → ⊥
+  database-backed (inl (inl no_begin)) may = work-none (illegal (begins old.core) old.core) f may.0 no_begin
+  database-backed (inl (inr (inl no_end))) may = work-none (end_refused old.core) f may.1 no_end
+  database-backed (inl (inr (inr fault))) may = rose old.core.next_file (rose-on old between mid old.core.next_file fault on.0)
+  database-backed (inr halts) may = some-not f halts.0 mild halts.1
+
+  audited-so : (fix : Bool) (file : ℕ) → IsUnaudited fix file old between f ⊎ ((how : Halt) × (halt_by f ≡ Some how)) → MayAudit fix file old mid → ⊥
+  audited-so fix file (inl (inl missing)) may = true≢false (sym may.0 ∙ missing.1)
+  audited-so fix file (inl (inr (fixes, bounded))) may = (let m = may.1 fixes in m.1 (reaches-on old between mid on (bounded m.0).1))
+  audited-so fix file (inr halts) may = some-not f halts.0 mild halts.1
+
+  never-own : (trusted : Type 0) (places : Places) (k : Client) (own : Own) (numbers : List ℕ) (first : List Entry) → IsProcessOwn own → MayOwn places k numbers own old mid
+      → DoesOwn trusted places k numbers own old between (Err f) first → ⊥
+  never-own trusted places k (validate set) numbers first so may h = so
+  never-own trusted places k (put p) numbers first so may h = so
+  never-own trusted places k (get g) numbers first so may h = so
+  never-own trusted places k checkpoint numbers first so may h = so
+  never-own trusted places k (on_tree work) numbers first so may h = never-there trusted places k work f old between first so may mild h
+  never-own trusted places k expire numbers first so may (kept, (ran, are, image, bytes, why)) = within-bounds why may
+  never-own trusted places k back_up_database numbers first so may (kept, (ran, are, image, bytes, why)) = database-backed why may
+  never-own trusted places k (delete_history to) numbers first so may (kept, (ran, are, image, bytes, why)) = within-bounds why may
+  never-own trusted places k (audit_volume fix) numbers first so may (kept, (ran, are, image, bytes, why)) = audited-so fix (the_number numbers) why may
+  never-own trusted places k none_but_reuse numbers first so may (kept, (inl is, none, image, bytes)) = (let odd : ◌≡◌ {A = Result Outcome Refusal} (Err f) (Ok (Said (Reused 0))) = is in cc)
+  never-own trusted places k none_but_reuse numbers first so may (kept, (inr (e, is, ends), none, image, bytes)) = no-end e old between ends (subst (λ (x : Refusal). halt_by x ≡ None) (said-same f e is) mild)
+  never-own trusted places k own numbers first so may h = may
 
 module _ (trusted : Type 0) (places : Places) (k : Client) (c : Command) (old : Machine) where
   -- work that is legal isn't refused
-  never-refused : (w : Result Work Refusal) (f : Refusal) (between : Machine) (first : List Entry) → IsProcessOwn (own_of c) → IsRowless w → MayBy places k (own_of c) w old → halt_by f ≡ None
-      → Does trusted places k c w old between (Err f) first → ⊥
-  never-refused (Err why) f between first so rowless may mild h = may
-  never-refused (Ok (Commit what)) f between first so rowless may mild (kept, r, commits, is, image, bytes) = answer-legal what f r old between first may mild is commits
-  never-refused (Ok (Show q)) f between first so rowless may mild h = rowless
-  never-refused (Ok (Run numbers)) f between first so rowless may mild h = never-own trusted places k (own_of c) numbers f old between first so may mild h
+  never-refused : (w : Result Work Refusal) (f : Refusal) (between mid : Machine) (first : List Entry) → IsProcessOwn (own_of c) → IsRowless w → IsBehind between mid → NoneRose old mid → MayBy places k (own_of c) w old mid
+      → halt_by f ≡ None → Does trusted places k c w old between (Err f) first → ⊥
+  never-refused (Err why) f between mid first so rowless on rose may mild h = may
+  never-refused (Ok (Commit what)) f between mid first so rowless on rose may mild (kept, r, commits, is, image, bytes) = answer-legal what f r old between first may mild is commits
+  never-refused (Ok (Show q)) f between mid first so rowless on rose may mild h = rowless
+  never-refused (Ok (Run numbers)) f between mid first so rowless on rose may mild h = never-own old between mid on rose f mild trusted places k (own_of c) numbers first so may h
+
+-- what comes behind work comes behind it
+ends-behind : (trusted : Type 0) (places : Places) (b : Behind) (said result : Result Outcome Refusal) (between mid : Machine) → (b ≡ no_more → ⊥) → EndsWith trusted places b said between mid result → IsBehind between mid
+ends-behind trusted places no_more said result between mid some h = absurd (some refl)
+ends-behind trusted places forces said result between mid some (events, alone, ends, image, bytes, reason) = alone-grows trusted places events between mid alone
+ends-behind trusted places reuses said result between mid some (events, alone, ends, image, bytes, reason) = alone-grows trusted places events between mid alone
 
 -- what comes behind this work, which was done, was refused so, and the run goes on
 abbrev BehindIn : (trusted : Type 0) → Places → Client → (n : ℕ) → Command → Result Work Refusal → Behind → (old mid : Machine) → Answer → Type 0
@@ -694,23 +674,24 @@ BehindIn trusted places k n c w b old mid answer =
 -- where a result is a refusal by which no run ends, of work that is legal, what comes behind it was refused
 abbrev Blames : (trusted : Type 0) → Places → Client → (n : ℕ) → Command → Result Work Refusal → Behind → (old mid : Machine) → Answer → Result Outcome Refusal → Type 0
 Blames trusted places k n c w b old mid answer said =
-    (why : Refusal) → said ≡ Err why → answer ≡ refusal n why → halt_by why ≡ None → MayBy places k (own_of c) w old → BehindIn trusted places k n c w b old mid answer
+    (why : Refusal) → said ≡ Err why → answer ≡ refusal n why → halt_by why ≡ None → NoneRose old mid → MayBy places k (own_of c) w old mid → BehindIn trusted places k n c w b old mid answer
 
 module _ (trusted : Type 0) (places : Places) (k : Client) (n : ℕ) (c : Command) (own : IsProcessOwn (own_of c)) (old mid : Machine) (answer : Answer) where
   -- what comes behind it was refused, unless the work wasn't legal
   refused-behind : (b : Behind) (w : Result Work Refusal) (why : Refusal) (said : Result Outcome Refusal) (between : Machine) (first : List Entry) → (b ≡ no_more → ⊥) → IsRowless w → answer ≡ refusal n why → halt_by why ≡ None
-      → Does trusted places k c w old between said first → EndsWith trusted places b said between mid (Err why) → MayBy places k (own_of c) w old → BehindIn trusted places k n c w b old mid answer
-  refused-behind b w why (Ok it) between first some rowless is mild does ends may = (why, is, mild, it, between, first, does, ends)
-  refused-behind b w why (Err f) between first some rowless is mild does ends may =
+      → Does trusted places k c w old between said first → EndsWith trusted places b said between mid (Err why) → NoneRose old mid → MayBy places k (own_of c) w old mid
+      → BehindIn trusted places k n c w b old mid answer
+  refused-behind b w why (Ok it) between first some rowless is mild does ends rose may = (why, is, mild, it, between, first, does, ends)
+  refused-behind b w why (Err f) between first some rowless is mild does ends rose may =
       let same : why ≡ f = own-refused trusted places b f why between mid some ends mild in
-      absurd (never-refused trusted places k c old w f between first own rowless may (subst (λ (x : Refusal). halt_by x ≡ None) same mild) does)
+      absurd (never-refused trusted places k c old w f between mid first own rowless (ends-behind trusted places b (Err f) (Err why) between mid some ends) rose may (subst (λ (x : Refusal). halt_by x ≡ None) same mild) does)
 
   with-parts : (b : Behind) (w : Work) (said : Result Outcome Refusal) (added : List Entry) → (b ≡ no_more → ⊥) → IsRowless (Ok w) → WorksWith trusted places k c (Ok w) b old mid said added
       → AreWith k b (own_of c) (Ok w) old added × Blames trusted places k n c (Ok w) b old mid answer said × HaveItems (own_of c) (Ok w) mid added
   with-parts b w said added some rowless h = (
     subst (λ (l : List Entry). AreWith k b (own_of c) (Ok w) old l) (sym h.parts)
         (both-ordered k b (own_of c) (Ok w) old h.first h.later some (work-ordered trusted places k c w old h.mid h.said h.first own rowless h.does) h.reused),
-    λ why same is mild may. refused-behind b (Ok w) why h.said h.mid h.first some rowless is mild h.does (subst (λ (r : Result Outcome Refusal). EndsWith trusted places b h.said h.mid mid r) same h.ends) may,
+    λ why same is mild rose may. refused-behind b (Ok w) why h.said h.mid h.first some rowless is mild h.does (subst (λ (r : Result Outcome Refusal). EndsWith trusted places b h.said h.mid mid r) same h.ends) rose may,
     subst (λ (l : List Entry). HaveItems (own_of c) (Ok w) mid l) (sym h.parts)
         (both-items (own_of c) (Ok w) b mid h.first h.later (work-items trusted places k c w old h.mid mid h.said h.first own h.does (behind-bytes trusted places b h.said said h.mid mid some h.ends)) h.reused),
   )
@@ -719,7 +700,7 @@ module _ (trusted : Type 0) (places : Places) (k : Client) (n : ℕ) (c : Comman
       → AreWith k b (own_of c) (Err given) old added × Blames trusted places k n c (Err given) b old mid answer said × HaveItems (own_of c) (Err given) mid added
   given-parts b given said added h = (
     no-entries (λ e. (e.actor ≡ 0) × OrderedWith k b (own_of c) (Err given) old e.change) added h.1.1,
-    λ why same is mild may. absurd may,
+    λ why same is mild rose may. absurd may,
     no-entries (λ e. ItemsBy (own_of c) (Err given) mid e.change) added h.1.1,
   )
 
@@ -731,11 +712,6 @@ module _ (trusted : Type 0) (places : Places) (k : Client) (n : ℕ) (c : Comman
   parts forces (Ok w) said added some rowless h = with-parts forces w said added some rowless h
   parts reuses (Ok w) said added some rowless h = with-parts reuses w said added some rowless h
 
--- the force behind work that was done is refused by the end of a run alone
-forced-done : (it : Outcome) (why : Refusal) (events : List Event) → Forcing (Ok it) events (Err why) → halt_by why ≡ None → ⊥
-forced-done it why events (Ok number, made, is) mild = cc
-forced-done it why events (Err x, made, is) mild = force-ends x events made (subst (λ (y : Refusal). halt_by y ≡ None) (said-same why x is) mild)
-
 module _ (trusted : Type 0) (places : Places) (k : Client) (n : ℕ) (c : Command) where
   answered-done : (b : Behind) (old mid : Machine) (answer : Answer) → answer.tally.refused ≡ 0 → IsAnsweredWith trusted places k n c b old mid answer
   answered-done no_more old mid answer h = h
@@ -745,8 +721,10 @@ module _ (trusted : Type 0) (places : Places) (k : Client) (n : ℕ) (c : Comman
   answered-behind : (b : Behind) (old mid : Machine) (answer : Answer) → (b ≡ no_more → ⊥)
       → BehindIn trusted places k n c (work_over c (database old)) b old mid answer → IsAnsweredWith trusted places k n c b old mid answer
   answered-behind no_more old mid answer some h = absurd (some refl)
-  answered-behind forces old mid answer some (why, shown, halts, it, between, first, does, (events, alone, ends, image, bytes)) = absurd (forced-done it why events ends halts)
-  answered-behind reuses old mid answer some (why, shown, halts, it, between, first, does, ends) = inr (why, shown, it, between, first, does, ends)
+  answered-behind forces old mid answer some (why, shown, mild, it, between, first, does, (events, alone, ends, image, bytes, reason)) = absurd (forced-done it why events ends mild)
+  answered-behind reuses old mid answer some (why, shown, mild, it, between, first, does, (events, alone, ends, image, bytes, inl bounded)) =
+      inr (why, shown, it, between, first, does, (events, alone, ends, image, bytes, inl bounded), bounded)
+  answered-behind reuses old mid answer some (why, shown, mild, it, between, first, does, (events, alone, ends, image, bytes, inr halts)) = absurd (some-not why halts.0 mild halts.1)
 
 module _ (trusted : Type 0) (places : Places) (k : Client) (n : ℕ) (c : Command) (p : IsProcess c) (old mid : Machine) (answer : Answer) (added : List Entry) where
   held-with : (b : Behind) (said : Result Outcome Refusal) → (b ≡ no_more → ⊥) → Works trusted places k c (work_over c (database old)) b old mid said added
@@ -768,7 +746,7 @@ module _ (trusted : Type 0) (places : Places) (k : Client) (n : ℕ) (c : Comman
     items = items;
     causes = λ one. (e, shown.1, cause-with trusted places k c b old mid e added some works);
     done = λ none. absurd (zero-one answer.tally.refused none (one-refused n e answer shown.1));
-    complete = λ rose may. answered-behind trusted places k n c b old mid answer some (blames e refl shown.1 shown.0 may);
+    complete = λ rose may. answered-behind trusted places k n c b old mid answer some (blames e refl shown.1 shown.0 rose may);
   }
 
   process-held : (b : Behind) (said : Result Outcome Refusal) → (b ≡ no_more → ⊥) → Works trusted places k c (work_over c (database old)) b old mid said added → IsShown n said answer
@@ -809,6 +787,7 @@ module _ (trusted : Type 0) (places : Places) (k : Client) (n : ℕ) (old mid : 
     causes = λ one. absurd (zero-one answer.tally.refused (ap (λ (a : Answer). a.tally.refused) is) one);
     done = λ zero. none;
     complete = λ rose may. ap (λ (a : Answer). a.tally.refused) is;
+    none_fails = says-none trusted places k n comment old mid answer why added (kept, is, w, none, same);
     trees = kept;
   }
   says-held (refused_line given) why (kept, is, w, none, same) = record {
@@ -819,11 +798,22 @@ module _ (trusted : Type 0) (places : Places) (k : Client) (n : ℕ) (old mid : 
     causes = λ one. (given, is, refl);
     done = λ zero. absurd (zero-one answer.tally.refused zero (one-refused n given answer is));
     complete = λ rose may. absurd may;
+    none_fails = says-none trusted places k n (refused_line given) old mid answer why added (kept, is, w, none, same);
     trees = kept;
   }
   says-held (asks c) why (said, comes, ends) =
       let h = comes-held trusted places k n c old mid answer added said comes (shown-of n said answer why ends) in
-      record { journal = h.journal; queries = h.queries; bytes = h.bytes; items = h.items; causes = h.causes; done = h.done; complete = h.complete; trees = comes-trees trusted places k c old mid added said comes }
+      record {
+        journal = h.journal;
+        queries = h.queries;
+        bytes = h.bytes;
+        items = h.items;
+        causes = h.causes;
+        done = h.done;
+        complete = h.complete;
+        none_fails = says-none trusted places k n (asks c) old mid answer why added (said, comes, ends);
+        trees = comes-trees trusted places k c old mid added said comes;
+      }
 
 -- what holds of a line that was answered so
 pub replies-hold : (trusted : Type 0) (places : Places) (k : Client) (n : ℕ) (line : Line) (old new : Machine) (answer : Answer) (why : Option Refusal)

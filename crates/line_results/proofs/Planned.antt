@@ -139,9 +139,9 @@ module _ (trusted : Type 0) (places : Places) where
 
   -- ---- the plan
 
-  -- it was asked and listed, and this is the plan
-  begun-plan : (choice : List Rule) (i : IncrementalBackup) (told : Option Files) (before count : ℕ) (b : Begun) (events : List Event) (old new : Machine) → IsAtRest old.core
-      → Begins i.node i.filespace choice told before count events (Ok b) → Alone trusted places 0 events old new → (p : IsPlan choice i told (database old) b.plan) × (p.node ≡ b.node)
+  -- it was asked and listed, and this is the plan, by the rules that were answered
+  pub begun-plan : (choice : List Rule) (i : IncrementalBackup) (told : Option Files) (before count : ℕ) (b : Begun) (events : List Event) (old new : Machine) → IsAtRest old.core
+      → Begins i.node i.filespace choice told before count events (Ok b) → Alone trusted places 0 events old new → (p : IsPlan choice i told (database old) b.plan) × (p.node ≡ b.node) × (p.rules ≡ b.classes)
   begun-plan choice i told before count b events old new rest (basis, (xs, ys, cut, first, next), (files, listing, planned)) a =
       let parts = alone-parts trusted places 0 events xs ys old new cut a in
       let n = asked-versions i.node i.filespace basis.versions xs old parts.0 rest first parts.1 in
@@ -154,11 +154,12 @@ module _ (trusted : Type 0) (places : Places) where
           versions = basis.versions;
           found = r.has_node ∙ ap (λ (x : ℕ). Some x) (sym planned.node);
           ruled = ap (λ (x : ℕ). rules_of x (database old)) planned.node ∙ r.ruled;
-          listed = listing;
+          listed = listing.listing;
           kept = n.1;
           value = λ active. planned.value active ∙ ap (λ (today : ℕ). plan_of (scheme basis.ruled.rules choice today) files (actives basis.versions)) r.today;
         },
         refl,
+        sym planned.classes,
       )
 
 -- ---- transactions

@@ -28,15 +28,15 @@ use Rattle.copy_pools.specs.Backups.{IsBackup, Came as BackupCame}
 use Rattle.copy_runs.specs.Ends.{IsEnding}
 use Rattle.copy_runs.specs.declared.wanted.Moved.{Moved}
 use Rattle.db_backup.specs.Backups.{IsFollowing}
-use Rattle.db_backup.specs.Deleting.{IsDeleting}
+use Rattle.db_backup.specs.Deleting.{HistoryDeletion, IsDeleting}
 use Rattle.db_backup.specs.Listing.{due_files}
-use Rattle.db_backup.specs.Taking.{IsOf as IsOfImage, kind_of, may_leave as may_leave_image}
+use Rattle.db_backup.specs.Taking.{Backs, IsOf as IsOfImage, kind_of, may_leave as may_leave_image}
 use Rattle.db_backup.specs.declared.taking.Taken.{Taken}
 use Rattle.deletions.specs.Discarding.{IsDiscarding, discarded}
 use Rattle.deletions.specs.Dropping.{IsTaking, dropped}
 use Rattle.deletions.specs.Filespaces as filespaces
 use Rattle.deletions.specs.Volumes as volumes
-use Rattle.expiration.specs.Expiring.{IsExpiring, named}
+use Rattle.expiration.specs.Expiring.{Expiration, IsExpiring, named}
 use Rattle.copy_attempts.specs.Outcomes.{IsOf as IsOfAttempt}
 use Rattle.incrementals.specs.Process.{may_leave}
 use Rattle.incrementals.specs.declared.answering.Sent.{Sent}
@@ -71,16 +71,20 @@ use Rattle.command_steps.specs.Clients.{Client, IsKept}
 use Rattle.command_steps.specs.Doing.{Does as DoesBy, DoesAlone as DoesAloneBy, DoesOwn as DoesOwnBy, DoesWork, EndsWork, Forcing, MovesSo, Reusing, backed_up, moved_line, the_number, the_second}
 use Rattle.command_steps.specs.Owns.{Mover, OnTree, Own, all_migrator, audit_volume, back_up, back_up_database, back_up_pool, back_up_since, checkpoint, data_mover, delete_history, empty_filespace, empty_volume, expire, get, last_of, migrator, moves, none_but_reuse, none_yet, on_tree, own_of, pool_restorer, put, reclaimer, validate, volume_restorer}
 use Rattle.command_steps.specs.Trees.{DoesThere as DoesThereBy, ShowsSent}
-use Rattle.volume_audits.specs.Auditing.{IsAuditing}
+use Rattle.volume_audits.specs.Auditing.{IsAuditing, VolumeAudit}
+use Rattle.volume_audits.specs.declared.audit.Audit.{Audit}
 use Rattle.volume_audits.specs.Mending.{IsMending}
 use Rattle.command_steps.specs.declared.outcome.Outcome.{Outcome}
+use Rattle.command_steps.specs.declared.outcome.Outcome.TheVariants as came
 use Rattle.command_steps.specs.declared.outcome.Outcome.TheVariants.{Said}
+use Rattle.line_results.specs.Bounds.{IsReasoned}
 use Rattle.line_results.specs.Commands.{Does, DoesAlone, DoesOwn, DoesThere, EndsWith, IsLoss, IsReuse, IsStill, IsStopped, MayMake, Processes, Ran, Tells, Works, WorksWith}
 use Rattle.line_results.specs.Resting.{Adds, EndsRun, IsAtRest, IsLate, NobodyHolds, SameBytes, SameImage, database, has_ended}
 use Rattle.line_results.specs.Trees.{HasBytes, IsOfBackup}
-use Rattle.reports.specs.declared.shown.Shown.TheVariants.{Copied, Reused}
+use Rattle.reports.specs.declared.shown.Shown.TheVariants.{Copied, DeletedHistory, Expired, Reused}
 use Rattle.line_results.proofs.Backing.{AllBack, MayBack, back-walk, backed-none, backs-none, left_by, newest-none}
 use Rattle.line_results.proofs.Changed.{changes}
+use Rattle.line_results.proofs.BackupReason.{backup-reason}
 use Rattle.line_results.proofs.BackupRefused.{backup-refused}
 use Rattle.line_results.proofs.Copying.{AllCopy, Copies, IsCopy, MayJoin, copied-none, copies-idle, copies-walk, settled-free}
 use Rattle.line_results.proofs.Free.{free-walk}
@@ -92,6 +96,7 @@ use Rattle.line_results.proofs.Needs.{IsPlainWork}
 use Rattle.line_results.proofs.Keeping.{IsStored, each-same}
 use Rattle.line_results.proofs.Opened.{orders-of}
 use Rattle.line_results.proofs.Planned.{backup-sends}
+use Rattle.line_results.proofs.Reasons.{audit-reason, expire-reason, history-reason, reasoned, reuses-reason, unreasoned}
 use Rattle.line_results.proofs.Runs.{alone-none, alone-parts, onward-none}
 use Rattle.line_results.proofs.Sending.{Sends, Stored, has-tickets, sends-walk, stored-none}
 use Rattle.line_results.proofs.Settling.{Settled, may_stay, settles}
@@ -331,12 +336,12 @@ began-grew P Q first old mid w = grew-since Q first old mid w.core w.onward w.fa
 module _ (trusted : Type 0) (places : Places) (choice : List Rule) (b : Behind) where
   -- steps of a process without tickets, each of which is one of these
   process-began : (numbers : List ℕ) (own : Own) (said : Result Outcome Refusal) (events : List Event) (old mid : Machine) → IsAtRest old.core → DoesAloneBy choice own numbers events said → AllWalk (MayMake numbers own) events
-      → Alone trusted places 0 events old mid → OwnBegan trusted places (λ added. Processes trusted places choice numbers own old mid said added) b old mid said
-  process-began numbers own said events old mid rest did all f =
+      → IsReasoned numbers own old mid said → Alone trusted places 0 events old mid → OwnBegan trusted places (λ added. Processes trusted places choice numbers own old mid said added) b old mid said
+  process-began numbers own said events old mid rest did all why f =
       let r = walk trusted places (MayMake numbers own) [] events [] old old mid all (walked-none (MayMake numbers own) old rest) f in
       record {
         first = r.0;
-        does = ((old, events, still-none old, f, did), r.1.grew.are, r.1.grew.core.generation, r.1.grew.contents);
+        does = ((old, events, still-none old, f, did), r.1.grew.are, r.1.grew.core.generation, r.1.grew.contents, why);
         grew = began-grew (MayMake numbers own) (IsReuse b) r.0 old mid r.1.grew;
         free = λ h. r.1.free;
         idle = λ h. r.1.idle;
@@ -344,12 +349,13 @@ module _ (trusted : Type 0) (places : Places) (choice : List Rule) (b : Behind) 
 
   -- steps that begin images of database backups, and leave none where the run goes on
   images-began : (numbers : List ℕ) (own : Own) (said : Result Outcome Refusal) (events : List Event) (old mid : Machine) → IsAtRest old.core → DoesAloneBy choice own numbers events said → AllBack (MayMake numbers own) events
-      → (has_ended said ≡ false → left_by false events ≡ false) → Alone trusted places 0 events old mid → OwnBegan trusted places (λ added. Processes trusted places choice numbers own old mid said added) b old mid said
-  images-began numbers own said events old mid rest did all none f =
+      → (has_ended said ≡ false → left_by false events ≡ false) → IsReasoned numbers own old mid said → Alone trusted places 0 events old mid
+      → OwnBegan trusted places (λ added. Processes trusted places choice numbers own old mid said added) b old mid said
+  images-began numbers own said events old mid rest did all none why f =
       let r = back-walk trusted places (MayMake numbers own) [] events false [] old old mid all (backed-none (MayMake numbers own) old rest) f in
       record {
         first = r.0;
-        does = ((old, events, still-none old, f, did), r.1.grew.are, r.1.grew.core.generation, r.1.grew.contents);
+        does = ((old, events, still-none old, f, did), r.1.grew.are, r.1.grew.core.generation, r.1.grew.contents, why);
         grew = began-grew (MayMake numbers own) (IsReuse b) r.0 old mid r.1.grew;
         free = λ h. r.1.free;
         idle = λ h. r.1.idle (none h);
@@ -357,13 +363,13 @@ module _ (trusted : Type 0) (places : Places) (choice : List Rule) (b : Behind) 
 
   -- steps that make further copies, or move some
   copies-began : (moving : Bool) (P : Change → Type 0) (numbers : List ℕ) (own : Own) (said : Result Outcome Refusal) (events : List Event) (old mid : Machine) → ((c : Change) → MayJoin moving P c → MayMake numbers own c) → IsAtRest old.core
-      → DoesAloneBy choice own numbers events said → AllCopy moving P events → (may_stay said ≡ false → AreSettled events) → Alone trusted places 0 events old mid
+      → DoesAloneBy choice own numbers events said → AllCopy moving P events → (may_stay said ≡ false → AreSettled events) → IsReasoned numbers own old mid said → Alone trusted places 0 events old mid
       → OwnBegan trusted places (λ added. Processes trusted places choice numbers own old mid said added) b old mid said
-  copies-began moving P numbers own said events old mid may rest did all settled f =
+  copies-began moving P numbers own said events old mid may rest did all settled why f =
       let r = copies-walk moving P trusted places [] events [] old old mid all (copied-none moving P old rest) f in
       record {
         first = r.0;
-        does = ((old, events, still-none old, f, did), are-as (MayJoin moving P) (MayMake numbers own) may r.0 r.1.grew.are, r.1.grew.core.generation, r.1.grew.contents);
+        does = ((old, events, still-none old, f, did), are-as (MayJoin moving P) (MayMake numbers own) may r.0 r.1.grew.are, r.1.grew.core.generation, r.1.grew.contents, why);
         grew = began-grew (MayJoin moving P) (IsReuse b) r.0 old mid r.1.grew;
         free = λ h. settled-free moving P trusted places events old mid rest.tickets all (settled h) f;
         idle = λ h. copies-idle moving P trusted places events old mid all f ∙ rest.image;
@@ -391,46 +397,53 @@ module _ (trusted : Type 0) (places : Places) (choice : List Rule) (b : Behind) 
   moves-began data_mover numbers said events old mid rest h f =
       copies-began true NoOther numbers (moves data_mover) said events old mid (λ c is. no-other c true is) rest h
       (all-copies true NoOther (IsMoving (the_number numbers) (the_second numbers)) (data-moves (the_number numbers) (the_second numbers)) events h.1.only)
-      (λ leave. moves-settled events said leave data_mover (the_number numbers) (the_second numbers) h.0 h.1 h.2) f
+      (λ leave. moves-settled events said leave data_mover (the_number numbers) (the_second numbers) h.0 h.1 h.2) (unreasoned numbers (moves data_mover) old mid said (λ e. tt)) f
   moves-began reclaimer numbers said events old mid rest h f =
       copies-began true NoOther numbers (moves reclaimer) said events old mid (λ c is. no-other c true is) rest h
       (all-copies true NoOther (IsReclaiming h.1.files (the_number numbers)) (reclaim-moves h.1.files (the_number numbers)) events h.1.only)
-      (λ leave. moves-settled events said leave reclaimer (the_number numbers) (the_second numbers) h.0 h.1 h.2) f
+      (λ leave. moves-settled events said leave reclaimer (the_number numbers) (the_second numbers) h.0 h.1 h.2) (unreasoned numbers (moves reclaimer) old mid said (λ e. tt)) f
   moves-began pool_restorer numbers said events old mid rest h f =
       copies-began true NoOther numbers (moves pool_restorer) said events old mid (λ c is. no-other c true is) rest h (all-copies true NoOther IsRestore (restore-moves NoOther) events h.1.only)
-      (λ leave. moves-settled events said leave pool_restorer (the_number numbers) (the_second numbers) h.0 h.1 h.2) f
+      (λ leave. moves-settled events said leave pool_restorer (the_number numbers) (the_second numbers) h.0 h.1 h.2) (unreasoned numbers (moves pool_restorer) old mid said (λ e. tt)) f
   moves-began volume_restorer numbers said events old mid rest h f =
       copies-began true (IsLoss (the_number numbers)) numbers (moves volume_restorer) said events old mid (λ c is. is) rest h
       (all-copies true (IsLoss (the_number numbers)) (IsVolumeRestore (the_number numbers)) (volume-moves (the_number numbers)) events h.1.only)
-      (λ leave. moves-settled events said leave volume_restorer (the_number numbers) (the_second numbers) h.0 h.1 h.2) f
+      (λ leave. moves-settled events said leave volume_restorer (the_number numbers) (the_second numbers) h.0 h.1 h.2) (unreasoned numbers (moves volume_restorer) old mid said (λ e. tt)) f
   moves-began migrator numbers said events old mid rest h f =
       copies-began true NoOther numbers (moves migrator) said events old mid (λ c is. no-other c true is) rest h (all-copies true NoOther (IsMigration (the_number numbers)) (migration-moves (the_number numbers)) events h.1.only)
-      (λ leave. moves-settled events said leave migrator (the_number numbers) (the_second numbers) h.0 h.1 h.2) f
+      (λ leave. moves-settled events said leave migrator (the_number numbers) (the_second numbers) h.0 h.1 h.2) (unreasoned numbers (moves migrator) old mid said (λ e. tt)) f
   moves-began all_migrator numbers said events old mid rest h f =
       copies-began true NoOther numbers (moves all_migrator) said events old mid (λ c is. no-other c true is) rest h (all-copies true NoOther IsSweep sweep-moves events h.1.only)
-      (λ leave. moves-settled events said leave all_migrator (the_number numbers) (the_second numbers) h.0 h.1 h.2) f
+      (λ leave. moves-settled events said leave all_migrator (the_number numbers) (the_second numbers) h.0 h.1 h.2) (unreasoned numbers (moves all_migrator) old mid said (λ e. tt)) f
 
   alone-began : (own : Own) (numbers : List ℕ) (said : Result Outcome Refusal) (events : List Event) (old mid : Machine) → IsProcessOwn own → IsAtRest old.core → DoesAloneBy choice own numbers events said
       → Alone trusted places 0 events old mid → OwnBegan trusted places (λ added. DoesAlone trusted places choice numbers own old mid said added) b old mid said
-  alone-began expire numbers said events old mid so rest h f = process-began numbers expire said events old mid rest h (all-walk IsExpiring (MayMake numbers expire) (expiring-walks numbers) events h.1.only) f
+  alone-began expire numbers said events old mid so rest h f = process-began numbers expire said events old mid rest h (all-walk IsExpiring (MayMake numbers expire) (expiring-walks numbers) events h.1.only)
+      (reasoned numbers expire old mid (λ expired. Said (Expired expired 0)) h.0 said h.2 (λ e is mild. expire-reason trusted places old mid e mild events (subst (λ (r : Result ℕ Refusal). Expiration events r) is h.1) f)) f
   alone-began empty_filespace numbers said events old mid so rest h f =
-      process-began numbers empty_filespace said events old mid rest h (all-walk (filespaces.IsDeleting (the_number numbers)) (MayMake numbers empty_filespace) (filespace-walks numbers) events h.1.only) f
+      process-began numbers empty_filespace said events old mid rest h (all-walk (filespaces.IsDeleting (the_number numbers)) (MayMake numbers empty_filespace) (filespace-walks numbers) events h.1.only) (unreasoned numbers empty_filespace old mid said (λ e. tt)) f
   alone-began empty_volume numbers said events old mid so rest h f =
-      process-began numbers empty_volume said events old mid rest h (all-walk (volumes.IsDeleting true (the_number numbers)) (MayMake numbers empty_volume) (volume-walks numbers) events h.1.only) f
+      process-began numbers empty_volume said events old mid rest h (all-walk (volumes.IsDeleting true (the_number numbers)) (MayMake numbers empty_volume) (volume-walks numbers) events h.1.only) (unreasoned numbers empty_volume old mid said (λ e. tt)) f
   alone-began back_up_pool numbers said events old mid so rest h f =
-      copies-began false NoOther numbers back_up_pool said events old mid (λ c is. no-other c false is) rest h (backup-copies (the_second numbers) events h.1.only) (backup-settled (the_number numbers) (the_second numbers) events h.0 said h.1.came h.2) f
+      copies-began false NoOther numbers back_up_pool said events old mid (λ c is. no-other c false is) rest h (backup-copies (the_second numbers) events h.1.only) (backup-settled (the_number numbers) (the_second numbers) events h.0 said h.1.came h.2)
+      (unreasoned numbers back_up_pool old mid said (λ e. tt)) f
   alone-began (moves mover) numbers said events old mid so rest h f = moves-began mover numbers said events old mid rest h f
   alone-began back_up_database numbers said events old mid so rest (answer, made, is) f =
       images-began numbers back_up_database said events old mid rest (answer, made, is) (all-back (MayMake numbers back_up_database) (IsOfImage (kind_of None)) (backup-backs numbers) events made.only)
-      (λ h. backs-none None events answer made.order (leaves-none answer said is h)) f
+      (λ h. backs-none None events answer made.order (leaves-none answer said is h))
+      (reasoned numbers back_up_database old mid backed_up answer said is (λ e same mild. backup-reason trusted places e events old mid mild rest.image (subst (λ (r : Result Taken Refusal). Backs image.Backup events r) same made.order) f)) f
   alone-began back_up_since numbers said events old mid so rest (answer, made, is) f =
       images-began numbers back_up_since said events old mid rest (answer, made, is) (all-back (MayMake numbers back_up_since) IsFollowing (following-backs numbers) events made.only)
-      (λ h. newest-none events answer made.order (leaves-none answer said is h)) f
+      (λ h. newest-none events answer made.order (leaves-none answer said is h)) (unreasoned numbers back_up_since old mid said (λ e. tt)) f
   alone-began (delete_history to) numbers said events old mid so rest h f =
-      process-began numbers (delete_history to) said events old mid rest h (all-walk (IsDeleting (due_files to h.1.lines)) (MayMake numbers (delete_history to)) (history-walks to numbers (due_files to h.1.lines)) events h.1.only) f
+      process-began numbers (delete_history to) said events old mid rest h (all-walk (IsDeleting (due_files to h.1.lines)) (MayMake numbers (delete_history to)) (history-walks to numbers (due_files to h.1.lines)) events h.1.only)
+      (reasoned numbers (delete_history to) old mid (λ deleted. Said (DeletedHistory deleted)) h.0 said h.2
+      (λ e is mild. history-reason trusted places to events e old mid mild (rest.tickets, rest.image) (subst (λ (r : Result ℕ Refusal). HistoryDeletion to events r) is h.1) f)) f
   alone-began (audit_volume fix) numbers said events old mid so rest h f =
       process-began numbers (audit_volume fix) said events old mid rest h
-      (all-may-walk (IsAuditing fix (the_number numbers)) (MayMake numbers (audit_volume fix)) (auditing-walks fix numbers) events h.1.only) f
+      (all-may-walk (IsAuditing fix (the_number numbers)) (MayMake numbers (audit_volume fix)) (auditing-walks fix numbers) events h.1.only)
+      (reasoned numbers (audit_volume fix) old mid came.Audited h.0 said h.2
+      (λ e is mild. audit-reason trusted places fix (the_number numbers) events e old mid mild (rest.tickets, rest.image) (subst (λ (r : Result Audit Refusal). VolumeAudit fix (the_number numbers) events r) is h.1) f)) f
   alone-began none_but_reuse numbers said events old mid so rest h f = none-began (Ok (Said (Reused 0))) said events old mid rest h.0 h.1 f
   alone-began none_yet numbers said events old mid so rest h f = none-began (Err (refused.UnknownWord 1)) said events old mid rest h.0 h.1 f
   alone-began (on_tree work) numbers said events old mid so rest h f = absurd h
@@ -462,7 +475,7 @@ module _ (trusted : Type 0) (places : Places) (nobody : NobodyHolds places) (k :
       let free = free-walk places nobody P events trusted [] events [] old old mid all (stored-none P events old rest) f in
       record {
         first = r.0;
-        does = inl (before, after, turns, ((old, events, still-none old, f, (answer, made, same, shows)), r.1.grew.are, r.1.grew.core.generation, r.1.keeps, each-same (IsStored mid.contents mid.core.tickets mid.core.next_object) (HasBytes mid) (λ i h. h.0) r.0 r.1.kept.0, backup-refused trusted places k.choice i before after events answer said old mid rest made.order shows free f));
+        does = inl (before, after, turns, ((old, events, still-none old, f, (answer, made, same, shows)), r.1.grew.are, r.1.grew.core.generation, r.1.keeps, each-same (IsStored mid.contents mid.core.tickets mid.core.next_object) (HasBytes mid) (λ i h. h.0) r.0 r.1.kept.0, backup-refused trusted places k.choice i before after events answer said old mid r.0 rest made.order shows free f r.1.grew.core.journal));
         grew = stored-grew P (IsReuse b) events r.0 old mid r.1;
         free = λ h. spent-free trusted places (Sends P events) (has-tickets P events) events old mid rest.tickets all (made.settled (sent-leaves answer said shows h)) f;
         idle = λ h. still-idle trusted places (Sends P events) (has-tickets P events) events old mid all f ∙ rest.image;
@@ -600,7 +613,7 @@ module _ (trusted : Type 0) (places : Places) (nobody : NobodyHolds places) (k :
   behind-did forces said result events old mid new some rest g h f =
       let s = settles trusted places (IsReuse forces) g.first [] said result events (since_of old mid) mid new rest g.grew g.free g.idle h f in
       ended forces said result events old mid new g [] tt
-      (events, f, h, since-image (g.first ++ []) forces g.first old mid new result g.grew s, since-bytes (g.first ++ []) old mid new result s) s
+      (events, f, h, since-image (g.first ++ []) forces g.first old mid new result g.grew s, since-bytes (g.first ++ []) old mid new result s, tt) s
   behind-did reuses said result events old mid new some rest g (came, (xs, ys, cut, reusing, forcing)) f =
       let parts = alone-parts trusted places 0 events xs ys mid new cut f in
       let r = reused-grew trusted places g.first said came xs (since_of old mid) mid parts.0 g.grew g.free g.idle reusing parts.1 in
@@ -611,6 +624,8 @@ module _ (trusted : Type 0) (places : Places) (nobody : NobodyHolds places) (k :
         (came, (xs, ys, cut, reusing, forcing)),
         since-image (g.first ++ r.0) reuses g.first old mid new result g.grew s,
         since-bytes (g.first ++ r.0) old mid new result s,
+        reuses-reason trusted places said came result xs ys mid parts.0 new
+            (λ it same. (g.free (ap may_stay same), g.idle (ap (λ (x : Result Outcome Refusal). has_ended x) same))) reusing forcing parts.1 parts.2,
       ) s
 
   pub processed : (result : Result Outcome Refusal) (events : List Event) (old new : Machine) → IsProcess c → IsRowless (Ok w) → IsPlainWork (Ok w) → IsAtRest old.core → DoesWork k c (Ok w) events result

@@ -85,7 +85,7 @@ module _ (trusted : Type 0) (places : Places) where
       (read-made trusted object kept at wanted answer m.seen old m.next none m.bytes m.made.later m.made.step)
 
   -- the one piece that was read, or none
-  read-step : (object : ℕ) (kept : Digest) (at wanted : ℕ) (answer : Result (List ℕ) Refusal) (events : List Event) (old new : Machine) → old.core.fault ≡ None
+  pub read-step : (object : ℕ) (kept : Digest) (at wanted : ℕ) (answer : Result (List ℕ) Refusal) (events : List Event) (old new : Machine) → old.core.fault ≡ None
       → Made (ReadPiece object kept 0 at wanted answer) events → Alone trusted places 0 events old new
       → WasRead trusted object kept at wanted old new answer ⊎ ((refusal (ReadPiece object kept 0 at wanted answer) ≡ Some refused.Memory) × (new ≡ old))
   read-step object kept at wanted answer events old new none (inl (n, one, listed)) f =
@@ -124,7 +124,7 @@ by-deed trusted s at wanted bytes deed old next is r trust =
     (front-of (count_at s.object at wanted old) bytes (drop at (old.contents s.object)) (r.2 trust))
 
 module _ (trusted : Type 0) (places : Places) where
-  reads-on : (s : Stored) (at : ℕ) (events : List Event) (old new : Machine) → old.core.fault ≡ None → ReadOn s at events → Alone trusted places 0 events old new → WereRead trusted s at events old new
+  pub reads-on : (s : Stored) (at : ℕ) (events : List Event) (old new : Machine) → old.core.fault ≡ None → ReadOn s at events → Alone trusted places 0 events old new → WereRead trusted s at events old new
   reads-on s at [] old new none r f = record { still = became-same old new f; bytes = λ trust. refl; late = λ l. refl }
   reads-on s at (e ∷ events) old new none r f =
       let its = r.0 in

@@ -1,13 +1,14 @@
 -- What holds of each line of a script beside how it may be answered: which transactions it makes, which rows and bytes it shows, what it says of stored bytes, why it is refused, what it did that
 -- wasn't refused, and when it isn't. A line stands between two states; `mid` is the one behind its command, before the checkpoint that may follow it, and `added` the transactions that it made, oldest first.
-use Rattle.std.specs.Prelude.{◌≡◌, ◌⊎◌, ℕ, ◌+◌, ◌^◌, ◌<◌, ◌≤◌, true, false, Contains, List, [], ◌∷◌, ◌++◌, length, Option, None, Some, Result, Ok, Err}
+use Rattle.std.specs.Prelude.{◌≡◌, ◌⊎◌, ℕ, ◌+◌, ◌^◌, ◌<◌, ◌≤◌, ◌&&◌, nat_le, Bool, true, false, Contains, List, [], ◌∷◌, ◌++◌, length, Option, None, Some, Result, Ok, Err}
 use Rattle.std.specs.List.{AllByRecursion}
+use Rattle.std.specs.Option.{option_map_or}
 use Rattle.sha2.specs.Sha256.{sha256}
 use Rattle.kinds.specs.ValueForms.{digest_with}
 use Rattle.kinds.specs.declared.change.DefineOrDelete.TheVariants as two
 use Rattle.kinds.specs.declared.change.ObjectChange.TheVariants as client
 use Rattle.kinds.specs.declared.refusal.Refusal.{Refusal}
-use Rattle.kinds.specs.declared.refusal.Refusal.TheVariants.{InventoryFull, UnknownWord}
+use Rattle.kinds.specs.declared.refusal.Refusal.TheVariants.{InventoryFull, NotFound, UnknownWord}
 use Rattle.choosers.specs.declared.rule.Rule.{Rule}
 use Rattle.entries.specs.change_items.declared.items.NewVersion.{NewVersion}
 use Rattle.entries.specs.declared.change.Change.{Change}
@@ -16,11 +17,16 @@ use Rattle.entries.specs.declared.entry.Entry.{Entry}
 use Rattle.inventory_rows.specs.object_rows.Names.{filespace_named, node_named}
 use Rattle.inventory_rows.specs.version_groups.declared.copies.CopyRow.{CopyRow}
 use Rattle.inventory_rows.specs.version_groups.declared.versions.Version.{Version}
+use Rattle.inventory_rows.specs.declared.backup.Backup.{Backup}
 use Rattle.inventory_rows.specs.Search.{version}
 use Rattle.inventory_rows.specs.State.{Inv}
+use Rattle.inventory_rules.specs.Backups.{backup_at, is_done}
+use Rattle.inventory_rules.specs.Valid.{is_valid}
+use Rattle.inventory_work.specs.Copies.{has_volume}
 use Rattle.inventory_work.specs.Rules.{rules_of}
 use Rattle.inventory_work.specs.declared.lines.Rules.{Rules}
 use Rattle.inventory_answers.specs.Answered.{answered}
+use Rattle.inventory_answers.specs.Stores.{backup_lines}
 use Rattle.inventory_answers.specs.declared.reply.Answer as rows
 use Rattle.placing.specs.Placing.{active_version, can_read}
 use Rattle.admin_words.specs.declared.files.FileGet.{FileGet}
@@ -35,23 +41,27 @@ use Rattle.reports.specs.declared.shown.Shown.TheVariants.{BackedUp, Stored}
 use Rattle.script_loop.specs.Reply.{Answer}
 use Rattle.tree_api.specs.Cause.{Rose}
 use Rattle.machine.specs.Machine.{Places}
-use Rattle.machine.specs.State.{Core, Machine, Place}
+use Rattle.machine.specs.State.{Core, Machine, Place, inventory}
 use Rattle.sessions.specs.Homes.{home_of}
 use Rattle.sessions.specs.declared.getting.FileRead.{FileRead}
 use Rattle.sessions.specs.declared.homes.Home.{Home}
+use Rattle.db_backup.specs.Listing.{newest_file}
 use Rattle.command_steps.specs.Answers.{answer_of, done, file_lines, refusal, row_lines}
 use Rattle.command_steps.specs.Behind.{Behind, behind, forces, no_more, reuses}
 use Rattle.command_steps.specs.Clients.{Client, Known, Turns}
+use Rattle.command_steps.specs.Doing.{the_number}
 use Rattle.command_steps.specs.Leaving.{ChangesOnly, tree_named}
 use Rattle.command_steps.specs.Trees.{is_absent}
 use Rattle.command_steps.specs.Lines.{Line, asks, comment, refused}
-use Rattle.command_steps.specs.Owns.{OnTree, Own, back_up, back_up_database, checkpoint, erase, get, last_of, on_tree, own_of, put, restore, validate, write}
+use Rattle.command_steps.specs.Owns.{OnTree, Own, audit_volume, back_up, back_up_database, back_up_since, checkpoint, delete_history, erase, expire, get, last_of, none_but_reuse, on_tree, own_of, put, restore, validate, write}
 use Rattle.command_steps.specs.declared.outcome.Outcome.{Outcome}
 use Rattle.command_steps.specs.declared.outcome.Outcome.TheVariants.{Said}
 use Rattle.admin_words.specs.declared.command.Command.{Command}
+use Rattle.line_results.specs.Bounds.{IsBounded, ReachesBound, begins, end_refused, illegal}
 use Rattle.line_results.specs.Commands.{Does, DoesThere, EndsWith, IsReuse, MayMake, Works, drawn, validated, work_over}
 use Rattle.line_results.specs.Files.{Gets, IsPlacedIn, Puts, backed_up, filespace_defined, why_no_place}
 use Rattle.line_results.specs.Resting.{Makes, RoseFrom, database, entry, why_not}
+use Rattle.line_results.specs.Room.{NoneFails}
 use Rattle.line_results.specs.Trees.{HasBytes, IsChosen, IsOfTree, new_versions}
 
 -- ---- journal: which transactions a line may make
@@ -179,9 +189,32 @@ CauseBy trusted places k own (Ok (Commit what)) old mid why added = why_not (dra
 CauseBy trusted places k own (Ok (Show query)) old mid why added = answered query (database old) ≡ Err why
 CauseBy trusted places k own (Ok (Run numbers)) old mid why added = CauseOwn trusted places k own old mid why added
 
+-- the backup in this file is on the list, is whole, and its number isn't below that of the run's base
+abbrev pub is_of_run : (file : ℕ) → Core → Bool
+is_of_run file c = is_done (backup_at file (inventory c)) && option_map_or (λ (b : Backup). nat_le c.base.number b.number) (backup_at file (inventory c)) false
+
+-- none is there to be followed: no whole backup is on the list, or the one with the greatest number isn't of this run
+abbrev pub HasNoneToFollow : (old : Machine) → Type 0
+HasNoneToFollow old =
+    (newest_file (backup_lines (database old).backups) ≡ None) ⊎ ((file : ℕ) × (newest_file (backup_lines (database old).backups) ≡ Some file) × (is_of_run file old.core ≡ false))
+
+-- a backup that follows another is refused as not found only there
+abbrev pub DeniedOwn : Own → (old : Machine) → Refusal → Type 0
+DeniedOwn back_up_since old why = why ≡ NotFound → HasNoneToFollow old
+DeniedOwn own old why = Unit {0}
+
+-- what is said beside that of the refusal of a process behind which all is forced
+abbrev pub DeniedBy : Own → Result Work Refusal → (old : Machine) → Refusal → Type 0
+DeniedBy own (Ok (Run numbers)) old why = DeniedOwn own old why
+DeniedBy own (Ok (Commit what)) old why = Unit {0}
+DeniedBy own (Ok (Show query)) old why = Unit {0}
+DeniedBy own (Err given) old why = Unit {0}
+
 -- where something comes behind a command's work, the steps of both say why it is refused
 abbrev pub CauseWith : (trusted : Type 0) → Places → Client → Command → Behind → (old mid : Machine) → Refusal → (added : List Entry) → Type 0
 CauseWith trusted places k c no_more old mid why added = CauseBy trusted places k (own_of c) (work_over c (database old)) old mid why added
+CauseWith trusted places k c forces old mid why added =
+    Works trusted places k c (work_over c (database old)) forces old mid (Err why) added × DeniedBy (own_of c) (work_over c (database old)) old why
 CauseWith trusted places k c b old mid why added = Works trusted places k c (work_over c (database old)) b old mid (Err why) added
 
 -- the cause of a line's refusal
@@ -213,14 +246,21 @@ DidBy trusted places k n own (Ok (Commit what)) old mid answer added = (added �
 DidBy trusted places k n own (Ok (Show query)) old mid answer added = added ≡ []
 DidBy trusted places k n own (Ok (Run numbers)) old mid answer added = DidOwn trusted places k n own old mid answer added
 
--- A backup of the whole database is as it is said: its file is the next one that is drawn, its number that of the transaction by which it begins, and by this one and that of its end it was made.
-abbrev pub IsBackedUp : (old : Machine) → Outcome → (added : List Entry) → Type 0
-IsBackedUp old it added =
+-- A backup of the database is as it is said: its file is the next one that is drawn, its number that of the transaction by which it begins, and by this one, which names the backup that it follows, if any, and
+-- that of its end it was made.
+abbrev pub IsBackedUp : (after : Option ℕ) → (old : Machine) → Outcome → (added : List Entry) → Type 0
+IsBackedUp after old it added =
     (it ≡ Said (BackedUp old.core.next_file ((database old).number + 1)))
-    × (added ≡ entry (change.DbBegin old.core.next_file None) ∷ entry (change.DbEnd old.core.next_file) ∷ [])
+    × (added ≡ entry (change.DbBegin old.core.next_file after) ∷ entry (change.DbEnd old.core.next_file) ∷ [])
+
+-- one that follows the whole backup with the greatest number on the list, which is of this run
+abbrev pub HasFollowedNewest : (old : Machine) → Outcome → (added : List Entry) → Type 0
+HasFollowedNewest old it added =
+    (after : ℕ) × (newest_file (backup_lines (database old).backups) ≡ Some after) × (is_of_run after old.core ≡ true) × IsBackedUp (Some after) old it added
 
 abbrev pub ToldOwn : Own → (old : Machine) → Outcome → (added : List Entry) → Type 0
-ToldOwn back_up_database old it added = IsBackedUp old it added
+ToldOwn back_up_database old it added = IsBackedUp None old it added
+ToldOwn back_up_since old it added = HasFollowedNewest old it added
 ToldOwn own old it added = Unit {0}
 
 -- what is said beside that of a process behind which all is forced
@@ -300,32 +340,50 @@ MayOn k (erase e) old = IsSound e.tree k
 MayOn k (restore r) old = MayGive r (database old) × (r.tree < length k.old)
 MayOn k (back_up i) old = MayBackUp i old × IsSound i.tree k
 
-abbrev pub MayOwn : Places → Client → Own → (old : Machine) → Type 0
-MayOwn places k (validate set) old = validated set (database old) ≡ Ok tt
-MayOwn places k (put p) old = MayPut places k.choice p old
-MayOwn places k (get g) old = MayGet g (database old)
-MayOwn places k checkpoint old = old.core.generation + 1 < 2 ^ 62
-MayOwn places k (on_tree work) old = MayOn k work old
-MayOwn places k own old = ⊥
+-- No bound of the database's is reached from the one state to the other: its lists have no more items than those of a database may have, and behind the last transaction another one has a number.
+abbrev pub StaysWithin : (old mid : Machine) → Type 0
+StaysWithin old mid = ReachesBound old mid → ⊥
+
+-- the database has no reason against the transactions by which a backup of the whole of it begins and ends
+abbrev pub MayBackUpDatabase : (old : Machine) → Type 0
+MayBackUpDatabase old = (illegal (begins old.core) old.core ≡ None) × (end_refused old.core ≡ None)
+
+-- a volume that is there may be audited; and where damaged copies are to go, so it is in a valid database within its bounds
+abbrev pub MayAudit : (fix : Bool) → (file : ℕ) → (old mid : Machine) → Type 0
+MayAudit fix file old mid = (has_volume file (database old) ≡ true) × (fix ≡ true → (is_valid (database old) ≡ true) × StaysWithin old mid)
+
+-- Work of a command's own is legal over the numbers of the things that it names. `mid` is the state behind it. Of processes that aren't told apart here none is said to be.
+abbrev pub MayOwn : Places → Client → (numbers : List ℕ) → Own → (old mid : Machine) → Type 0
+MayOwn places k numbers (validate set) old mid = validated set (database old) ≡ Ok tt
+MayOwn places k numbers (put p) old mid = MayPut places k.choice p old
+MayOwn places k numbers (get g) old mid = MayGet g (database old)
+MayOwn places k numbers checkpoint old mid = old.core.generation + 1 < 2 ^ 62
+MayOwn places k numbers (on_tree work) old mid = MayOn k work old
+MayOwn places k numbers expire old mid = StaysWithin old mid
+MayOwn places k numbers back_up_database old mid = MayBackUpDatabase old
+MayOwn places k numbers (delete_history to) old mid = StaysWithin old mid
+MayOwn places k numbers (audit_volume fix) old mid = MayAudit fix (the_number numbers) old mid
+MayOwn places k numbers none_but_reuse old mid = Unit {0}
+MayOwn places k numbers own old mid = ⊥
 
 -- what the command names is there; and the database has no reason against its change, or shows its rows
-abbrev pub MayBy : Places → Client → Own → Result Work Refusal → (old : Machine) → Type 0
-MayBy places k own (Err why) old = ⊥
-MayBy places k own (Ok (Commit what)) old = why_not (drawn what old) old.core ≡ None
-MayBy places k own (Ok (Show query)) old = (shown : rows.Answer) × (answered query (database old) ≡ Ok shown)
-MayBy places k own (Ok (Run numbers)) old = MayOwn places k own old
+abbrev pub MayBy : Places → Client → Own → Result Work Refusal → (old mid : Machine) → Type 0
+MayBy places k own (Err why) old mid = ⊥
+MayBy places k own (Ok (Commit what)) old mid = why_not (drawn what old) old.core ≡ None
+MayBy places k own (Ok (Show query)) old mid = (shown : rows.Answer) × (answered query (database old) ≡ Ok shown)
+MayBy places k own (Ok (Run numbers)) old mid = MayOwn places k numbers own old mid
 
 -- A line is legal: it is a comment, or a command of the grammar that is done so far, of which this holds.
-abbrev pub IsLegal : Places → Client → Line → (old : Machine) → Type 0
-IsLegal places k comment old = Unit {0}
-IsLegal places k (refused why) old = ⊥
-IsLegal places k (asks command) old = MayBy places k (own_of command) (work_over command (database old)) old
+abbrev pub IsLegal : Places → Client → Line → (old mid : Machine) → Type 0
+IsLegal places k comment old mid = Unit {0}
+IsLegal places k (refused why) old mid = ⊥
+IsLegal places k (asks command) old mid = MayBy places k (own_of command) (work_over command (database old)) old mid
 
--- what comes behind its work, which was done, was refused so
+-- what comes behind its work, which was done, was refused for a bound of the database's
 abbrev pub IsRefusedBehind : (trusted : Type 0) → Places → Client → (n : ℕ) → Command → Behind → (old mid : Machine) → Answer → Type 0
 IsRefusedBehind trusted places k n c b old mid answer =
     (why : Refusal) × (answer ≡ refusal n why) × (it : Outcome) × (between : Machine) × (first : List Entry)
-    × Does trusted places k c (work_over c (database old)) old between (Ok it) first × EndsWith trusted places b (Ok it) between mid (Err why)
+    × Does trusted places k c (work_over c (database old)) old between (Ok it) first × EndsWith trusted places b (Ok it) between mid (Err why) × IsBounded between mid why
 
 -- only the reuse of volumes may be
 abbrev pub IsAnsweredWith : (trusted : Type 0) → Places → Client → (n : ℕ) → Command → Behind → (old mid : Machine) → Answer → Type 0
@@ -338,7 +396,7 @@ IsAnswered trusted places k n line old mid answer = answer.tally.refused ≡ 0
 
 -- A line that is legal, and in which no count of faults rose, doesn't count as refused, unless the reuse of volumes behind its work is.
 abbrev pub IsComplete : (trusted : Type 0) → Places → Client → (n : ℕ) → Line → (old mid : Machine) → Answer → Type 0
-IsComplete trusted places k n line old mid answer = ((file : ℕ) → RoseFrom old mid file → ⊥) → IsLegal places k line old → IsAnswered trusted places k n line old mid answer
+IsComplete trusted places k n line old mid answer = ((file : ℕ) → RoseFrom old mid file → ⊥) → IsLegal places k line old mid → IsAnswered trusted places k n line old mid answer
 
 -- ---- all of them
 
@@ -351,4 +409,5 @@ pub record Holds (trusted : Type 0) (places : Places) (k : Client) (n : ℕ) (li
   pub causes : HasCause trusted places k n line old mid answer added
   pub done : IsDone trusted places k n line old mid answer added
   pub complete : IsComplete trusted places k n line old mid answer
+  pub none_fails : NoneFails trusted places k line old mid answer
   pub trees : ChangesOnly (tree_named line) k

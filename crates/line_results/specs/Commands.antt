@@ -52,6 +52,7 @@ use Rattle.command_steps.specs.Owns.{Mover, OnTree, Own, audit_volume, back_up, 
 use Rattle.command_steps.specs.Trees.{BacksUp, ErasesFile, GivesWanted, WritesFile}
 use Rattle.command_steps.specs.declared.outcome.Outcome.{Outcome}
 use Rattle.command_steps.specs.declared.outcome.Outcome.TheVariants.{Read, Rows, Said}
+use Rattle.line_results.specs.Bounds.{IsReasoned, IsReused}
 use Rattle.line_results.specs.Files.{Checkpoints, Gets, Puts}
 use Rattle.line_results.specs.Resting.{Adds, Commits, EndsRun, IsLate, Onward, SameBytes, SameImage, database}
 use Rattle.line_results.specs.Trees.{GivesChosen, HaveBytes, IsOfBackup, IsRefusedSo, KeepsBytes}
@@ -143,10 +144,11 @@ MayMake numbers (delete_history to) c = (file : ℕ) × (c ≡ change.DbDelete f
 MayMake numbers (audit_volume fix) c = (fix ≡ true) × IsMend (the_number numbers) c
 MayMake numbers _ c = ⊥
 
--- A process ran: its own contract says what its steps did; and each transaction that it made is one of these.
+-- A process ran: its own contract says what its steps did; each transaction that it made is one of these; and where it is refused, that has its reason.
 abbrev pub Processes : (trusted : Type 0) → Places → List Rule → (numbers : List ℕ) → Own → (old new : Machine) → Result Outcome Refusal → (added : List Entry) → Type 0
 Processes trusted places choice numbers own old new result added =
     Ran trusted places (λ events. steps.DoesAlone choice own numbers events result) old new × AllByRecursion (λ e. (e.actor ≡ 0) × MayMake numbers own e.change) added × SameImage old new × SameBytes old new
+    × IsReasoned numbers own old new result
 
 -- ---- work
 
@@ -173,7 +175,7 @@ DoesAlone trusted places choice numbers none_yet old new result added = Tells (E
 DoesAlone trusted places choice numbers (on_tree work) old new result added = ⊥
 
 -- What was done on a tree, which was `before` and is `after`. WRITE and ERASE do nothing but that. A backup ran: its own contract says what its steps did; each transaction that it made is of the plan
--- over the tree and the database; what was stored already keeps its bytes; what it stored has as many bytes as each version says, with its digest; and where it is refused, that has its cause. A restore ran, which
+-- over the tree and the database; what was stored already keeps its bytes; what it stored has as many bytes as each version says, with its digest; and where it is refused, that has its cause, and it made none. A restore ran, which
 -- changes no more of the machine than a query does.
 abbrev pub DoesOn : (trusted : Type 0) → Places → List Rule → OnTree → (before after : Known) → (old new : Machine) → Result Outcome Refusal → (added : List Entry) → Type 0
 DoesOn trusted places choice (write w) before after old new result added = WritesFile w before after result × IsStill old new × (added ≡ [])
@@ -181,7 +183,7 @@ DoesOn trusted places choice (erase e) before after old new result added = Erase
 DoesOn trusted places choice (back_up i) before after old new result added =
     Ran trusted places (λ events. BacksUp choice i before after events result) old new
     × AllByRecursion (λ e. (e.actor ≡ 0) × IsOfBackup choice i before.files (database old) e.change) added × SameImage old new × KeepsBytes old new × HaveBytes new added
-    × IsRefusedSo i before after old result
+    × IsRefusedSo i before after old result added
 DoesOn trusted places choice (restore r) before after old new result added =
     Ran trusted places (λ events. GivesWanted r before after events result) old new × GivesChosen r (database old) before after result × EndsSo old new result × IsStill old new × (added ≡ [])
 
@@ -204,10 +206,10 @@ Does trusted places k c (Ok (Commit what)) old new result added =
 Does trusted places k c (Ok (Show query)) old new result added = IsKept k × Tells (on_ok Rows (answered query (database old))) old new result added
 Does trusted places k c (Ok (Run numbers)) old new result added = DoesOwn trusted places k numbers (own_of c) old new result added
 
--- What comes behind work that came to this: nothing, or what its steps did.
+-- What comes behind work that came to this: nothing, or what its steps did; and where the reuse of volumes is refused, that has its reason.
 abbrev pub EndsWith : (trusted : Type 0) → Places → Behind → (said : Result Outcome Refusal) → (mid new : Machine) → Result Outcome Refusal → Type 0
 EndsWith trusted places no_more said mid new result = (new ≡ mid) × (result ≡ said)
-EndsWith trusted places b said mid new result = (events : List Event) × Alone trusted places 0 events mid new × EndsWork b said events result × SameImage mid new × SameBytes mid new
+EndsWith trusted places b said mid new result = (events : List Event) × Alone trusted places 0 events mid new × EndsWork b said events result × SameImage mid new × SameBytes mid new × IsReused b said mid new result
 
 -- volumes are reused where that comes behind the work
 abbrev pub IsReuse : Behind → Change → Type 0

@@ -1,6 +1,8 @@
+pub mod Bounds
 pub mod Clauses
 pub mod Commands
 pub mod Files
 pub mod Lines
 pub mod Resting
+pub mod Room
 pub mod Trees

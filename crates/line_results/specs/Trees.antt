@@ -116,10 +116,10 @@ StoresNothing i before after m e =
     ⊎ ((node : ℕ) × (node_named i.node (database m).clients.nodes ≡ Some node) × ((rules_of node (database m) ≡ Err e) ⊎ IsUndefinable node i.filespace m e))
     ⊎ ((e ≡ TreeFault) × Rose before.faults after.faults)
 
--- where a backup is refused, that is the cause, or the run ended
-abbrev pub IsRefusedSo : IncrementalBackup → (before after : Known) → Machine → Result Outcome Refusal → Type 0
-IsRefusedSo i before after m (Ok it) = Unit {0}
-IsRefusedSo i before after m (Err e) = StoresNothing i before after m e ⊎ ((how : Halt) × (halt_by e ≡ Some how))
+-- where a backup is refused, that is the cause, and it made no transaction; or the run ended
+abbrev pub IsRefusedSo : IncrementalBackup → (before after : Known) → Machine → Result Outcome Refusal → (added : List Entry) → Type 0
+IsRefusedSo i before after m (Ok it) added = Unit {0}
+IsRefusedSo i before after m (Err e) added = (StoresNothing i before after m e × (added ≡ [])) ⊎ ((how : Halt) × (halt_by e ≡ Some how))
 
 -- ---- what a restore gives
 
