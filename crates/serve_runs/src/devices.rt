@@ -21,7 +21,7 @@ fn run_until(trial: &Trial, call: u64) -> Result<(MemStore, Said), AllocError> {
 }
 
 /// The store after a stop, where no call is to fail any more.
-fn left(alloc: Global, store: MemStore, choice: u64) -> MemStore {
+pub fn left(alloc: Global, store: MemStore, choice: u64) -> MemStore {
     store.stop(choice).with_failing(Vec::new(alloc))
 }
 
@@ -55,7 +55,7 @@ impl Bench for Devices {
         let failing = [call].to_vec(trial.alloc)?;
         let store = MemStore::new(trial.alloc).with_failing(failing);
         let (store, said) = run(trial.alloc, "fresh", store, &trial.script)?;
-        Ok(failed_over(store, said.status))
+        Ok(failed_over(&store, said.status))
     }
 
     fn opened(

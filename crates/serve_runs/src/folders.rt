@@ -83,7 +83,7 @@ impl Bench for Folders {
         let failing = [call].to_vec(trial.alloc)?;
         let store = empty(trial.alloc, failing, Vec::new(trial.alloc));
         let (store, said) = run(trial.alloc, "fresh", store, &trial.script)?;
-        Ok(failed_over(store, said.status))
+        Ok(failed_over(&store, said.status))
     }
 
     fn opened(

@@ -23,6 +23,10 @@
 //!   last sign is that of the first run in which no call fails.
 //! - `faults`: the script is run by `fresh`, once for each moment at which the one call fails. Three rows: the status, the first of the files with
 //!   faults, and how many faults there are.
+//! - `restore stops CHOICE WORD..`: over copies of the store, all of which is on the disk, the server is called with these words, once for each moment: all calls fail
+//!   from then on, and there the machine stops. Then `run` follows with the script. One row, with a sign for each moment: `=` where that run prints what it would over the store as it was, `+`
+//!   where it prints what it would behind the same words with no call that fails, else `!`. The last sign is that of the first in which no call fails.
+//! - `restore faults WORD..`: the same without a stop, once for each moment at which the one call fails. Three rows: the status, the first of the files with faults, and the sign.
 //! - `folder stops CHOICE`, `folder again CHOICE`, `folder opens CHOICE`, `folder faults`: the same over a store in a folder in memory, for each
 //!   call of the folder's files.
 //! - `echo`: the script is run over an answerer that gives each line back; of the line `two` it gives two, it refuses `no`, of `bad` it counts a
@@ -40,6 +44,7 @@ mod devices;
 mod echo;
 mod files;
 mod folders;
+mod recovering;
 mod run;
 mod sweeps;
 mod trees;

@@ -5,7 +5,7 @@ use crate::call::{Said, Under, call, call_alone, last_line, text_of, words_of};
 use crate::devices::Devices;
 use crate::folders::Folders;
 use crate::trials::{Bench, Trial};
-use crate::{echo, files, sweeps, trees};
+use crate::{echo, files, recovering, sweeps, trees};
 use choosers::Binder;
 use client_trees::MemTree;
 use hex::{decode, encode};
@@ -321,6 +321,17 @@ impl Run {
         }))
     }
 
+    /// What a restore of the database is answered that is tried with each of its calls.
+    fn restore(&mut self, words: &[&str]) -> Result<String, Fault> {
+        match words {
+            ["stops", choice, words @ ..] => {
+                recovering::stops(&self.trial(choice)?, words, &self.store)
+            }
+            ["faults", words @ ..] => recovering::faults(&self.trial("0")?, words, &self.store),
+            _ => Err(Fault::NoCommand),
+        }
+    }
+
     /// The same over the calls of a store, and what another command on the script is answered.
     fn on_calls(&mut self, words: &[&str]) -> Result<String, Fault> {
         match self.sweep::<Devices>(words)? {
@@ -340,6 +351,7 @@ impl Run {
             ["faults", file] => self.faults(file),
             ["moment"] => self.moment(),
             ["folder", words @ ..] => self.sweep::<Folders>(words)?.ok_or(Fault::NoCommand),
+            ["restore", words @ ..] => self.restore(words),
             _ => self.on_calls(words),
         }
     }

@@ -154,16 +154,26 @@ pub fn from(alloc: Global, call: u64) -> Result<Vec<u64>, AllocError> {
     Ok(calls)
 }
 
-/// A call of the server over a store, with a script.
+/// A call of the server over a store with these words, and with a script.
+pub fn ask<S: Store + Drop>(
+    alloc: Global,
+    words: &[&str],
+    store: S,
+    script: &str,
+) -> Result<(S, Said), AllocError> {
+    let reader = MemReader::new(MemSource::new(alloc, script.as_bytes().to_vec(alloc)?));
+    let writer = MemWriter::new(MemSink::new(alloc), usize::MAX);
+    call_alone(alloc, words, store, reader, writer)
+}
+
+/// The same with one word.
 pub fn run<S: Store + Drop>(
     alloc: Global,
     word: &str,
     store: S,
     script: &str,
 ) -> Result<(S, Said), AllocError> {
-    let reader = MemReader::new(MemSource::new(alloc, script.as_bytes().to_vec(alloc)?));
-    let writer = MemWriter::new(MemSink::new(alloc), usize::MAX);
-    call_alone(alloc, &[word], store, reader, writer)
+    ask(alloc, &[word], store, script)
 }
 
 /// What is shown over a store, where no call fails.
@@ -194,7 +204,7 @@ pub fn stopped_over<S: Store + Drop>(
 }
 
 /// How a run went that left this store.
-pub fn failed_over<S: Store + Drop>(store: S, status: u8) -> Failed {
+pub fn failed_over<S: Store>(store: &S, status: u8) -> Failed {
     let mut first = '-';
     let mut total: u64 = 0;
     for file in 0..FILES {

@@ -14,8 +14,9 @@ use Rattle.script_loop.specs.declared.ends.Halt.TheVariants as halt
 use Rattle.script_loop.specs.declared.ends.End.{End}
 use Rattle.script_loop.specs.declared.ends.End.TheVariants.{Done, SourceFault, SinkFault, Halted, TooLong}
 use Rattle.tsm_top.specs.declared.note.Note.{Note}
-use Rattle.tsm_top.specs.Serve.{Closing, Command, RanScript, Shuts, closing_status, exists, formatted, no_command, refused_opening}
+use Rattle.tsm_top.specs.Serve.{Closing, Command, RanScript, Shuts, closing_status, exists, formatted, no_command, refused_opening, restored, unread, untold}
 use Rattle.tsm_top.specs.Sites.{RepliesAt, Site, StopsAt}
+use Rattle.tsm_top.proofs.Recovering.{told_other}
 
 -- the count of some image's or log's file rose
 abbrev pub RoseSince : Site → Site → Type 0
@@ -75,6 +76,9 @@ not_six (refused_opening (opening.Damaged file at)) is = absurd (omega (arith, i
 not_six (refused_opening opening.NotFormatted) is = absurd (omega (arith, is))
 not_six (refused_opening opening.RunFull) is = absurd (omega (arith, is))
 not_six (refused_opening opening.Memory) is = absurd (omega (arith, is))
+not_six (restored file came) is = told_other came 6 (omega arith) (omega arith) (λ five. omega (arith, five)) is
+not_six (untold file came) is = absurd (omega (arith, is))
+not_six unread is = absurd (omega (arith, is))
 
 -- a call that ran no script has another status
 pub shut_other : (why : Closing) (before after : Option (List ℕ)) (sink_rose : Type 0) (status : ℕ) (journal : List Entry) (stamps : List ℕ) (notes : List Note) (base : Option Inv) (generation opened last : ℕ) → Shuts why before after sink_rose status journal stamps notes base generation opened last → status ≡ 6 → ⊥

@@ -4,6 +4,7 @@ pub mod Making
 pub mod Noting
 pub mod OneLine
 pub mod Opening
+pub mod Recovering
 pub mod Running
 pub mod Safe
 pub mod There

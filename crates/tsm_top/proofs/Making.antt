@@ -21,7 +21,7 @@ use Rattle.vault.proofs.Sounding.{ends_log, newest_one, within_recovers}
 use Rattle.vault.proofs.Unique.{one_database, one_form, is_formatted, not_damaged_there}
 use Rattle.hall_turns.proofs.Stops.{new_sound}
 use Rattle.tsm_top.specs.declared.note.Note.{Note}
-use Rattle.tsm_top.specs.Serve.{Command, format, run, fresh_run, Closing, no_command, formatted, exists, refused_opening, HasCause, OpensNot, IsNone, IsNew, HasImage, RunsOver, StartsAt, Sure, Spares, Opens, Later, RanScript, RoseBetween}
+use Rattle.tsm_top.specs.Serve.{Command, format, run, fresh_run, Closing, no_command, formatted, exists, refused_opening, restored, untold, unread, HasCause, OpensNot, IsNone, IsNew, HasImage, RunsOver, StartsAt, Sure, Spares, Opens, Later, RanScript, RoseBetween}
 
 -- files that hold a new database recover to it alone
 new_base : (h : History) → IsNew (Some h) → IsBase meaning 0 fresh (reads h)
@@ -162,8 +162,11 @@ has_image b (Some h) is = sym is
 -- ---- what is asked
 
 -- what caused a call's end, where one command is asked, is what did where the words ask it
-pub asked_one : (one : Command) (asked : Command → Type 0) → asked one → (why : Closing) (told left : Option History) (last : ℕ) (rose : ℕ → Type 0) → HasCause (λ command. command ≡ one) why told left last rose → HasCause asked why told left last rose
-asked_one one asked is no_command told left last rose cause = absurd (cause.0 one refl)
-asked_one one asked is formatted told left last rose (same, had, tells, new) = (subst (λ (c : Command). asked c) (sym same) is, had, tells, new)
-asked_one one asked is exists told left last rose (same, had, looked) = (⊎_elim (λ first. inl (subst (λ (c : Command). asked c) (sym first) is)) (λ second. inr (subst (λ (c : Command). asked c) (sym second) is)) same, had, looked)
-asked_one one asked is (refused_opening why) told left last rose (command, same, not, spares) = (command, subst (λ (c : Command). asked c) (sym same) is, not, spares)
+pub asked_one : (one : Command) (asked : Command → Type 0) → asked one → (why : Closing) (told left : Option History) (last : ℕ) (before after : ℕ → ℕ) → HasCause (λ command. command ≡ one) why told left last before after → HasCause asked why told left last before after
+asked_one one asked is no_command told left last before after cause = absurd (cause.0 one refl)
+asked_one one asked is formatted told left last before after (same, had, tells, new) = (subst (λ (c : Command). asked c) (sym same) is, had, tells, new)
+asked_one one asked is exists told left last before after (same, had, looked) = (⊎_elim (λ first. inl (subst (λ (c : Command). asked c) (sym first) is)) (λ second. inr (subst (λ (c : Command). asked c) (sym second) is)) same, had, looked)
+asked_one one asked is (refused_opening why) told left last before after (command, same, not, spares) = (command, subst (λ (c : Command). asked c) (sym same) is, not, spares)
+asked_one one asked is (restored file came) told left last before after (day, skipped, same, from, not) = (day, skipped, subst (λ (c : Command). asked c) (sym same) is, from, not)
+asked_one one asked is (untold file came) told left last before after (day, skipped, same, from) = (day, skipped, subst (λ (c : Command). asked c) (sym same) is, from)
+asked_one one asked is unread told left last before after cause = cause

@@ -1,5 +1,6 @@
 pub mod Notes
 pub mod OneLine
+pub mod Restored
 pub mod Serve
 pub mod Sessions
 pub mod Sites

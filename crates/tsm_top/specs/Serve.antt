@@ -1,5 +1,5 @@
 -- What the top call answers, puts and leaves.
-use Rattle.std.specs.Prelude.{◌≡◌, ◌⊎◌, ℕ, ◌-◌, ◌^◌, ◌<◌, ◌≤◌, Bool, true, false, is_some, Option, None, Some, IfSome, List, [], ◌∷◌, ◌++◌, map, reverse, codes, decimal, String, string_bytes}
+use Rattle.std.specs.Prelude.{◌≡◌, ◌⊎◌, ℕ, ◌-◌, ◌^◌, ◌<◌, ◌≤◌, Bool, true, false, is_some, Option, None, Some, IfSome, Result, IfErr, List, [], ◌∷◌, ◌++◌, map, reverse, codes, decimal, String, string_bytes}
 use Rattle.std.specs.Io.KnownBytes.{Appends}
 use Rattle.std.specs.declared.alloc.Global.{Global}
 use Rattle.store_api.specs.Disk.{History, now, reads}
@@ -28,22 +28,23 @@ use Rattle.hall_turns.specs.Left.{LeavesSound}
 use Rattle.command_steps.specs.Clients.{Client}
 use Rattle.line_results.specs.Resting.{IsAtRest, Onward}
 use Rattle.machine.specs.State.{Machine}
+use Rattle.db_restore.specs.Chained.{MayNotRestore}
+use Rattle.db_restore.specs.declared.done.RestoreDone.{RestoreDone}
+use Rattle.db_restore.specs.declared.refused.NotRestored.{NotRestored}
+use Rattle.recoveries.specs.Telling.{told_lines, told_status}
+use Rattle.recoveries.specs.Words.{wanted}
 use Rattle.tsm_top.specs.declared.note.Note.{Note}
 use Rattle.tsm_top.specs.declared.top.NotMade.{NotMade}
 use Rattle.tsm_top.specs.declared.top.NotMade.TheVariants.{Exists, Refused}
+use Rattle.tsm_top.specs.Restored.{IsRestored}
 use Rattle.tsm_top.specs.Sites.{IsThere, RepliesAt, StopsAt, site}
 
--- what the words ask
+-- What the words ask: a new database, a script over the one that is there or over a new one, or that the one which the backup in a file gives is restored on a day, without what lies in the files that are skipped.
 pub data Command : Type 0 where
   format : Command
   run : Command
   fresh_run : Command
-
--- the one word that asks it
-abbrev pub word_of : Command → List ℕ
-word_of format = codes "format"
-word_of run = codes "run"
-word_of fresh_run = codes "fresh"
+  restore : (file day : ℕ) → (skipped : List ℕ) → Command
 
 -- the words are this one
 abbrev pub IsOnly : List ℕ → List (String Global) → Type 0
@@ -51,14 +52,25 @@ IsOnly name words = map string_bytes words ≡ name ∷ []
 
 -- the words ask this
 abbrev pub Asks : List (String Global) → Command → Type 0
-Asks words command = IsOnly (word_of command) words
+Asks words format = IsOnly (codes "format") words
+Asks words run = IsOnly (codes "run") words
+Asks words fresh_run = IsOnly (codes "fresh") words
+Asks words (restore file day skipped) = wanted (map string_bytes words) ≡ Some (file, day, skipped)
 
--- How a call ended that ran no script: the words are no command; a database was made; there is one already; or opening was refused.
+-- the words ask that a database is restored
+abbrev pub AskToRestore : List (String Global) → Type 0
+AskToRestore words = (file : ℕ) × (day : ℕ) × (skipped : List ℕ) × Asks words (restore file day skipped)
+
+-- How a call ended that ran no script: the words are no command; a database was made; there is one already; opening was refused; this came of restoring the database that the backup in a file gives; the
+-- same, where memory was wanted for the lines that tell it; or memory was wanted to read the words.
 pub data Closing : Type 0 where
   no_command : Closing
   formatted : Closing
   exists : Closing
   refused_opening : (why : OpenRefused) → Closing
+  restored : (file : ℕ) → (came : Result RestoreDone NotRestored) → Closing
+  untold : (file : ℕ) → (came : Result RestoreDone NotRestored) → Closing
+  unread : Closing
 
 -- the exit status
 abbrev pub closing_status : Closing → ℕ
@@ -70,8 +82,11 @@ closing_status (refused_opening (refused.Damaged file at)) = 7
 closing_status (refused_opening refused.NotFormatted) = 7
 closing_status (refused_opening refused.RunFull) = 9
 closing_status (refused_opening refused.Memory) = 8
+closing_status (restored file came) = told_status came
+closing_status (untold file came) = 8
+closing_status unread = 8
 
--- the one line that is put
+-- The one line that is put; of a database that was restored, also a line for each object that was lost.
 abbrev pub closing_line : Closing → List ℕ
 closing_line no_command = codes "USAGE format | run | fresh | restoredb FILE DAY [FILES] | load N\n"
 closing_line formatted = codes "FORMATTED\n"
@@ -81,6 +96,9 @@ closing_line (refused_opening (refused.Damaged file at)) = told_number (codes "D
 closing_line (refused_opening refused.NotFormatted) = codes "NOT FORMATTED\n"
 closing_line (refused_opening refused.RunFull) = codes "RUN FULL\n"
 closing_line (refused_opening refused.Memory) = codes "MEMORY\n"
+closing_line (restored file came) = told_lines file came
+closing_line (untold file came) = codes "MEMORY\n"
+closing_line unread = codes "MEMORY\n"
 
 -- The one line was put; or, where the sink's count rose, a front of it, and the status is 4.
 abbrev pub PutsLine : List ℕ → ℕ → ℕ → Option (List ℕ) → Option (List ℕ) → Type 0 → Type 0
@@ -103,9 +121,11 @@ OpensNot command told last rose (refused.ReadFault file) = (file < 4) × rose fi
 OpensNot format told last rose (refused.Damaged file at) = ⊥
 OpensNot run told last rose (refused.Damaged file at) = (file < 4) × IsNone told (refused.Damaged file at)
 OpensNot fresh_run told last rose (refused.Damaged file at) = (file < 4) × (is_some told ≡ false)
+OpensNot (restore backup day skipped) told last rose (refused.Damaged file at) = ⊥
 OpensNot format told last rose refused.NotFormatted = ⊥
 OpensNot run told last rose refused.NotFormatted = IsNone told refused.NotFormatted
 OpensNot fresh_run told last rose refused.NotFormatted = is_some told ≡ false
+OpensNot (restore backup day skipped) told last rose refused.NotFormatted = ⊥
 OpensNot command told last rose refused.RunFull = 2 ^ 62 - 2 ^ 24 ≤ last
 OpensNot command told last rose refused.Memory = Unit {0}
 
@@ -129,6 +149,7 @@ abbrev pub Spares : Command → (told left : Option History) → Type 0
 Spares format told left = Told told left Looked ⊎ (HasImage false told × StillTells told left)
 Spares run told left = Told told left (Spared meaning)
 Spares fresh_run told left = Told told left Looked ⊎ (HasImage false told × StillTells told left)
+Spares (restore file day skipped) told left = ⊥
 
 -- What the store is when a script begins: of a database that was opened, what opening left of it, as `Spares` says; of a new one, a store each of whose images of
 -- then is that database, where no image had an open gate.
@@ -136,19 +157,23 @@ abbrev pub Opens : Command → (told left : Option History) → Type 0
 Opens format told left = ⊥
 Opens run told left = Told told left (Spared meaning)
 Opens fresh_run told left = HasImage false told × StillTells told left × IsNew left
+Opens (restore file day skipped) told left = ⊥
 
--- The cause of it, where what is asked is one of these commands, and what it left of the files.
-abbrev pub HasCause : (asked : Command → Type 0) → Closing → (told left : Option History) → (last : ℕ) → (rose : ℕ → Type 0) → Type 0
-HasCause asked no_command told left last rose = ((command : Command) → asked command → ⊥) × (left ≡ told)
-HasCause asked formatted told left last rose = asked format × HasImage false told × StillTells told left × IsNew left
-HasCause asked exists told left last rose = (asked format ⊎ asked fresh_run) × HasImage true told × Told told left Looked
-HasCause asked (refused_opening why) told left last rose = (command : Command) × asked command × OpensNot command told last rose why × Spares command told left
+-- The cause of it, where what is asked is one of these commands, and what it left of the files. `before` and `after` are the counts of faults.
+abbrev pub HasCause : (asked : Command → Type 0) → Closing → (told left : Option History) → (last : ℕ) → (before after : ℕ → ℕ) → Type 0
+HasCause asked no_command told left last before after = ((command : Command) → asked command → ⊥) × (left ≡ told)
+HasCause asked formatted told left last before after = asked format × HasImage false told × StillTells told left × IsNew left
+HasCause asked exists told left last before after = (asked format ⊎ asked fresh_run) × HasImage true told × Told told left Looked
+HasCause asked (refused_opening why) told left last before after = (command : Command) × asked command × OpensNot command told last (RoseBetween before after) why × Spares command told left
+HasCause asked (restored file came) told left last before after = (day : ℕ) × (skipped : List ℕ) × asked (restore file day skipped) × Told told left (IsRestored file day skipped came) × IfErr came (MayNotRestore day before after last)
+HasCause asked (untold file came) told left last before after = (day : ℕ) × (skipped : List ℕ) × asked (restore file day skipped) × Told told left (IsRestored file day skipped came)
+HasCause asked unread told left last before after = left ≡ told
 
 -- The cause of it, as the words say.
-abbrev pub HasCauseOf : Closing → List (String Global) → (told left : Option History) → (last : ℕ) → (rose : ℕ → Type 0) → Type 0
-HasCauseOf why words told left last rose = HasCause (Asks words) why told left last rose
+abbrev pub HasCauseOf : Closing → List (String Global) → (told left : Option History) → (last : ℕ) → (before after : ℕ → ℕ) → Type 0
+HasCauseOf why words told left last before after = HasCause (Asks words) why told left last before after
 
--- No script was run: the one line was put, nothing is in the journal or noted, and no database and no image is told of. `opened` and `last` are both the moment at the return.
+-- No script was run: the line was put, or the lines, nothing is in the journal or noted, and no database and no image is told of. `opened` and `last` are both the moment at the return.
 pub record Shuts (why : Closing) (before after : Option (List ℕ)) (sink_rose : Type 0) (status : ℕ) (journal : List Entry) (stamps : List ℕ) (notes : List Note) (base : Option Inv) (generation opened last : ℕ) : Type 0 where
   pub line : PutsLine (closing_line why) (closing_status why) status before after sink_rose
   pub journal_is : journal ≡ []
@@ -185,6 +210,7 @@ abbrev pub RunsOver : Command → (told : Option History) → (base : Inv) → T
 RunsOver format told base = ⊥
 RunsOver run told base = IfSome told (λ h. Recovers meaning (reads h) base)
 RunsOver fresh_run told base = HasImage false told × IfSome told (λ h. base ≡ fresh)
+RunsOver (restore file day skipped) told base = ⊥
 
 -- The generation of the newest image when a script begins, as which the database is opened: that of the image that was the newest or, where that is in the first
 -- form, the next one; of a new database, over a store that tells its bytes, it is 0.
@@ -192,6 +218,7 @@ abbrev pub StartsAt : Command → (told : Option History) → ℕ → Type 0
 StartsAt format told start = ⊥
 StartsAt run told start = IfSome told (λ h. (d : Inv) × OpenedAs meaning (reads h) d start)
 StartsAt fresh_run told start = IfSome told (λ h. start ≡ 0)
+StartsAt (restore file day skipped) told start = ⊥
 
 -- what is known at the start: of a store that is run, that it is sound, its objects having these bytes; of a new database that the store tells its bytes
 abbrev pub Sure : Command → (contents : ℕ → List ℕ) → (told : Option History) → Type 0
@@ -199,6 +226,7 @@ Sure format contents told = ⊥
 Sure run contents None = ⊥
 Sure run contents (Some h) = IsSound contents h
 Sure fresh_run contents told = is_some told ≡ true
+Sure (restore file day skipped) contents told = ⊥
 
 -- How a run begins: with the database that was opened, which is valid, no transaction, no ticket and no image; the numbers that are drawn next are that database's, and the first ticket's is 1.
 pub record Begins (base : Inv) (opened : ℕ) (counts : ℕ → ℕ) (m : Machine) : Type 0 where

@@ -2,6 +2,7 @@
 #![tactic(auto)]
 
 mod note;
+mod recover;
 mod session;
 mod top;
 

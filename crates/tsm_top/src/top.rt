@@ -14,9 +14,10 @@ ghost use Rattle.command_steps.specs.Clients.{client};
 ghost use Rattle.machine.specs.State.{Machine};
 ghost use Rattle.hall.specs.Good.{Is};
 ghost use Rattle.hall.specs.Opening.{IsNewHall};
-ghost use Rattle.tsm_top.specs.Serve.{IsOnly, Asks, Command, format, run, fresh_run, Closing, no_command, formatted, exists, refused_opening, closing_line, closing_status, HasCauseOf, HasCause, Shuts, OpensNot, PutsLine, RoseBetween, IsOurFile, IsOurClosing, closing_of, HasImage, Spares, Opens, IsNew, StillTells, MakesNot, RanScript, RanFrom, Images, Later};
+ghost use Rattle.tsm_top.specs.Serve.{IsOnly, Asks, AskToRestore, Command, format, run, fresh_run, Closing, no_command, formatted, exists, refused_opening, closing_line, closing_status, HasCauseOf, HasCause, Shuts, OpensNot, PutsLine, RoseBetween, IsOurFile, IsOurClosing, closing_of, HasImage, Spares, Opens, IsNew, StillTells, MakesNot, RanScript, RanFrom, Images, Later};
 
 use crate::note::Note;
+use crate::recover::other;
 use crate::session::{HallPlaces, Session};
 use choosers::Binder;
 use client_trees::Tree;
@@ -79,10 +80,11 @@ fn is_only(words: &[String], name: &[u8]) -> bool
 }
 
 /// Does what the words behind the program's name ask, and answers how it ended. `format` makes a new database in a store that has none,
-/// `run` opens the store's database, answers each line of a script and puts the answers, and `fresh` does the one and then the other.
+/// `run` opens the store's database, answers each line of a script and puts the answers, and `fresh` does the one and then the other. `restoredb FILE DAY [FILES]` restores the database that the backup in
+/// a file gives, on a day, without the copies that lie in the files behind it, as `restore_from` of `db_restore` says, and puts a line for each object that was lost by it, and the counts.
 /// `alloc` gives the memory, `trees` are the clients' trees, which lines name by their place, from 0, and `binder` has the include-exclude list by which the paths of files are bound to management classes.
 ///
-/// A line is a comment or a command of the administrative command language (`admin_words`), outside blocks. Each command is done but DSMC ARCHIVE, DSMC RETRIEVE, AUDIT VOLUME, BACKUP DB and DELETE VOLHISTORY,
+/// A line is a comment or a command of the administrative command language (`admin_words`), outside blocks. Each command is done but DSMC ARCHIVE and DSMC RETRIEVE,
 /// which are refused with `UnknownWord(1)`. Where no script is run the trees are given back as they came.
 pub fn serve<S: Store, T: Tree, I: Source, O: Sink>(
     alloc: Global,
@@ -95,8 +97,8 @@ pub fn serve<S: Store, T: Tree, I: Source, O: Sink>(
 ) -> Ended<S, T>
     // What was put, what is in the journal, and what images of the store give back, by how the call ended. Where a script was run each line has what `Holds` of `line_results` says: which transactions
     // it made, and that its command orders them; the rows that queries show; the bytes that files are shown with; what each stored version says of its bytes; why lines are refused; what lines did that are
-    // answered OK; and which lines aren't refused. No line changed another tree than the one that it names, in which a WRITE left its file with its bytes and its time, and an ERASE none (`LeavesFile`).
-    ensures outcome { ((why : Closing) × HasCauseOf why words.now (S.told store) (S.told result.store) (S.moment_of result.store) (RoseBetween (S.faults_of store) (S.faults_of result.store))
+    // answered OK; which lines aren't refused; and in which no file fails. No line changed another tree than the one that it names, in which a WRITE left its file with its bytes and its time, and an ERASE none (`LeavesFile`).
+    ensures outcome { ((why : Closing) × HasCauseOf why words.now (S.told store) (S.told result.store) (S.moment_of result.store) (S.faults_of store) (S.faults_of result.store)
         × Shuts why (O.contents out.old) (O.contents out.new) (RoseIn (O.fault_count out.old) (O.fault_count out.new)) result.status result.journal.items result.stamps.items result.notes.items result.base result.generation result.opened (S.moment_of result.store) × (script.new ≡ script.old) × (result.trees ≡ trees))
         ⊎ ((command : Command) × Asks words.now command × (end : End) × (opening : S) × (S.moment_of opening ≡ result.opened) × Later S.moment_of S.faults_of store opening × Later S.moment_of S.faults_of opening result.store × Opens command (S.told store) (S.told opening) × Told (S.told opening) (S.told result.store) (GoesOn (λ file. Unit {0}))
         × RanScript command (client T.files T.fault_count binder trees.items result.trees.items) (S.told store) (S.told result.store) (S.faults_of opening) (S.faults_of result.store) result.opened (S.moment_of result.store) end result.status result.journal.items result.stamps.items result.notes.items result.base result.generation (I.left script.old) (I.left script.new) (O.contents out.old) (O.contents out.new)
@@ -105,7 +107,7 @@ pub fn serve<S: Store, T: Tree, I: Source, O: Sink>(
     // Each status by its cause.
     ensures source_fault { result.status ≡ 3 → RoseIn (I.fault_count script.old) (I.fault_count script.new) }
     ensures sink_fault { result.status ≡ 4 → RoseIn (O.fault_count out.old) (O.fault_count out.new) }
-    ensures store_fault { result.status ≡ 5 → (file : ℕ) × (file < 4) × Rose (S.faults_of store file) (S.faults_of result.store file) }
+    ensures store_fault { result.status ≡ 5 → (file : ℕ) × ((file < 4) ⊎ AskToRestore words.now) × Rose (S.faults_of store file) (S.faults_of result.store file) }
     ensures log_fault { result.status ≡ 6 → (file : ℕ) × (file < 4) × Rose (S.faults_of store file) (S.faults_of result.store file) }
     ensures no_command { result.status ≡ 2 → (command : Command) → Asks words.now command → ⊥ }
     ensures counts { NoneFell (S.faults_of store) (S.faults_of result.store) }
@@ -127,14 +129,14 @@ fn call<S: Store, T: Tree, I: Source, O: Sink>(
     out: &mut O,
     binder: Binder,
 ) -> Ended<S, T>
-    ensures outcome { ((why : Closing) × HasCauseOf why words.now (S.told store) (S.told result.store) (S.moment_of result.store) (RoseBetween (S.faults_of store) (S.faults_of result.store))
+    ensures outcome { ((why : Closing) × HasCauseOf why words.now (S.told store) (S.told result.store) (S.moment_of result.store) (S.faults_of store) (S.faults_of result.store)
         × Shuts why (O.contents out.old) (O.contents out.new) (RoseIn (O.fault_count out.old) (O.fault_count out.new)) result.status result.journal.items result.stamps.items result.notes.items result.base result.generation result.opened (S.moment_of result.store) × (script.new ≡ script.old) × (result.trees ≡ trees))
         ⊎ ((command : Command) × Asks words.now command × (end : End) × (opening : S) × (S.moment_of opening ≡ result.opened) × Later S.moment_of S.faults_of store opening × Later S.moment_of S.faults_of opening result.store × Opens command (S.told store) (S.told opening) × Told (S.told opening) (S.told result.store) (GoesOn (λ file. Unit {0}))
         × RanScript command (client T.files T.fault_count binder trees.items result.trees.items) (S.told store) (S.told result.store) (S.faults_of opening) (S.faults_of result.store) result.opened (S.moment_of result.store) end result.status result.journal.items result.stamps.items result.notes.items result.base result.generation (I.left script.old) (I.left script.new) (O.contents out.old) (O.contents out.new)
         × SourceCause end (I.fault_count script.old) (I.fault_count script.new) × SinkCause end (O.fault_count out.old) (O.fault_count out.new)) }
     ensures source_fault { result.status ≡ 3 → RoseIn (I.fault_count script.old) (I.fault_count script.new) }
     ensures sink_fault { result.status ≡ 4 → RoseIn (O.fault_count out.old) (O.fault_count out.new) }
-    ensures store_fault { result.status ≡ 5 → (file : ℕ) × (file < 4) × Rose (S.faults_of store file) (S.faults_of result.store file) }
+    ensures store_fault { result.status ≡ 5 → (file : ℕ) × ((file < 4) ⊎ AskToRestore words.now) × Rose (S.faults_of store file) (S.faults_of result.store file) }
     ensures log_fault { result.status ≡ 6 → (file : ℕ) × (file < 4) × Rose (S.faults_of store file) (S.faults_of result.store file) }
     ensures no_command { result.status ≡ 2 → (command : Command) → Asks words.now command → ⊥ }
     ensures counts { NoneFell (S.faults_of store) (S.faults_of result.store) }
@@ -149,7 +151,7 @@ fn call<S: Store, T: Tree, I: Source, O: Sink>(
     if is_only(words, b"fresh") {
         return format_and_run(alloc, store, trees, script, out, binder);
     }
-    closed(alloc, store, trees, out, 2, USAGE)
+    other(alloc, words, store, trees, out)
 }
 
 // What is left where no script was run.
@@ -178,8 +180,8 @@ fn unopened<S: Store, T: Tree>(alloc: Global, store: S, trees: Vec<T>, status: u
     }
 }
 
-// Puts the one line of a call that runs no script; the sink may fail at it.
-fn closed<S: Store, T: Tree, O: Sink>(
+// Puts the line, or the lines, of a call that runs no script; the sink may fail at them.
+pub(crate) fn closed<S: Store, T: Tree, O: Sink>(
     alloc: Global,
     store: S,
     trees: Vec<T>,
@@ -319,7 +321,7 @@ fn format<S: Store, T: Tree, O: Sink>(
     trees: Vec<T>,
     out: &mut O,
 ) -> Ended<S, T>
-    ensures outcome { (why : Closing) × HasCause (λ command. command ≡ format) why (S.told store) (S.told result.store) (S.moment_of result.store) (RoseBetween (S.faults_of store) (S.faults_of result.store)) × Shuts why (O.contents out.old) (O.contents out.new) (RoseIn (O.fault_count out.old) (O.fault_count out.new)) result.status result.journal.items result.stamps.items result.notes.items result.base result.generation result.opened (S.moment_of result.store) }
+    ensures outcome { (why : Closing) × HasCause (λ command. command ≡ format) why (S.told store) (S.told result.store) (S.moment_of result.store) (S.faults_of store) (S.faults_of result.store) × Shuts why (O.contents out.old) (O.contents out.new) (RoseIn (O.fault_count out.old) (O.fault_count out.new)) result.status result.journal.items result.stamps.items result.notes.items result.base result.generation result.opened (S.moment_of result.store) }
     ensures trees { result.trees ≡ trees }
     ensures later { Later S.moment_of S.faults_of store result.store }
     ensures opened { (S.moment_of store ≤ result.opened) × (result.opened ≤ S.moment_of result.store) }
@@ -340,7 +342,7 @@ fn format_and_run<S: Store, T: Tree, I: Source, O: Sink>(
     out: &mut O,
     binder: Binder,
 ) -> Ended<S, T>
-    ensures outcome { ((why : Closing) × HasCause (λ command. command ≡ fresh_run) why (S.told store) (S.told result.store) (S.moment_of result.store) (RoseBetween (S.faults_of store) (S.faults_of result.store)) × Shuts why (O.contents out.old) (O.contents out.new) (RoseIn (O.fault_count out.old) (O.fault_count out.new)) result.status result.journal.items result.stamps.items result.notes.items result.base result.generation result.opened (S.moment_of result.store) × (script.new ≡ script.old) × (result.trees ≡ trees))
+    ensures outcome { ((why : Closing) × HasCause (λ command. command ≡ fresh_run) why (S.told store) (S.told result.store) (S.moment_of result.store) (S.faults_of store) (S.faults_of result.store) × Shuts why (O.contents out.old) (O.contents out.new) (RoseIn (O.fault_count out.old) (O.fault_count out.new)) result.status result.journal.items result.stamps.items result.notes.items result.base result.generation result.opened (S.moment_of result.store) × (script.new ≡ script.old) × (result.trees ≡ trees))
         ⊎ ((end : End) × (opening : S) × (S.moment_of opening ≡ result.opened) × Later S.moment_of S.faults_of store opening × Later S.moment_of S.faults_of opening result.store × Opens fresh_run (S.told store) (S.told opening) × Told (S.told opening) (S.told result.store) (GoesOn (λ file. Unit {0}))
         × RanScript fresh_run (client T.files T.fault_count binder trees.items result.trees.items) (S.told store) (S.told result.store) (S.faults_of opening) (S.faults_of result.store) result.opened (S.moment_of result.store) end result.status result.journal.items result.stamps.items result.notes.items result.base result.generation (I.left script.old) (I.left script.new) (O.contents out.old) (O.contents out.new)
         × SourceCause end (I.fault_count script.old) (I.fault_count script.new) × SinkCause end (O.fault_count out.old) (O.fault_count out.new)) }
