@@ -19,7 +19,7 @@ fn copy_of(trial: &Trial, store: &MemStore) -> Result<MemStore, Fault> {
     copied(MemStore::new(trial.alloc), store)
 }
 
-fn sides(trial: &Trial, words: &[&str], store: &MemStore) -> Result<Sides, Fault> {
+fn new_sides(trial: &Trial, words: &[&str], store: &MemStore) -> Result<Sides, Fault> {
     let before = answers(trial, copy_of(trial, store)?)?;
     let (restored, _said) = ask(trial.alloc, words, copy_of(trial, store)?, "")?;
     Ok(Sides {
@@ -55,7 +55,7 @@ fn stopped(
 
 /// The sign for each call that is the first that fails before a stop, and at last for the restore in which none does.
 pub fn stops(trial: &Trial, words: &[&str], store: &MemStore) -> Result<String, Fault> {
-    let sides = sides(trial, words, store)?;
+    let sides = new_sides(trial, words, store)?;
     let mut signs = String::new(trial.alloc);
     for call in 0..MOST {
         let (left, has_failed) = stopped(trial, words, store, call)?;
@@ -82,7 +82,7 @@ fn failed(
 
 /// The status, the first file with faults and the sign, where the one call fails, for each call up to the first that isn't made.
 pub fn faults(trial: &Trial, words: &[&str], store: &MemStore) -> Result<String, Fault> {
-    let sides = sides(trial, words, store)?;
+    let sides = new_sides(trial, words, store)?;
     let mut statuses = String::new(trial.alloc);
     let mut files = String::new(trial.alloc);
     let mut signs = String::new(trial.alloc);
