@@ -268,7 +268,7 @@ end_rises file v e s isnt = go (row_at file v.stores.volumes) refl where
       let later = ends_later s.journal e.change v file old mid.0 s.valid s.legal isnt at mid.1 in
       omega (arith, later.end, end_found file (effect e.change v) mid.0 mid.1)
 
-other_reuse : (file : ℕ) (c : Change) → is_any_reuse c ≡ false → is_reuse file c ≡ false
+pub other_reuse : (file : ℕ) (c : Change) → is_any_reuse c ≡ false → is_reuse file c ≡ false
 other_reuse file (change.Reuse k) h = absurd (false≢true (sym h))
 other_reuse file c h = refl
 
@@ -366,13 +366,13 @@ pub record IsUpTo (n : ℕ) (w : Written) : Type 0 where
   pub floor : w.floor ≤ n
   pub segments : AllByRecursion (λ s. s.offset + 32 + s.len ≤ n) w.segments
 
-abbrev Lower : ℕ → Segment → Type 0
+abbrev pub Lower : ℕ → Segment → Type 0
 Lower n s = s.offset + 32 + s.len ≤ n
 
 -- where the volume isn't reused its end doesn't fall, and each segment on it lies below that
-record IsWriting (file : ℕ) (v : Inv) (e : Entry) : Type 0 where
-  rises : is_reuse file e.change ≡ false → end_at file v ≤ end_at file (effect e.change v)
-  below : AllByRecursion (λ x. Lower (end_at file (effect e.change v)) x.1) (segments_on file (effect e.change v))
+pub record IsWriting (file : ℕ) (v : Inv) (e : Entry) : Type 0 where
+  pub rises : is_reuse file e.change ≡ false → end_at file v ≤ end_at file (effect e.change v)
+  pub below : AllByRecursion (λ x. Lower (end_at file (effect e.change v)) x.1) (segments_on file (effect e.change v))
 
 written_up : (file : ℕ) (v : Inv) (es : List Entry) (w : Written) → Along (IsWriting file) v es → IsUpTo (end_at file v) w → IsUpTo (end_at file (after v es)) (written_over file w v es)
 written_up file v [] w h up = up
@@ -392,7 +392,7 @@ written_up file v (e ∷ es) w h up =
               (came_there (Lower n) file v (effect e.change v) h.0.below);
         }
 
-writing_there : (file : ℕ) (v : Inv) (es : List Entry) → Along (IsStep file) v es → (new : Volume) → row_at file (after v es).stores.volumes ≡ Some new → is_sequential new.pool (after v es).stores ≡ true
+pub writing_there : (file : ℕ) (v : Inv) (es : List Entry) → Along (IsStep file) v es → (new : Volume) → row_at file (after v es).stores.volumes ≡ Some new → is_sequential new.pool (after v es).stores ≡ true
     → Along (IsWriting file) v es
 writing_there file v [] h new there sequential = tt
 writing_there file v (e ∷ es) h new there sequential =

@@ -360,7 +360,7 @@ module _ (actor : ℕ) (numbers : List ℕ) (c : Core) where
     pieces asked.Placed x j ones is fits cause = as_placed j x (if_some_is _ (placed_change (inventory c) (spent actor numbers c)) x is) cause
 
   -- what is asked and isn't refused joins
-  pub joins_of : (asked : Asked) (x : Change) → NumbersAreDrawn c → asked_change actor asked numbers c ≡ Some x → commit_refused actor asked numbers s ≡ [] → held_refused x c ≡ [] → Joins actor x numbers c × (is_any_reuse x ≡ false)
+  pub joins_of : (asked : Asked) (x : Change) → NumbersAreDrawn c → asked_change actor asked numbers c ≡ Some x → commit_refused actor asked numbers s ≡ [] → held_refused x c ≡ [] → Joins actor x numbers c × (is_any_reuse x ≡ false) × (is_ordinary x ≡ true)
   joins_of asked x n is fits held =
       let one = both_none (are_there numbers s) _ fits in
       let two = both_none (unless (name_once numbers && nat_le (length numbers) 256) bad_value) _ one.1 in
@@ -388,6 +388,7 @@ module _ (actor : ℕ) (numbers : List ℕ) (c : Core) where
           short = short_of x (subst (λ o. change_refused actor o s ≡ []) is four.1);
         },
         p.plain,
+        p.ordinary,
       )
     where
       none_listed : {A : Type 0} (o : Option A) (rest : List A) → listed o ++ rest ≡ [] → o ≡ None

@@ -45,6 +45,7 @@ use Rattle.hall.proofs.JoinedKept.{left_indexed}
 use Rattle.hall.proofs.Pairs.{each_two}
 use Rattle.hall.proofs.PlacesChosen.{scratch_absent}
 use Rattle.hall.proofs.Stamping.{few_acknowledged, rise_later, rise_over}
+use Rattle.hall.specs.Protected.{HadBackups, KeepsAllBackups}
 
 -- ---- a file on which no volume lies
 
@@ -117,7 +118,7 @@ next_unused c l n from = record {
 -- ---- what is kept
 
 module _ (file : ℕ) (m : Machine) (held : Held) (h new : History) (goes : GoesOn (λ n. n ≡ file) h new) (k : IsKept m held h) (lawful : IsLawful m.core) (few : length m.core.stamps ≤ length m.core.journal)
-    (running : m.core.fault ≡ None) (unused : IsUnused file m.core) where
+    (running : m.core.fault ≡ None) (unused : IsUnused file m.core) (backed : HadBackups held.base held.opened new → KeepsAllBackups m.core held.opened new held.job) where
   not_theirs : (n : ℕ) → IsOurs n → ¬ (n ≡ file)
   not_theirs n ours same = let from = unused.from in omega (arith, ours, same, from)
 
@@ -166,6 +167,7 @@ module _ (file : ℕ) (m : Machine) (held : Held) (h new : History) (goes : Goes
     firm = beside (λ n. n ≡ file) m.contents h new (flat_map versions (left_open m.core)) all_away goes k.firm;
     tickets = all_taken_away (λ n. n ≡ file) h new goes m.core.tickets unused.tickets k.tickets;
     image = λ _. subst (λ (i : Option Image). AllInProgress m.core held i new) (sym none) tt;
+    backups = backed;
   }
 
 -- ---- the hall
@@ -173,8 +175,9 @@ module _ (file : ℕ) (m : Machine) (held : Held) (h new : History) (goes : Goes
 module _ {S : Type 0} (told : S → Option History) (moment : S → ℕ) (faults : S → ℕ → ℕ) (clock : (s : S) → IfSome (told s) (λ h. now h ≡ moment s)) (hall : Hall S) (store : S) (since : moment hall.store ≤ moment store) where
   -- calls on such a file leave the hall as it was
   pub is_away : (file : ℕ) (m : Machine) → Is told moment faults hall m → m.core.fault ≡ None → m.core.image ≡ None → IsUnused file m.core → Told (told hall.store) (told store) (GoesOn (λ n. n ≡ file))
+      → IfSome (told store) (λ h. WasSound hall.held.base hall.held.opened h → HadBackups hall.held.base hall.held.opened h → KeepsAllBackups m.core hall.held.opened h hall.held.job)
       → Is told moment faults (record { store = store; held = hall.held }) (record m { moment = moment store; counts = faults store })
-  is_away file m is running none unused did = record {
+  is_away file m is running none unused did backed = record {
     core = is.core;
     clock = refl;
     counts = refl;
@@ -185,17 +188,18 @@ module _ {S : Type 0} (told : S → Option History) (moment : S → ℕ) (faults
       numbers = is.good.numbers;
       bytes = is.good.bytes;
       listed = is.good.listed;
-      kept = kept_both (told hall.store) (told store) did (clock hall.store) is.good.kept;
+      kept = kept_both (told hall.store) (told store) did (clock hall.store) is.good.kept backed;
     };
   }
     where
       kept_both : (o n : Option History) → Told o n (GoesOn (λ n. n ≡ file)) → IfSome o (λ h. now h ≡ moment hall.store) → IfSome o (λ h. WasSound hall.held.base hall.held.opened h → IsKept m hall.held h)
+          → IfSome n (λ h. WasSound hall.held.base hall.held.opened h → HadBackups hall.held.base hall.held.opened h → KeepsAllBackups m.core hall.held.opened h hall.held.job)
           → IfSome n (λ h. WasSound hall.held.base hall.held.opened h → IsKept (record m { moment = moment store; counts = faults store }) hall.held h)
-      kept_both None None r at kept = tt
-      kept_both None (Some new) r at kept = absurd r
-      kept_both (Some h) None r at kept = absurd r
-      kept_both (Some h) (Some new) r at kept = λ sound.
+      kept_both None None r at kept backed = tt
+      kept_both None (Some new) r at kept backed = absurd r
+      kept_both (Some h) None r at kept backed = absurd r
+      kept_both (Some h) (Some new) r at kept backed = λ sound.
           let first : hall.held.opened ≤ m.moment = rise_over hall.held.opened m.moment m.core.stamps is.good.stamped.rise in
           let before : hall.held.opened ≤ now h = omega (arith, first, is.clock, at) in
-          kept_away file m hall.held h new r (kept (sound.0, λ image it. sound.1 image (goes_image_after (λ n. n ≡ file) h new hall.held.opened image r before it))) is.good.lawful is.good.stamped.few running unused none
+          kept_away file m hall.held h new r (kept (sound.0, λ image it. sound.1 image (goes_image_after (λ n. n ≡ file) h new hall.held.opened image r before it))) is.good.lawful is.good.stamped.few running unused (backed sound) none
           (moment store) (faults store)

@@ -1,6 +1,6 @@
 -- The step that begins a database backup.
 use Rattle.std.proofs.Common.{◌≡◌, ◌⊎◌, inl, inr, ℕ, ◌+◌, ◌-◌, ◌<◌, ◌≤◌, ◌^◌, Bool, true, false, not, ◌&&◌, is_none, cond, List, [], ◌∷◌, ◌++◌, length, drop, take, Option, None, Some, Result, Ok, Err, is_some, refl, sym, ap, subst, ◌∙◌, arith}
-use Rattle.std.specs.Prelude.{IfSome, nat_le, nat_lt, ◌==◌}
+use Rattle.std.specs.Prelude.{IfSome, nat_le, nat_lt, ◌==◌, All}
 use Rattle.std.specs.BTreeMap.{is_at}
 use Rattle.std.specs.List.{AllByRecursion, list_all}
 use Rattle.std.specs.Map.{lookup}
@@ -23,7 +23,7 @@ use Rattle.entries.specs.declared.change.Change.{Change}
 use Rattle.entries.specs.declared.change.Change.TheVariants as change
 use Rattle.entries.specs.declared.entry.Entry.{Entry}
 use Rattle.backup_payloads.specs.Increments.{IsIncrement}
-use Rattle.backup_payloads.specs.Holding.{holding}
+use Rattle.backup_payloads.specs.Holding.{holding, IsShort}
 use Rattle.db_image.specs.Steps.{CanShut, Job}
 use Rattle.db_image.specs.declared.phase.Phase.TheVariants.{Begun}
 use Rattle.inventory.specs.Meant.{meaning}
@@ -50,11 +50,11 @@ use Rattle.steps.specs.declared.image.ImageReply.TheVariants as reply
 use Rattle.vault.specs.Files.{IsOurs, log_file}
 use Rattle.vault.specs.Vaults.{Forces, State, Waits, all_forced, in_doubt, with_fault, with_waiting}
 use Rattle.machine.specs.Causes.{image_refused, listed, since_refused}
-use Rattle.machine.specs.Machine.{begun, ended, halting, in_progress, made, stamped, with_image}
+use Rattle.machine.specs.Machine.{begun, ended, halting, in_progress, made, stamped, with_image, durable}
 use Rattle.machine.specs.State.{Core, Image, Machine, Sight, backup, inventory, sight}
-use Rattle.hall.specs.Backing.{IsHolding, backed_up, backup_begun, backup_by, backup_refused, begin_entry, begin_of, begun_forced, begun_waiting, job_by, kind_of, with_job}
+use Rattle.hall.specs.Backing.{IsHolding, backed_up, backup_begun, backup_by, backup_refused, begin_entry, begin_of, begun_forced, begun_waiting, job_by, kind_of, with_job, since_number}
 use Rattle.hall.specs.Covered.{NumbersAreDrawn, left_open}
-use Rattle.hall.specs.Good.{AllInProgress, InProgress, Is, IsKept, IsListed, IsPayload, WasSound}
+use Rattle.hall.specs.Good.{AllInProgress, InProgress, Is, IsKept, IsListed, IsPayload, WasSound, IsLawful}
 use Rattle.hall.specs.Held.{BegunImage, Hall, Held, IsBackup, IsCore, IsImage, begun_of}
 use Rattle.hall.specs.Imaging.{image_held}
 use Rattle.hall.specs.Seats.{ended_at}
@@ -62,7 +62,8 @@ use Rattle.hall.specs.Sights.{sight_of}
 use Rattle.db_image.proofs.One.{can_shut as settled_shut}
 use Rattle.hall.proofs.Away.{IsUnused, is_away, is_there, next_unused}
 use Rattle.hall.proofs.Backing.{imaged_at, is_imaged}
-use Rattle.hall.proofs.BackupJoins.{begin_joins, begin_takes}
+use Rattle.hall.proofs.BackedUp.{found_number}
+use Rattle.hall.proofs.BackupJoins.{begin_joins, begin_takes, begin_possible}
 use Rattle.hall.proofs.Ended.{ended_is, next_answers, none_halted}
 use Rattle.hall.proofs.Forced.{forced_is, halted_is}
 use Rattle.hall.proofs.Databases.{left_alone}
@@ -75,6 +76,16 @@ use Rattle.hall.proofs.Runs.{after_end}
 use Rattle.hall.proofs.Sighted.{forgetting, sight_is}
 use Rattle.machine.proofs.Histories.{after-number}
 use Rattle.vault.specs.Pieces.{Pending}
+use Rattle.hall.specs.Protected.{HadBackups, KeepsAllBackups}
+use Rattle.hall.proofs.BackupsAlike.{same_keeps}
+use Rattle.hall.proofs.BackupsSpared.{durable_there, fresh_keeps, open_of}
+use Rattle.hall.proofs.BackupsOver.{backs_over}
+use Rattle.hall.proofs.BackupsBegun.{HoldsIt, begins_keeps}
+use Rattle.hall.proofs.JoinedBackups.{all_joined}
+use Rattle.hall.proofs.PlacesChosen.{scratch_absent}
+use Rattle.hall.proofs.Promising.{number_begun}
+use Rattle.hall.proofs.Stamped.{numbers_same}
+use Rattle.vault.proofs.Goodness.{held_since}
 
 -- ---- the refusals that hold
 
@@ -157,18 +168,6 @@ begins_from j file after v legal =
 
 -- ---- what it holds
 
-some_is : {A : Type 0} {a b : A} → Some a ≡ Some b → a ≡ b
-some_is e = cc
-
-pub found_number : (file n : ℕ) (rows : List (ℕ × Backup)) (b : Backup) → list_all (λ b. nat_le b.1.number n) rows ≡ true → lookup (is_at (nat_cmp file)) rows ≡ Some b → nat_le b.number n ≡ true
-found_number file n [] b all at = absurd cc
-found_number file n (e ∷ rows) b all at =
-    let parts = and_parts (nat_le e.1.number n) (list_all (λ (b : ℕ × Backup). nat_le b.1.number n) rows) all in
-    elim (is_at (nat_cmp file) e.0) as (λ t. cond t (Some e.1) (lookup (is_at (nat_cmp file)) rows) ≡ Some b → nat_le b.number n ≡ true) [
-      | true ↦ λ s. subst (λ (x : Backup). nat_le x.number n ≡ true) (some_is s) parts.0
-      | false ↦ λ s. found_number file n rows b parts.1 s
-    ] at
-
 -- from a place of a list on, with one element behind it
 from_place : {A : Type 0} (n k : ℕ) (xs : List A) (e : A) → n ≤ length xs → length xs + 1 - n ≤ k → take k (drop n (xs ++ e ∷ [])) ≡ drop n xs ++ e ∷ []
 from_place n k xs e within long =
@@ -201,6 +200,30 @@ its_payload actor (Some file) h bytes c base journal behind number valid free ho
           (sym (from_place (b.number - h.base.number) (h.vault.database.number + 1 - b.number) h.vault.journal e (omega (arith, number, to)) (omega (arith, number, from, to)))
           ∙ ap (λ (n : ℕ). take (h.vault.database.number + 1 - b.number) (drop (b.number - n) (h.vault.journal ++ (e ∷ [])))) (sym first)
           ∙ ap (λ (l : List Entry). take (h.vault.database.number + 1 - b.number) (drop (b.number - c.base.number) l)) (sym journal)) holds.spelled,
+    )
+
+-- what it holds, with what the backup that it follows is
+its_holding : (actor : ℕ) (after : Option ℕ) (h : Held) (bytes : List ℕ) (c : Core) → c.base ≡ h.base → c.journal ≡ h.vault.journal ++ begin_entry actor after h ∷ [] → inventory c ≡ backed_up after h
+    → h.vault.database.number ≡ h.base.number + length h.vault.journal → is_valid h.vault.database ≡ true → image_refused (kind_of after) (sight_of actor h) ≡ [] → after_refused after h.vault.database ≡ []
+    → IsHolding actor after h bytes → HoldsIt h.vault.database c after bytes
+its_holding actor None h bytes c base journal behind number valid free follows holds = subst (Spells meaning second_form bytes) (sym behind) holds
+its_holding actor (Some file) h bytes c base journal behind number valid free follows holds =
+    let b : Backup = holds.row in
+    let at : backup_at file h.vault.database ≡ Some b = holds.listed in
+    let e : Entry = begin_entry actor (Some file) h in
+    let from : h.base.number ≤ b.number = since_first actor file h b free at in
+    let to : b.number ≤ h.vault.database.number = leb-true b.number h.vault.database.number (found_number file h.vault.database.number h.vault.database.backups b (facts_of h.vault.database valid).backups_past at) in
+    let first : c.base.number ≡ h.base.number = ap (λ (v : Inv). v.number) base in
+    let same : since_number actor b.number (Some file) h ≡ drop (b.number - c.base.number) c.journal =
+    sym (drop-append-le (b.number - h.base.number) h.vault.journal (e ∷ []) (omega (arith, number, to)))
+    ∙ ap (λ (n : ℕ). drop (b.number - n) (h.vault.journal ++ (e ∷ []))) (sym first)
+    ∙ ap (λ (l : List Entry). drop (b.number - c.base.number) l) (sym journal) in (
+      b,
+      at,
+      sym (ap is_done at) ∙ unless_holds (is_done (backup_at file h.vault.database)) refusal.NotFound follows,
+      omega (arith, first, from),
+      subst (All IsShort) same holds.short,
+      subst (λ (es : List Entry). IsIncrement bytes (holding file b.number es)) same holds.spelled,
     )
 
 -- ---- it begins
@@ -243,7 +266,20 @@ module _ {S : Type 0} (told : S → Option History) (moment : S → ℕ) (faults
   synced_at = record m { moment = moment synced; counts = faults synced }
 
   pub is_synced : Told (told hall.store) (told synced) (GoesOn (λ n. n ≡ k)) → Is told moment faults synced_hall synced_at
-  is_synced did = is_away told moment faults clock hall synced t1 k m is (is.core.fault ∙ running) none_now unused did
+  is_synced did =
+      is_away told moment faults clock hall synced t1 k m is (is.core.fault ∙ running) none_now unused did
+      (backs_over told moment faults clock hall synced m is (GoesOn (λ n. n ≡ k)) (λ n. n ≡ k) (λ h new r. r) (λ new. KeepsAllBackups m.core hall.held.opened new hall.held.job) did
+      (λ h new goes kept backups.
+      fresh_keeps h new m.core hall.held.opened
+      (open_of m.core (durable m.core) (now h) new (durable_there m.core)
+      (held_since meaning (λ n. n ≡ k) hall.held.vault (durable m.core) h new (λ n ours same. omega (arith, ours, same, from)) goes (kept.sure (is.core.fault ∙ running))))
+      k (let same = next_is in let up = is.good.numbers.next_file.1 in omega (arith, same, up)) (let same = next_is in let low = is.good.numbers.next_file.0 in let up = is.good.numbers.next_file.1 in omega (arith, same, low, up))
+      (scratch_absent m.core k is.good.lawful is.good.numbers (let same = next_is in omega (arith, same))) goes hall.held.job backups))
+
+  -- what is kept of backups behind its transaction
+  pub begin_backs : Is told moment faults synced_hall synced_at
+      → IfSome (told synced) (λ h. WasSound hall.held.base hall.held.opened h → HadBackups hall.held.base hall.held.opened h → KeepsAllBackups (last actor x [] m.core) hall.held.opened h hall.held.job)
+  begin_backs there = all_joined actor x [] synced_at hall.held there.core there.good.lawful there.good.stamped.few there.good.numbers joins running (λ file same. absurd cc) (told synced) there.good.kept
 
   -- its transaction was made
   abbrev pub joined_hall : Hall S
@@ -257,7 +293,7 @@ module _ {S : Type 0} (told : S → Option History) (moment : S → ℕ) (faults
       → Is told moment faults joined_hall joined_at
   is_joined did number made_it =
       subst (λ c. Is told moment faults joined_hall (record { core = c; contents = m.contents; moment = moment joined; counts = faults joined })) (begun_last actor after hall.held m.core next_is)
-      (waiting_is told moment faults clock actor x [] synced_hall joined running t2 synced_at (is_synced did) joins (begin_takes k after (inventory m.core)) refl number made_it)
+      (waiting_is told moment faults clock actor x [] synced_hall joined running t2 synced_at (is_synced did) joins (begin_takes k after (inventory m.core)) refl (begin_backs (is_synced did)) number made_it)
 
   -- all was forced
   abbrev pub forced_hall : Hall S
@@ -356,18 +392,48 @@ module _ {S : Type 0} (told : S → Option History) (moment : S → ℕ) (faults
     );
   }
 
+  no_job : hall.held.job ≡ None
+  no_job =
+      (nothing_pends m.core.base.number hall.held.vault.generation hall.held.vault.pending hall.held.job
+      (subst (λ (i : Option Image). IsImage m.core.base.number hall.held.vault.generation hall.held.vault.pending hall.held.job i) none_now (is.core.is_image running))).1
+
   pending_none : hall.held.vault.pending ≡ None
   pending_none =
       (nothing_pends m.core.base.number hall.held.vault.generation hall.held.vault.pending hall.held.job
       (subst (λ (i : Option Image). IsImage m.core.base.number hall.held.vault.generation hall.held.vault.pending hall.held.job i) none_now (is.core.is_image running))).0
 
+  -- and all backups are kept
+  begun_backs : Is told moment faults forced_hall forced_at → length bytes < 2 ^ 64 → IsHolding actor after hall.held bytes → (o : Option History)
+      → IfSome o (λ h. WasSound forced_hall.held.base forced_hall.held.opened h → IsKept forced_at forced_hall.held h → HadBackups forced_hall.held.base forced_hall.held.opened h
+      → KeepsAllBackups (with_image (Some begun_image) forced_at.core) forced_hall.held.opened h (Some (job_by k (hall.held.vault.database.number + 1) bytes)))
+  begun_backs before small holds None = tt
+  begun_backs before small holds (Some h) = λ sound kept had.
+      let c : Core = with_image (Some begun_image) forced_at.core in
+      let lawful : IsLawful c = (let g = before.good.lawful in record { valid = g.valid; tied = g.tied; legal = g.legal; short = g.short }) in
+      let numbers : NumbersAreDrawn c = numbers_same forced_at.core.stamps (Some begun_image) forced_at.core.generation forced_at.core.log_length forced_at.core.fault forced_at.core before.good.numbers in
+      let number : hall.held.vault.database.number ≡ hall.held.base.number + length hall.held.vault.journal =
+      ap (λ (v : Inv). v.number) is.core.database ∙ (last_is ∙ ap (λ (v : Inv). v.number + length m.core.journal) is.core.base) ∙ ap (λ (l : List Entry). hall.held.base.number + length l) is.core.journal in
+      let causes = (is_free (journal_of m.core.base m.core.journal) x (inventory m.core) joins.legal).causes in
+      let follows : after_refused after hall.held.vault.database ≡ [] =
+      subst (λ (v : Inv). after_refused after v ≡ []) (sym is.core.database) (front_nil (after_refused after (inventory m.core)) (files_refused (k ∷ []) (inventory m.core) ++ file_bound k (inventory m.core)) causes) in
+      begins_keeps h m.contents actor after m.core forced_at.core.stamps (Some begun_image) is.good.lawful is.good.numbers lawful numbers (left_alone forced_at.core all_stamps) kept.firm (subst (λ n. 4 ≤ n) next_is from)
+      (subst (λ n. n + 2 < 2 ^ 32) next_is (begin_possible k after (inventory m.core) causes)) (job_by k (hall.held.vault.database.number + 1) bytes) next_is
+      (ap (λ (v : Inv). v.number + 1) is.core.database ∙ sym (ap (λ (v : Inv). v.number) behind_is ∙ number_begun m.core.next_file after (inventory m.core))) small forced_hall.held.opened
+      (same_keeps h forced_at.core forced_at.core.tickets forced_at.core.next_file forced_at.core.next_object forced_at.core.next_ticket (Some begun_image) forced_at.core.generation forced_at.core.log_length forced_hall.held.opened None
+      (subst (λ (j : Option Job). KeepsAllBackups forced_at.core forced_hall.held.opened h j) no_job (kept.backups had)))
+      (subst (λ (v : Inv). HoldsIt v c after bytes) is.core.database
+      (its_holding actor after hall.held bytes c is.core.base
+      (ap (λ (l : List Entry). l ++ (record { actor = actor; change = change.DbBegin m.core.next_file after } ∷ [])) is.core.journal
+      ∙ ap (λ (n : ℕ). hall.held.vault.journal ++ (record { actor = actor; change = change.DbBegin n after } ∷ [])) (sym next_is))
+      (sym backed_is) number (subst (λ (v : Inv). is_valid v ≡ true) (sym is.core.database) (valid_now m.core is.good.lawful)) may.causes follows holds))
+
   -- its image is in progress
-  pub is_begun : Is told moment faults forced_hall forced_at → IfSome (told forced) (λ h. CanShut (standing h k)) → IsHolding actor after hall.held bytes → 0 < length bytes
+  pub is_begun : Is told moment faults forced_hall forced_at → IfSome (told forced) (λ h. CanShut (standing h k)) → IsHolding actor after hall.held bytes → 0 < length bytes → length bytes < 2 ^ 64
       → Is told moment faults (record { store = forced; held = backup_begun actor after bytes (moment forced) hall.held }) (record forced_at { core = with_image (Some begun_image) forced_at.core })
-  is_begun before shut holds some =
+  is_begun before shut holds some small =
       is_imaged told moment faults forced_hall forced_at before (Some begun_image) (Some (backup_by actor k (hall.held.vault.database.number + 1))) (Some (job_by k (hall.held.vault.database.number + 1) bytes)) begun_seat
       (λ _. subst (λ (p : Option Pending). IsImage m.core.base.number hall.held.vault.generation p (Some (job_by k (hall.held.vault.database.number + 1) bytes)) (Some begun_image)) (sym pending_none) (is_backup some))
-      (λ _. listed_then) (going (told forced) shut)
+      (λ _. listed_then) (going (told forced) shut) (begun_backs before small holds (told forced))
     where
       going : (o : Option History) → IfSome o (λ h. CanShut (standing h k))
           → IfSome o (λ h. WasSound forced_hall.held.base forced_hall.held.opened h → IsKept forced_at forced_hall.held h → forced_at.core.fault ≡ None

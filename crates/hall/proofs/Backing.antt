@@ -28,6 +28,9 @@ use Rattle.hall.specs.Held.{BegunImage, Hall, Held, IsBackup, IsImage, begun_of}
 use Rattle.hall.specs.Imaging.{own_begun}
 use Rattle.hall.proofs.Imaging.{own_is}
 use Rattle.hall.proofs.Stamped.{numbers_same}
+use Rattle.hall.specs.Protected.{HadBackups, KeepsAllBackups}
+use Rattle.hall.proofs.BackupsAlike.{same_keeps}
+use Rattle.hall.proofs.BackupsSpared.{dropped_keeps}
 
 -- ---- the image in progress alone
 
@@ -40,8 +43,9 @@ module _ {S : Type 0} (told : S → Option History) (moment : S → ℕ) (faults
     abbrev pub imaged_held : Held
     imaged_held = with_job b job hall.held
 
-    kept_imaged : (h : History) → IsKept m hall.held h → (m.core.fault ≡ None → AllInProgress (with_image i m.core) imaged_held i h) → IsKept imaged_at imaged_held h
-    kept_imaged h k progress = record {
+    kept_imaged : (h : History) → IsKept m hall.held h → (m.core.fault ≡ None → AllInProgress (with_image i m.core) imaged_held i h)
+        → (HadBackups hall.held.base hall.held.opened h → KeepsAllBackups (with_image i m.core) hall.held.opened h job) → IsKept imaged_at imaged_held h
+    kept_imaged h k progress backed = record {
       since = k.since;
       first = k.first;
       always = λ moment image from to at. let s = k.always moment image from to at in record { last = s.last; durable = s.durable; made = s.made; recovers = s.recovers; holds = s.holds };
@@ -50,12 +54,17 @@ module _ {S : Type 0} (told : S → Option History) (moment : S → ℕ) (faults
       firm = k.firm;
       tickets = k.tickets;
       image = progress;
+      backups = backed;
     }
+
+    -- what is kept of all backups then
+    abbrev pub Backed : Option History → Type 0
+    Backed o = IfSome o (λ h. WasSound hall.held.base hall.held.opened h → IsKept m hall.held h → HadBackups hall.held.base hall.held.opened h → KeepsAllBackups (with_image i m.core) hall.held.opened h job)
 
     pub is_imaged : begun_of i ≡ b → (hall.held.vault.fault ≡ None → IsImage m.core.base.number hall.held.vault.generation hall.held.vault.pending job i) → (m.core.fault ≡ None → IsListed (left_open m.core) i)
         → IfSome (told hall.store) (λ h. WasSound hall.held.base hall.held.opened h → IsKept m hall.held h → m.core.fault ≡ None → AllInProgress (with_image i m.core) imaged_held i h)
-        → Is told moment faults (record { store = hall.store; held = imaged_held }) imaged_at
-    is_imaged begun image listed progress = record {
+        → Backed (told hall.store) → Is told moment faults (record { store = hall.store; held = imaged_held }) imaged_at
+    is_imaged begun image listed progress backed = record {
       core = record {
         base = is.core.base;
         journal = is.core.journal;
@@ -81,24 +90,29 @@ module _ {S : Type 0} (told : S → Option History) (moment : S → ℕ) (faults
         numbers = numbers_same m.core.stamps i m.core.generation m.core.log_length m.core.fault m.core is.good.numbers;
         bytes = record { sized = is.good.bytes.sized; fronts = is.good.bytes.fronts };
         listed = listed;
-        kept = both (told hall.store) is.good.kept progress;
+        kept = both (told hall.store) is.good.kept progress backed;
       };
     }
       where
         both : (o : Option History) → IfSome o (λ h. WasSound hall.held.base hall.held.opened h → IsKept m hall.held h)
             → IfSome o (λ h. WasSound hall.held.base hall.held.opened h → IsKept m hall.held h → m.core.fault ≡ None → AllInProgress (with_image i m.core) imaged_held i h)
-            → IfSome o (λ h. WasSound hall.held.base hall.held.opened h → IsKept imaged_at imaged_held h)
-        both None kept progress = tt
-        both (Some h) kept progress = λ sound. kept_imaged h (kept sound) (progress sound (kept sound))
+            → Backed o → IfSome o (λ h. WasSound hall.held.base hall.held.opened h → IsKept imaged_at imaged_held h)
+        both None kept progress backed = tt
+        both (Some h) kept progress backed = λ sound. kept_imaged h (kept sound) (progress sound (kept sound)) (backed sound (kept sound))
 
   some_tt : (o : Option History) → IfSome o (λ h. WasSound hall.held.base hall.held.opened h → IsKept m hall.held h → m.core.fault ≡ None → AllInProgress (with_image None m.core) (with_job None None hall.held) None h)
   some_tt None = tt
   some_tt (Some h) = λ sound k none. tt
 
+  none_backed : (o : Option History) → Backed None None None o
+  none_backed None = tt
+  none_backed (Some h) = λ sound k had.
+      same_keeps h m.core m.core.tickets m.core.next_file m.core.next_object m.core.next_ticket None m.core.generation m.core.log_length hall.held.opened None (dropped_keeps h m.core hall.held.opened hall.held.job (k.backups had))
+
   -- the image is dropped
   pub is_dropped : hall.held.vault.pending ≡ None → Is told moment faults (record { store = hall.store; held = with_job None None hall.held }) (record m { core = with_image None m.core })
   is_dropped none =
-      is_imaged None None None refl (λ _. subst (λ (p : Option Pending). IsImage m.core.base.number hall.held.vault.generation p None None) (sym none) tt) (λ _. tt) (some_tt (told hall.store))
+      is_imaged None None None refl (λ _. subst (λ (p : Option Pending). IsImage m.core.base.number hall.held.vault.generation p None None) (sym none) tt) (λ _. tt) (some_tt (told hall.store)) (none_backed (told hall.store))
 
 -- ---- the image is the actor's, and a backup
 

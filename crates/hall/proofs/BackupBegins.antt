@@ -30,7 +30,7 @@ use Rattle.hall.specs.Held.{Hall, Held}
 use Rattle.hall.specs.Joined.{RefusesJoin, joined_held, unjoined}
 use Rattle.hall.specs.Seats.{with_vault}
 use Rattle.hall.specs.Steps.{Steps}
-use Rattle.hall.proofs.Backed.{MayBack, backing_is, backing_joins, begun_image, begun_last, is_begun, is_forced, is_joined, is_synced, may_back}
+use Rattle.hall.proofs.Backed.{MayBack, backing_is, backing_joins, begun_image, begun_last, is_begun, is_forced, is_joined, is_synced, may_back, begin_backs}
 use Rattle.hall.proofs.BackupJoins.{begin_takes}
 use Rattle.hall.proofs.Calling.{later_run}
 use Rattle.hall.proofs.Committed.{unjoined_is}
@@ -160,7 +160,7 @@ module _ {S : Type 0} (told : S → Option History) (moment : S → ℕ) (faults
             subst (λ c. Is told moment faults (record { store = joined; held = doubted_held }) (record { core = halting log count c; contents = m.contents; moment = moment joined; counts = faults joined }))
                 (begun_last actor after hall.held m.core is.core.space.next_file)
                 (doubted_is told moment faults clock actor x [] synced_hall joined none t2 (synced_at m) (at_synced m is) (backing_joins actor (moment hall.store) after hall.held m is.core may is.good.numbers)
-                (begin_takes k after (inventory m.core)) refl end log count why did),
+                (begin_takes k after (inventory m.core)) refl end log count (begin_backs told moment faults clock actor after [] hall synced synced synced t1 (omega arith) (omega arith) m is free (at_synced m is)) why did),
           )
 
     -- it didn't join, or is in doubt
@@ -254,9 +254,9 @@ module _ {S : Type 0} (told : S → Option History) (moment : S → ℕ) (faults
             )
 
         -- its image is in progress
-        pub backup_begins : (bytes : List ℕ) → IfSome (told forced) (λ h. CanShut (standing h k)) → IsHolding actor after hall.held bytes → 0 < length bytes
+        pub backup_begins : (bytes : List ℕ) → IfSome (told forced) (λ h. CanShut (standing h k)) → IsHolding actor after hall.held bytes → 0 < length bytes → length bytes < 2 ^ 64
             → Steps told moment faults actor (deed (Ok (reply.Begun k (hall.held.vault.database.number + 1)))) hall (record { store = forced; held = backup_begun actor after bytes (moment forced) hall.held })
-        backup_begins bytes shut holds some = λ m is.
+        backup_begins bytes shut holds some small = λ m is.
             let image = begun_image told moment faults clock actor after bytes hall synced joined forced t1 t2 t3 m is free in
             let next : Machine = record { core = with_image (Some image) (stamped (moment forced) (begun actor after m.core)); contents = m.contents; moment = moment forced; counts = faults forced } in
             let begins : reply.Begun k (hall.held.vault.database.number + 1) ≡ reply.Begun m.core.next_file ((inventory m.core).number + 1) =
@@ -269,5 +269,5 @@ module _ {S : Type 0} (told : S → Option History) (moment : S → ℕ) (faults
                 later = later_run told moment faults hall forced c13 (omega (arith, t1, t2, t3)) (omega (arith, s1, s2, s3)) m next is refl refl;
                 step = images_of actor after m next (Ok (reply.Begun k (hall.held.vault.database.number + 1))) (open_now m is, (length bytes, begins, record { core = refl; contents = refl }));
               },
-              is_begun told moment faults clock actor after bytes hall synced joined forced t1 t2 t3 m is free (at_forced m is) shut holds some,
+              is_begun told moment faults clock actor after bytes hall synced joined forced t1 t2 t3 m is free (at_forced m is) shut holds some small,
             )

@@ -1,6 +1,6 @@
 -- What the calls of a database backup's steps ask, and what comes of them in their order.
 use Rattle.std.proofs.Common.{◌≡◌, ◌⊎◌, inl, inr, ℕ, ◌+◌, ◌<◌, ◌≤◌, ◌^◌, max, Bool, true, false, List, [], ◌∷◌, ◌++◌, length, Option, None, Some, Result, Ok, Err, is_some, refl, sym, ap, subst, ◌∙◌, arith}
-use Rattle.std.specs.Prelude.{IfErr, IfOk, IfSome, OnErr, OnOk, is_ok}
+use Rattle.std.specs.Prelude.{IfErr, IfOk, IfSome, OnErr, OnOk, is_ok, Vec}
 use Rattle.std.proofs.lemmas.List.{length-append}
 use Rattle.store_api.specs.Cause.{NoneFell, Rose}
 use Rattle.store_api.specs.Disk.{History, now, standing}
@@ -45,6 +45,7 @@ use Rattle.hall.proofs.BackupBegins.{backup_begins, backup_unforced, backup_unjo
 use Rattle.hall.proofs.BackupJoins.{begin_bound}
 use Rattle.hall.proofs.Ended.{none_halted, not_over}
 use Rattle.hall.proofs.Forcing.{ours_alone}
+use Rattle.std.specs.declared.alloc.Global.{Global}
 
 -- ---- what the calls of its begin ask
 
@@ -156,7 +157,7 @@ module _ {S : Type 0} (told : S → Option History) (moment : S → ℕ) (faults
           (new : Held) (answer : Result ℕ Refusal) → Told (told joined) (told forced) (Forces meaning held.vault answer new.vault)
           → OnOk answer (new ≡ all_stamped (moment forced) (with_vault (all_forced held.vault) held)) → OnErr answer (new ≡ with_vault new.vault held)
           → IfErr answer (λ why. RefusesForce held.vault (faults joined) (faults forced) why new.vault (forced ≡ joined))
-          → (bytes : List ℕ) → IsHolding actor after hall.held bytes → 0 < length bytes
+          → (bytes : List ℕ) → IsHolding actor after hall.held bytes → 0 < length bytes → length bytes < 2 ^ 64
           → ((why : Refusal) → answer ≡ Err why → Steps told moment faults actor (TakeImage (kind_of after) (Err why)) hall (record { store = forced; held = new }))
           × ((flag : Bool) → flag ≡ is_ok sync → (n : ℕ) → answer ≡ Ok n → (last : Held) (told_so : Result ImageReply Refusal) → Seats actor k seq bytes flag new last told_so
           → Steps told moment faults actor (TakeImage (kind_of after) told_so) hall (record { store = forced; held = last }))
@@ -178,29 +179,29 @@ module _ {S : Type 0} (told : S → Option History) (moment : S → ℕ) (faults
       w = with_waiting meaning hall.held.vault e
 
       seated : (new : Held) (n : ℕ) → Told (told joined) (told forced) (Forces {T = ℕ} {E = Refusal} meaning w (Ok n) (all_forced w)) → new ≡ begun_forced actor after (moment forced) hall.held
-          → (bytes : List ℕ) → IsHolding actor after hall.held bytes → 0 < length bytes
+          → (bytes : List ℕ) → IsHolding actor after hall.held bytes → 0 < length bytes → length bytes < 2 ^ 64
           → (flag : Bool) → flag ≡ is_ok sync → (last : Held) (told_so : Result ImageReply Refusal) → Seats actor k seq bytes flag new last told_so
           → Steps told moment faults actor (TakeImage (kind_of after) told_so) hall (record { store = forced; held = last })
-      seated new n did is bytes holds some true flag last told_so (answer, left) =
+      seated new n did is bytes holds some small true flag last told_so (answer, left) =
           let begins = backup_begins told moment faults clock actor after hall synced t1 c1 s1 free goes joined t2 c2 s2 forced t3 c3 s3 seq waited n did bytes
-          (shut (ok_sync sync flag) (told_map (told joined) (told forced) (Forces {T = ℕ} {E = Refusal} meaning w (Ok n) (all_forced w)) (GoesOn IsOurs) (λ h n r. ours_alone hall.held.vault.generation h n r.goes) did)) holds some in
+          (shut (ok_sync sync flag) (told_map (told joined) (told forced) (Forces {T = ℕ} {E = Refusal} meaning w (Ok n) (all_forced w)) (GoesOn IsOurs) (λ h n r. ours_alone hall.held.vault.generation h n r.goes) did)) holds some small in
           let held_is : last ≡ backup_begun actor after bytes (moment forced) hall.held =
           left ∙ ap (λ (m : ℕ). with_job (Some (backup_by actor k m)) (Some (job_by k m bytes)) new) seq_is
           ∙ ap (with_job (Some (backup_by actor k (hall.held.vault.database.number + 1))) (Some (job_by k (hall.held.vault.database.number + 1) bytes))) is in
           subst (λ r. Steps told moment faults actor (TakeImage (kind_of after) r) hall (record { store = forced; held = last })) (ap (λ m. Ok (reply.Begun k m)) (sym seq_is) ∙ sym answer)
           (subst (λ h. Steps told moment faults actor (TakeImage (kind_of after) (Ok (reply.Begun k (hall.held.vault.database.number + 1)))) hall (record { store = forced; held = h })) (sym held_is) begins)
-      seated new n did is bytes holds some false flag last told_so (answer, left) =
+      seated new n did is bytes holds some small false flag last told_so (answer, left) =
           subst (λ r. Steps told moment faults actor (TakeImage (kind_of after) r) hall (record { store = forced; held = last })) (sym answer)
           (subst (λ h. Steps told moment faults actor (TakeImage (kind_of after) (Err (refusal.WriteFault k))) hall (record { store = forced; held = h })) (sym (left ∙ is))
           (backup_unsynced told moment faults clock actor after hall synced t1 c1 s1 free goes joined t2 c2 s2 forced t3 c3 s3 seq waited n did (rose_sync sync flag cause)))
 
       forced_waiting : Forced (begun_waiting actor after hall.held)
-      forced_waiting new (Ok n) did ok same err bytes holds some = (
+      forced_waiting new (Ok n) did ok same err bytes holds some small = (
         λ why no. absurd (ok_is_none no),
-        λ flag is x at last told_so seats. seated new n (subst (λ (v : State Inv). Told (told joined) (told forced) (Forces {T = ℕ} {E = Refusal} meaning w (Ok n) v)) (ap (λ (h : Held). h.vault) ok) did) ok bytes holds some flag is
+        λ flag is x at last told_so seats. seated new n (subst (λ (v : State Inv). Told (told joined) (told forced) (Forces {T = ℕ} {E = Refusal} meaning w (Ok n) v)) (ap (λ (h : Held). h.vault) ok) did) ok bytes holds some small flag is
             last told_so seats,
       )
-      forced_waiting new (Err why) did ok same err bytes holds some = (
+      forced_waiting new (Err why) did ok same err bytes holds some small = (
         λ other at.
             subst (λ r. Steps told moment faults actor (TakeImage (kind_of after) (Err r)) hall (record { store = forced; held = new })) (err_is at)
             (subst (λ h. Steps told moment faults actor (TakeImage (kind_of after) (Err why)) hall (record { store = forced; held = h })) (sym same)
@@ -210,6 +211,10 @@ module _ {S : Type 0} (told : S → Option History) (moment : S → ℕ) (faults
 
       pub forced_all : Forced held
       forced_all = subst Forced (sym form) forced_waiting
+
+-- a vector has fewer than 2^64 elements
+pub vec_small : (v : Vec ℕ Global) → length v.items < 2 ^ 64
+vec_small v = let held = v.ok.0 in let within = v.ok.1 in let few = v.small in omega (arith, held, within, few)
 
 -- ---- the same of the file that was drawn
 
@@ -239,11 +244,11 @@ module _ {S : Type 0} (told : S → Option History) (moment : S → ℕ) (faults
     module _ (seq : ℕ) (whole : result ≡ Ok seq) (forced : S) (t3 : moment joined ≤ moment forced) (c3 : NoneFell (faults joined) (faults forced)) (s3 : moment forced ≤ moment joined + 3) (new : Held) (answer : Result ℕ Refusal)
         (did : Told (told joined) (told forced) (Forces meaning held.vault answer new.vault)) (ok : OnOk answer (new ≡ all_stamped (moment forced) (with_vault (all_forced held.vault) held)))
         (same : OnErr answer (new ≡ with_vault new.vault held)) (err : IfErr answer (λ why. RefusesForce held.vault (faults joined) (faults forced) why new.vault (forced ≡ joined)))
-        (bytes : List ℕ) (holds : IsHolding actor after hall.held bytes) (some : 0 < length bytes) where
+        (bytes : List ℕ) (holds : IsHolding actor after hall.held bytes) (some : 0 < length bytes) (small : length bytes < 2 ^ 64) where
       came : ((why : Refusal) → answer ≡ Err why → Steps told moment faults actor (TakeImage (kind_of after) (Err why)) hall (record { store = forced; held = new }))
           × ((flag : Bool) → flag ≡ is_ok sync → (n : ℕ) → answer ≡ Ok n → (last : Held) (told_so : Result ImageReply Refusal) → Seats actor hall.held.claims.next_file seq bytes flag new last told_so
           → Steps told moment faults actor (TakeImage (kind_of after) told_so) hall (record { store = forced; held = last }))
-      came = forced_all told moment faults clock actor after hall free synced sync t1 c1 s1 at.0 at.1 joined t2 c2 s2 held result at.2 at.3 number at.4 seq whole forced t3 c3 s3 new answer did ok same err bytes holds some
+      came = forced_all told moment faults clock actor after hall free synced sync t1 c1 s1 at.0 at.1 joined t2 c2 s2 held result at.2 at.3 number at.4 seq whole forced t3 c3 s3 new answer did ok same err bytes holds some small
 
       pub begin_unforced : (why : Refusal) → answer ≡ Err why → Steps told moment faults actor (TakeImage (kind_of after) (Err why)) hall (record { store = forced; held = new })
       begin_unforced = came.0

@@ -43,7 +43,7 @@ use Rattle.hall.proofs.Backing.{OwnBackup, own_backup}
 use Rattle.hall.proofs.Calling.{later_run}
 use Rattle.hall.proofs.Committed.{unjoined_is}
 use Rattle.hall.proofs.Ended.{ended_is, next_answers, none_halted}
-use Rattle.hall.proofs.Ending.{IsWritten, all_written, dropped_at, ended_at as machine_ended, ended_held, further_at, further_goes, further_held, in_doubt_at, in_doubt_held, is_ended, is_further, is_gone, is_in_doubt, next_image}
+use Rattle.hall.proofs.Ending.{IsWritten, all_written, dropped_at, ended_at as machine_ended, ended_backs, ended_held, further_at, further_goes, further_held, in_doubt_at, in_doubt_held, is_ended, is_further, is_gone, is_in_doubt, next_image}
 
 not_memory : {log count : ℕ} → refusal.LogFault log count ≡ refusal.Memory → ⊥
 not_memory e = absurd cc
@@ -177,7 +177,7 @@ module _ {S : Type 0} (told : S → Option History) (moment : S → ℕ) (faults
             later = later_run told moment faults hall last c12 (omega (arith, t1, t2)) (omega (arith, s1, s2)) m next is refl refl;
             step = (open_now m is, (o.its, o.mine, sym (its m is).0, none_left m is, inr (o.is.picture, refused_there None m is legal, record { core = refl; contents = refl })));
           },
-          is_ended told moment faults clock actor hall mid t1 m is running job its_job o last t2 (at_gone m is) legal number waits,
+          is_ended told moment faults clock actor hall mid t1 m is running job its_job o last t2 (at_gone m is) legal (ended_backs told moment faults clock actor hall mid t1 m is running job its_job o last t2 (at_gone m is) legal Done (written m is).opened did) number waits,
         )
 
     module _ (end log count : ℕ) where
@@ -205,7 +205,7 @@ module _ {S : Type 0} (told : S → Option History) (moment : S → ℕ) (faults
                 ),
               );
             },
-            is_in_doubt told moment faults clock actor hall mid t1 m is running job its_job o last t2 (at_gone m is) legal (Some writer) end log count why waits,
+            is_in_doubt told moment faults clock actor hall mid t1 m is running job its_job o last t2 (at_gone m is) legal (Some writer) end log count (ended_backs told moment faults clock actor hall mid t1 m is running job its_job o last t2 (at_gone m is) legal Done (written m is).opened did) why waits,
           )
 
     wants_memory : (held : Held) → (held ≡ left_held) ⊎ (held ≡ unjoined x left_held) → Steps told moment faults actor (deed (Err refusal.Memory)) hall (record { store = mid; held = held })

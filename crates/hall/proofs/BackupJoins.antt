@@ -78,6 +78,12 @@ begin_bound file after v cause =
     let low : max v.next_file (file + 1) < 2 ^ 32 - 1 = ltb-true (max v.next_file (file + 1)) (2 ^ 32 - 1) (unless_holds (nat_lt (max v.next_file (file + 1)) (2 ^ 32 - 1)) refusal.InventoryFull bound) in
     omega (arith, low)
 
+pub begin_possible : (file : ℕ) (after : Option ℕ) (v : Inv) → after_refused after v ++ (files_refused (file ∷ []) v ++ file_bound file v) ≡ [] → file + 2 < 2 ^ 32
+begin_possible file after v cause =
+    let bound = back_nil (files_refused (file ∷ []) v) (file_bound file v) (back_nil (after_refused after v) (files_refused (file ∷ []) v ++ file_bound file v) cause) in
+    let low : max v.next_file (file + 1) < 2 ^ 32 - 1 = ltb-true (max v.next_file (file + 1)) (2 ^ 32 - 1) (unless_holds (nat_lt (max v.next_file (file + 1)) (2 ^ 32 - 1)) refusal.InventoryFull bound) in
+    omega (arith, low)
+
 -- no image is in progress
 pub no_image_kept : (i : Option Image) (x : Change) → i ≡ None → IfSome i (λ j. KeepsBackup j.file x)
 no_image_kept None x none = tt

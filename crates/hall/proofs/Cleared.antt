@@ -32,7 +32,9 @@ use Rattle.machine.specs.State.{Core, Image, Machine, Ticket, after, inventory, 
 use Rattle.hall.specs.Covered.{covered, databases, inv_at, left_open}
 use Rattle.hall.specs.Good.{AllInProgress, HasTaken, IsKept, IsSafe, RecoversToOne, StandsOn}
 use Rattle.hall.specs.Held.{Held}
+use Rattle.hall.specs.Protected.{HadBackups, KeepsAllBackups}
 use Rattle.hall.specs.Reusing.{Clears, Empties}
+use Rattle.hall.proofs.BackupsAlike.{restamped_keeps}
 use Rattle.hall.proofs.Covering.{all_each}
 use Rattle.hall.proofs.Databases.{first_left}
 use Rattle.hall.proofs.Forcing.{underway_same}
@@ -84,7 +86,8 @@ module _ (m : Machine) (held : Held) (h new : History) (theirs : ℕ → Type 0)
     (tickets : AllByRecursion (λ t. AllByRecursion (λ s. ¬ theirs s.file) t.place.segments) m.core.tickets)
     (backups : (file : ℕ) → is_some (backup_at file (inventory m.core)) ≡ true → ¬ theirs file)
     (running : m.core.fault ≡ None) (few : length m.core.stamps ≤ length m.core.journal)
-    (pends : (snapshot : Inv) → IsPending meaning held.vault snapshot h → IsPending meaning held.vault snapshot new) where
+    (pends : (snapshot : Inv) → IsPending meaning held.vault snapshot h → IsPending meaning held.vault snapshot new)
+    (backed : HadBackups held.base held.opened new → KeepsAllBackups m.core held.opened new held.job) where
   holds_since : EachImage (now h) new (λ image. Holds m.contents image (durable m.core))
   holds_since moment image from to at =
       first_left (HasAll (InImage image) m.contents) m.core (all_each (InImage image) m.contents (left_open m.core) (beside_since theirs m.contents h new (covered m.core) copies goes k.firm moment image from to at))
@@ -147,6 +150,7 @@ module _ (m : Machine) (held : Held) (h new : History) (theirs : ℕ → Type 0)
     firm = beside theirs m.contents h new (covered m.core) copies goes k.firm;
     tickets = all_over m.core.tickets tickets k.tickets;
     image = λ none. image_over m.core.image (k.image none);
+    backups = backed;
   }
 
 -- ---- later stamps
@@ -210,4 +214,5 @@ module _ (m : Machine) (held : Held) (h : History) (k : IsKept m held h) (stamps
     firm = subst (HaveAll (InStore h) m.contents) covered_same k.firm;
     tickets = k.tickets;
     image = λ none. image_same m.core.image (k.image none);
+    backups = λ had. restamped_keeps h m.core stamps same held.opened held.job (k.backups had);
   }

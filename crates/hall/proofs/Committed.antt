@@ -62,6 +62,7 @@ use Rattle.hall.proofs.Joining.{Joins}
 use Rattle.hall.proofs.Refusing.{change_alike}
 use Rattle.hall.proofs.Takes.{is_quiet, takes_joined}
 use Rattle.hall.proofs.Unjoined.{freed_below, none_new, still_ascending, still_noted}
+use Rattle.hall.proofs.Keeping.{is_ordinary}
 
 told_none : (told : Option History) → Told told told (GoesOn IsOurs)
 told_none None = tt
@@ -103,7 +104,7 @@ unjoined_is {S} told moment faults x hall m is = record {
     kept_same None kept = tt
     kept_same (Some h) kept = λ sound.
         let k = kept sound in
-        record { since = k.since; first = k.first; always = k.always; left = k.left; sure = k.sure; firm = k.firm; tickets = k.tickets; image = λ fault. image_same x hall.held m.core m.core.image h (k.image fault) }
+        record { since = k.since; first = k.first; always = k.always; left = k.left; sure = k.sure; firm = k.firm; tickets = k.tickets; image = λ fault. image_same x hall.held m.core m.core.image h (k.image fault); backups = k.backups }
 
     core_same : IsCore hall.held m.core → IsCore (unjoined x hall.held) m.core
     core_same i =
@@ -175,7 +176,7 @@ module _ {S : Type 0} (told : S → Option History) (moment : S → ℕ) (faults
   asked_is : (m : Machine) → Is told moment faults hall m → asked_change actor asked numbers m.core ≡ Some x
   asked_is m is = sym (change_alike actor asked numbers hall.held m.core is.core) ∙ is_asked
 
-  joined : (m : Machine) → Is told moment faults hall m → Joins actor x numbers m.core × (is_any_reuse x ≡ false)
+  joined : (m : Machine) → Is told moment faults hall m → Joins actor x numbers m.core × (is_any_reuse x ≡ false) × (is_ordinary x ≡ true)
   joined m is =
       let all = none_of (ended m ++ (commit_refused actor asked numbers (sight actor m.core) ++ option_map_or (λ y. held_refused y m.core) (asked_change actor asked numbers m.core) []))
       (may_commit told moment faults actor asked numbers hall free none m is) in
@@ -198,6 +199,7 @@ module _ {S : Type 0} (told : S → Option History) (moment : S → ℕ) (faults
         none = may_commit told moment faults actor asked numbers hall free none m is;
         joins = joins m is;
         plain = (joined m is).1;
+        ordinary = (joined m is).2;
         takes = takes_joined actor x numbers m.core is.good.lawful (ascending v (ascends_there m is)).rows (joins m is) is.good.space
             (λ quiet k a there. rest (journal_of m.core.base m.core.journal) x v k a valid (ascends_there m is) (joins m is).legal there (ap (list_any (λ (b : Version). is_at (nat_cmp b.object) k)) (none_stood x v quiet)));
       }

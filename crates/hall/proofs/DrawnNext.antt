@@ -1,5 +1,5 @@
 -- The file and object numbers that are drawn next, and which database backups are listed, over a transaction.
-use Rattle.std.proofs.Common.{◌≡◌, ℕ, ◌+◌, ◌<◌, ◌≤◌, max, Bool, true, false, cond, List, [], ◌∷◌, map, Option, None, Some, is_some, refl, sym, ap, ◌∙◌, arith}
+use Rattle.std.proofs.Common.{◌≡◌, ℕ, ◌+◌, ◌<◌, ◌≤◌, max, true, false, cond, List, [], ◌∷◌, Option, None, Some, is_some, refl, sym, ap, subst, ◌∙◌, arith}
 use Rattle.std.specs.List.{AllByRecursion}
 use Rattle.std.specs.BTreeMap.{is_at}
 use Rattle.std.specs.Map.{lookup}
@@ -16,6 +16,7 @@ use Rattle.entries.specs.change_items.declared.items.NewVersion.{NewVersion}
 use Rattle.entries.specs.change_items.declared.items.ScratchVolume.{ScratchVolume}
 use Rattle.entries.specs.declared.change.Change.{Change}
 use Rattle.entries.specs.declared.change.Change.TheVariants as change
+use Rattle.inventory_rows.specs.Delays.{lowered}
 use Rattle.inventory_rows.specs.declared.backup.Backup.{Backup}
 use Rattle.inventory_rows.specs.version_groups.declared.copies.CopyRow.{CopyRow}
 use Rattle.inventory_rows.specs.State.{Inv}
@@ -133,54 +134,56 @@ KeepsBackup file (change.DbEnd k) = k ≡ file → ⊥
 KeepsBackup file (change.DbDelete k) = k ≡ file → ⊥
 KeepsBackup file _ = Unit {0}
 
--- what doesn't look at the delays of a backup
-module _ (seen : Option Backup → Bool) (alike : (b : Backup) (delays : List (ℕ × ℕ)) → seen (Some (record b { delays = delays })) ≡ seen (Some b)) (file : ℕ) where
-  abbrev listed : List (ℕ × Backup) → Bool
-  listed backups = seen (lookup (is_at (nat_cmp file)) backups)
+-- What holds of a row and itself, and of one and that with its least delays lowered.
+module _ (R : Option Backup → Option Backup → Type 0) (same : (o : Option Backup) → R o o) (lower : (b : Backup) (pool delay : ℕ) → R (Some b) (Some (record b { delays = lowered pool delay b.delays }))) (file : ℕ) where
+  abbrev found : List (ℕ × Backup) → Option Backup
+  found backups = lookup (is_at (nat_cmp file)) backups
 
-  mapped : (f : Backup → List (ℕ × ℕ)) (backups : List (ℕ × Backup)) → listed (map (λ (b : ℕ × Backup). (b.0, record b.1 { delays = f b.1 })) backups) ≡ listed backups
-  mapped f [] = refl
-  mapped f (b ∷ backups) = elim (is_at (nat_cmp file) b.0) as
-      (λ t. seen (cond t (Some (record b.1 { delays = f b.1 })) (lookup (is_at (nat_cmp file)) (map (λ (b : ℕ × Backup). (b.0, record b.1 { delays = f b.1 })) backups)))
-      ≡ seen (cond t (Some b.1) (lookup (is_at (nat_cmp file)) backups))) [
-        | true ↦ alike b.1 (f b.1)
-        | false ↦ mapped f backups
+  abbrev Alike : (old new : List (ℕ × Backup)) → Type 0
+  Alike old new = R (found old) (found new)
+
+  as_found : (old new : List (ℕ × Backup)) → found new ≡ found old → Alike old new
+  as_found old new is = subst (R (found old)) (sym is) (same (found old))
+
+  lowered_so : (pool : Option ℕ) (delay : ℕ) (backups : List (ℕ × Backup)) → Alike backups (backups_lowered pool delay backups)
+  lowered_so None delay backups = same (found backups)
+  lowered_so (Some pool) delay [] = same None
+  lowered_so (Some pool) delay (b ∷ backups) = elim (is_at (nat_cmp file) b.0) as
+      (λ t. R (cond t (Some b.1) (found backups)) (cond t (Some (record b.1 { delays = lowered pool delay b.1.delays })) (found (backups_lowered (Some pool) delay backups)))) [
+        | true ↦ lower b.1 pool delay
+        | false ↦ lowered_so (Some pool) delay backups
       ]
 
-  lowered_so : (pool : Option ℕ) (delay : ℕ) (backups : List (ℕ × Backup)) → listed (backups_lowered pool delay backups) ≡ listed backups
-  lowered_so None delay backups = refl
-  lowered_so (Some pool) delay backups = mapped _ backups
-
-  stores_listed : (x : PoolChange) (v : Inv) → listed (store_changed x v).backups ≡ listed v.backups
-  stores_listed (store.DevClass what name capacity) v = refl
-  stores_listed (store.Pool verb.Define name class kind rule) v = refl
+  stores_listed : (x : PoolChange) (v : Inv) → Alike v.backups (store_changed x v).backups
+  stores_listed (store.DevClass what name capacity) v = same (found v.backups)
+  stores_listed (store.Pool verb.Define name class kind rule) v = same (found v.backups)
   stores_listed (store.Pool verb.Update name class kind rule) v = lowered_so _ rule.reuse_delay v.backups
-  stores_listed (store.Pool verb.Delete name class kind rule) v = refl
-  stores_listed (store.Volume verb.Define name number k capacity access) v = refl
-  stores_listed (store.Volume verb.Update name number k capacity access) v = refl
-  stores_listed (store.Volume verb.Delete name number k capacity access) v = refl
+  stores_listed (store.Pool verb.Delete name class kind rule) v = same (found v.backups)
+  stores_listed (store.Volume verb.Define name number k capacity access) v = same (found v.backups)
+  stores_listed (store.Volume verb.Update name number k capacity access) v = same (found v.backups)
+  stores_listed (store.Volume verb.Delete name number k capacity access) v = same (found v.backups)
 
-  clients_listed : (x : ObjectChange) (v : Inv) → listed (client_changed x v).backups ≡ listed v.backups
-  clients_listed (client.Node two.Define name domain) v = refl
-  clients_listed (client.Node two.Delete name domain) v = refl
-  clients_listed (client.Filespace two.Define node name k) v = refl
-  clients_listed (client.Filespace two.Delete node name k) v = refl
+  clients_listed : (x : ObjectChange) (v : Inv) → Alike v.backups (client_changed x v).backups
+  clients_listed (client.Node two.Define name domain) v = same (found v.backups)
+  clients_listed (client.Node two.Delete name domain) v = same (found v.backups)
+  clients_listed (client.Filespace two.Define node name k) v = same (found v.backups)
+  clients_listed (client.Filespace two.Delete node name k) v = same (found v.backups)
 
-  of_data : (v w : Inv) → OnlyData v w → listed w.backups ≡ listed v.backups
-  of_data v w o = ap listed o.backups
+  of_data : (v w : Inv) → OnlyData v w → Alike v.backups w.backups
+  of_data v w o = as_found v.backups w.backups (ap found o.backups)
 
   beside : (k : ℕ) → (k ≡ file → ⊥) → (q : ℕ) → is_at (nat_cmp k) q ≡ true → is_at (nat_cmp file) q ≡ false
   beside k ne q here = apart_at file q (λ e. ne (at_is k q here ∙ sym e))
 
-  ended_so : (k : ℕ) (o : Option Backup) (backups : List (ℕ × Backup)) → (k ≡ file → ⊥) → listed (backup_ended k o backups) ≡ listed backups
-  ended_so k None backups ne = refl
-  ended_so k (Some b) backups ne = ap seen (lookup-beside_set (is_at (nat_cmp k)) (is_at (nat_cmp file)) (beside k ne) (record b { is_done = true }) backups)
+  ended_so : (k : ℕ) (o : Option Backup) (backups : List (ℕ × Backup)) → (k ≡ file → ⊥) → Alike backups (backup_ended k o backups)
+  ended_so k None backups ne = same (found backups)
+  ended_so k (Some b) backups ne = as_found backups (backup_ended k (Some b) backups) (lookup-beside_set (is_at (nat_cmp k)) (is_at (nat_cmp file)) (beside k ne) (record b { is_done = true }) backups)
 
-  -- behind a change that keeps it the same is seen of it
-  row_so : (c : Change) (v : Inv) → KeepsBackup file c → seen (backup_at file (effect c v)) ≡ seen (backup_at file v)
+  -- the row behind a change that keeps it, beside that before it
+  pub row_so : (c : Change) (v : Inv) → KeepsBackup file c → R (backup_at file v) (backup_at file (effect c v))
   unfolding effect
-  row_so (change.Day day) v keeps = refl
-  row_so (change.Policy x) v keeps = refl
+  row_so (change.Day day) v keeps = same (found v.backups)
+  row_so (change.Policy x) v keeps = same (found v.backups)
   row_so (change.Object x) v keeps = clients_listed x v
   row_so (change.Pool x) v keeps = stores_listed x v
   row_so (change.Backup x) v keeps = of_data v (effect (change.Backup x) v) (effect-data (change.Backup x) v refl)
@@ -193,14 +196,14 @@ module _ (seen : Option Backup → Bool) (alike : (b : Backup) (delays : List (�
   row_so (change.Expire x) v keeps = of_data v (effect (change.Expire x) v) (effect-data (change.Expire x) v refl)
   row_so (change.Discard x) v keeps = of_data v (effect (change.Discard x) v) (effect-data (change.Discard x) v refl)
   row_so (change.Reuse k) v keeps = of_data v (effect (change.Reuse k) v) (effect-data (change.Reuse k) v refl)
-  row_so (change.DbBegin k after) v keeps = ap seen (row_at-inserted_other k file _ v.backups keeps)
+  row_so (change.DbBegin k after) v keeps = as_found v.backups _ (row_at-inserted_other k file _ v.backups keeps)
   row_so (change.DbEnd k) v keeps = ended_so k (lookup (is_at (nat_cmp k)) v.backups) v.backups keeps
-  row_so (change.DbDelete k) v keeps = ap seen (lookup-beside_removed (is_at (nat_cmp k)) (is_at (nat_cmp file)) (beside k keeps) v.backups)
+  row_so (change.DbDelete k) v keeps = as_found v.backups _ (lookup-beside_removed (is_at (nat_cmp k)) (is_at (nat_cmp file)) (beside k keeps) v.backups)
 
 -- it is listed behind a change that keeps it exactly where it was
 pub backup_so : (file : ℕ) (c : Change) (v : Inv) → KeepsBackup file c → is_some (backup_at file (effect c v)) ≡ is_some (backup_at file v)
-backup_so file c v keeps = row_so is_some (λ b delays. refl) file c v keeps
+backup_so file c v keeps = row_so (λ a b. is_some b ≡ is_some a) (λ o. refl) (λ b pool delay. refl) file c v keeps
 
 -- and exactly then it isn't whole yet
 pub unfinished_so : (file : ℕ) (c : Change) (v : Inv) → KeepsBackup file c → is_unfinished (backup_at file (effect c v)) ≡ is_unfinished (backup_at file v)
-unfinished_so file c v keeps = row_so is_unfinished (λ b delays. refl) file c v keeps
+unfinished_so file c v keeps = row_so (λ a b. is_unfinished b ≡ is_unfinished a) (λ o. refl) (λ b pool delay. refl) file c v keeps

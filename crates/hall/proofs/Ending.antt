@@ -3,8 +3,8 @@ use Rattle.std.proofs.Common.{◌≡◌, ◌⊎◌, inl, inr, ℕ, ◌+◌, ◌-
 use Rattle.std.specs.Prelude.{IfSome, OnOk, nat_le}
 use Rattle.std.specs.List.{AllByRecursion}
 use Rattle.std.proofs.lemmas.Bool.{false≢true, leb-false}
-use Rattle.store_api.specs.Disk.{History, now}
-use Rattle.store_api.specs.Runs.{GoesOn}
+use Rattle.store_api.specs.Disk.{History, now, standing}
+use Rattle.store_api.specs.Runs.{GoesOn, Firm}
 use Rattle.store_api.specs.Told.{Told}
 use Rattle.store_api.proofs.Runs.{goes_image_after, told_map}
 use Rattle.store_api.specs.declared.store.Failed.{Failed}
@@ -15,7 +15,7 @@ use Rattle.db_image.specs.declared.phase.Phase.{Phase}
 use Rattle.db_image.specs.declared.phase.Phase.TheVariants.{Begun, Durable, Open, Written, Failed as Stuck}
 use Rattle.db_image.specs.declared.phase.Progress.{Progress}
 use Rattle.db_image.specs.declared.phase.Progress.TheVariants.{Done, More}
-use Rattle.db_image.specs.Steps.{IsWithin, Job, Stepped, Underway, at_phase, further, progress_at, written_to}
+use Rattle.db_image.specs.Steps.{IsWithin, Job, Stepped, Underway, at_phase, further, progress_at, written_to, UnderwayAs}
 use Rattle.inventory.specs.Meant.{meaning}
 use Rattle.inventory_rows.specs.State.{Inv}
 use Rattle.inventory_rules.specs.Backups.{backup_at, is_unfinished}
@@ -24,7 +24,7 @@ use Rattle.vault.specs.Vaults.{State, Waits, in_doubt, with_waiting}
 use Rattle.entries.specs.declared.entry.Entry.{Entry}
 use Rattle.inventory_rules.specs.Run.{journal_of}
 use Rattle.inventory_rules.specs.Transactions.{refused}
-use Rattle.machine.specs.Machine.{ending, halting, made, with_image}
+use Rattle.machine.specs.Machine.{ending, halting, made, with_image, durable}
 use Rattle.machine.specs.State.{Core, Image, Machine, backup, inventory}
 use Rattle.hall.specs.Backing.{with_job}
 use Rattle.hall.specs.Covered.{left_open}
@@ -36,9 +36,18 @@ use Rattle.hall.proofs.Backing.{OwnBackup, is_dropped, is_imaged}
 use Rattle.hall.proofs.BackupJoins.{end_joins, end_takes}
 use Rattle.hall.proofs.Databases.{last_left}
 use Rattle.hall.proofs.JoinedIs.{doubted_is, waiting_is}
-use Rattle.hall.proofs.Joining.{Joins, last}
+use Rattle.hall.proofs.Joining.{Joins, last, left_last}
 use Rattle.hall.proofs.Reusable.{none_among}
 use Rattle.hall.proofs.Stamping.{rise_over}
+use Rattle.hall.specs.Protected.{HadBackups, KeepsAllBackups}
+use Rattle.hall.proofs.BackupsAlike.{same_keeps}
+use Rattle.hall.proofs.BackupsSpared.{dropped_keeps, durable_there, further_keeps, halted_any, job_keeps, open_of}
+use Rattle.hall.proofs.BackupsOver.{backs_over}
+use Rattle.hall.proofs.BackupsJoined.{ended_keeps}
+use Rattle.hall.proofs.JoinedBackups.{past_left}
+use Rattle.db_image.specs.Images.{image_bytes}
+use Rattle.vault.proofs.Goodness.{held_since as vaults_since}
+use Rattle.db_image.specs.declared.mark.Mark.TheVariants.{Backup as OfBackup}
 
 -- ---- how far it is
 
@@ -118,10 +127,29 @@ module _ {S : Type 0} (told : S → Option History) (moment : S → ℕ) (faults
   dropped_unused : IsUnused job.file (with_image None m.core)
   dropped_unused = record { from = unused.from; volumes = unused.volumes; tickets = unused.tickets }
 
+  none : m.core.fault ≡ None
+  none = is.core.fault ∙ running
+
+  -- all backups are kept over calls on its file
+  own_keeps : (h new : History) → GoesOn (λ n. n ≡ job.file) h new → IsKept m hall.held h → KeepsAllBackups m.core hall.held.opened h hall.held.job → KeepsAllBackups m.core hall.held.opened new (Some job)
+  own_keeps h new goes kept backups =
+      job_keeps h new m.core hall.held.opened
+      (open_of m.core (durable m.core) (now h) new (durable_there m.core)
+      (vaults_since meaning (λ n. n ≡ job.file) hall.held.vault (durable m.core) h new (λ n ours same. let from = unused.from in omega (arith, ours, same, from)) goes (kept.sure none)))
+      job none goes (subst (λ (j : Option Job). KeepsAllBackups m.core hall.held.opened h j) its_job backups)
+
+  gone_backs : Told (told hall.store) (told store) (GoesOn (λ n. n ≡ job.file))
+      → IfSome (told store) (λ h. WasSound hall.held.base hall.held.opened h → HadBackups hall.held.base hall.held.opened h → KeepsAllBackups (with_image None m.core) hall.held.opened h None)
+  gone_backs did =
+      backs_over told moment faults clock hall store m is (GoesOn (λ n. n ≡ job.file)) (λ n. n ≡ job.file) (λ h new r. r) (λ new. KeepsAllBackups (with_image None m.core) hall.held.opened new None) did
+      (λ h new goes kept backups.
+      same_keeps new m.core m.core.tickets m.core.next_file m.core.next_object m.core.next_ticket None m.core.generation m.core.log_length hall.held.opened None
+      (dropped_keeps new m.core hall.held.opened (Some job) (own_keeps h new goes kept backups)))
+
   pub is_gone : Told (told hall.store) (told store) (GoesOn (λ n. n ≡ job.file)) → Is told moment faults (record { store = store; held = with_job None None hall.held }) dropped_at
   is_gone did =
       is_away told moment faults clock (record { store = hall.store; held = with_job None None hall.held }) store since job.file (record m { core = with_image None m.core })
-      (is_dropped told moment faults hall m is own.none) (is.core.fault ∙ running) refl dropped_unused did
+      (is_dropped told moment faults hall m is own.none) (is.core.fault ∙ running) refl dropped_unused did (gone_backs did)
 
   -- the writer went on
   module _ {T : Type 0} (answer : T) (phase : Phase) (going : has_failed phase ≡ false) (within : IsWithin phase (length job.payload)) where
@@ -157,14 +185,28 @@ module _ {S : Type 0} (told : S → Option History) (moment : S → ℕ) (faults
         let stands : StandsOn m.core hall.held.vault (Some job) own.its h = subst (λ (j : Option Job). StandsOn m.core hall.held.vault j own.its h) its_job p.stands in
         record { since = p.since; durable = p.durable; stands = (stands.0, stands.1, s.underway stands.2, stands.3) }
 
+    further_backs : (let result : Result T Failed = Ok answer in Told (told hall.store) (told store) (Stepped job next_job result))
+        → IfSome (told store) (λ h. WasSound hall.held.base hall.held.opened h → HadBackups hall.held.base hall.held.opened h → KeepsAllBackups further_at.core hall.held.opened h (Some next_job))
+    further_backs did =
+        backs_over told moment faults clock hall store m is (let result : Result T Failed = Ok answer in Stepped job next_job result) (λ n. n ≡ job.file) (λ h new r. r.goes)
+        (λ new. KeepsAllBackups further_at.core hall.held.opened new (Some next_job)) did
+        (λ h new r kept backups.
+        same_keeps new m.core m.core.tickets m.core.next_file m.core.next_object m.core.next_ticket (Some next_image) m.core.generation m.core.log_length hall.held.opened (Some next_job)
+        (further_keeps new m.core hall.held.opened job phase (own_keeps h new r.goes kept backups)))
+
     pub is_further : (let result : Result T Failed = Ok answer in Told (told hall.store) (told store) (Stepped job next_job result)) → Is told moment faults (record { store = store; held = further_held }) further_at
     is_further did =
         is_imaged told moment faults (record { store = store; held = with_job None None hall.held }) dropped_at
         (is_gone (told_map (told hall.store) (told store) (let result : Result T Failed = Ok answer in Stepped job next_job result) (GoesOn (λ n. n ≡ job.file)) (λ h n r. r.goes) did))
         (Some next_image) hall.held.image (Some next_job) (sym (ap begun_of own.there) ∙ is.core.image)
         (λ _. subst (λ (p : Option Pending). IsImage m.core.base.number hall.held.vault.generation p (Some next_job) (Some next_image)) (sym own.none) next_is)
-        (λ _. listed_now) (kept_both (told hall.store) (told store) did (clock hall.store) is.good.kept)
+        (λ _. listed_now) (kept_both (told hall.store) (told store) did (clock hall.store) is.good.kept) (as_kept (told store) (further_backs did))
       where
+        as_kept : (o : Option History) → IfSome o (λ h. WasSound hall.held.base hall.held.opened h → HadBackups hall.held.base hall.held.opened h → KeepsAllBackups further_at.core hall.held.opened h (Some next_job))
+            → IfSome o (λ h. WasSound hall.held.base hall.held.opened h → IsKept dropped_at (with_job None None hall.held) h → HadBackups hall.held.base hall.held.opened h → KeepsAllBackups further_at.core hall.held.opened h (Some next_job))
+        as_kept None backs = tt
+        as_kept (Some h) backs = λ sound kept. backs sound
+
         kept_both : (o n : Option History) → (let result : Result T Failed = Ok answer in Told o n (Stepped job next_job result)) → IfSome o (λ h. now h ≡ moment hall.store)
             → IfSome o (λ h. WasSound hall.held.base hall.held.opened h → IsKept m hall.held h)
             → IfSome n (λ h. WasSound hall.held.base hall.held.opened h → IsKept dropped_at (with_job None None hall.held) h → dropped_at.core.fault ≡ None
@@ -207,6 +249,32 @@ module _ {S : Type 0} (told : S → Option History) (moment : S → ℕ) (faults
         ap (λ tickets. record (made actor end_change (with_image None m.core)) { tickets = tickets }) (none_among actor m.core.tickets)
         ∙ ap (λ n. made actor (change.DbEnd n) (with_image None m.core)) (sym own.is.file)
 
+    -- what is kept of backups behind it, once the gate of this one is open
+    abbrev pub EndBacked : Option History → Type 0
+    EndBacked o = IfSome o (λ h. WasSound hall.held.base hall.held.opened h → HadBackups hall.held.base hall.held.opened h → KeepsAllBackups (last actor end_change [] (with_image None m.core)) hall.held.opened h None)
+
+    pub ended_backs : {T : Type 0} (answer : T) → further job.phase (length job.payload) ≡ Open
+        → (let result : Result T Failed = Ok answer in Told (told hall.store) (told store) (Stepped job (at_phase (further job.phase (length job.payload)) job) result)) → EndBacked (told store)
+    ended_backs {T} answer opens did =
+        backs_over told moment faults clock hall store m is (let result : Result T Failed = Ok answer in Stepped job (at_phase (further job.phase (length job.payload)) job) result) (λ n. n ≡ job.file) (λ h new r. r.goes)
+        (λ new. KeepsAllBackups (last actor end_change [] (with_image None m.core)) hall.held.opened new None) did
+        (λ h new r kept backups.
+        let c : Core = with_image None m.core in
+        let k : KeepsAllBackups c hall.held.opened new (Some job) =
+        same_keeps new m.core m.core.tickets m.core.next_file m.core.next_object m.core.next_ticket None m.core.generation m.core.log_length hall.held.opened (Some job) (own_keeps h new r.goes kept backups) in
+        let t = k.writes none in
+        ended_keeps actor end_change [] c gone.good.lawful gone.good.numbers gone.good.stamped.few joins new hall.held.opened job t.0 t.1 (whole h new kept r) refl (past_left c gone.good.lawful)
+        (left_last actor end_change [] c gone.good.stamped.few) k)
+      where
+        whole : (h new : History) → IsKept m hall.held h → (let result : Result T Failed = Ok answer in Stepped job (at_phase (further job.phase (length job.payload)) job) result h new)
+            → Firm (standing new job.file) 0 (image_bytes OfBackup job.number job.payload)
+        whole h new kept r =
+            let p : InProgress m.core hall.held own.its h = subst (λ (i : Option Image). AllInProgress m.core hall.held i h) own.there (kept.image none) in
+            let stands : StandsOn m.core hall.held.vault (Some job) own.its h = subst (λ (j : Option Job). StandsOn m.core hall.held.vault j own.its h) its_job p.stands in
+            let next : Job = at_phase (further job.phase (length job.payload)) job in
+            let under : UnderwayAs Open next new = subst (λ f. UnderwayAs f next new) opens (r.underway stands.2) in
+            subst (λ mark. Firm (standing new job.file) 0 (image_bytes mark job.number job.payload)) own.is.mark under
+
     -- it waits for a force
     abbrev pub ended_at : Machine
     ended_at = record { core = with_image None (ending actor own.its m.core); contents = m.contents; moment = moment last_store; counts = faults last_store }
@@ -214,11 +282,11 @@ module _ {S : Type 0} (told : S → Option History) (moment : S → ℕ) (faults
     abbrev pub ended_held : Held
     ended_held = joined_held end_change [] (with_waiting meaning hall.held.vault end_by) (with_job None None hall.held)
 
-    pub is_ended : (number : ℕ) → (let result : Result ℕ Refusal = Ok number in Told (told store) (told last_store) (Waits meaning hall.held.vault end_by result (with_waiting meaning hall.held.vault end_by)))
+    pub is_ended : EndBacked (told store) → (number : ℕ) → (let result : Result ℕ Refusal = Ok number in Told (told store) (told last_store) (Waits meaning hall.held.vault end_by result (with_waiting meaning hall.held.vault end_by)))
         → Is told moment faults (record { store = last_store; held = ended_held }) ended_at
-    is_ended number did =
+    is_ended backs number did =
         subst (λ c. Is told moment faults (record { store = last_store; held = ended_held }) (record { core = c; contents = m.contents; moment = moment last_store; counts = faults last_store })) ending_is
-        (waiting_is told moment faults clock actor end_change [] (record { store = store; held = with_job None None hall.held }) last_store running later dropped_at gone joins (end_takes job.file (inventory m.core)) refl number did)
+        (waiting_is told moment faults clock actor end_change [] (record { store = store; held = with_job None None hall.held }) last_store running later dropped_at gone joins (end_takes job.file (inventory m.core)) refl backs number did)
 
     -- it is in doubt, and the image is still held, whatever its writer is
     module _ (writer : Option Job) (end file count : ℕ) where
@@ -228,16 +296,29 @@ module _ {S : Type 0} (told : S → Option History) (moment : S → ℕ) (faults
       abbrev pub in_doubt_held : Held
       in_doubt_held = joined_held end_change [] (in_doubt meaning hall.held.vault end_by end file count) (with_job hall.held.image writer hall.held)
 
-      pub is_in_doubt : (why : Refusal) → (let result : Result ℕ Refusal = Err why in Told (told store) (told last_store) (Waits meaning hall.held.vault end_by result (in_doubt meaning hall.held.vault end_by end file count)))
+      pub is_in_doubt : EndBacked (told store) → (why : Refusal) → (let result : Result ℕ Refusal = Err why in Told (told store) (told last_store) (Waits meaning hall.held.vault end_by result (in_doubt meaning hall.held.vault end_by end file count)))
           → Is told moment faults (record { store = last_store; held = in_doubt_held }) in_doubt_at
-      is_in_doubt why did =
+      is_in_doubt backs why did =
           subst (λ c. Is told moment faults (record { store = last_store; held = in_doubt_held }) (record { core = halting file count (with_image m.core.image c); contents = m.contents; moment = moment last_store; counts = faults last_store })) ending_is
           (is_imaged told moment faults
           (record { store = last_store; held = joined_held end_change [] (in_doubt meaning hall.held.vault end_by end file count) (with_job None None hall.held) })
           (record { core = halting file count (last actor end_change [] (with_image None m.core)); contents = m.contents; moment = moment last_store; counts = faults last_store })
-          (doubted_is told moment faults clock actor end_change [] (record { store = store; held = with_job None None hall.held }) last_store running later dropped_at gone joins (end_takes job.file (inventory m.core)) refl end file count why did)
-          m.core.image hall.held.image writer is.core.image (λ none. absurd cc) (λ none. absurd cc) (halted_so (told last_store)))
+          (doubted_is told moment faults clock actor end_change [] (record { store = store; held = with_job None None hall.held }) last_store running later dropped_at gone joins (end_takes job.file (inventory m.core)) refl end file count backs why did)
+          m.core.image hall.held.image writer is.core.image (λ none. absurd cc) (λ none. absurd cc) (halted_so (told last_store)) (halted_backs (told last_store)))
         where
+          no_fault : {A : Type 0} {a : A} → Some a ≡ None → ⊥
+          no_fault e = absurd cc
+
+          halted_backs : (o : Option History) → IfSome o (λ h. WasSound hall.held.base hall.held.opened h
+              → IsKept (record { core = halting file count (last actor end_change [] (with_image None m.core)); contents = m.contents; moment = moment last_store; counts = faults last_store })
+              (joined_held end_change [] (in_doubt meaning hall.held.vault end_by end file count) (with_job None None hall.held)) h
+              → HadBackups hall.held.base hall.held.opened h → KeepsAllBackups (with_image m.core.image (halting file count (last actor end_change [] (with_image None m.core)))) hall.held.opened h writer)
+          halted_backs None = tt
+          halted_backs (Some h) = λ sound kept had.
+              let c : Core = halting file count (last actor end_change [] (with_image None m.core)) in
+              same_keeps h c c.tickets c.next_file c.next_object c.next_ticket m.core.image c.generation c.log_length hall.held.opened writer
+              (halted_any h c hall.held.opened no_fault None writer (kept.backups had))
+
           halted_so : (o : Option History) → IfSome o (λ h. WasSound hall.held.base hall.held.opened h
               → IsKept (record { core = halting file count (last actor end_change [] (with_image None m.core)); contents = m.contents; moment = moment last_store; counts = faults last_store })
               (joined_held end_change [] (in_doubt meaning hall.held.vault end_by end file count) (with_job None None hall.held)) h

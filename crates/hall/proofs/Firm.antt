@@ -85,7 +85,7 @@ module _ (h : History) where
       (λ left leaves. subst (λ (l : List ℕ). Stands l at (frame object number bytes) ⊎ ((length bytes < 2 ^ 32) × Stands l at (first_frame object number bytes)))
       (cond-true _ left (reads h file) (eq-eqb file file refl)) (each (with_file (reads h) file left) (image_with h file left leaves)))
 
-  frames_firm : (object number : ℕ) (segments : List Segment) (bytes : List ℕ) → Each (λ image. FramesHave (InImage image) object number segments bytes) → FramesHave (InStore h) object number segments bytes
+  pub frames_firm : (object number : ℕ) (segments : List Segment) (bytes : List ℕ) → Each (λ image. FramesHave (InImage image) object number segments bytes) → FramesHave (InStore h) object number segments bytes
   frames_firm object number [] bytes each = each (reads h) (image_reads h)
   frames_firm object number (s ∷ segments) bytes each = (
     (each (reads h) (image_reads h)).0,

@@ -36,7 +36,8 @@ use Rattle.machine.proofs.Histories.{after-number}
 use Rattle.hall.specs.Good.{Is}
 use Rattle.hall.specs.Held.{Hall, Held}
 use Rattle.hall.specs.Sights.{sight_of}
-use Rattle.hall.proofs.Backed.{found_number, legal_of, since_first}
+use Rattle.hall.proofs.BackedUp.{found_number}
+use Rattle.hall.proofs.Backed.{legal_of, since_first}
 use Rattle.hall.proofs.BackupCalls.{some_bytes}
 use Rattle.hall.proofs.BackupJoins.{short_begin}
 

@@ -27,7 +27,10 @@ use Rattle.machine.specs.State.{Core, Image, Machine, after, inventory, unforced
 use Rattle.hall.specs.Covered.{IsVolume, NumbersAreDrawn, covered, inv_at, left_open}
 use Rattle.hall.specs.Good.{AllInProgress, HasTaken, IsKept, IsLawful, IsSafe, IsSoundWith, RecoversToOne, StandsOn}
 use Rattle.hall.specs.Held.{BegunImage, Held, IsCore}
+use Rattle.hall.specs.Protected.{HadBackups, KeepsAllBackups}
 use Rattle.hall.specs.Seats.{all_stamped, with_vault}
+use Rattle.hall.proofs.BackupsAlike.{halted_keeps, same_keeps, stamped_keeps}
+use Rattle.hall.proofs.BackupsSpared.{had_before, open_either, vault_keeps}
 use Rattle.hall.proofs.Beside.{all_taken_beside, covered_beside, covered_since}
 use Rattle.hall.proofs.Covering.{all_each}
 use Rattle.hall.proofs.Databases.{all_durable, each_covered, first_left, last_left, left_alone, left_lawful}
@@ -126,6 +129,14 @@ module _ (m : Machine) (held : Held) (h new : History) (goes : GoesOn IsOurs h n
   later : held.opened ≤ now new
   later = let after : now h ≤ now new = goes_later IsOurs h new goes in omega (arith, k.since, after)
 
+  -- the backups of the base, before the run
+  had_over : HadBackups held.base held.opened new → HadBackups held.base held.opened h
+  had_over had = had_before IsOurs held.base held.opened h new goes k.since had
+
+  -- all backups are kept over the run
+  backups_over : HadBackups held.base held.opened new → KeepsAllBackups m.core held.opened new held.job
+  backups_over had = vault_keeps h new m.core held.opened (open_either m.core held.vault.database (now h) new is.database since) goes held.job (k.backups (had_over had))
+
   held_since : EachImage (now h) new (λ image. AllByRecursion (HasAll (InImage image) m.contents) (left_open m.core))
   held_since = covered_since h new goes m.contents (left_open m.core) (left_lawful m.core lawful) k.firm
 
@@ -155,6 +166,7 @@ module _ (m : Machine) (held : Held) (h new : History) (goes : GoesOn IsOurs h n
     firm = covered_over;
     tickets = taken_over;
     image = λ none. absurd (some_none none);
+    backups = λ had. halted_keeps new m.core file count held.opened held.job (backups_over had);
   }
 
   -- a checkpoint goes on, and nothing more is durable
@@ -171,6 +183,7 @@ module _ (m : Machine) (held : Held) (h new : History) (goes : GoesOn IsOurs h n
     firm = covered_over;
     tickets = taken_over;
     image = λ none. progress;
+    backups = λ had. same_keeps new m.core m.core.tickets m.core.next_file m.core.next_object m.core.next_ticket i generation long held.opened held.job (backups_over had);
   }
 
   -- all is forced, and has the stamp of the moment that is now
@@ -197,10 +210,10 @@ module _ (m : Machine) (held : Held) (h new : History) (goes : GoesOn IsOurs h n
     ]
 
     -- whatever image is in progress then
-    pub stamped_kept : (i : Option Image) (generation long : ℕ) (b : Option BegunImage) (job : Option Job) (counts : ℕ → ℕ)
-        → (m.core.fault ≡ None → AllInProgress (imaged i generation long (stamped t m.core)) (record (all_stamped t (with_vault next held)) { image = b; job = job }) i new)
-        → IsKept (record m { core = imaged i generation long (stamped t m.core); moment = t; counts = counts }) (record (all_stamped t (with_vault next held)) { image = b; job = job }) new
-    stamped_kept i generation long b job counts progress = record {
+    pub stamped_kept : (i : Option Image) (generation long : ℕ) (b : Option BegunImage) (counts : ℕ → ℕ)
+        → (m.core.fault ≡ None → AllInProgress (imaged i generation long (stamped t m.core)) (record (all_stamped t (with_vault next held)) { image = b }) i new)
+        → IsKept (record m { core = imaged i generation long (stamped t m.core); moment = t; counts = counts }) (record (all_stamped t (with_vault next held)) { image = b }) new
+    stamped_kept i generation long b counts progress = record {
       since = later;
       first = first_over;
       always = λ at image from to it. safe_imaged i generation long m.contents (stamped t m.core) (acknowledged at (stamped t m.core).stamps) image (always_over at image from to it);
@@ -215,6 +228,7 @@ module _ (m : Machine) (held : Held) (h new : History) (goes : GoesOn IsOurs h n
           (each_covered (λ w. HasVersion (InStore new) (m.contents w.object) w) (inventory m.core ∷ []) (last_firm, tt));
       tickets = taken_over;
       image = progress;
+      backups = λ had. stamped_keeps new t m.core i generation long (all_have_stamps t m.core few) held.opened held.job (backups_over had);
     }
 
   -- all is forced, and the image in progress is the one before
@@ -234,5 +248,5 @@ module _ (m : Machine) (held : Held) (h new : History) (goes : GoesOn IsOurs h n
 
     pub forced_kept : (counts : ℕ → ℕ) → IsKept (record m { core = stamped t m.core; moment = t; counts = counts }) (all_stamped t (with_vault (all_forced held.vault) held)) new
     forced_kept counts =
-        stamped_kept t is_now (all_forced held.vault) refl good m.core.image m.core.generation m.core.log_length held.image held.job counts
+        stamped_kept t is_now (all_forced held.vault) refl good m.core.image m.core.generation m.core.log_length held.image counts
         (λ none. progress_over m.core.image (k.image none))

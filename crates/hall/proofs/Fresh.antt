@@ -1,5 +1,5 @@
 -- A hall that was opened is a new one, in a state of the machine.
-use Rattle.std.proofs.Common.{◌≡◌, ℕ, ◌-◌, ◌<◌, ◌^◌, ◌&&◌, true, nat_le, nat_lt, List, [], ◌∷◌, length, Option, Some, None, Result, Ok, refl, sym, subst, ◌∙◌, arith, zero, suc, take}
+use Rattle.std.proofs.Common.{◌≡◌, ℕ, ◌-◌, ◌<◌, ◌^◌, ◌&&◌, true, nat_le, nat_lt, List, [], ◌∷◌, length, Option, Some, None, Result, Ok, refl, sym, subst, ◌∙◌, arith, zero, suc, take, ap}
 use Rattle.std.specs.Prelude.{Contains, IfSome}
 use Rattle.std.specs.List.{AllByRecursion, flat_map}
 use Rattle.std.proofs.lemmas.Bool.{ltb-true}
@@ -38,6 +38,8 @@ use Rattle.hall.proofs.Chosen.{chosen, chosen_sized, chosen_sound}
 use Rattle.hall.proofs.Databases.{each_covered}
 use Rattle.hall.proofs.Firm.{all_firm}
 use Rattle.hall.proofs.Sound.{sound_behind, told_opened}
+use Rattle.hall.specs.Protected.{HadBackups, KeepsAllBackups}
+use Rattle.hall.proofs.BackupsOpened.{opened_keeps}
 
 -- ---- the machine's state when a hall is opened
 
@@ -152,6 +154,9 @@ module _ (contents : ℕ → List ℕ) (counts : ℕ → ℕ) (held : Held) (h :
       firm = all_firm h contents (flat_map versions (held.base ∷ [])) (λ image here. each_covered (λ w. HasVersion (InImage image) (contents w.object) w) (held.base ∷ []) ((each_now image here).1, tt));
       tickets = tt;
       image = λ running. tt;
+      backups = λ had. subst (λ (n : ℕ). KeepsAllBackups (new_core held) n h held.job) at
+          (subst (λ (j : Option Job). KeepsAllBackups (new_core held) (now h) h j) (sym fresh.job)
+          (opened_keeps held.base h (subst (λ (n : ℕ). HadBackups held.base n h) (sym at) had) (new_core held) refl refl (λ count. ap (after held.base) (none_taken count)) (λ file. refl) refl (λ image here. (each_now image here).0)));
     }
 
 -- ---- a new hall

@@ -296,7 +296,7 @@ module _ {S : Type 0} (told : S → Option History) (moment : S → ℕ) (faults
                 let held = k.sure (is.core.fault ∙ none_begins) in
                 let both = r.begun (durable m.core) held in
                 stamped_kept m hall.held h new r.goes is.core k is.good.lawful is.good.stamped.few is.good.numbers (r.since (durable m.core) held) (moment store) to next
-                (begun_forced actor hall.held m.core is.core next b).database both.0 (Some i) m.core.generation m.core.log_length (Some (checkpoint_by actor vault)) hall.held.job (faults store)
+                (begun_forced actor hall.held m.core is.core next b).database both.0 (Some i) m.core.generation m.core.log_length (Some (checkpoint_by actor vault)) (faults store)
                 (λ _. begun_stands actor hall.held m.core is.core next b (moment store) new is.good.stamped.few no_job both.1)));
           },
         )
@@ -467,7 +467,7 @@ module _ {S : Type 0} (told : S → Option History) (moment : S → ℕ) (faults
                 let snapshot : Inv = inv_at (own.its.seq - c.base.number) c in
                 let leads = r.leads (durable c) snapshot held pends in
                 stamped_kept m hall.held h new r.goes is.core k is.good.lawful is.good.stamped.few is.good.numbers (r.since (durable c) snapshot held pends) (moment store) to next forced.database leads.0
-                None (c.generation + 1) (records_length (drop (own.its.seq - c.base.number) c.journal)) None hall.held.job (faults store) (λ _. tt)));
+                None (c.generation + 1) (records_length (drop (own.its.seq - c.base.number) c.journal)) None (faults store) (λ _. tt)));
           },
         )
 

@@ -25,6 +25,7 @@ use Rattle.hall.proofs.JoinedKept.{doubted_kept, lawful_joined, listed_joined, s
 use Rattle.hall.proofs.JoinedNumbers.{numbers_joined}
 use Rattle.hall.proofs.JoinedSpace.{space_joined}
 use Rattle.hall.proofs.Joining.{Joins, last, spent}
+use Rattle.hall.specs.Protected.{HadBackups, KeepsAllBackups}
 
 module _ {S : Type 0} (told : S → Option History) (moment : S → ℕ) (faults : S → ℕ → ℕ) (clock : (s : S) → IfSome (told s) (λ h. now h ≡ moment s)) (actor : ℕ) (x : Change) (numbers : List ℕ) (hall : Hall S) (store : S)
     (none : hall.held.vault.fault ≡ None) (since : moment hall.store ≤ moment store) (m : Machine) (is : Is told moment faults hall m) (joins : Joins actor x numbers m.core) (takes : TakesAway x (inventory m.core)) (plain : is_any_reuse x ≡ false) where
@@ -40,6 +41,10 @@ module _ {S : Type 0} (told : S → Option History) (moment : S → ℕ) (faults
   few : length m.core.stamps ≤ length m.core.journal
   few = is.good.stamped.few
 
+  -- what is kept of backups behind the transaction, before the calls
+  abbrev pub Joined : Option History → Type 0
+  Joined o = IfSome o (λ h. WasSound hall.held.base hall.held.opened h → HadBackups hall.held.base hall.held.opened h → KeepsAllBackups later_core hall.held.opened h hall.held.job)
+
   -- ---- it waits for a force
 
   abbrev pub waiting_at : Machine
@@ -48,30 +53,31 @@ module _ {S : Type 0} (told : S → Option History) (moment : S → ℕ) (faults
   abbrev pub waiting_held : Held
   waiting_held = joined_held x numbers (with_waiting meaning hall.held.vault e) hall.held
 
-  good_waiting : (number : ℕ)
+  good_waiting : Joined (told hall.store) → (number : ℕ)
       → (let result : Result ℕ Refusal = Ok number in Told (told hall.store) (told store) (Waits meaning hall.held.vault e result (with_waiting meaning hall.held.vault e)))
       → IfSome (told store) (λ h. WasSound hall.held.base hall.held.opened h → IsKept waiting_at waiting_held h)
-  good_waiting number did = kept_both (told hall.store) (told store) did (clock hall.store) is.good.kept
+  good_waiting joined number did = kept_both (told hall.store) (told store) did (clock hall.store) is.good.kept joined
     where
       kept_both : (o n : Option History) → (let result : Result ℕ Refusal = Ok number in Told o n (Waits meaning hall.held.vault e result (with_waiting meaning hall.held.vault e)))
-          → IfSome o (λ h. now h ≡ moment hall.store) → IfSome o (λ h. WasSound hall.held.base hall.held.opened h → IsKept m hall.held h)
+          → IfSome o (λ h. now h ≡ moment hall.store) → IfSome o (λ h. WasSound hall.held.base hall.held.opened h → IsKept m hall.held h) → Joined o
           → IfSome n (λ h. WasSound hall.held.base hall.held.opened h → IsKept waiting_at waiting_held h)
-      kept_both None None r at kept = tt
-      kept_both None (Some new) r at kept = absurd r
-      kept_both (Some h) None r at kept = absurd r
-      kept_both (Some h) (Some new) r at kept = λ sound.
+      kept_both None None r at kept joined = tt
+      kept_both None (Some new) r at kept joined = absurd r
+      kept_both (Some h) None r at kept joined = absurd r
+      kept_both (Some h) (Some new) r at kept joined = λ sound.
+          let before = sound_before told moment faults hall store m h new is at (ours_alone hall.held.vault.generation h new r.goes) sound in
           let vault = with_waiting meaning hall.held.vault e in
           let goes = ours_alone hall.held.vault.generation h new r.goes in
-          let k = kept (sound_before told moment faults hall store m h new is at goes sound) in
+          let k = kept before in
           let held = k.sure (is.core.fault ∙ none) in
           let image : IsImage m.core.base.number hall.held.vault.generation hall.held.vault.pending hall.held.job m.core.image = is.core.is_image none in
           subst (λ hl. IsKept waiting_at hl new) (sym (joined_form actor x numbers hall.held m.core is.core is.good.lawful joins is.good.numbers is.good.stamped.few vault))
-          (waiting_kept actor x numbers m hall.held h new goes is.core k is.good.lawful is.good.stamped.few is.good.numbers is.good.space is.good.bytes joins (r.since (durable m.core) held)
+          (waiting_kept actor x numbers m hall.held h new goes is.core k is.good.lawful is.good.stamped.few is.good.numbers is.good.space is.good.bytes joins (r.since (durable m.core) held) (joined before)
           vault (r.held (durable m.core) held) r.pends image waiting_held.seats waiting_held.claims (is.core.fault ∙ none) (faults store) (moment store) (r.left (durable m.core) held))
 
-  pub waiting_is : (number : ℕ) → (let result : Result ℕ Refusal = Ok number in Told (told hall.store) (told store) (Waits meaning hall.held.vault e result (with_waiting meaning hall.held.vault e)))
+  pub waiting_is : Joined (told hall.store) → (number : ℕ) → (let result : Result ℕ Refusal = Ok number in Told (told hall.store) (told store) (Waits meaning hall.held.vault e result (with_waiting meaning hall.held.vault e)))
       → Is told moment faults (record { store = store; held = waiting_held }) waiting_at
-  waiting_is number did =
+  waiting_is joined number did =
       let form = joined_form actor x numbers hall.held m.core is.core is.good.lawful joins is.good.numbers few (with_waiting meaning hall.held.vault e) in
       record {
         core = core_waiting actor x numbers hall.held m.core is.core is.good.lawful joins is.good.numbers few takes (none_new m.core actor x numbers is.good.lawful joins is.good.numbers) none;
@@ -87,7 +93,7 @@ module _ {S : Type 0} (told : S → Option History) (moment : S → ℕ) (faults
           listed = λ none. listed_joined actor x numbers m.core is.good.lawful joins few (is.good.listed none);
           kept =
               subst (λ (b : Inv). IfSome (told store) (λ h. WasSound b waiting_held.opened h → IsKept waiting_at waiting_held h)) (sym (ap (λ (h : Held). h.base) form))
-              (subst (λ (o : ℕ). IfSome (told store) (λ h. WasSound hall.held.base o h → IsKept waiting_at waiting_held h)) (sym (ap (λ (h : Held). h.opened) form)) (good_waiting number did));
+              (subst (λ (o : ℕ). IfSome (told store) (λ h. WasSound hall.held.base o h → IsKept waiting_at waiting_held h)) (sym (ap (λ (h : Held). h.opened) form)) (good_waiting joined number did));
         };
       }
 
@@ -106,28 +112,29 @@ module _ {S : Type 0} (told : S → Option History) (moment : S → ℕ) (faults
     form_of : doubted_held ≡ record hall.held { vault = doubted_vault; seats = doubted_held.seats; claims = doubted_held.claims }
     form_of = joined_form actor x numbers hall.held m.core is.core is.good.lawful joins is.good.numbers is.good.stamped.few doubted_vault
 
-    good_doubted : (why : Refusal)
+    good_doubted : Joined (told hall.store) → (why : Refusal)
         → (let result : Result ℕ Refusal = Err why in Told (told hall.store) (told store) (Waits meaning hall.held.vault e result doubted_vault))
         → IfSome (told store) (λ h. WasSound hall.held.base hall.held.opened h → IsKept doubted_at doubted_held h)
-    good_doubted why did = kept_both (told hall.store) (told store) did (clock hall.store) is.good.kept
+    good_doubted joined why did = kept_both (told hall.store) (told store) did (clock hall.store) is.good.kept joined
       where
         kept_both : (o n : Option History) → (let result : Result ℕ Refusal = Err why in Told o n (Waits meaning hall.held.vault e result doubted_vault))
-            → IfSome o (λ h. now h ≡ moment hall.store) → IfSome o (λ h. WasSound hall.held.base hall.held.opened h → IsKept m hall.held h)
+            → IfSome o (λ h. now h ≡ moment hall.store) → IfSome o (λ h. WasSound hall.held.base hall.held.opened h → IsKept m hall.held h) → Joined o
             → IfSome n (λ h. WasSound hall.held.base hall.held.opened h → IsKept doubted_at doubted_held h)
-        kept_both None None r at kept = tt
-        kept_both None (Some new) r at kept = absurd r
-        kept_both (Some h) None r at kept = absurd r
-        kept_both (Some h) (Some new) r at kept = λ sound.
+        kept_both None None r at kept joined = tt
+        kept_both None (Some new) r at kept joined = absurd r
+        kept_both (Some h) None r at kept joined = absurd r
+        kept_both (Some h) (Some new) r at kept joined = λ sound.
             let goes = ours_alone hall.held.vault.generation h new r.goes in
-            let k = kept (sound_before told moment faults hall store m h new is at goes sound) in
+            let before = sound_before told moment faults hall store m h new is at goes sound in
+            let k = kept before in
             let held = k.sure (is.core.fault ∙ none) in
             subst (λ hl. IsKept doubted_at hl new) (sym form_of)
-            (doubted_kept actor x numbers m hall.held h new goes is.core k is.good.lawful is.good.stamped.few is.good.numbers is.good.space is.good.bytes joins (r.since (durable m.core) held)
+            (doubted_kept actor x numbers m hall.held h new goes is.core k is.good.lawful is.good.stamped.few is.good.numbers is.good.space is.good.bytes joins (r.since (durable m.core) held) (joined before)
             file count doubted_vault doubted_held.seats doubted_held.claims (faults store) (moment store) (r.left (durable m.core) held))
 
-    pub doubted_is : (why : Refusal) → (let result : Result ℕ Refusal = Err why in Told (told hall.store) (told store) (Waits meaning hall.held.vault e result doubted_vault))
+    pub doubted_is : Joined (told hall.store) → (why : Refusal) → (let result : Result ℕ Refusal = Err why in Told (told hall.store) (told store) (Waits meaning hall.held.vault e result doubted_vault))
         → Is told moment faults (record { store = store; held = doubted_held }) doubted_at
-    doubted_is why did =
+    doubted_is joined why did =
         record {
           core = core_doubted actor x numbers hall.held m.core is.core is.good.lawful joins is.good.numbers few takes (none_new m.core actor x numbers is.good.lawful joins is.good.numbers) end file count;
           clock = refl;
@@ -144,7 +151,7 @@ module _ {S : Type 0} (told : S → Option History) (moment : S → ℕ) (faults
             listed = λ no. absurd (no_fault no);
             kept =
                 subst (λ (b : Inv). IfSome (told store) (λ h. WasSound b doubted_held.opened h → IsKept doubted_at doubted_held h)) (sym (ap (λ (h : Held). h.base) form_of))
-                (subst (λ (o : ℕ). IfSome (told store) (λ h. WasSound hall.held.base o h → IsKept doubted_at doubted_held h)) (sym (ap (λ (h : Held). h.opened) form_of)) (good_doubted why did));
+                (subst (λ (o : ℕ). IfSome (told store) (λ h. WasSound hall.held.base o h → IsKept doubted_at doubted_held h)) (sym (ap (λ (h : Held). h.opened) form_of)) (good_doubted joined why did));
           };
         }
       where

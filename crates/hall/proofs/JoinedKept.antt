@@ -1,7 +1,7 @@
 -- What no stop takes away, behind a transaction that joined and waits for a force, or is in doubt.
 use Rattle.std.proofs.Common.{◌≡◌, ◌⊎◌, inl, inr, ℕ, ◌+◌, ◌-◌, ◌<◌, ◌≤◌, ◌^◌, suc, zero, true, false, not, List, [], ◌∷◌, ◌++◌, length, take, drop, Option, Some, None, is_some, refl, sym, ap, subst, ◌∙◌, arith}
 use Rattle.std.specs.Prelude.{IfSome}
-use Rattle.std.specs.List.{AllByRecursion, flat_map, slice_get}
+use Rattle.std.specs.List.{AllByRecursion, flat_map, slice_get, Contains}
 use Rattle.std.proofs.lemmas.Bool.{cases_lt}
 use Rattle.std.proofs.lemmas.List.{drop-append-le, length-drop, take-append-le, take_all}
 use Rattle.store_api.specs.Disk.{History, ImageAt, now}
@@ -37,6 +37,9 @@ use Rattle.hall.specs.declared.seat.Seat.{Seat}
 use Rattle.hall.specs.Covered.{NumbersAreDrawn, SpaceIsClear, covered, databases, inv_at, is_any_reuse, left_open}
 use Rattle.hall.specs.Good.{AllInProgress, HasBytes, HasTaken, IsKept, IsLawful, IsListed, IsPayload, IsSafe, IsSoundWith, IsStamped, RecoversToOne, StandsOn, between}
 use Rattle.hall.specs.Held.{Held, IsCore, IsImage}
+use Rattle.hall.specs.Protected.{HadBackups, KeepsAllBackups}
+use Rattle.hall.proofs.BackupsAlike.{halted_keeps}
+use Rattle.hall.proofs.BackupsSpared.{durable_there, had_before, open_of, vault_keeps}
 use Rattle.hall.proofs.Beside.{all_taken_beside, covered_beside, covered_since}
 use Rattle.hall.proofs.ComeFrom.{each_found}
 use Rattle.hall.proofs.Covering.{all_each}
@@ -112,7 +115,8 @@ module _ (actor : ℕ) (x : Change) (numbers : List ℕ) (c : Core) (l : IsLawfu
 
 module _ (actor : ℕ) (x : Change) (numbers : List ℕ) (m : Machine) (held : Held) (h new : History) (goes : GoesOn IsOurs h new) (is : IsCore held m.core) (k : IsKept m held h)
     (l : IsLawful m.core) (few : length m.core.stamps ≤ length m.core.journal) (n : NumbersAreDrawn m.core) (space : SpaceIsClear m.core) (g : HasBytes m.contents m.core) (j : Joins actor x numbers m.core)
-    (since : EachImage (now h) new (λ files. RecoversWithin meaning files (durable m.core))) where
+    (since : EachImage (now h) new (λ files. RecoversWithin meaning files (durable m.core)))
+    (joined : HadBackups held.base held.opened h → KeepsAllBackups (last actor x numbers m.core) held.opened h held.job) where
   abbrev c : Core
   c = m.core
 
@@ -192,6 +196,12 @@ module _ (actor : ℕ) (x : Change) (numbers : List ℕ) (m : Machine) (held : H
   one_over left files at =
       (length c.stamps, omega arith, (let more = long actor x numbers c in omega (arith, more, few)), subst (λ v. RecoversWithin meaning files v) (sym (inv_before actor x numbers c (length c.stamps) few)) (left files at))
 
+  -- all backups are kept behind the transaction over the run
+  backups_over : HadBackups held.base held.opened new → KeepsAllBackups next held.opened new held.job
+  backups_over had =
+      vault_keeps h new next held.opened (open_of next (durable c) (now h) new (subst (Contains (left_open next)) (durable_last actor x numbers c few) (durable_there next)) since) goes held.job
+      (joined (had_before IsOurs held.base held.opened h new goes k.since had))
+
   tickets_over : AllByRecursion (HasTaken new) (without actor numbers c.tickets)
   tickets_over = each_kept (HasTaken new) (λ t. not (is_among actor numbers t)) c.tickets taken_over
 
@@ -211,6 +221,7 @@ module _ (actor : ℕ) (x : Change) (numbers : List ℕ) (m : Machine) (held : H
     firm = firm_over;
     tickets = tickets_over;
     image = λ none. absurd (no_fault none);
+    backups = λ had. halted_keeps new next file count held.opened held.job (backups_over had);
   }
     where
       no_fault : {A : Type 0} {a : A} → Some a ≡ None → ⊥
@@ -272,4 +283,5 @@ module _ (actor : ℕ) (x : Change) (numbers : List ℕ) (m : Machine) (held : H
       firm = firm_over;
       tickets = tickets_over;
       image = λ _. progress_over c.image is_image j.image (k.image none);
+      backups = backups_over;
     }

@@ -24,7 +24,7 @@ use Rattle.inventory_laws.proofs.Origins.{each_contained}
 use Rattle.inventory_laws.proofs.Rising.{draws_on}
 use Rattle.machine.specs.Machine.{file_drawn}
 use Rattle.machine.specs.State.{Core, Purpose, Ticket, copying, inventory, is_among, is_storing, object_of, storing, without}
-use Rattle.hall.specs.Covered.{IsDrawn, IsInPool, IsNew, IsNewFile, IsObject, IsVolume, LiesIn, NoneComesBack, NumbersAreDrawn, SpaceIsClear, WasThere, bring_others, inv_at, is_later}
+use Rattle.hall.specs.Covered.{IsDrawn, IsInPool, IsNew, IsNewFile, IsObject, IsVolume, LiesIn, NoneComesBack, NeverBackup, NumbersAreDrawn, SpaceIsClear, WasThere, bring_others, inv_at, is_later}
 use Rattle.hall.specs.Good.{IsLawful}
 use Rattle.hall.proofs.Brought.{not_again}
 use Rattle.hall.proofs.ComeFrom.{no_version, objects_behind, version_none}
@@ -115,16 +115,16 @@ module _ (actor : ℕ) (x : Change) (numbers : List ℕ) (c : Core) (l : IsLawfu
   backup_kept : (file : ℕ) → KeepsBackup file x → backup_at file now ≡ None → backup_at file (behind actor x numbers c) ≡ None
   backup_kept file keeps none = none_is (backup_at file (behind actor x numbers c)) (backup_so file x now keeps ∙ ap is_some none)
 
-  new_kept : (file : ℕ) → KeepsVolume file x now → (is_none (row_at file now.stores.volumes) ≡ true → (c.base.next_file ≤ file) × IsNewFile c file)
-      → is_none (row_at file (behind actor x numbers c).stores.volumes) ≡ true → (c.base.next_file ≤ file) × IsNewFile (last actor x numbers c) file
-  new_kept file keeps was none = go (row_at file now.stores.volumes) refl where
+  new_kept : (file : ℕ) → KeepsVolume file x now → KeepsBackup file x → backup_at file now ≡ None → (is_none (row_at file now.stores.volumes) ≡ true → (c.base.next_file ≤ file) × IsNewFile c file × NeverBackup c file)
+      → is_none (row_at file (behind actor x numbers c).stores.volumes) ≡ true → (c.base.next_file ≤ file) × IsNewFile (last actor x numbers c) file × NeverBackup (last actor x numbers c) file
+  new_kept file keeps spares unlisted was none = go (row_at file now.stores.volumes) refl where
     gone : row_at file (behind actor x numbers c).stores.volumes ≡ None
     gone = is_nothing (row_at file (behind actor x numbers c).stores.volumes) none
 
-    go : (o : Option Volume) → row_at file now.stores.volumes ≡ o → (c.base.next_file ≤ file) × IsNewFile (last actor x numbers c) file
+    go : (o : Option Volume) → row_at file now.stores.volumes ≡ o → (c.base.next_file ≤ file) × IsNewFile (last actor x numbers c) file × NeverBackup (last actor x numbers c) file
     go None at =
         let old = was (ap is_none at) in
-        (old.0, each_inv (λ v. row_at file v.stores.volumes ≡ None) old.1 gone)
+        (old.0, each_inv (λ v. row_at file v.stores.volumes ≡ None) old.1 gone, each_inv (λ v. backup_at file v ≡ None) old.2 (backup_kept file spares unlisted))
     go (Some volume) at =
         let there : in_inv file now ≡ Some volume.pool = ap (λ (o : Option Volume). option_map (λ (w : Volume). w.pool) o) at in
         let still : in_inv file (behind actor x numbers c) ≡ Some volume.pool = volume_stays file (journal_of c.base c.journal) x now free keeps (ap is_some there) ∙ there in
@@ -177,8 +177,8 @@ module _ (actor : ℕ) (x : Change) (numbers : List ℕ) (c : Core) (l : IsLawfu
         v.0,
         omega (arith, v.1, below),
         subst (λ d. backup_at file d ≡ None) (sym (inventory_last actor x numbers c)) (backup_kept file keeps.1 v.2),
-        subst (λ d. is_none (row_at file d.stores.volumes) ≡ true → (c.base.next_file ≤ file) × IsNewFile (last actor x numbers c) file) (sym (inventory_last actor x numbers c))
-            (new_kept file keeps.0 v.3),
+        subst (λ d. is_none (row_at file d.stores.volumes) ≡ true → (c.base.next_file ≤ file) × IsNewFile (last actor x numbers c) file × NeverBackup (last actor x numbers c) file) (sym (inventory_last actor x numbers c))
+            (new_kept file keeps.0 keeps.1 v.2 v.3),
       )
 
   -- ---- pools

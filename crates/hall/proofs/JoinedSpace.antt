@@ -38,7 +38,7 @@ use Rattle.hall.proofs.VolumesStay.{KeepsVolume}
 
 -- ---- what was written
 
-written_end : (file : ℕ) (w : Written) (v : Inv) (es : List Entry) (e : Entry) → is_reuse file e.change ≡ false
+pub written_end : (file : ℕ) (w : Written) (v : Inv) (es : List Entry) (e : Entry) → is_reuse file e.change ≡ false
     → written_over file w v (es ++ (e ∷ [])) ≡ (let old = written_over file w v es in record { floor = old.floor; segments = old.segments ++ came file (after v es) (effect e.change (after v es)) })
 written_end file w v [] e plain = ap (λ b. if b then record { floor = 0; segments = [] } else record { floor = w.floor; segments = w.segments ++ came file v (effect e.change v) }) plain
 written_end file w v (x ∷ es) e plain =

@@ -5,6 +5,7 @@ pub mod AskedJoins
 pub mod Asking
 pub mod Away
 pub mod Backed
+pub mod BackedUp
 pub mod Backing
 pub mod BackupBegins
 pub mod BackupCalls
@@ -13,6 +14,13 @@ pub mod BackupJoins
 pub mod BackupNext
 pub mod BackupRefused
 pub mod BackupSteps
+pub mod BackupsAlike
+pub mod BackupsSpared
+pub mod BackupsStopped
+pub mod BackupsBegun
+pub mod BackupsJoined
+pub mod BackupsOpened
+pub mod BackupsOver
 pub mod Behind
 pub mod Beside
 pub mod Brought
@@ -23,6 +31,7 @@ pub mod Clearing
 pub mod ComeFrom
 pub mod Commits
 pub mod Committed
+pub mod CopiesWritten
 pub mod CopyAnswers
 pub mod CopySteps
 pub mod CopyTakes
@@ -30,6 +39,7 @@ pub mod Covering
 pub mod Databases
 pub mod Deciding
 pub mod Declining
+pub mod Delaying
 pub mod DrawnNext
 pub mod Dropping
 pub mod Edited
@@ -50,6 +60,7 @@ pub mod Imaged
 pub mod Imaging
 pub mod Indexed
 pub mod JoinAnswers
+pub mod JoinedBackups
 pub mod JoinedBytes
 pub mod JoinedCore
 pub mod JoinedFreed
@@ -73,7 +84,9 @@ pub mod PieceReads
 pub mod PieceSteps
 pub mod PlacesChosen
 pub mod PoolsStay
+pub mod Promising
 pub mod Protecting
+pub mod Providing
 pub mod Refusing
 pub mod Remaining
 pub mod Replacing
@@ -86,6 +99,7 @@ pub mod SealSteps
 pub mod Seating
 pub mod Sighted
 pub mod Sound
+pub mod Sparing
 pub mod Spending
 pub mod Spots
 pub mod Stamped

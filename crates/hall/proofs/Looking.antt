@@ -22,6 +22,7 @@ use Rattle.machine.specs.State.{Image, Machine, Ticket, object_of}
 use Rattle.hall.specs.Covered.{covered, inv_at}
 use Rattle.hall.specs.Good.{AllInProgress, HasTaken, Is, IsKept, IsSafe, Rise, StandsOn, WasSound}
 use Rattle.hall.specs.Held.{Hall, Held}
+use Rattle.hall.proofs.BackupsSpared.{had_before, still_keeps}
 use Rattle.hall.proofs.Forcing.{underway_same}
 use Rattle.hall.proofs.Stamping.{few_acknowledged, rise_later, rise_over}
 
@@ -87,6 +88,7 @@ module _ (h new : History) (goes : GoesOn (λ f. ⊥) h new) where
       firm = beside (λ f. ⊥) m.contents h new (covered m.core) (each_of (λ s. ¬ ⊥) (λ s none. none) (covered m.core)) goes k.firm;
       tickets = each_also (HasTaken h) (HasTaken new) m.core.tickets taken_still k.tickets;
       image = λ none. image_still m.core.image (k.image none);
+      backups = λ had. still_keeps h new m.core held.opened goes k.since held.job (k.backups (had_before (λ f. ⊥) held.base held.opened h new goes k.since had));
     }
 
 -- ---- the hall

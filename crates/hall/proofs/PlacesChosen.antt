@@ -40,7 +40,7 @@ use Rattle.space_laws.proofs.Ends.{own_end}
 use Rattle.space_laws.proofs.Keys.{AllKeys, all_held}
 use Rattle.machine.specs.Machine.{all_segments, durable, freed, space}
 use Rattle.machine.specs.State.{Core, Ticket, after, inventory, unforced}
-use Rattle.hall.specs.Covered.{IsClear, IsInPool, IsNewFile, IsVolume, LiesIn, NumbersAreDrawn, SpaceIsClear, Written, all_space, are_apart_in, inv_at, is_any_reuse, is_unwritten, left_open, written}
+use Rattle.hall.specs.Covered.{IsClear, IsInPool, IsNewFile, IsVolume, LiesIn, NeverBackup, NumbersAreDrawn, SpaceIsClear, Written, all_space, are_apart_in, inv_at, is_any_reuse, is_unwritten, left_open, written}
 use Rattle.hall.specs.Good.{IsLawful}
 use Rattle.hall.specs.Placed.{IsNoted, IsSpace, claim_of, places_of}
 use Rattle.hall.proofs.Along.{Along, IsStep, IsUpTo, along_later, at_each, each_at, each_draws, end_at, end_found, no_key, run_steps, run_valid, written_absent, written_there, all_from_volume}
@@ -106,6 +106,15 @@ scratch_absent c file l numbers le =
     let valid : is_valid v ≡ true = each_at (λ x. is_valid x ≡ true) c.base c.journal (run_valid c l) count in
     let draws = each_at _ c.base c.journal (each_draws c.base c.journal) count in
     not_drawn 4 v.next_file file v.stores.volumes (drawn_front 4 v.next_file (keys_of v.stores.volumes) (keys_of v.backups) (facts_of v valid).files_drawn).0 (omega (arith, draws.file, numbers.next_file.1, le))
+
+-- nor is it a database backup's
+pub scratch_unlisted : (c : Core) (file : ℕ) → IsLawful c → NumbersAreDrawn c → c.next_file ≤ file → NeverBackup c file
+scratch_unlisted c file l numbers le =
+    λ count.
+    let v : Inv = inv_at count c in
+    let valid : is_valid v ≡ true = each_at (λ x. is_valid x ≡ true) c.base c.journal (run_valid c l) count in
+    let draws = each_at _ c.base c.journal (each_draws c.base c.journal) count in
+    not_drawn 4 v.next_file file v.backups (drawn_front 4 v.next_file (keys_of v.stores.volumes) (keys_of v.backups) (facts_of v valid).files_drawn).1 (omega (arith, draws.file, numbers.next_file.1, le))
 
 pub scratch_volume : (c : Core) (file : ℕ) → is_valid (inventory c) ≡ true → NumbersAreDrawn c → c.next_file ≤ file → (4 ≤ file) × (backup_at file (inventory c) ≡ None) × (c.base.next_file ≤ file)
 scratch_volume c file valid numbers le =
@@ -238,7 +247,7 @@ pub record IsApartFrom (c : Core) (actor number : ℕ) (s : Segment) (u : Ticket
 pub record IsLawfulIn (c : Core) (actor number : ℕ) (s : Segment) : Type 0 where
   pub least : 4 ≤ s.file
   pub no_backup : backup_at s.file (inventory c) ≡ None
-  pub drawn : is_none (row_at s.file (inventory c).stores.volumes) ≡ true → (c.base.next_file ≤ s.file) × IsNewFile c s.file
+  pub drawn : is_none (row_at s.file (inventory c).stores.volumes) ≡ true → (c.base.next_file ≤ s.file) × IsNewFile c s.file × NeverBackup c s.file
   pub lies : LiesIn c number s.file
   pub clear : IsClear c number s
   pub apart : AllByRecursion (λ u. AllByRecursion (λ r. r.file ≡ s.file → IsApartFrom c actor number s u r) u.place.segments) c.tickets
@@ -385,7 +394,7 @@ module _ (c : Core) (claims : Claims) (actor number : ℕ) (l : IsLawful c) (num
       record {
         least = on.0;
         no_backup = on.1;
-        drawn = λ _. (on.2, unmade);
+        drawn = λ _. (on.2, unmade, scratch_unlisted c s.file l numbers le);
         lies = subst (IsInPool c number s.file) (sym (absent_now s.file unmade)) unmade;
         clear = absent_clear s unmade;
         apart = each_segment (λ u r. IsVolume c r.file) (λ u r. r.file ≡ s.file → IsApartFrom c actor number s u r) (λ u r volume same. absurd (omega (arith, volume.1, same, le))) numbers.files;

@@ -143,7 +143,7 @@ module _ {S : Type 0} (told : S → Option History) (moment : S → ℕ) (faults
         kept (sound_back hall.held h new (omega (arith, from, is.clock, at)) (goes_in t.place.segments h new files (wrote h new r)) sound)
 
     still_kept : IsKept (record m { core = dropping actor number m.core }) (without_seat number hall.held) new
-    still_kept = kept_without actor number writes lies m hall.held t among is.good.space is.good.numbers none is.good.stamped.few h new was_kept (wrote h new r)
+    still_kept = kept_without actor number writes lies m hall.held t among is.good.space is.good.numbers none is.good.stamped.few (is.good.stamped.waiting none) h new was_kept (wrote h new r)
 
   -- ---- it is dropped
 

@@ -1,6 +1,6 @@
 -- The step that reuses a volume: its transaction joins, all is forced, and the file of a scratch volume is cut.
-use Rattle.std.proofs.Common.{◌≡◌, ◌⊎◌, inl, inr, ℕ, ◌+◌, ◌<◌, ◌≤◌, ◌^◌, Bool, true, not, List, [], ◌∷◌, ◌++◌, length, Option, Some, None, Result, Ok, Err, is_some, refl, sym, ap, subst, ◌∙◌, arith}
-use Rattle.std.specs.Prelude.{◌==◌, IfErr, IfOk, IfSome, OnErr, OnOk}
+use Rattle.std.proofs.Common.{◌≡◌, ◌⊎◌, inl, inr, ℕ, ◌+◌, ◌<◌, ◌≤◌, ◌^◌, Bool, true, not, List, [], ◌∷◌, ◌++◌, length, Option, Some, None, Result, Ok, Err, is_some, refl, sym, ap, subst, ◌∙◌, arith, false}
+use Rattle.std.specs.Prelude.{◌==◌, IfErr, IfOk, IfSome, OnErr, OnOk, if◌then◌else◌}
 use Rattle.std.specs.List.{AllByRecursion, flat_map}
 use Rattle.std.proofs.lemmas.Bool.{eq-eqb, eqb-true, false≢true}
 use Rattle.std.proofs.lemmas.List.{length-append}
@@ -39,11 +39,11 @@ use Rattle.steps.specs.Events.{is_listed}
 use Rattle.steps.specs.Events.Deed.{Reuse}
 use Rattle.vault.specs.Files.{IsOurs, log_file}
 use Rattle.vault.specs.Vaults.{Forces, IsPending, RefusesForce, State, Waits, all_forced, in_doubt, with_fault, with_waiting}
-use Rattle.vault.proofs.Goodness.{log_ours}
+use Rattle.vault.proofs.Goodness.{log_ours, held_since}
 use Rattle.machine.specs.Causes.{listed, reuse_refused}
 use Rattle.machine.specs.Machine.{durable, ended, halting, has_file, held_by, last_moment, stamped, storing_contents}
 use Rattle.machine.specs.State.{Core, Machine, inventory, is_among, sight, unforced}
-use Rattle.hall.specs.Covered.{IsVolume, left_open}
+use Rattle.hall.specs.Covered.{IsVolume, left_open, IsNewFile, Written, came, is_any_reuse, written, written_before, written_over}
 use Rattle.hall.specs.Good.{Is, IsKept, WasSound}
 use Rattle.hall.specs.Held.{Hall, Held, IsCore, IsImage}
 use Rattle.hall.specs.Joined.{RefusesJoin, drawn_by, joined_held, unjoined}
@@ -54,7 +54,7 @@ use Rattle.hall.specs.Steps.{Steps}
 use Rattle.hall.proofs.Calling.{later_run}
 use Rattle.hall.proofs.Cleared.{IsCleared, cleared_kept, clears_goes, fewer_reached, later_stamps}
 use Rattle.hall.proofs.Committed.{RestStays, unjoined_is}
-use Rattle.hall.proofs.Databases.{each_covered, left_alone}
+use Rattle.hall.proofs.Databases.{each_covered, left_alone, none_waits}
 use Rattle.hall.proofs.DrawnNext.{backup_so}
 use Rattle.hall.proofs.Dropping.{no_later}
 use Rattle.hall.proofs.Ended.{none_halted, not_over}
@@ -66,13 +66,19 @@ use Rattle.hall.proofs.JoinedFreed.{TakesAway, number_behind}
 use Rattle.hall.proofs.JoinedKept.{doubted_kept, lawful_joined, listed_joined, waiting_kept}
 use Rattle.hall.proofs.JoinedNumbers.{numbers_joined}
 use Rattle.hall.proofs.JoinedSpace.{space_joined}
-use Rattle.hall.proofs.Joining.{Joins, inventory_last, last, long, spent, valid_now}
+use Rattle.hall.proofs.Joining.{Joins, inventory_last, last, long, spent, valid_now, free_of, inv_before, whole_at}
 use Rattle.hall.proofs.Lists.{each_kept}
 use Rattle.hall.proofs.PlacesChosen.{row_volume}
 use Rattle.hall.proofs.Reusable.{fault_listed, made_alone, may_begin, memory_listed, no_ticket, number_listed, on_cited, reuse_joins, reused_there, short_record}
 use Rattle.hall.proofs.Stamped.{IsNearlyGood, core_forced, core_halted, listed_stamped, nearly_halted, nearly_stamped}
 use Rattle.hall.proofs.Stamping.{rise_later, rise_over}
 use Rattle.hall.proofs.Takes.{takes_joined}
+use Rattle.hall.specs.Protected.{HadBackups, IsWritten, IsWrittenOn, KeepsAllBackups}
+use Rattle.hall.proofs.JoinedBackups.{joined_backups}
+use Rattle.hall.proofs.BackupsSpared.{durable_there, had_before, open_of, written_keeps}
+use Rattle.hall.proofs.Protecting.{spares_others}
+use Rattle.inventory_laws.specs.Rising.{is_reuse}
+use Rattle.kinds.specs.declared.segment.Segment.{Segment}
 
 -- ---- what is kept over calls
 
@@ -94,6 +100,14 @@ abbrev pub PendingStays : Type 0
 PendingStays =
     (theirs : ℕ → Bool) (vault : State Inv) (snapshot : Inv) (old new : History) → ((n : ℕ) → theirs n ≡ true → 4 ≤ n) → GoesOn (λ n. theirs n ≡ true) old new
     → IsPending meaning vault snapshot old → IsPending meaning vault snapshot new
+
+-- ---- what was written
+
+-- behind the reuse of a volume nothing was written on it
+reused_end : (file : ℕ) (w : Written) (v : Inv) (es : List Entry) (e : Entry) → is_reuse file e.change ≡ true → written_over file w v (es ++ (e ∷ [])) ≡ record { floor = 0; segments = [] }
+reused_end file w v [] e is = ap (λ b. if b then record { floor = 0; segments = [] } else record { floor = w.floor; segments = w.segments ++ came file v (effect e.change v) }) is
+reused_end file w v (y ∷ es) e is =
+    reused_end file (if is_reuse file y.change then record { floor = 0; segments = [] } else record { floor = w.floor; segments = w.segments ++ came file v (effect y.change v) }) (effect y.change v) es e is
 
 -- ---- what has to be so
 
@@ -169,7 +183,7 @@ module _ {S : Type 0} (told : S → Option History) (moment : S → ℕ) (faults
               let goes = ours_alone hall.held.vault.generation h new r.goes in
               let held = k.sure (is.core.fault ∙ none) in
               let image : IsImage m.core.base.number hall.held.vault.generation hall.held.vault.pending hall.held.job m.core.image = is.core.is_image none in
-              waiting_kept actor x [] m hall.held h new goes is.core k is.good.lawful few is.good.numbers is.good.space is.good.bytes a.joins (r.since (durable m.core) held)
+              waiting_kept actor x [] m hall.held h new goes is.core k is.good.lawful few is.good.numbers is.good.space is.good.bytes a.joins (r.since (durable m.core) held) (joined_backups actor x [] m hall.held is.core is.good.lawful few is.good.numbers a.joins none (λ file same. absurd cc) h k)
               w (r.held (durable m.core) held) r.pends image waiting_held.seats waiting_held.claims (is.core.fault ∙ none) (faults mid) (moment mid) (r.left (durable m.core) held))
               is.good.kept;
         }
@@ -218,6 +232,38 @@ module _ {S : Type 0} (told : S → Option History) (moment : S → ℕ) (faults
           subst (λ v. is_some (backup_at file v) ≡ true) (inventory_last actor x [] m.core) (subst (λ n. is_some (backup_at n (inventory c)) ≡ true) gone.0 listed) in
           false≢true (sym (ap is_some (may m is).volume.2) ∙ (sym (backup_so file x (inventory m.core) tt) ∙ here))
 
+      -- the volume was there
+      was_there : (n : ℕ) → n ≡ file → IsNewFile c n → ⊥
+      was_there n same unmade =
+          let there : is_some (row_at file (inventory m.core).stores.volumes) ≡ true = reused_there (journal_of m.core.base m.core.journal) file (inventory m.core) (free_of actor x [] m.core is.good.lawful (may m is).joins).causes in
+          let at : row_at n (inventory m.core).stores.volumes ≡ None =
+          subst (λ (v : Inv). row_at n v.stores.volumes ≡ None) (inv_before actor x [] m.core (length m.core.journal) (omega arith) ∙ whole_at actor x [] m.core) (unmade (length m.core.journal)) in
+          false≢true (sym (ap is_some (subst (λ k. row_at k (inventory m.core).stores.volumes ≡ None) same at)) ∙ there)
+
+      -- nothing was written on it since
+      not_written : (s : Segment) → s.file ≡ file → IsWritten (written s.file c) s → ⊥
+      not_written s same is_written = by (subst (λ w. IsWritten w s) (ap (λ k. written k c) same ∙ reused_end file (written_before file m.core.base) m.core.base m.core.journal e (eq-eqb file file refl)) is_written) where
+        by : IsWritten (record { floor = 0; segments = [] }) s → ⊥
+        by (inl low) = omega (arith, low)
+        by (inr there) = let few = there.1 in omega (arith, few)
+
+      -- cutting its file takes away nothing that a backup needs
+      cut_backs : (t : ℕ) (between new : History) → GoesOn Gone between new → IsKept (record (waiting_at m) { core = stamped t c; moment = t; counts = faults store }) (all_stamped t (with_vault (all_forced w) waiting_held)) between
+          → HadBackups waiting_held.base waiting_held.opened new → KeepsAllBackups (stamped t c) waiting_held.opened new waiting_held.job
+      cut_backs t between new on k2 had =
+          written_keeps between new (stamped t c) waiting_held.opened
+          (open_of (stamped t c) (durable (stamped t c)) (now between) new (durable_there (stamped t c)) (held_since meaning Gone (all_forced w) (durable (stamped t c)) between new not_ours on (k2.sure b.core.fault)))
+          (λ n. ¬ Gone n) (λ s. ¬ Gone s.file)
+          (λ v. (b.core.fault, inr (subst (λ es. AllByRecursion (λ y. is_any_reuse y.change ≡ false) es) (sym (none_waits (stamped t c) (all_have_stamps t c b.good.few))) tt)))
+          (λ n filed gone. was_there n gone.0 filed.0.2)
+          (λ s laid on_it gone. spared s on_it gone)
+          (spares_others Gone (λ n. ¬ Gone n) (λ s. ¬ Gone s.file) between new (λ n own gone. own gone) (λ s own gone. own gone) on) waiting_held.job
+          (k2.backups (had_before Gone waiting_held.base waiting_held.opened between new on k2.since had))
+        where
+          spared : (s : Segment) → IsWrittenOn (stamped t c) s → Gone s.file → ⊥
+          spared s (inl written_there) gone = not_written s gone.0 written_there.0
+          spared s (inr unmade) gone = was_there s.file gone.0 unmade
+
       cleared : (number : ℕ) (h new : History) → Empties file (Ok number) w (all_forced w) h new → now new ≡ moment store → IsKept (waiting_at m) waiting_held h → IsKept final_at final_held new
       cleared number h new (between, f, clears) to k =
           let t : ℕ = now between in
@@ -229,7 +275,8 @@ module _ {S : Type 0} (told : S → Option History) (moment : S → ℕ) (faults
           let k3 = cleared_kept (record (waiting_at m) { core = stamped t c; moment = t; counts = faults store }) (all_stamped t (with_vault (all_forced w) waiting_held)) between new Gone on k2 not_ours (no_covered t) no_space no_backup
           b.core.fault (omega (arith, full))
           (λ snapshot p. pends (λ n. n == file) (all_forced w) snapshot between new (λ n same. omega (arith, eqb-true n file same, (may m is).volume.0))
-          (goes_weaker Gone (λ n. (n == file) ≡ true) between new (λ n gone. eq-eqb n file gone.0) on) p) in
+          (goes_weaker Gone (λ n. (n == file) ≡ true) between new (λ n gone. eq-eqb n file gone.0) on) p)
+          (cut_backs t between new on k2) in
           let further : t ≤ now new = goes_later Gone between new on in
           later_stamps (record (waiting_at m) { core = stamped t c; moment = t; counts = faults store }) (all_stamped t (with_vault (all_forced w) waiting_held)) new k3
           (stamped (moment store) c).stamps final_held.stamps (full ∙ sym (all_have_stamps (moment store) c b.good.few))
@@ -400,7 +447,7 @@ module _ {S : Type 0} (told : S → Option History) (moment : S → ℕ) (faults
                       (opened_before m is) clock did (λ h new r. ours_alone hall.held.vault.generation h new r.goes)
                       (λ h new r to k.
                       let held = k.sure (is.core.fault ∙ none) in
-                      doubted_kept actor x [] m hall.held h new (ours_alone hall.held.vault.generation h new r.goes) is.core k is.good.lawful few is.good.numbers is.good.space is.good.bytes a.joins (r.since (durable m.core) held)
+                      doubted_kept actor x [] m hall.held h new (ours_alone hall.held.vault.generation h new r.goes) is.core k is.good.lawful few is.good.numbers is.good.space is.good.bytes a.joins (r.since (durable m.core) held) (joined_backups actor x [] m hall.held is.core is.good.lawful few is.good.numbers a.joins none (λ file same. absurd cc) h k)
                       log count doubted_vault doubted_held.seats doubted_held.claims (faults mid) (moment mid) (r.left (durable m.core) held)) is.good.kept;
                 };
               },

@@ -9,6 +9,7 @@ use Rattle.hall.specs.declared.seat.Seat.{Seat}
 use Rattle.hall.specs.Covered.{NumbersAreDrawn, SpaceIsClear}
 use Rattle.hall.specs.Good.{AllInProgress, HasTaken, IsFront, IsGood, IsKept, IsSafe, WasSound}
 use Rattle.hall.specs.Held.{Held}
+use Rattle.hall.proofs.BackupsAlike.{same_keeps}
 
 -- the state with these tickets, where these numbers are drawn next
 abbrev pub seated_core : List Ticket → (file object number : ℕ) → Core → Core
@@ -44,6 +45,7 @@ module _ (tickets : List Ticket) (file object number : ℕ) where
     firm = k.firm;
     tickets = taken;
     image = λ none. progress_seated m.core held seats claims o n m.core.image h (k.image none);
+    backups = λ had. same_keeps h m.core tickets file object number m.core.image m.core.generation m.core.log_length held.opened held.job (k.backups had);
   }
 
   pub good_seated : (told : Option History) (m : Machine) (held : Held) (seats : List (ℕ × Seat)) (claims : Claims) (o n : ℕ) → IsGood told m held

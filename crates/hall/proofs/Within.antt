@@ -1,15 +1,15 @@
 -- What is kept while a ticket's frames are written to: all but what that ticket took.
-use Rattle.std.proofs.Common.{◌≡◌, ◌≢◌, ℕ, ◌+◌, ◌≤◌, suc, zero, not, List, [], ◌∷◌, ◌++◌, length, take, None, refl, sym, subst, ◌∙◌, append_assoc}
-use Rattle.std.specs.List.{AllByRecursion}
+use Rattle.std.proofs.Common.{◌≡◌, ◌≢◌, inr, false, ℕ, ◌+◌, ◌≤◌, suc, zero, not, List, [], ◌∷◌, ◌++◌, length, take, None, refl, sym, subst, ◌∙◌, append_assoc, arith}
+use Rattle.std.specs.List.{AllByRecursion, Contains}
 use Rattle.kinds.specs.declared.segment.Segment.{Segment}
 use Rattle.store_api.specs.Disk.{History, now}
 use Rattle.store_api.specs.Runs.{GoesOn, WroteWithin}
 use Rattle.store_api.proofs.Runs.{goes_image_after, goes_none, goes_then, goes_weaker}
 use Rattle.inventory_laws.proofs.Lists.{each_also, each_both}
-use Rattle.machine.specs.Machine.{dropping}
-use Rattle.machine.specs.State.{Core, Machine, Ticket, is_among, without}
+use Rattle.machine.specs.Machine.{dropping, durable}
+use Rattle.machine.specs.State.{Core, Machine, Ticket, is_among, without, unforced}
 use Rattle.hall.specs.Beside.{IsBeside, IsKeptBut}
-use Rattle.hall.specs.Covered.{IsVolume, NumbersAreDrawn, SpaceIsClear}
+use Rattle.hall.specs.Covered.{IsVolume, NumbersAreDrawn, SpaceIsClear, is_any_reuse}
 use Rattle.hall.specs.Frames.{WroteEach, WroteIn}
 use Rattle.hall.specs.Good.{HasTaken, IsKept, WasSound}
 use Rattle.hall.specs.Held.{Held}
@@ -17,6 +17,13 @@ use Rattle.hall.specs.Seats.{without_seat}
 use Rattle.hall.proofs.Edited.{StandsAmong, others_left, own_has}
 use Rattle.hall.proofs.Lists.{each_kept}
 use Rattle.hall.proofs.Seating.{kept_seated}
+use Rattle.inventory_laws.proofs.Origins.{each_contained}
+use Rattle.inventory.specs.Meant.{meaning}
+use Rattle.vault.specs.Files.{IsOurs}
+use Rattle.vault.proofs.Goodness.{held_since}
+use Rattle.hall.specs.Protected.{HadBackups, KeepsAllBackups}
+use Rattle.hall.proofs.BackupsSpared.{SparesBackups, durable_there, had_before, open_of, range_keeps}
+use Rattle.hall.proofs.Sparing.{ticket_files, ticket_spares}
 
 -- ---- what the laws say, as premises
 
@@ -60,10 +67,10 @@ sound_back held h new before goes sound = (sound.0, λ image it. sound.1 image (
 -- ---- what is kept
 
 module _ (writes : WritesBeside) (m : Machine) (held : Held) (pool number : ℕ) (running : m.core.fault ≡ None) (few : length m.core.stamps ≤ length m.core.journal)
-    (others : AllByRecursion (λ t. t.number ≢ number) m.core.tickets) where
+    (others : AllByRecursion (λ t. t.number ≢ number) m.core.tickets) (calm : AllByRecursion (λ e. is_any_reuse e.change ≡ false) (unforced m.core)) where
   -- no ticket has that number
-  whole : (h : History) → IsKeptBut number m held h → IsKept m held h
-  whole h k = record {
+  whole : (h : History) → IsKeptBut number m held h → (HadBackups held.base held.opened h → KeepsAllBackups m.core held.opened h held.job) → IsKept m held h
+  whole h k backups = record {
     since = k.since;
     first = k.first;
     always = k.always;
@@ -72,14 +79,25 @@ module _ (writes : WritesBeside) (m : Machine) (held : Held) (pool number : ℕ)
     firm = k.firm;
     tickets = each_both (λ t. t.number ≢ number) (λ t. t.number ≢ number → HasTaken h t) (HasTaken h) m.core.tickets (λ t other has. has other) others k.others;
     image = k.image;
+    backups = backups;
   }
 
-  kept_each : (segments : List Segment) (h new : History) → AllByRecursion (IsBeside m.core pool number) segments → IsKept m held h → WroteEach segments h new → IsKept m held new
-  kept_each [] h new beside k w = subst (IsKept m held) (sym w) k
-  kept_each (s ∷ segments) h new beside k w = kept_each segments w.0 new beside.1 (whole w.0 (writes m held h w.0 pool number s running few k beside.0 w.1)) w.2
+  -- all backups are kept over one write
+  backups_over : (s : Segment) (h new : History) → IsBeside m.core pool number s → SparesBackups m.core s → IsKept m held h → WroteWithin s.file s.offset (32 + s.len) h new
+      → HadBackups held.base held.opened new → KeepsAllBackups m.core held.opened new held.job
+  backups_over s h new beside spares k w had =
+      range_keeps h new m.core held.opened
+      (open_of m.core (durable m.core) (now h) new (durable_there m.core)
+      (held_since meaning (λ file. file ≡ s.file) held.vault (durable m.core) h new (λ file ours same. let from = beside.volume.0 in omega (arith, ours, same, from)) w.goes (k.sure running)))
+      s (λ v. (running, inr calm)) spares w held.job (k.backups (had_before (λ file. file ≡ s.file) held.base held.opened h new w.goes k.since had))
 
-  pub kept_in : (segments : List Segment) (h new : History) → AllByRecursion (IsBeside m.core pool number) segments → IsKept m held h → WroteIn segments h new → IsKept m held new
-  kept_in segments h new beside k w = kept_each (take w.0 segments) h new (each_taken (IsBeside m.core pool number) w.0 segments beside) k w.1
+  kept_each : (segments : List Segment) (h new : History) → AllByRecursion (IsBeside m.core pool number) segments → AllByRecursion (SparesBackups m.core) segments → IsKept m held h → WroteEach segments h new → IsKept m held new
+  kept_each [] h new beside spares k w = subst (IsKept m held) (sym w) k
+  kept_each (s ∷ segments) h new beside spares k w =
+      kept_each segments w.0 new beside.1 spares.1 (whole w.0 (writes m held h w.0 pool number s running few k beside.0 w.1) (backups_over s h w.0 beside.0 spares.0 k w.1)) w.2
+
+  pub kept_in : (segments : List Segment) (h new : History) → AllByRecursion (IsBeside m.core pool number) segments → AllByRecursion (SparesBackups m.core) segments → IsKept m held h → WroteIn segments h new → IsKept m held new
+  kept_in segments h new beside spares k w = kept_each (take w.0 segments) h new (each_taken (IsBeside m.core pool number) w.0 segments beside) (each_taken (SparesBackups m.core) w.0 segments spares) k w.1
 
 -- at another moment
 pub kept_at : (m : Machine) (held : Held) (moment : ℕ) (counts : ℕ → ℕ) (h : History) → IsKept m held h → IsKept (record m { moment = moment; counts = counts }) held h
@@ -92,6 +110,7 @@ kept_at m held moment counts h k = record {
   firm = k.firm;
   tickets = k.tickets;
   image = k.image;
+  backups = k.backups;
 }
 
 -- ---- without the ticket
@@ -116,14 +135,20 @@ module _ (actor number : ℕ) where
       (own_has actor number t c.tickets among (λ u. AllByRecursion (λ (s : Segment). IsVolume c s.file) u.place.segments) numbers.files)
 
   module _ (writes : WritesBeside) (lies : LiesBeside) (m : Machine) (held : Held) (t : Ticket) (among : StandsAmong actor number t m.core.tickets) (space : SpaceIsClear m.core)
-      (numbers : NumbersAreDrawn m.core) (running : m.core.fault ≡ None) (few : length m.core.stamps ≤ length m.core.journal) where
+      (numbers : NumbersAreDrawn m.core) (running : m.core.fault ≡ None) (few : length m.core.stamps ≤ length m.core.journal) (calm : AllByRecursion (λ e. is_any_reuse e.change ≡ false) (unforced m.core)) where
     besides : AllByRecursion (IsBeside (dropping actor number m.core) t.place.pool number) t.place.segments
     besides =
         each_split (IsBeside (dropping actor number m.core) t.place.pool number) t.place.segments [] t.place.segments refl
         (λ ahead beyond s e. beside_gone m.core t.place.pool s
         (subst (λ n. IsBeside m.core t.place.pool n s) among.number_is (lies m.core among.front among.back t ahead beyond s among.whole e space numbers)))
 
+    -- the ticket's segments spare what backups need
+    spares : AllByRecursion (SparesBackups m.core) t.place.segments
+    spares =
+        each_also (Contains t.place.segments) (SparesBackups m.core) t.place.segments
+        (λ u one. (ticket_files m.core numbers space t (own_has actor number t m.core.tickets among (Contains m.core.tickets) (each_contained m.core.tickets)) u one, ticket_spares m.core numbers space t (own_has actor number t m.core.tickets among (Contains m.core.tickets) (each_contained m.core.tickets)) u one)) (each_contained t.place.segments)
+
     pub kept_without : (h new : History) → IsKept m held h → WroteIn t.place.segments h new → IsKept (record m { core = dropping actor number m.core }) (without_seat number held) new
     kept_without h new k w =
-        kept_in writes (record m { core = dropping actor number m.core }) (without_seat number held) t.place.pool number running few (others_left actor number t m.core.tickets among)
-        t.place.segments h new besides (kept_gone m held h k) w
+        kept_in writes (record m { core = dropping actor number m.core }) (without_seat number held) t.place.pool number running few (others_left actor number t m.core.tickets among) calm
+        t.place.segments h new besides spares (kept_gone m held h k) w

@@ -142,11 +142,15 @@ IsObject c (copying object aim) = WasThere c object
 abbrev pub IsNewFile : Core → ℕ → Type 0
 IsNewFile c file = (count : ℕ) → row_at file (inv_at count c).stores.volumes ≡ None
 
--- a ticket's file is a volume's: one that is there, or a scratch volume's with a number that was drawn in this run and that no volume has had; and no database backup's
+-- no database of the run lists the file as a database backup's
+abbrev pub NeverBackup : Core → ℕ → Type 0
+NeverBackup c file = (count : ℕ) → backup_at file (inv_at count c) ≡ None
+
+-- a ticket's file is a volume's: one that is there, or a scratch volume's with a number that was drawn in this run and that no volume and no database backup has had; and no database backup's
 abbrev pub IsVolume : Core → ℕ → Type 0
 IsVolume c file =
     (4 ≤ file) × (file < c.next_file) × (backup_at file (inventory c) ≡ None)
-    × (is_none (row_at file (inventory c).stores.volumes) ≡ true → (c.base.next_file ≤ file) × IsNewFile c file)
+    × (is_none (row_at file (inventory c).stores.volumes) ≡ true → (c.base.next_file ≤ file) × IsNewFile c file × NeverBackup c file)
 
 -- a volume that is there is of the pool; one that isn't is a scratch volume that no transaction of the run has made
 abbrev pub IsInPool : Core → (pool file : ℕ) → Option Volume → Type 0

@@ -25,6 +25,7 @@ use Rattle.machine.specs.Machine.{durable}
 use Rattle.machine.specs.State.{Core, Image, Machine, Purpose, Ticket, backup, copying, inventory, object_of, storing, unforced}
 use Rattle.hall.specs.Covered.{NumbersAreDrawn, SpaceIsClear, covered, inv_at, is_any_reuse, left_open}
 use Rattle.hall.specs.Held.{Hall, Held, IsCore}
+use Rattle.hall.specs.Protected.{HadBackups, KeepsAllBackups}
 
 -- ---- transactions and stamps
 
@@ -123,7 +124,7 @@ WasSound base opened h = (contents : ℕ → List ℕ) × IsSoundWith contents b
 
 -- What no stop takes from a hall whose store was sound when it was opened. `contents` are its objects' bytes. At every moment each image is safe. Whatever a stop leaves right now of the
 -- vault's files recovers to one of the databases since the last stamp, and in a hall that no fault has halted to that of the last stamp. Each covered copy is on the disk. What tickets took
--- stands, and an image in progress.
+-- stands, and an image in progress. Where the store was sound for the backups of the base, too, all backups are kept.
 pub record IsKept (m : Machine) (held : Held) (h : History) : Type 0 where
   pub since : held.opened ≤ now h
   pub first : IsSoundWith m.contents m.core.base held.opened h
@@ -133,6 +134,7 @@ pub record IsKept (m : Machine) (held : Held) (h : History) : Type 0 where
   pub firm : HaveAll (InStore h) m.contents (covered m.core)
   pub tickets : AllByRecursion (HasTaken h) m.core.tickets
   pub image : m.core.fault ≡ None → AllInProgress m.core held m.core.image h
+  pub backups : HadBackups held.base held.opened h → KeepsAllBackups m.core held.opened h held.job
 
 -- a backup in progress is listed and not whole yet, in each of these databases
 abbrev pub IsListed : List Inv → Option Image → Type 0

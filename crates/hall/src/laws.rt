@@ -1,21 +1,27 @@
 // What the definitions mean, as laws. Each stands on a function that does nothing.
 ghost use Rattle.std.specs.Prelude.{◌≡◌, ◌+◌, ◌≤◌, ℕ, true, List, ◌∷◌, ◌++◌, Err, None, Some, length};
-ghost use Rattle.std.specs.List.{AllByRecursion};
+ghost use Rattle.std.specs.List.{AllByRecursion, Contains};
 ghost use Rattle.kinds.specs.Refusals.{foremost};
 ghost use Rattle.kinds.specs.declared.refusal.Refusal.{Refusal};
 ghost use Rattle.kinds.specs.declared.segment.Segment.{Segment};
-ghost use Rattle.store_api.specs.Disk.{History, now, ImageAt};
-ghost use Rattle.store_api.specs.Runs.{WroteWithin};
+ghost use Rattle.store_api.specs.Disk.{History, Leaves, back, now, reads, standing, ImageAt};
+ghost use Rattle.store_api.specs.Runs.{GoesOn, WroteWithin};
+ghost use Rattle.store_api.specs.Told.{StopsAs};
 ghost use Rattle.contents.specs.Contents.{HaveAll, Holds, InStore, IsKept as IsKeptBy};
 ghost use Rattle.steps.specs.Events.{Deed, Event, event, is_listed};
 ghost use Rattle.steps.specs.Events.Deed.{Commit};
 ghost use Rattle.steps.specs.declared.asked.Asked.{Asked};
 ghost use Rattle.steps.specs.declared.step.Reply.{Reply};
+ghost use Rattle.inventory.specs.Meant.{meaning};
+ghost use Rattle.inventory_rows.specs.Fresh.{fresh};
+ghost use Rattle.inventory_rows.specs.State.{Inv};
 ghost use Rattle.machine.specs.Fits.{Fits, History as Run};
 ghost use Rattle.machine.specs.Laws.{GoesWhereAimed, RefusesElsewhere};
 ghost use Rattle.machine.specs.Machine.{Made, asked_change};
 ghost use Rattle.machine.specs.State.{Core, Machine, Ticket, inventory};
 ghost use Rattle.machine.specs.Turns.{own_in};
+ghost use Rattle.vault.specs.Files.{IsOurs};
+ghost use Rattle.vault.specs.Recovery.{Recovers};
 ghost use Rattle.hall.specs.declared.turn.Turn.{Turn};
 ghost use Rattle.hall.specs.Alone.{AreExact, Continues, Ran};
 ghost use Rattle.hall.specs.Beside.{IsBeside, IsKeptBut};
@@ -24,6 +30,7 @@ ghost use Rattle.hall.specs.Covered.{NumbersAreDrawn, SpaceIsClear, covered, lef
 ghost use Rattle.hall.specs.Good.{Is, IsKept, WasSound};
 ghost use Rattle.hall.specs.Held.{Hall, Held};
 ghost use Rattle.hall.specs.Placed.{hall_places};
+ghost use Rattle.hall.specs.Protected.{AlwaysBacked, HadBackups, KeepsBackups};
 ghost use Rattle.hall.specs.Plays.{Plays, RunsTurns};
 ghost use Rattle.hall.specs.Seats.{ended_at};
 ghost use Rattle.hall.specs.Steps.{Goes, IsTrusted, Steps};
@@ -42,6 +49,30 @@ pub fn images_hold_what_is_covered()
     ensures { (m : Machine) (held : Held) (h : History) (image : ℕ → List ℕ) → IsKept m held h → ImageAt h (now h) image → AllByRecursion (Holds m.contents image) (left_open m.core) }
 {}
 
+/// Where the store had the backups of the base when the hall was opened, each image that a stop right now may leave of a hall that keeps what it should gives back every backup that a database which
+/// the stop may bring back lists as whole and that is protected on its day: the database of its number, and each copy of that in a sequential pool. At every moment since the opening each image did so
+/// of the database to which it recovers, and that one has what its backups need.
+pub fn backups_are_kept()
+    ensures now { (m : Machine) (held : Held) (h : History) (image : ℕ → List ℕ) → IsKept m held h → HadBackups held.base held.opened h → ImageAt h (now h) image → AllByRecursion (KeepsBackups image) (left_open m.core) }
+    ensures always { (m : Machine) (held : Held) (h : History) → IsKept m held h → HadBackups held.base held.opened h → AlwaysBacked held.opened h }
+{}
+
+/// A store of which each image has in the files from 4 on what a stop might have left of such a hall has the backups of each database that the stop may bring back: so a hall that is opened there keeps
+/// them, too.
+pub fn backups_outlive_stops()
+    ensures { (m : Machine) (held : Held) (h : History) (v : Inv) (new : History) → IsKept m held h → HadBackups held.base held.opened h → Contains (left_open m.core) v
+        → ((image : ℕ → List ℕ) → ImageAt new (now new) image → (file : ℕ) → 4 ≤ file → Leaves (standing h file) (image file)) → HadBackups v (now new) new }
+{}
+
+/// Calls on the vault's files alone, as those of an opening, leave a store the backups of a database that it had; a new server's database has none that a store could lack; and where each image of a run's
+/// moments backs its own database, the store that a stop of the machine at one of them leaves has the backups of the database to which it recovers.
+pub fn stores_have_backups()
+    ensures since { (base : Inv) (h new : History) → GoesOn IsOurs h new → HadBackups base (now h) h → HadBackups base (now new) new }
+    ensures fresh { (h : History) → HadBackups fresh (now h) h }
+    ensures stopped { (opened : ℕ) (h : History) (moment : ℕ) (after : History) (v : Inv) → AlwaysBacked opened h → opened ≤ moment → moment ≤ now h → StopsAs (back h moment) after → Recovers meaning (reads after) v
+        → HadBackups v (now after) after }
+{}
+
 /// Over a store that tells its bytes and was sound when the hall was opened, a step of the hall is a step of the machine with the very bytes that its objects have, those that a read gives
 /// among them; and behind each step the store is still one that was sound then. So of such halls each run of steps is a run of the machine.
 pub fn steps_are_exact<S: Store>()
@@ -51,7 +82,7 @@ pub fn steps_are_exact<S: Store>()
 {}
 
 /// Over such a store a hall keeps what no stop may take from it: at every moment since the opening each image recovers to the database behind a transaction that is at least the last with a
-/// stamp by then, and holds every copy of every object of it.
+/// stamp by then, and holds every copy of every object of it; and it keeps all backups, where the store had those of the base.
 pub fn trusted_halls_are_safe<S: Store>()
     ensures { (hall : Hall S) (m : Machine) (h : History) → S.told hall.store ≡ Some h → Is S.told S.moment_of S.faults_of hall m → WasSound hall.held.base hall.held.opened h → IsKept m hall.held h }
 {}

@@ -1,5 +1,5 @@
 //! Whether anything is in progress in a hall.
-ghost use Rattle.std.specs.Prelude.{◌-◌, ◌≤◌, ◌^◌, IsTrue};
+ghost use Rattle.std.specs.Prelude.{◌-◌, ◌≤◌, ◌^◌, ◌↔◌, IsTrue};
 ghost use Rattle.hall.specs.Rest.{Rests};
 
 use crate::hall::Hall;
@@ -8,7 +8,7 @@ use store_api::Store;
 
 /// Whether nothing is in progress.
 fn are_at_rest(parts: &Parts) -> bool
-    ensures { IsTrue result → Rests parts.now }
+    ensures { IsTrue result ↔ Rests parts.now }
 {
     if parts.seats.len() > 0 {
         return false;
@@ -25,14 +25,14 @@ fn are_at_rest(parts: &Parts) -> bool
 impl<S: Store> Hall<S> {
     /// Whether nothing is in progress: there is no ticket and no image, each transaction has a stamp, and no fault has halted the hall.
     pub fn is_at_rest(&self) -> bool
-        ensures { IsTrue result → Rests self.now.held }
+        ensures { IsTrue result ↔ Rests self.now.held }
     {
         are_at_rest(&self.parts)
     }
 
     /// Whether no step is begun any more, since the store's moment is 2^62 - 2^24 or a later one.
     pub fn is_late(&self) -> bool
-        ensures { IsTrue result → 2 ^ 62 - 2 ^ 24 ≤ S.moment_of self.now.store }
+        ensures { IsTrue result ↔ (2 ^ 62 - 2 ^ 24 ≤ S.moment_of self.now.store) }
     {
         self.store.moment() >= LAST_MOMENT
     }

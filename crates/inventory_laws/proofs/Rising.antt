@@ -95,7 +95,7 @@ no_key {V} k (e ∷ rows) h =
     let t = and_parts (not (k == e.0)) (list_all (λ y. not (k == y)) (keys_of rows)) h in
     ap (λ b. cond b (Some e.1) (row_at k rows)) (apart_at k e.0 (eqb-false k e.0 (not-true (k == e.0) t.0))) ∙ no_key k rows t.1
 
-row_gone : {V : Type 0} (k : ℕ) (rows : List (ℕ × V)) → are_apart (keys_of rows) ≡ true → row_at k (without_row k rows) ≡ None
+pub row_gone : {V : Type 0} (k : ℕ) (rows : List (ℕ × V)) → are_apart (keys_of rows) ≡ true → row_at k (without_row k rows) ≡ None
 row_gone k [] h = refl
 row_gone {V} k (e ∷ rows) h =
     let t = and_parts (list_all (λ y. not (e.0 == y)) (keys_of rows)) (are_apart (keys_of rows)) h in
@@ -104,18 +104,24 @@ row_gone {V} k (e ∷ rows) h =
       | false ↦ λ isnt. ap (λ b. cond b (Some e.1) (row_at k (without_row k rows))) isnt ∙ row_gone k rows t.1
     ] refl
 
--- ---- ends of volumes
+-- ---- what holds of a volume still
 
-module _ (file : ℕ) (a : Volume) where
-  -- the row is there still
-  abbrev Still : Option Volume → Type 0
+-- what a property has to stand: that a segment comes on a volume, that one goes from it on this day, and that its access is another
+pub record Stands (today : ℕ) (P : Volume → Type 0) : Type 0 where
+  pub comes : (b : Bool) (s : HeldSegment) (x : Volume) → P x → P (put_on b s x)
+  pub goes : (b : Bool) (s : HeldSegment) (x : Volume) → P x → P (take_from b s today x)
+  pub changes : (access : Access) (x : Volume) → P x → P (with_access access x)
+
+module _ (file : ℕ) (today : ℕ) (P : Volume → Type 0) (stands : Stands today P) where
+  -- the row is there, and has the property
+  abbrev pub Still : Option Volume → Type 0
   Still None = ⊥
-  Still (Some b) = EndsLater a b
+  Still (Some b) = P b
 
   abbrev At : List (ℕ × Volume) → Type 0
   At rows = Still (row_at file rows)
 
-  at_set : (k : ℕ) (x new : Volume) (rows : List (ℕ × Volume)) → row_at k rows ≡ Some x → (EndsLater a x → EndsLater a new) → At rows → At (set_row k new rows)
+  at_set : (k : ℕ) (x new : Volume) (rows : List (ℕ × Volume)) → row_at k rows ≡ Some x → (P x → P new) → At rows → At (set_row k new rows)
   at_set k x new [] there up h = absurd h
   at_set k x new (e ∷ rows) there up h =
       elim (is_at (nat_cmp k) e.0) as (λ b. cond b (Some e.1) (row_at k rows) ≡ Some x → At (cond b ((e.0, new) ∷ rows) (e ∷ set_row k new rows))) [
@@ -124,17 +130,17 @@ module _ (file : ℕ) (a : Volume) where
       ] there
     where
       here : (b : Bool) → e.1 ≡ x → Still (cond b (Some e.1) (row_at file rows)) → Still (cond b (Some new) (row_at file rows))
-      here true is h = up (subst (EndsLater a) is h)
+      here true is h = up (subst P is h)
       here false is h = h
 
       further : (b : Bool) → (At rows → At (set_row k new rows)) → Still (cond b (Some e.1) (row_at file rows)) → Still (cond b (Some e.1) (row_at file (set_row k new rows)))
       further true step h = h
       further false step h = step h
 
-  at_changed : (k : ℕ) (change : Volume → Result Volume Refusal) (rows : List (ℕ × Volume)) → ((x : Volume) → IfOk (change x) (λ y. EndsLater a x → EndsLater a y)) → At rows → IfOk
+  at_changed : (k : ℕ) (change : Volume → Result Volume Refusal) (rows : List (ℕ × Volume)) → ((x : Volume) → IfOk (change x) (λ y. P x → P y)) → At rows → IfOk
       (change_row k change rows) At
   at_changed k change rows step h = go (row_at k rows) refl where
-    made : (x : Volume) (r : Result Volume Refusal) → row_at k rows ≡ Some x → IfOk r (λ y. EndsLater a x → EndsLater a y) → IfOk (row_set k rows r) At
+    made : (x : Volume) (r : Result Volume Refusal) → row_at k rows ≡ Some x → IfOk r (λ y. P x → P y) → IfOk (row_set k rows r) At
     made x (Ok y) there up = at_set k x y rows there up h
     made x (Err e) there up = tt
 
@@ -146,14 +152,10 @@ module _ (file : ℕ) (a : Volume) where
   in_stores s (Ok rows) was h = h
   in_stores s (Err e) was h = was
 
-  put_later : (b : Bool) (s : HeldSegment) (x : Volume) → EndsLater a x → EndsLater a (put_on b s x)
-  put_later true s x h = record { pool = h.pool; end = let e = h.end in omega (arith, e) }
-  put_later false s x h = record { pool = h.pool; end = h.end }
-
   -- ---- the steps
 
-  abbrev Is : Inv → Type 0
-  Is v = At v.stores.volumes
+  abbrev pub Is : Inv → Type 0
+  Is v = At v.stores.volumes × (v.today ≡ today)
 
   put_is : (object : ℕ) (segments : List Segment) (v : Inv) → Is v → Is (put object segments v)
   put_is object [] v h = h
@@ -161,18 +163,20 @@ module _ (file : ℕ) (a : Volume) where
       let b = is_sequential_at s.file v.stores in
       let change : Volume → Result Volume Refusal = row.put b (held_of object s) in
       put_is object segments (with_stores (or_same v.stores (put_segment object s v.stores)) v)
-      (in_stores v.stores (change_row s.file change v.stores.volumes) h (at_changed s.file change v.stores.volumes (λ x later. put_later b (held_of object s) x later) h))
+      (in_stores v.stores (change_row s.file change v.stores.volumes) h.0 (at_changed s.file change v.stores.volumes (λ x is. stands.comes b (held_of object s) x is) h.0), h.1)
 
   taken_is : (object : ℕ) (segments : List Segment) (v : Inv) → Is v → Is (take_away object segments v)
   taken_is object [] v h = h
   taken_is object (s ∷ segments) v h =
       let b = is_sequential_at s.file v.stores in
       let change : Volume → Result Volume Refusal = row.take b (held_of object s) v.today in
-      taken_is object segments (with_stores (or_same v.stores (take_segment object s v.today v.stores)) v)
-      (in_stores v.stores (change_row s.file change v.stores.volumes) h
-      (at_changed s.file change v.stores.volumes (λ x. if_either (λ y. EndsLater a x → EndsLater a y) (is_held (held_of object s) x.segments) (Ok (take_from b (held_of object s) v.today x))
-      (Err refusal.NotFound)
-      (λ is later. record { pool = later.pool; end = later.end }) (λ isnt. tt)) h))
+      taken_is object segments (with_stores (or_same v.stores (take_segment object s v.today v.stores)) v) (
+        in_stores v.stores (change_row s.file change v.stores.volumes) h.0
+            (at_changed s.file change v.stores.volumes (λ x. if_either (λ y. P x → P y) (is_held (held_of object s) x.segments) (Ok (take_from b (held_of object s) v.today x))
+            (Err refusal.NotFound)
+            (λ held is. subst (λ (d : ℕ). P (take_from b (held_of object s) d x)) (sym h.1) (stands.goes b (held_of object s) x is)) (λ isnt. tt)) h.0),
+        h.1,
+      )
 
   all_taken_is : (object : ℕ) (copies : List CopyRow) (v : Inv) → Is v → Is (take_all object copies v)
   all_taken_is object [] v h = h
@@ -191,7 +195,7 @@ module _ (file : ℕ) (a : Volume) where
   scratch_is : (scratch : List ScratchVolume) (v : Inv) → AllByRecursion (λ (s : ScratchVolume). s.file ≡ file → ⊥) scratch → Is v → Is (each make_scratch scratch v)
   scratch_is [] v apart h = h
   scratch_is (s ∷ scratch) v apart h = scratch_is scratch (make_scratch s v) apart.1
-      (with_is s.file (scratch_volume s.pool s.file (option_map_or (λ c. c) (pool_capacity s.pool v.stores) 0)) v.stores.volumes apart.0 h)
+      (with_is s.file (scratch_volume s.pool s.file (option_map_or (λ c. c) (pool_capacity s.pool v.stores) 0)) v.stores.volumes apart.0 h.0, h.1)
 
   all_free : (v : Inv) (files : List ℕ) → files_refused files v ≡ [] → AllByRecursion (λ k. is_none (row_at k v.stores.volumes) ≡ true) files
   all_free v files h =
@@ -202,7 +206,7 @@ module _ (file : ℕ) (a : Volume) where
   scratches_is scratch v h is =
       let free = all_free v (map (λ (s : ScratchVolume). s.file) scratch) (front_nil (files_refused (map (λ (s : ScratchVolume). s.file) scratch) v) _ h) in
       scratch_is scratch v
-      (each_also (λ (s : ScratchVolume). is_none (row_at s.file v.stores.volumes) ≡ true) (λ (s : ScratchVolume). s.file ≡ file → ⊥) scratch (λ s none. free_apart s.file v.stores.volumes none is)
+      (each_also (λ (s : ScratchVolume). is_none (row_at s.file v.stores.volumes) ≡ true) (λ (s : ScratchVolume). s.file ≡ file → ⊥) scratch (λ s none. free_apart s.file v.stores.volumes none is.0)
       (each_mapped (λ k. is_none (row_at k v.stores.volumes) ≡ true) (λ (s : ScratchVolume). s.file) scratch free)) is
 
   each_is : {X : Type 0} (step : X → Inv → Inv) (xs : List X) → ((x : X) (v : Inv) → Is v → Is (step x v)) → (v : Inv) → Is v → Is (each step xs v)
@@ -262,12 +266,12 @@ module _ (file : ℕ) (a : Volume) where
   updated_is access s (Some k) h = go (row_at k s.volumes) refl where
     go : (o : Option Volume) → row_at k s.volumes ≡ o → At (edited k (with_access access) s.volumes o)
     go None there = h
-    go (Some x) there = at_set k x (with_access access x) s.volumes there (λ later. record { pool = later.pool; end = later.end }) h
+    go (Some x) there = at_set k x (with_access access x) s.volumes there (λ is. stands.changes access x is) h
 
-  -- the row, where it is there, ends no earlier
-  abbrev Kept : Option Volume → Type 0
+  -- the row has the property, where it is there
+  abbrev pub Kept : Option Volume → Type 0
   Kept None = Unit {0}
-  Kept (Some b) = EndsLater a b
+  Kept (Some b) = P b
 
   kept_still : (o : Option Volume) → Still o → Kept o
   kept_still None h = absurd h
@@ -303,23 +307,23 @@ module _ (file : ℕ) (a : Volume) where
   clients_is (client.Filespace two.Delete node name n) v h = h
 
   stores_kept : (j : Journal) (c : PoolChange) (v : Inv) → Facts v → causes j (change.Pool c) v ≡ [] → Is v → Kept (row_at file (store_changed c v).stores.volumes)
-  stores_kept j (store.DevClass what class capacity) v f cause h = kept_still _
+  stores_kept j (store.DevClass what class capacity) v f cause (h, day) = kept_still _
       (kept_or InStores v.stores (stores.changed (store.DevClass what class capacity) v.next_pool v.stores) h (classes_is what class capacity v.stores h))
-  stores_kept j (store.Pool verb.Define name class kind rule) v f cause h = kept_still _
+  stores_kept j (store.Pool verb.Define name class kind rule) v f cause (h, day) = kept_still _
       (kept_or InStores v.stores (stores.changed (store.Pool verb.Define name class kind rule) v.next_pool v.stores) h (pools_is verb.Define v.next_pool name class kind rule v.stores h))
-  stores_kept j (store.Pool verb.Update name class kind rule) v f cause h = kept_still _
+  stores_kept j (store.Pool verb.Update name class kind rule) v f cause (h, day) = kept_still _
       (kept_or InStores v.stores (stores.changed (store.Pool verb.Update name class kind rule) v.next_pool v.stores) h (pools_is verb.Update v.next_pool name class kind rule v.stores h))
-  stores_kept j (store.Pool verb.Delete name class kind rule) v f cause h = kept_still _
+  stores_kept j (store.Pool verb.Delete name class kind rule) v f cause (h, day) = kept_still _
       (kept_or InStores v.stores (stores.changed (store.Pool verb.Delete name class kind rule) v.next_pool v.stores) h (pools_is verb.Delete v.next_pool name class kind rule v.stores h))
-  stores_kept j (store.Volume verb.Define name number k capacity access) v f cause h =
+  stores_kept j (store.Volume verb.Define name number k capacity access) v f cause (h, day) =
       let free = all_free v (k ∷ []) (front_nil (files_refused (k ∷ []) v) (file_bound k v)
       (back_nil (refusal_of (stores.changed (store.Volume verb.Define name number k capacity access) v.next_pool v.stores)) (files_refused (k ∷ []) v ++ file_bound k v) cause)) in
       kept_still _ (kept_or InStores v.stores (stores.changed (store.Volume verb.Define name number k capacity access) v.next_pool v.stores) h
       (defined_is name number k capacity access v.stores (free_apart k v.stores.volumes free.0 h) h))
-  stores_kept j (store.Volume verb.Update name number k capacity access) v f cause h =
+  stores_kept j (store.Volume verb.Update name number k capacity access) v f cause (h, day) =
       kept_still _ (kept_or InStores v.stores (stores.changed (store.Volume verb.Update name number k capacity access) v.next_pool v.stores) h
       (updated_is access v.stores (volume_named name v.stores) h))
-  stores_kept j (store.Volume verb.Delete name number k capacity access) v f cause h =
+  stores_kept j (store.Volume verb.Delete name number k capacity access) v f cause (h, day) =
       kept_or (λ (t : PoolRows). Kept (row_at file t.volumes)) v.stores (stores.changed (store.Volume verb.Delete name number k capacity access) v.next_pool v.stores)
       (kept_still (row_at file v.stores.volumes) h)
       (deleted_kept v.stores (volume_named name v.stores) (apart_front (keys_of v.stores.volumes) (keys_of v.backups) f.files_apart) h)
@@ -331,44 +335,61 @@ module _ (file : ℕ) (a : Volume) where
   discard_is i v h = all_taken_is i.object (copies_at i.object v) v h
 
   pub changed_kept : (j : Journal) (c : Change) (v : Inv) → Facts v → causes j c v ≡ [] → is_reuse file c ≡ false → Is v → Kept (row_at file (changed c v).stores.volumes)
-  changed_kept j (change.Day day) v f cause other h = kept_still _ h
-  changed_kept j (change.Policy c) v f cause other h = kept_still _ h
-  changed_kept j (change.Object c) v f cause other h = kept_still _ (clients_is c v h)
+  changed_kept j (change.Day day) v f cause other h = kept_still _ h.0
+  changed_kept j (change.Policy c) v f cause other h = kept_still _ h.0
+  changed_kept j (change.Object c) v f cause other h = kept_still _ (clients_is c v h).0
   changed_kept j (change.Pool c) v f cause other h = stores_kept j c v f cause h
   changed_kept j (change.Backup c) v f cause other h =
       let scratch = front_nil (scratch_refused c.scratch v) (objects_refused (map (λ (i : NewVersion). i.object) c.items) v)
       (back_nil (new_refused c.filespace (map (λ (i : NewVersion). i.object) c.items) v) _ cause) in
-      kept_still _ (each_is (back_up c.filespace) c.items (λ i w is. put_is i.object i.segments (inserted c.filespace i w) is) (each make_scratch c.scratch v) (scratches_is c.scratch v scratch h))
+      kept_still _ (each_is (back_up c.filespace) c.items (λ i w is. put_is i.object i.segments (inserted c.filespace i w) is) (each make_scratch c.scratch v) (scratches_is c.scratch v scratch h)).0
   changed_kept j (change.Hold c) v f cause other h =
       let scratch = front_nil (scratch_refused c.scratch v) (objects_refused (map (λ (i : NewHeldObject). i.object) c.items) v)
       (back_nil (new_refused c.filespace (map (λ (i : NewHeldObject). i.object) c.items) v) _ cause) in
-      kept_still _ (each_is (hold c.filespace) c.items (λ i w is. put_is i.object i.segments (held_too c.filespace i w) is) (each make_scratch c.scratch v) (scratches_is c.scratch v scratch h))
-  changed_kept j (change.Rebind c) v f cause other h = kept_still _ (each_is (rebind c.filespace) c.items (λ i w is. is) v h)
-  changed_kept j (change.Gone c) v f cause other h = kept_still _ (each_is (mark_gone c.filespace) c.items (λ i w is. is) v h)
+      kept_still _ (each_is (hold c.filespace) c.items (λ i w is. put_is i.object i.segments (held_too c.filespace i w) is) (each make_scratch c.scratch v) (scratches_is c.scratch v scratch h)).0
+  changed_kept j (change.Rebind c) v f cause other h = kept_still _ (each_is (rebind c.filespace) c.items (λ i w is. is) v h).0
+  changed_kept j (change.Gone c) v f cause other h = kept_still _ (each_is (mark_gone c.filespace) c.items (λ i w is. is) v h).0
   changed_kept j (change.Move c) v f cause other h =
       let scratch = back_nil (move_refused j c.items v) (scratch_refused c.scratch v) cause in
       kept_still _ (each_is move_copy c.items (λ i w is. taken_is i.object (segments_in i.from (version_at i.object w)) w is) (each put_moved c.items (each make_scratch c.scratch v))
-      (each_is put_moved c.items (λ i w is. put_is i.object i.segments w is) (each make_scratch c.scratch v) (scratches_is c.scratch v scratch h)))
+      (each_is put_moved c.items (λ i w is. put_is i.object i.segments w is) (each make_scratch c.scratch v) (scratches_is c.scratch v scratch h))).0
   changed_kept j (change.Copy c) v f cause other h =
       let scratch = back_nil (copy_list_refused j c.items v) (scratch_refused c.scratch v) cause in
-      kept_still _ (each_is add_copy c.items (λ i w is. put_is i.object i.segments (change_copy i.object (added i w) w) is) (each make_scratch c.scratch v) (scratches_is c.scratch v scratch h))
-  changed_kept j (change.DropCopies c) v f cause other h = kept_still _ (each_is drop_copy c.items (λ i w is. taken_is i.object (segments_in i.pool (version_at i.object w)) w is) v h)
-  changed_kept j (change.Expire c) v f cause other h = kept_still _ (each_is (expire c.filespace) c.items (λ i w is. expire_is c.filespace i w is) v h)
-  changed_kept j (change.Discard c) v f cause other h = kept_still _ (each_is discard c.items (λ i w is. discard_is i w is) v h)
-  changed_kept j (change.Reuse k) v f cause other h = kept_still _ (reused_is k v.stores.volumes (λ same. eqb-false file k other (sym same)) h)
-  changed_kept j (change.DbBegin k after) v f cause other h = kept_still _ h
-  changed_kept j (change.DbEnd k) v f cause other h = kept_still _ h
-  changed_kept j (change.DbDelete k) v f cause other h = kept_still _ h
+      kept_still _ (each_is add_copy c.items (λ i w is. put_is i.object i.segments (change_copy i.object (added i w) w) is) (each make_scratch c.scratch v) (scratches_is c.scratch v scratch h)).0
+  changed_kept j (change.DropCopies c) v f cause other h = kept_still _ (each_is drop_copy c.items (λ i w is. taken_is i.object (segments_in i.pool (version_at i.object w)) w is) v h).0
+  changed_kept j (change.Expire c) v f cause other h = kept_still _ (each_is (expire c.filespace) c.items (λ i w is. expire_is c.filespace i w is) v h).0
+  changed_kept j (change.Discard c) v f cause other h = kept_still _ (each_is discard c.items (λ i w is. discard_is i w is) v h).0
+  changed_kept j (change.Reuse k) v f cause other h = kept_still _ (reused_is k v.stores.volumes (λ same. eqb-false file k other (sym same)) h.0)
+  changed_kept j (change.DbBegin k after) v f cause other h = kept_still _ h.0
+  changed_kept j (change.DbEnd k) v f cause other h = kept_still _ h.0
+  changed_kept j (change.DbDelete k) v f cause other h = kept_still _ h.0
+
+-- what holds of a volume, and stands each step, holds of it behind a transaction, if it is there and wasn't reused
+pub row_kept : (P : Volume → Type 0) (j : Journal) (c : Change) (v : Inv) (file : ℕ) (old new : Volume) → Stands v.today P → is_valid v ≡ true → causes j c v ≡ [] → is_reuse file c ≡ false
+    → row_at file v.stores.volumes ≡ Some old → row_at file (effect c v).stores.volumes ≡ Some new → P old → P new
+unfolding effect
+row_kept P j c v file old new stands valid cause other before after p =
+    subst (Kept file v.today P stands) after (changed_kept file v.today P stands j c v (facts_of v valid) cause other (subst (Still file v.today P stands) (sym before) p, refl))
+
+-- ---- ends of volumes
+
+end_put : (a : Volume) (b : Bool) (s : HeldSegment) (x : Volume) → EndsLater a x → EndsLater a (put_on b s x)
+end_put a true s x h = record { pool = h.pool; end = let e = h.end in omega (arith, e) }
+end_put a false s x h = record { pool = h.pool; end = h.end }
 
 pub ends_later : (j : Journal) (c : Change) (v : Inv) (file : ℕ) (old new : Volume) → is_valid v ≡ true → causes j c v ≡ [] → is_reuse file c ≡ false → row_at file v.stores.volumes ≡ Some old
     → row_at file (effect c v).stores.volumes ≡ Some new → EndsLater old new
-unfolding effect
 ends_later j c v file old new valid cause other before after =
-    subst (Kept file old) after (changed_kept file old j c v (facts_of v valid) cause other (subst (Still file old) (sym before) (record { pool = refl; end = omega arith })))
+    row_kept (EndsLater old) j c v file old new (record {
+      comes = end_put old;
+      goes = λ b s x later. record { pool = later.pool; end = later.end };
+      changes = λ access x later. record { pool = later.pool; end = later.end };
+    }) valid cause other before after (record { pool = refl; end = omega arith })
 
--- each segment of a volume that is one ends within it
-pub placed_part : (v : Inv) (k : ℕ) (volume : Volume) → is_volume v (k, volume) ≡ true → list_all (λ e. is_placed (is_sequential volume.pool v.stores) volume e.1) (segments_on k v) ≡ true
-placed_part v k volume whole =
+-- each segment of a volume that is one ends within it, and the day on which it was emptied is there only where none lies on it
+pub last_parts : (v : Inv) (k : ℕ) (volume : Volume) → is_volume v (k, volume) ≡ true
+    → (list_all (λ e. is_placed (is_sequential volume.pool v.stores) volume e.1) (segments_on k v) ≡ true) × (is_emptied_rightly (is_sequential volume.pool v.stores) volume (segments_on k v) ≡ true)
+last_parts v k volume whole =
     let q : Bool = is_sequential volume.pool v.stores in
     let there : List (ℕ × Segment) = segments_on k v in
     let primary : Bool = option_map_or (λ p. is_primary_kind p.kind) (pool volume.pool v) false in
@@ -378,7 +399,10 @@ placed_part v k volume whole =
     let one = and_parts (is_sized q v volume) second whole in
     let two = and_parts (may_have volume.access primary) third one.1 in
     let three = and_parts (are_disjoint q there) last two.1 in
-    (and_parts (list_all (λ e. is_placed q volume e.1) there) (is_emptied_rightly q volume there) three.1).0
+    and_parts (list_all (λ e. is_placed q volume e.1) there) (is_emptied_rightly q volume there) three.1
+
+pub placed_part : (v : Inv) (k : ℕ) (volume : Volume) → is_volume v (k, volume) ≡ true → list_all (λ e. is_placed (is_sequential volume.pool v.stores) volume e.1) (segments_on k v) ≡ true
+placed_part v k volume whole = (last_parts v k volume whole).0
 
 pub all_below : (v : Inv) (file : ℕ) (volume : Volume) → is_valid v ≡ true → row_at file v.stores.volumes ≡ Some volume → is_sequential volume.pool v.stores ≡ true → AllByRecursion
     (λ (e : ℕ × Segment). e.1.offset + 32 + e.1.len ≤ volume.end) (segments_on file v)

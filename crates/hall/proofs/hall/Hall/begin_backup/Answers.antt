@@ -6,7 +6,7 @@ use Rattle.entries.specs.declared.change.Change.TheVariants as change
 use Rattle.steps.specs.Events.Deed.{Image as TakeImage}
 use Rattle.vault.specs.Files.{IsOurs}
 use Rattle.hall.specs.Backing.{IsHolding, backup_refused, kind_of}
-use Rattle.hall.proofs.BackupCalls.{begin_seated, begin_unforced, begin_unjoined, drawn_in, few_stamps, first_files, force_listed, forced_stays, join_listed, legal_in, not_ended, seats_listed, seats_stay, synced_files, then_files, time_behind, time_to_force, time_to_sync}
+use Rattle.hall.proofs.BackupCalls.{vec_small, begin_seated, begin_unforced, begin_unjoined, drawn_in, few_stamps, first_files, force_listed, forced_stays, join_listed, legal_in, not_ended, seats_listed, seats_stay, synced_files, then_files, time_behind, time_to_force, time_to_sync}
 use Rattle.hall.proofs.BackupJoins.{short_begin}
 use Rattle.hall.proofs.Committed.{joined_files, parts_stay}
 use Rattle.hall.proofs.Ended.{none_halted}
@@ -67,7 +67,7 @@ returns-in-Ok-force-clause-step g c =
     c.join.new.store c.join.ensures.later c.join.ensures.counts c.join.ensures.time c.join.new.self c.join.result c.join.ensures.number
     c.next_file-file.result c.next_file-file.ensures (c.sync_within.ensures.told, c.sync_within.ensures.cause, c.join.ensures.told, c.join.ensures.ok, c.join.ensures.err)
     c.in-Ok.seq c.in-Ok.is c.force.new.store c.force.ensures.later c.force.ensures.counts c.force.ensures.time c.force.new.self c.force.result c.force.ensures.told c.force.ensures.ok c.force.ensures.same c.force.ensures.err
-    c.args.payload.items (subst (λ h. IsHolding c.args.actor c.args.after h.held c.args.payload.items) (sym c.self.view_is) c.requires.holds) c.requires.some c.is_ok-synced.result c.is_ok-synced.ensures.value _ c.in-Ok-force.is c.seat_backup.new.self c.seat_backup.result c.seat_backup.ensures)
+    c.args.payload.items (subst (λ h. IsHolding c.args.actor c.args.after h.held c.args.payload.items) (sym c.self.view_is) c.requires.holds) c.requires.some (vec_small c.args.payload) c.is_ok-synced.result c.is_ok-synced.ensures.value _ c.in-Ok-force.is c.seat_backup.new.self c.seat_backup.result c.seat_backup.ensures)
 
 pub returns-in-Ok-force-clause-listed : goal.returns-in-Ok-force-clause-listed
 returns-in-Ok-force-clause-listed g c =
@@ -108,7 +108,7 @@ invariant_of-self g c =
     c.join.new.store c.join.ensures.later c.join.ensures.counts c.join.ensures.time c.join.new.self c.join.result c.join.ensures.number
     c.next_file-file.result c.next_file-file.ensures (c.sync_within.ensures.told, c.sync_within.ensures.cause, c.join.ensures.told, c.join.ensures.ok, c.join.ensures.err)
     c.in-Ok.seq c.in-Ok.is c.force.new.store c.force.ensures.later c.force.ensures.counts c.force.ensures.time c.force.new.self c.force.result c.force.ensures.told c.force.ensures.ok c.force.ensures.same c.force.ensures.err
-    c.args.payload.items (subst (λ h. IsHolding c.args.actor c.args.after h.held c.args.payload.items) (sym c.self.view_is) c.requires.holds) c.requires.some c.is_ok-synced.result c.is_ok-synced.ensures.value _ c.in-Ok-force.is c.seat_backup.new.self c.seat_backup.result c.seat_backup.ensures) c.self.invariant
+    c.args.payload.items (subst (λ h. IsHolding c.args.actor c.args.after h.held c.args.payload.items) (sym c.self.view_is) c.requires.holds) c.requires.some (vec_small c.args.payload) c.is_ok-synced.result c.is_ok-synced.ensures.value _ c.in-Ok-force.is c.seat_backup.new.self c.seat_backup.result c.seat_backup.ensures) c.self.invariant
 
 pub returns-in-Err-force-clause-step : goal.returns-in-Err-force-clause-step
 returns-in-Err-force-clause-step g c =
@@ -122,7 +122,7 @@ returns-in-Err-force-clause-step g c =
     c.join.new.store c.join.ensures.later c.join.ensures.counts c.join.ensures.time c.join.new.self c.join.result c.join.ensures.number
     c.next_file-file.result c.next_file-file.ensures (c.sync_within.ensures.told, c.sync_within.ensures.cause, c.join.ensures.told, c.join.ensures.ok, c.join.ensures.err)
     c.in-Ok.seq c.in-Ok.is c.force.new.store c.force.ensures.later c.force.ensures.counts c.force.ensures.time c.force.new.self c.force.result c.force.ensures.told c.force.ensures.ok c.force.ensures.same c.force.ensures.err
-    c.args.payload.items (subst (λ h. IsHolding c.args.actor c.args.after h.held c.args.payload.items) (sym c.self.view_is) c.requires.holds) c.requires.some c.in-Err-force.refusal c.in-Err-force.is)
+    c.args.payload.items (subst (λ h. IsHolding c.args.actor c.args.after h.held c.args.payload.items) (sym c.self.view_is) c.requires.holds) c.requires.some (vec_small c.args.payload) c.in-Err-force.refusal c.in-Err-force.is)
 
 pub returns-in-Err-force-clause-listed : goal.returns-in-Err-force-clause-listed
 returns-in-Err-force-clause-listed g c =
@@ -162,7 +162,7 @@ invariant_of-self-in-Err-1 g c =
     c.join.new.store c.join.ensures.later c.join.ensures.counts c.join.ensures.time c.join.new.self c.join.result c.join.ensures.number
     c.next_file-file.result c.next_file-file.ensures (c.sync_within.ensures.told, c.sync_within.ensures.cause, c.join.ensures.told, c.join.ensures.ok, c.join.ensures.err)
     c.in-Ok.seq c.in-Ok.is c.force.new.store c.force.ensures.later c.force.ensures.counts c.force.ensures.time c.force.new.self c.force.result c.force.ensures.told c.force.ensures.ok c.force.ensures.same c.force.ensures.err
-    c.args.payload.items (subst (λ h. IsHolding c.args.actor c.args.after h.held c.args.payload.items) (sym c.self.view_is) c.requires.holds) c.requires.some c.in-Err-force.refusal c.in-Err-force.is) c.self.invariant
+    c.args.payload.items (subst (λ h. IsHolding c.args.actor c.args.after h.held c.args.payload.items) (sym c.self.view_is) c.requires.holds) c.requires.some (vec_small c.args.payload) c.in-Err-force.refusal c.in-Err-force.is) c.self.invariant
 
 pub returns-in-Err-clause-step : goal.returns-in-Err-clause-step
 returns-in-Err-clause-step g c =
