@@ -7,5 +7,6 @@ pub mod Putting
 pub mod Reaching
 pub mod Refusing
 pub mod Settling
+pub mod Standing
 pub mod Staying
 pub mod Wholes

@@ -1,6 +1,8 @@
 -- The copies that a database has in sequential pools.
-use Rattle.std.specs.Prelude.{◌≡◌, ℕ, Bool, true, false, List, map, filter}
+use Rattle.std.specs.Prelude.{◌≡◌, ℕ, Bool, true, false, List, map, filter, length}
 use Rattle.std.specs.List.{AllByRecursion}
+use Rattle.sha2.specs.Sha256.{sha256}
+use Rattle.contents.specs.Contents.{FramesHave, InImage}
 use Rattle.copy_checks.specs.Copies.{is_there}
 use Rattle.inventory_rows.specs.version_groups.declared.copies.CopyRow.{CopyRow}
 use Rattle.inventory_rows.specs.version_groups.declared.versions.Version.{Version}
@@ -17,6 +19,16 @@ is_in_sequential p c = is_sequential c.pool p.stores
 -- each copy in a sequential pool stands in the image, in its frames, with its object's size and digest
 abbrev pub KeepsSequential : (ℕ → List ℕ) → Inv → Type 0
 KeepsSequential image p = AllByRecursion (λ w. AllByRecursion (λ c. is_in_sequential p c ≡ true → is_there image w.object w.size w.digest.0 c.segments ≡ true) w.copies) (versions p)
+
+-- A copy of a version stands in the image with these bytes, which have the object's size and digest: its segments' frames have them, one after the other.
+pub record StandsWith (image : ℕ → List ℕ) (bytes : List ℕ) (w : Version) (c : CopyRow) : Type 0 where
+  pub size : length bytes ≡ w.size
+  pub digest : w.digest.0 ≡ sha256 bytes
+  pub frames : FramesHave (InImage image) w.object 0 c.segments bytes
+
+-- so does each copy in a sequential pool, with the bytes that `contents` gives its object
+abbrev pub StandSequential : (contents : ℕ → List ℕ) → (ℕ → List ℕ) → Inv → Type 0
+StandSequential contents image p = AllByRecursion (λ w. AllByRecursion (λ c. is_in_sequential p c ≡ true → StandsWith image (contents w.object) w c) w.copies) (versions p)
 
 -- none of them has a segment in a file that is passed over
 abbrev pub SparesSequential : List ℕ → Inv → Type 0

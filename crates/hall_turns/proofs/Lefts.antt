@@ -1,7 +1,7 @@
 -- What a hall leaves in a store that was sound when it was opened.
 use Rattle.std.proofs.Common.{◌≡◌, ℕ, ◌+◌, ◌-◌, ◌≤◌, zero, suc, List, [], ◌∷◌, ◌++◌, length, take, drop, reverse, Option, None, Some, refl, sym, ap, subst, ◌∙◌, arith}
 use Rattle.std.specs.Prelude.{IfSome}
-use Rattle.std.specs.List.{AllByRecursion}
+use Rattle.std.specs.List.{AllByRecursion, Contains}
 use Rattle.std.proofs.lemmas.List.{drop_all, take_all}
 use Rattle.store_api.specs.Disk.{History, ImageAt, now, reads}
 use Rattle.store_api.proofs.Pieces.{image_reads}
@@ -30,6 +30,10 @@ use Rattle.hall.proofs.Covering.{images_hold}
 use Rattle.hall.proofs.Exact.{kept_by}
 use Rattle.hall.proofs.Turns.{every_stamp}
 use Rattle.hall_turns.specs.Left.{GivesState, LeavesSound}
+use Rattle.store_api.proofs.Runs.{now_image}
+use Rattle.hall.proofs.BackupsSpared.{all_open}
+use Rattle.hall.specs.Protected.{HadBackups}
+use Rattle.hall.proofs.BackupsOpened.{had_left}
 
 -- ---- each database that a stop may bring back
 
@@ -132,3 +136,14 @@ module _ {S : Type 0} (told : S → Option History) (moment : S → ℕ) (faults
 
     pub left_sound : LeavesSound m h
     left_sound = record { last = own.last; durable = own.durable; made = own.made; recovers = recovered; sound = sound_now }
+
+    -- ---- its backups
+
+    -- the database to which the store recovers is one that a stop may bring back
+    recovered_open : (v : Inv) → Recovers meaning (reads h) v → Contains (left_open m.core) v
+    recovered_open v is_v =
+        subst (Contains (left_open m.core)) (one_database meaning is_meaning (reads h) (inv_at own.last m.core) v recovered is_v)
+        (left_at (Contains (left_open m.core)) m.core own.last (let all = acknowledged_all in omega (arith, all, own.durable)) (all_open m.core))
+
+    pub left_backups : HadBackups hall.held.base hall.held.opened h → (v : Inv) → Recovers meaning (reads h) v → HadBackups v (now h) h
+    left_backups had v is_v = had_left h h m.core hall.held.opened hall.held.job v (kept.backups had) (recovered_open v is_v) (λ image here n from. now_image h image here n)

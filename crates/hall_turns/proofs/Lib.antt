@@ -1,4 +1,5 @@
 pub mod Alones
+pub mod Backups
 pub mod Lefts
 pub mod Playing
 pub mod Stepped

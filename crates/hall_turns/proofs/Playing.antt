@@ -28,7 +28,8 @@ use Rattle.hall.specs.Held.{Hall}
 use Rattle.hall.specs.Opening.{IsSound, IsWith, Opens, OpensFiles, store_of, vault_of}
 use Rattle.hall.specs.Plays.{Plays, Reopens, RunsTurns, Stopped}
 use Rattle.hall.specs.Steps.{Answers, IsTrusted}
-use Rattle.hall_turns.specs.Runs.{AreSafe, IsSafeHall, PlaysFrom, RunsFrom}
+use Rattle.hall_turns.specs.Runs.{AreSafe, HadOwnBackups, HasOwnBackups, IsSafeHall, PlaysFrom, RunsFrom}
+use Rattle.hall_turns.proofs.Backups.{had_played, opened_had}
 
 -- ---- why a sound store isn't opened
 
@@ -142,15 +143,15 @@ module _ {S : Type 0} (told : S → Option History) (moment : S → ℕ) (faults
   KeepsSafe = (hall : Hall S) (m : Machine) (h : History) → told hall.store ≡ Some h → Is told moment faults hall m → WasSound hall.held.base hall.held.opened h → IsKept m hall.held h
 
   -- what holds over each sound store
-  over_sound : (store : S) (o : Option History) (Q : (ℕ → List ℕ) → Type 0) → told store ≡ o → ((contents : ℕ → List ℕ) (h : History) → told store ≡ Some h → IsSound contents h → Q contents)
-      → IfSome o (λ h. (contents : ℕ → List ℕ) → IsSound contents h → Q contents)
+  over_sound : (store : S) (o : Option History) (Q : History → (ℕ → List ℕ) → Type 0) → told store ≡ o → ((contents : ℕ → List ℕ) (h : History) → told store ≡ Some h → IsSound contents h → Q h contents)
+      → IfSome o (λ h. (contents : ℕ → List ℕ) → IsSound contents h → Q h contents)
   over_sound store None Q tells each = tt
   over_sound store (Some h) Q tells each = λ contents sound. each contents h tells sound
 
   -- the first opening was refused
   pub not_opened : (store left : S) (e : OpenRefused) → (let result : Result (Hall S) (S × OpenRefused) = Err (left, e) in Told (told store) (told left) (OpensFiles (vault_of result)))
       → IfSome (told store) (λ h. (contents : ℕ → List ℕ) → IsSound contents h → SaysNothing e)
-  not_opened store left e files = over_sound store (told store) (λ contents. SaysNothing e) refl (λ contents h tells sound. never_damaged contents store h (Err (left, e)) tells sound files)
+  not_opened store left e files = over_sound store (told store) (λ h contents. SaysNothing e) refl (λ contents h tells sound. never_damaged contents store h (Err (left, e)) tells sound files)
 
   -- the opening behind a stop was
   stopped_told : KeepsSafe → (hall : Hall S) (m : Machine) (o n l : Option History) (e : OpenRefused) → told hall.store ≡ o → Is told moment faults hall m → IsTrusted o hall.held → Told o n StopsAs
@@ -174,7 +175,7 @@ module _ {S : Type 0} (told : S → Option History) (moment : S → ℕ) (faults
   pub turn_not_played : RunsExactly → (store : S) (hall : Hall S) (turns : List Turn) (replies : List Reply) (e : OpenRefused) → PlaysFrom told moment faults store turns replies hall
       → ((m : Machine) → Is told moment faults hall m → IsTrusted (told hall.store) hall.held → SaysNothing e)
       → IfSome (told store) (λ h. (contents : ℕ → List ℕ) → IsSound contents h → SaysNothing e)
-  turn_not_played runs store hall turns replies e from says = over_sound store (told store) (λ contents. SaysNothing e) refl (λ contents h tells sound.
+  turn_not_played runs store hall turns replies e from says = over_sound store (told store) (λ h contents. SaysNothing e) refl (λ contents h tells sound.
       let first = opens_sound contents store h from.0 tells sound from.1 in
       let last = runs turns replies from.0 hall first.0 first.3 first.2 from.2 in
       says last.0 last.2 last.3)
@@ -187,28 +188,37 @@ module _ {S : Type 0} (told : S → Option History) (moment : S → ℕ) (faults
       let last = runs turns replies from.0 hall first.0 first.3 first.2 from.2 in
       (from.0, first.0, last.0, from.1, first.2, first.1, last.1, last.2)
 
-  safe_hall : KeepsSafe → (hall : Hall S) (m : Machine) (o : Option History) → told hall.store ≡ o → Is told moment faults hall m → IsTrusted o hall.held → IsSafeHall told moment faults hall
-  safe_hall keeps hall m None tells is trusted = absurd trusted
-  safe_hall keeps hall m (Some h) tells is trusted = (m, h, tells, is, keeps hall m h tells is trusted)
+  safe_hall : KeepsSafe → (has : Type 0) (hall : Hall S) (m : Machine) (o : Option History) → told hall.store ≡ o → Is told moment faults hall m → IsTrusted o hall.held → (has → HadOwnBackups told hall) → IsSafeHall told moment faults has hall
+  safe_hall keeps has hall m None tells is trusted had = absurd trusted
+  safe_hall keeps has hall m (Some h) tells is trusted had = (m, h, tells, is, keeps hall m h tells is trusted, had)
 
   -- and between any two of them the hall is safe
-  are_safe : RunsExactly → KeepsSafe → (store : S) (last : Hall S) (turns : List Turn) (replies : List Reply) → PlaysFrom told moment faults store turns replies last
-      → (contents : ℕ → List ℕ) (h : History) → told store ≡ Some h → IsSound contents h → AreSafe told moment faults store turns replies last
-  are_safe runs keeps store last turns replies from contents h tells sound = λ front back is.
+  are_safe : ((s : S) → IfSome (told s) (λ h. now h ≡ moment s)) → RunsExactly → KeepsSafe → (store : S) (last : Hall S) (turns : List Turn) (replies : List Reply) → PlaysFrom told moment faults store turns replies last
+      → (contents : ℕ → List ℕ) (h : History) → told store ≡ Some h → IsSound contents h → AreSafe told moment faults (HasOwnBackups h) store turns replies last
+  are_safe clock runs keeps store last turns replies from contents h tells sound = λ front back is.
       let cut = cut_turns front back replies from.0 last (subst (λ (ts : List Turn). Plays told moment faults ts replies from.0 last) is from.2) in
       let first = opens_sound contents store h from.0 tells sound from.1 in
-      let mid = runs front cut.1 from.0 cut.0 first.0 first.3 first.2 cut.4 in
-      (cut.0, cut.1, cut.2, cut.3, (from.0, from.1, cut.4), cut.5, safe_hall keeps cut.0 mid.0 (told cut.0.store) refl mid.2 mid.3)
+      let mid = runs front cut.1 from.0 cut.0 first.0 first.3 first.2 cut.4 in (
+        cut.0,
+        cut.1,
+        cut.2,
+        cut.3,
+        (from.0, from.1, cut.4),
+        cut.5,
+        safe_hall keeps (HasOwnBackups h) cut.0 mid.0 (told cut.0.store) refl mid.2 mid.3 (λ has.
+            had_played told moment faults clock runs keeps front cut.1 from.0 cut.0 first.0 first.3 first.2 cut.4
+            (opened_had told moment faults clock store from.0 from.1 (subst (λ (o : Option History). IfSome o HasOwnBackups) (sym tells) has))),
+      )
 
-  pub played_exactly : RunsExactly → KeepsSafe → (store left : S) (hall : Hall S) (turns : List Turn) (replies : List Reply) → PlaysFrom told moment faults store turns replies hall → left ≡ hall.store
+  pub played_exactly : ((s : S) → IfSome (told s) (λ h. now h ≡ moment s)) → RunsExactly → KeepsSafe → (store left : S) (hall : Hall S) (turns : List Turn) (replies : List Reply) → PlaysFrom told moment faults store turns replies hall → left ≡ hall.store
       → IfSome (told store) (λ h. (contents : ℕ → List ℕ) → IsSound contents h
-      → (last : Hall S) × RunsFrom told moment faults store contents turns replies last × AreSafe told moment faults store turns replies last × (left ≡ last.store))
-  played_exactly runs keeps store left hall turns replies from same =
+      → (last : Hall S) × RunsFrom told moment faults store contents turns replies last × AreSafe told moment faults (HasOwnBackups h) store turns replies last × (left ≡ last.store))
+  played_exactly clock runs keeps store left hall turns replies from same =
       over_sound store (told store)
-      (λ contents. (last : Hall S) × RunsFrom told moment faults store contents turns replies last × AreSafe told moment faults store turns replies last × (left ≡ last.store)) refl
+      (λ h contents. (last : Hall S) × RunsFrom told moment faults store contents turns replies last × AreSafe told moment faults (HasOwnBackups h) store turns replies last × (left ≡ last.store)) refl
       (λ contents h tells sound. (
         hall,
         ran_from runs store hall turns replies from contents h tells sound,
-        are_safe runs keeps store hall turns replies from contents h tells sound,
+        are_safe clock runs keeps store hall turns replies from contents h tells sound,
         same,
       ))

@@ -1,13 +1,14 @@
 // What runs of one actor on a hall mean, as laws. Each stands on a function that does nothing.
 ghost use Rattle.std.specs.Prelude.{◌≡◌, ◌≤◌, ℕ, List, length, None, Some};
-ghost use Rattle.store_api.specs.Disk.{History, ImageAt, back, now};
+ghost use Rattle.store_api.specs.Disk.{History, ImageAt, back, now, reads};
 ghost use Rattle.store_api.specs.Runs.{EachImage, GoesOn};
 ghost use Rattle.store_api.specs.Told.{StopsAs, Told};
 ghost use Rattle.inventory.specs.Meant.{meaning};
 ghost use Rattle.inventory_rows.specs.Fresh.{fresh};
+ghost use Rattle.inventory_rows.specs.State.{Inv};
 ghost use Rattle.log_file.specs.Safety.{acknowledged};
 ghost use Rattle.vault.specs.Openings.{Spared};
-ghost use Rattle.vault.specs.Recovery.{RecoversWithin};
+ghost use Rattle.vault.specs.Recovery.{Recovers, RecoversWithin};
 ghost use Rattle.steps.specs.Events.{Event};
 ghost use Rattle.machine.specs.Alone.{Alone};
 ghost use Rattle.machine.specs.Stamps.{KeepsStamps};
@@ -17,6 +18,7 @@ ghost use Rattle.hall.specs.Good.{AlwaysSafe, Is, WasSound};
 ghost use Rattle.hall.specs.Held.{Hall};
 ghost use Rattle.hall.specs.Opening.{IsSound};
 ghost use Rattle.hall.specs.Placed.{hall_places};
+ghost use Rattle.hall.specs.Protected.{HadBackups};
 ghost use Rattle.hall.specs.Steps.{IsTrusted};
 ghost use Rattle.hall_turns.specs.Left.{GivesState, HasFirst, IsOnDisk, LeavesSound};
 
@@ -43,6 +45,12 @@ pub fn halls_at_rest_are_there<S: Store>()
 /// And whatever halted it, the store is one over which a hall may be opened again, with every transaction that has a stamp.
 pub fn halls_leave_sound_stores<S: Store>()
     ensures { (hall : Hall S) (m : Machine) (h : History) → S.told hall.store ≡ Some h → Is S.told S.moment_of S.faults_of hall m → WasSound hall.held.base hall.held.opened h → LeavesSound m h }
+{}
+
+/// It has the backups of the database to which it recovers, where it had those of the base when the hall was opened.
+pub fn halls_leave_backups<S: Store>()
+    ensures { (hall : Hall S) (m : Machine) (h : History) (v : Inv) → S.told hall.store ≡ Some h → Is S.told S.moment_of S.faults_of hall m → WasSound hall.held.base hall.held.opened h
+        → HadBackups hall.held.base hall.held.opened h → Recovers meaning (reads h) v → HadBackups v (now h) h }
 {}
 
 /// Where each image of a run's moments is safe, the store that a stop of the machine at one of them leaves recovers to the database behind a transaction that is at least the last that was acknowledged by

@@ -8,7 +8,7 @@ ghost use Rattle.hall.specs.Held.{Hall as Whole};
 ghost use Rattle.hall.specs.Opening.{IsSound};
 ghost use Rattle.hall.specs.Plays.{Plays};
 ghost use Rattle.hall.specs.Steps.{Answers, IsTrusted};
-ghost use Rattle.hall_turns.specs.Runs.{AreSafe, PlaysFrom, RunsFrom};
+ghost use Rattle.hall_turns.specs.Runs.{AreSafe, HasOwnBackups, PlaysFrom, RunsFrom};
 
 use crate::stepping::step;
 use hall::laws::{trusted_halls_are_safe, turns_are_exact};
@@ -79,7 +79,7 @@ pub fn play<S: Store + Stop>(
 ) -> Result<Played<S>, (S, OpenRefused)>
     ensures plays { IfOk result (λ played. (last : Whole S) × PlaysFrom S.told S.moment_of S.faults_of store turns.now played.replies.items last × (played.store ≡ last.store)) }
     ensures exact { IfOk result (λ played. IfSome (S.told store) (λ h. (contents : ℕ → List ℕ) → IsSound contents h → (last : Whole S)
-        × RunsFrom S.told S.moment_of S.faults_of store contents turns.now played.replies.items last × AreSafe S.told S.moment_of S.faults_of store turns.now played.replies.items last × (played.store ≡ last.store))) }
+        × RunsFrom S.told S.moment_of S.faults_of store contents turns.now played.replies.items last × AreSafe S.told S.moment_of S.faults_of (HasOwnBackups h) store turns.now played.replies.items last × (played.store ≡ last.store))) }
     ensures sound { IfErr result (λ e. IfSome (S.told store) (λ h. (contents : ℕ → List ℕ) → IsSound contents h → SaysNothing e.1)) }
 {
     turns_are_exact::<S>();

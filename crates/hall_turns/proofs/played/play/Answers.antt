@@ -30,7 +30,7 @@ returns-clause-plays g c = (
 
 pub returns-clause-exact : goal.returns-clause-exact
 returns-clause-exact g c =
-    played_exactly g.S.Store.told g.S.Store.moment_of g.S.Store.faults_of c.turns_are_exact.ensures c.trusted_halls_are_safe.ensures c.args.store c.into_store.result c.turns.hall
+    played_exactly g.S.Store.told g.S.Store.moment_of g.S.Store.faults_of g.met.S.Store.clock c.turns_are_exact.ensures c.trusted_halls_are_safe.ensures c.args.store c.into_store.result c.turns.hall
     c.args.turns.now c.turns.replies.items
     (all_played g.S.Store.told g.S.Store.moment_of g.S.Store.faults_of c.args.store c.turns.hall c.args.turns.now c.turns.turn-index c.turns.replies.items (omega (arith, c.turns-test.false)) c.turns.invariant)
     c.into_store.ensures
