@@ -31,7 +31,8 @@ use Rattle.command_steps.specs.Clients.{Client}
 use Rattle.command_steps.specs.Doing.{backed_up, behind_force}
 use Rattle.command_steps.specs.Owns.{Own, back_up_since, own_of}
 use Rattle.command_steps.specs.declared.outcome.Outcome.{Outcome}
-use Rattle.line_results.specs.Clauses.{DeniedBy, DeniedOwn, HasNoneToFollow, is_of_run}
+use Rattle.line_results.specs.Bounds.{HasNoneToFollow, is_of_run}
+use Rattle.line_results.specs.Clauses.{DeniedBy, DeniedOwn}
 use Rattle.line_results.specs.Commands.{DoesOwn, Works, WorksWith}
 use Rattle.line_results.specs.Resting.{database}
 use Rattle.line_results.proofs.Runs.{alone-parts, stepped}

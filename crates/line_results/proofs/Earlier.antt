@@ -30,7 +30,7 @@ use Rattle.command_steps.specs.Clients.{Client, Known}
 use Rattle.command_steps.specs.Owns.{OnTree, Own, audit_volume, back_up, back_up_database, back_up_pool, back_up_since, checkpoint, delete_history, empty_filespace, empty_volume, erase, expire, get, moves, none_but_reuse, none_yet, on_tree, own_of, put, restore, validate, write}
 use Rattle.command_steps.specs.Trees.{BacksUp, GivesWanted}
 use Rattle.command_steps.specs.declared.outcome.Outcome.{Outcome}
-use Rattle.line_results.specs.Bounds.{HasReason, IsReasoned, IsUnmade}
+use Rattle.line_results.specs.Bounds.{HasReason, IsReasoned, IsUnfollowed, IsUnmade}
 use Rattle.line_results.specs.Commands.{Does, DoesOn, DoesOwn, DoesThere, EndsSo, IsStill, Processes, Ran, Tells, Works, WorksWith, drawn}
 use Rattle.line_results.specs.Files.{Gets, GetsNot, GetsOf, GetsUnder, Puts, PutsBy, PutsHome, PutsOf, PutsUnder, Shows, ShowsFound, Stores, StoresAt, StoresBy, active_at, why_no_place}
 use Rattle.line_results.specs.Resting.{Breaks, EndsRun, RoseFrom, database}
@@ -139,14 +139,21 @@ module _ (trusted : Type 0) (places : Places) (k : Client) (result : Result Outc
   still-as : (end : Machine) → IsStill (later_of old mid) end → IsStill old end
   still-as end still = record { core = still.core; contents = still.contents; onward = onward-then old (later_of old mid) end (on-later old mid b) still.onward }
 
-  unmade-as : (e : Refusal) → IsUnmade (later_of old mid) new e → IsUnmade old new e
-  unmade-as e (inl illegal) = inl illegal
-  unmade-as e (inr (inl refused_end)) = inr (inl refused_end)
-  unmade-as e (inr (inr rose)) = inr (inr (rose-from old (later_of old mid) new old.core.next_file (on-later old mid b) rose))
+  unmade-as : (after : Option ℕ) (e : Refusal) → IsUnmade after (later_of old mid) new e → IsUnmade after old new e
+  unmade-as after e (inl illegal) = inl illegal
+  unmade-as after e (inr (inl refused_end)) = inr (inl refused_end)
+  unmade-as after e (inr (inr rose)) = inr (inr (rose-from old (later_of old mid) new old.core.next_file (on-later old mid b) rose))
+
+  unfollowed-as : (e : Refusal) → IsUnfollowed (later_of old mid) new e → IsUnfollowed old new e
+  unfollowed-as e (inl none) = inl none
+  unfollowed-as e (inr (file, newest, inl other)) = inr (file, newest, inl other)
+  unfollowed-as e (inr (file, newest, inr (inl far))) = inr (file, newest, inr (inl far))
+  unfollowed-as e (inr (file, newest, inr (inr unmade))) = inr (file, newest, inr (inr (unmade-as (Some file) e unmade)))
 
   reason-as : (numbers : List ℕ) (own : Own) (e : Refusal) → HasReason numbers own (later_of old mid) new e → HasReason numbers own old new e
   reason-as numbers expire e h = h
-  reason-as numbers back_up_database e h = unmade-as e h
+  reason-as numbers back_up_database e h = unmade-as None e h
+  reason-as numbers back_up_since e h = unfollowed-as e h
   reason-as numbers (delete_history to) e h = h
   reason-as numbers (audit_volume fix) e h = h
   reason-as numbers own e h = tt

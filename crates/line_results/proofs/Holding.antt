@@ -20,6 +20,7 @@ use Rattle.inventory_rows.specs.State.{Inv}
 use Rattle.inventory_work.specs.Rules.{rules_of}
 use Rattle.inventory_work.specs.declared.lines.Rules.{Rules}
 use Rattle.inventory_answers.specs.Answered.{answered}
+use Rattle.inventory_answers.specs.Stores.{backup_lines}
 use Rattle.inventory_answers.specs.declared.query.Query.{Query}
 use Rattle.inventory_answers.specs.declared.reply.Answer as rows
 use Rattle.placing.specs.Placing.{active_of, active_version, can_read}
@@ -38,6 +39,7 @@ use Rattle.machine.specs.Machine.{Places}
 use Rattle.machine.specs.Pieces.{IsCopyLost, IsUnavailable}
 use Rattle.machine.specs.State.{Machine}
 use Rattle.sessions.specs.declared.getting.FileRead.{FileRead}
+use Rattle.db_backup.specs.Listing.{newest_file}
 use Rattle.command_steps.specs.Answers.{Ends, answer_of, counting, done, halt_by, outcome_lines, refusal, row_lines}
 use Rattle.tree_api.specs.Cause.{Rose}
 use Rattle.command_steps.specs.Clients.{Client, IsKept, Known, Turns}
@@ -48,8 +50,8 @@ use Rattle.command_steps.specs.Writing.{Erases, Writes, bytes_of}
 use Rattle.command_steps.specs.Owns.{OnTree, Own, audit_volume, back_up, back_up_database, back_up_pool, back_up_since, checkpoint, delete_history, empty_filespace, empty_volume, erase, expire, get, last_of, moves, none_but_reuse, none_yet, on_tree, own_of, put, restore, validate, write}
 use Rattle.command_steps.specs.declared.outcome.Outcome.{Outcome}
 use Rattle.command_steps.specs.declared.outcome.Outcome.TheVariants.{Read, Rows, Said}
-use Rattle.line_results.specs.Bounds.{IsBounded, IsUnaudited, IsUnmade, ReachesBound, begins, end_refused, illegal}
-use Rattle.line_results.specs.Clauses.{BytesBy, BytesOwn, CauseBy, CauseOwn, CauseWith, DidBy, DidWith, Holds, IsAnsweredWith, IsRows, IsThereOrDefined, ItemsBy, ItemsOf, ItemsOwn, MayAudit, MayBackUp, MayBackUpDatabase, MayBy, MayGet, MayGive, MayOn, MayOwn, OrderedBy, OrderedWith, RowsBy, StaysWithin, orders}
+use Rattle.line_results.specs.Bounds.{IsBounded, IsUnaudited, IsUnfollowed, IsUnmade, IsUnmadeBehind, ReachesBound, begins, end_refused, illegal, is_near, is_of_run}
+use Rattle.line_results.specs.Clauses.{BytesBy, BytesOwn, CauseBy, CauseOwn, CauseWith, DidBy, DidWith, Holds, IsAnsweredWith, IsRows, IsThereOrDefined, ItemsBy, ItemsOf, ItemsOwn, MayAudit, MayBackUp, MayBackUpDatabase, MayBy, MayFollow, MayGet, MayGive, MayOn, MayOwn, OrderedBy, OrderedWith, RowsBy, StaysWithin, orders}
 use Rattle.line_results.specs.Commands.{Comes, Does, DoesOwn, DoesThere, EndsWith, IsReuse, Tells, Works, WorksWith, drawn, validated, work_over}
 use Rattle.line_results.specs.Files.{Checkpoints, Gets, GetsOf, GetsUnder, Puts, ShowsFound, active_at, filespace_defined}
 use Rattle.line_results.specs.Lines.{Replies, Says}
@@ -624,11 +626,27 @@ module _ (old between mid : Machine) (on : IsBehind between mid) (rose : NoneRos
   within-bounds (inl bounded) may = may (reaches-on old between mid on bounded.1)
   within-bounds (inr halts) may = some-not f halts.0 mild halts.1
 
-  database-backed : IsUnmade old between f ⊎ ((how : Halt) × (halt_by f ≡ Some how)) → MayBackUpDatabase old → ⊥
-  database-backed (inl (inl no_begin)) may = work-none (illegal (begins old.core) old.core) f may.0 no_begin
-  database-backed (inl (inr (inl no_end))) may = work-none (end_refused old.core) f may.1 no_end
-  database-backed (inl (inr (inr fault))) may = rose old.core.next_file (rose-on old between mid old.core.next_file fault on.0)
+  made-so : (after : Option ℕ) → IsUnmade after old between f → MayBackUpDatabase after old → ⊥
+  made-so after (inl no_begin) may = work-none (illegal (begins after old.core) old.core) f may.0 no_begin
+  made-so after (inr (inl no_end)) may = work-none (end_refused after old.core) f may.1 no_end
+  made-so after (inr (inr fault)) may = rose old.core.next_file (rose-on old between mid old.core.next_file fault on.0)
+
+  database-backed : IsUnmade None old between f ⊎ ((how : Halt) × (halt_by f ≡ Some how)) → MayBackUpDatabase None old → ⊥
+  database-backed (inl unmade) may = made-so None unmade may
   database-backed (inr halts) may = some-not f halts.0 mild halts.1
+
+  -- the one that is followed is the newest
+  behind-not : (file : ℕ) → IsUnmadeBehind file old between f → is_of_run file old.core ≡ true → is_near file old.core ≡ true → MayBackUpDatabase (Some file) old → ⊥
+  behind-not file (inl (is, other)) of_run near may = true≢false (sym of_run ∙ other)
+  behind-not file (inr (inl (is, far))) of_run near may = true≢false (sym near ∙ far)
+  behind-not file (inr (inr unmade)) of_run near may = made-so (Some file) unmade may
+
+  followed-so : IsUnfollowed old between f ⊎ ((how : Halt) × (halt_by f ≡ Some how)) → MayFollow old → ⊥
+  followed-so (inl (inl (is, none))) may = (let odd : None ≡ Some may.0 = sym none ∙ may.1 in cc)
+  followed-so (inl (inr (file, newest, behind))) may =
+      let same : file ≡ may.0 = some-same (newest_file (backup_lines (database old).backups)) file may.0 newest may.1 in
+      behind-not may.0 (subst (λ (n : ℕ). IsUnmadeBehind n old between f) same behind) may.2 may.3 may.4
+  followed-so (inr halts) may = some-not f halts.0 mild halts.1
 
   audited-so : (fix : Bool) (file : ℕ) → IsUnaudited fix file old between f ⊎ ((how : Halt) × (halt_by f ≡ Some how)) → MayAudit fix file old mid → ⊥
   audited-so fix file (inl (inl missing)) may = true≢false (sym may.0 ∙ missing.1)
@@ -644,6 +662,7 @@ module _ (old between mid : Machine) (on : IsBehind between mid) (rose : NoneRos
   never-own trusted places k (on_tree work) numbers first so may h = never-there trusted places k work f old between first so may mild h
   never-own trusted places k expire numbers first so may (kept, (ran, are, image, bytes, why)) = within-bounds why may
   never-own trusted places k back_up_database numbers first so may (kept, (ran, are, image, bytes, why)) = database-backed why may
+  never-own trusted places k back_up_since numbers first so may (kept, (ran, are, image, bytes, why)) = followed-so why may
   never-own trusted places k (delete_history to) numbers first so may (kept, (ran, are, image, bytes, why)) = within-bounds why may
   never-own trusted places k (audit_volume fix) numbers first so may (kept, (ran, are, image, bytes, why)) = audited-so fix (the_number numbers) why may
   never-own trusted places k none_but_reuse numbers first so may (kept, (inl is, none, image, bytes)) = (let odd : ◌≡◌ {A = Result Outcome Refusal} (Err f) (Ok (Said (Reused 0))) = is in cc)

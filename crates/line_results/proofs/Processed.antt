@@ -27,7 +27,7 @@ use Rattle.steps.specs.Spent.{AreSettled}
 use Rattle.copy_pools.specs.Backups.{IsBackup, Came as BackupCame}
 use Rattle.copy_runs.specs.Ends.{IsEnding}
 use Rattle.copy_runs.specs.declared.wanted.Moved.{Moved}
-use Rattle.db_backup.specs.Backups.{IsFollowing}
+use Rattle.db_backup.specs.Backups.{FollowsNewest, IsFollowing}
 use Rattle.db_backup.specs.Deleting.{HistoryDeletion, IsDeleting}
 use Rattle.db_backup.specs.Listing.{due_files}
 use Rattle.db_backup.specs.Taking.{Backs, IsOf as IsOfImage, kind_of, may_leave as may_leave_image}
@@ -84,7 +84,7 @@ use Rattle.line_results.specs.Trees.{HasBytes, IsOfBackup}
 use Rattle.reports.specs.declared.shown.Shown.TheVariants.{Copied, DeletedHistory, Expired, Reused}
 use Rattle.line_results.proofs.Backing.{AllBack, MayBack, back-walk, backed-none, backs-none, left_by, newest-none}
 use Rattle.line_results.proofs.Changed.{changes}
-use Rattle.line_results.proofs.BackupReason.{backup-reason}
+use Rattle.line_results.proofs.BackupReason.{backup-reason, follow-reason}
 use Rattle.line_results.proofs.BackupRefused.{backup-refused}
 use Rattle.line_results.proofs.Copying.{AllCopy, Copies, IsCopy, MayJoin, copied-none, copies-idle, copies-walk, settled-free}
 use Rattle.line_results.proofs.Free.{free-walk}
@@ -431,10 +431,11 @@ module _ (trusted : Type 0) (places : Places) (choice : List Rule) (b : Behind) 
   alone-began back_up_database numbers said events old mid so rest (answer, made, is) f =
       images-began numbers back_up_database said events old mid rest (answer, made, is) (all-back (MayMake numbers back_up_database) (IsOfImage (kind_of None)) (backup-backs numbers) events made.only)
       (λ h. backs-none None events answer made.order (leaves-none answer said is h))
-      (reasoned numbers back_up_database old mid backed_up answer said is (λ e same mild. backup-reason trusted places e events old mid mild rest.image (subst (λ (r : Result Taken Refusal). Backs image.Backup events r) same made.order) f)) f
+      (reasoned numbers back_up_database old mid backed_up answer said is (λ e same mild. backup-reason trusted places None e events old mid mild rest.image (subst (λ (r : Result Taken Refusal). Backs image.Backup events r) same made.order) f)) f
   alone-began back_up_since numbers said events old mid so rest (answer, made, is) f =
       images-began numbers back_up_since said events old mid rest (answer, made, is) (all-back (MayMake numbers back_up_since) IsFollowing (following-backs numbers) events made.only)
-      (λ h. newest-none events answer made.order (leaves-none answer said is h)) (unreasoned numbers back_up_since old mid said (λ e. tt)) f
+      (λ h. newest-none events answer made.order (leaves-none answer said is h))
+      (reasoned numbers back_up_since old mid backed_up answer said is (λ e same mild. follow-reason trusted places e mild events old mid rest.image (subst (λ (r : Result Taken Refusal). FollowsNewest events r) same made.order) f)) f
   alone-began (delete_history to) numbers said events old mid so rest h f =
       process-began numbers (delete_history to) said events old mid rest h (all-walk (IsDeleting (due_files to h.1.lines)) (MayMake numbers (delete_history to)) (history-walks to numbers (due_files to h.1.lines)) events h.1.only)
       (reasoned numbers (delete_history to) old mid (λ deleted. Said (DeletedHistory deleted)) h.0 said h.2

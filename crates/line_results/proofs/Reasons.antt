@@ -38,7 +38,7 @@ use Rattle.steps.specs.Events.{Deed, Event, has_number, refusal}
 use Rattle.steps.specs.Events.Deed.{Ask, Commit, Force, ReadPiece, Reuse}
 use Rattle.copy_attempts.specs.Attempts.{is_stopping}
 use Rattle.copy_attempts.specs.Outcomes.{Met, MetBy}
-use Rattle.copy_runs.specs.Ends.{IsEnding, IsStopped}
+use Rattle.copy_runs.specs.Ends.{IsAsking, IsEnding, IsStopped, Unanswered}
 use Rattle.db_backup.specs.Deleting.{HistoryDeletion, IsDeleting}
 use Rattle.db_backup.specs.Listing.{due_files}
 use Rattle.expiration.specs.Expiring.{Expiration, IsExpiring, named}
@@ -125,6 +125,17 @@ module _ (places : Places) (m next : Machine) (e : Refusal) where
   plain-unheld w (Ok number) d t idle is why step = (let odd : Refuses e (Commit (Plain w) [] (Ok number)) = subst (Refuses e) is why in absurd cc)
   plain-unheld w (Err x) d t idle is why step =
       subst IsNoHolder (same_Some x e (subst (Refuses e) is why)) (commit-unheld w m next x t idle (subst (λ (y : Deed). Case places 0 y m next) is step))
+
+-- a question is refused only where the run ends
+pub asking-answered : (trusted : Type 0) (places : Places) (events : List Event) (e : Refusal) (old new : Machine) → halt_by e ≡ None → Unanswered events e → Alone trusted places 0 events old new → ⊥
+asking-answered trusted places events e old new mild (inl memory, asks) f = no-memory e memory mild
+asking-answered trusted places events e old new mild (inr (stops, met), asks) f =
+    let at = met-at trusted places IsAsking (λ c. Unit {0}) (λ d m next so step h. tt) (Refuses e) events old new asks tt f met in
+    let plain : IsPlain e = ending-plain places at.before at.after e at.deed (inl at.kind) at.is at.step in
+    elim (stopping-mild e stops mild) as (λ _. ⊥) [
+      | inl full ↦ plain.0 full
+      | inr busy ↦ plain.1 busy.0 busy.1
+    ]
 
 -- ---- what stays
 

@@ -48,7 +48,8 @@ use Rattle.command_steps.specs.Doing.{backed_up, behind_force}
 use Rattle.command_steps.specs.Owns.{Own, back_up_database, back_up_since, own_of}
 use Rattle.command_steps.specs.declared.outcome.Outcome.{Outcome}
 use Rattle.command_steps.specs.declared.outcome.Outcome.TheVariants.{Said}
-use Rattle.line_results.specs.Clauses.{HasFollowedNewest, IsBackedUp, ToldBy, ToldOwn, is_of_run}
+use Rattle.line_results.specs.Bounds.{is_of_run}
+use Rattle.line_results.specs.Clauses.{HasFollowedNewest, IsBackedUp, ToldBy, ToldOwn}
 use Rattle.line_results.specs.Commands.{DoesOwn, IsReuse, Works, WorksWith}
 use Rattle.line_results.specs.Resting.{Adds, database, entry}
 use Rattle.line_results.proofs.Backing.{own-is}

@@ -1,8 +1,7 @@
 -- What holds of each line of a script beside how it may be answered: which transactions it makes, which rows and bytes it shows, what it says of stored bytes, why it is refused, what it did that
 -- wasn't refused, and when it isn't. A line stands between two states; `mid` is the one behind its command, before the checkpoint that may follow it, and `added` the transactions that it made, oldest first.
-use Rattle.std.specs.Prelude.{◌≡◌, ◌⊎◌, ℕ, ◌+◌, ◌^◌, ◌<◌, ◌≤◌, ◌&&◌, nat_le, Bool, true, false, Contains, List, [], ◌∷◌, ◌++◌, length, Option, None, Some, Result, Ok, Err}
+use Rattle.std.specs.Prelude.{◌≡◌, ◌⊎◌, ℕ, ◌+◌, ◌^◌, ◌<◌, ◌≤◌, Bool, true, false, Contains, List, [], ◌∷◌, ◌++◌, length, Option, None, Some, Result, Ok, Err}
 use Rattle.std.specs.List.{AllByRecursion}
-use Rattle.std.specs.Option.{option_map_or}
 use Rattle.sha2.specs.Sha256.{sha256}
 use Rattle.kinds.specs.ValueForms.{digest_with}
 use Rattle.kinds.specs.declared.change.DefineOrDelete.TheVariants as two
@@ -17,10 +16,8 @@ use Rattle.entries.specs.declared.entry.Entry.{Entry}
 use Rattle.inventory_rows.specs.object_rows.Names.{filespace_named, node_named}
 use Rattle.inventory_rows.specs.version_groups.declared.copies.CopyRow.{CopyRow}
 use Rattle.inventory_rows.specs.version_groups.declared.versions.Version.{Version}
-use Rattle.inventory_rows.specs.declared.backup.Backup.{Backup}
 use Rattle.inventory_rows.specs.Search.{version}
 use Rattle.inventory_rows.specs.State.{Inv}
-use Rattle.inventory_rules.specs.Backups.{backup_at, is_done}
 use Rattle.inventory_rules.specs.Valid.{is_valid}
 use Rattle.inventory_work.specs.Copies.{has_volume}
 use Rattle.inventory_work.specs.Rules.{rules_of}
@@ -41,7 +38,7 @@ use Rattle.reports.specs.declared.shown.Shown.TheVariants.{BackedUp, Stored}
 use Rattle.script_loop.specs.Reply.{Answer}
 use Rattle.tree_api.specs.Cause.{Rose}
 use Rattle.machine.specs.Machine.{Places}
-use Rattle.machine.specs.State.{Core, Machine, Place, inventory}
+use Rattle.machine.specs.State.{Core, Machine, Place}
 use Rattle.sessions.specs.Homes.{home_of}
 use Rattle.sessions.specs.declared.getting.FileRead.{FileRead}
 use Rattle.sessions.specs.declared.homes.Home.{Home}
@@ -57,7 +54,7 @@ use Rattle.command_steps.specs.Owns.{OnTree, Own, audit_volume, back_up, back_up
 use Rattle.command_steps.specs.declared.outcome.Outcome.{Outcome}
 use Rattle.command_steps.specs.declared.outcome.Outcome.TheVariants.{Said}
 use Rattle.admin_words.specs.declared.command.Command.{Command}
-use Rattle.line_results.specs.Bounds.{IsBounded, ReachesBound, begins, end_refused, illegal}
+use Rattle.line_results.specs.Bounds.{HasNoneToFollow, IsBounded, ReachesBound, begins, end_refused, illegal, is_near, is_of_run}
 use Rattle.line_results.specs.Commands.{Does, DoesThere, EndsWith, IsReuse, MayMake, Works, drawn, validated, work_over}
 use Rattle.line_results.specs.Files.{Gets, IsPlacedIn, Puts, backed_up, filespace_defined, why_no_place}
 use Rattle.line_results.specs.Resting.{Makes, RoseFrom, database, entry, why_not}
@@ -188,15 +185,6 @@ CauseBy trusted places k own (Err given) old mid why added = why ≡ given
 CauseBy trusted places k own (Ok (Commit what)) old mid why added = why_not (drawn what old) old.core ≡ Some why
 CauseBy trusted places k own (Ok (Show query)) old mid why added = answered query (database old) ≡ Err why
 CauseBy trusted places k own (Ok (Run numbers)) old mid why added = CauseOwn trusted places k own old mid why added
-
--- the backup in this file is on the list, is whole, and its number isn't below that of the run's base
-abbrev pub is_of_run : (file : ℕ) → Core → Bool
-is_of_run file c = is_done (backup_at file (inventory c)) && option_map_or (λ (b : Backup). nat_le c.base.number b.number) (backup_at file (inventory c)) false
-
--- none is there to be followed: no whole backup is on the list, or the one with the greatest number isn't of this run
-abbrev pub HasNoneToFollow : (old : Machine) → Type 0
-HasNoneToFollow old =
-    (newest_file (backup_lines (database old).backups) ≡ None) ⊎ ((file : ℕ) × (newest_file (backup_lines (database old).backups) ≡ Some file) × (is_of_run file old.core ≡ false))
 
 -- a backup that follows another is refused as not found only there
 abbrev pub DeniedOwn : Own → (old : Machine) → Refusal → Type 0
@@ -344,9 +332,14 @@ MayOn k (back_up i) old = MayBackUp i old × IsSound i.tree k
 abbrev pub StaysWithin : (old mid : Machine) → Type 0
 StaysWithin old mid = ReachesBound old mid → ⊥
 
--- the database has no reason against the transactions by which a backup of the whole of it begins and ends
-abbrev pub MayBackUpDatabase : (old : Machine) → Type 0
-MayBackUpDatabase old = (illegal (begins old.core) old.core ≡ None) × (end_refused old.core ≡ None)
+-- the database has no reason against the transactions by which a backup begins and ends, of the whole of it or of what came behind the backup in a file
+abbrev pub MayBackUpDatabase : (after : Option ℕ) → (old : Machine) → Type 0
+MayBackUpDatabase after old = (illegal (begins after old.core) old.core ≡ None) × (end_refused after old.core ≡ None)
+
+-- the whole backup with the greatest number on the list is of this run, fewer than 2^32 transactions come behind it, and one that follows it may be made
+abbrev pub MayFollow : (old : Machine) → Type 0
+MayFollow old =
+    (file : ℕ) × (newest_file (backup_lines (database old).backups) ≡ Some file) × (is_of_run file old.core ≡ true) × (is_near file old.core ≡ true) × MayBackUpDatabase (Some file) old
 
 -- a volume that is there may be audited; and where damaged copies are to go, so it is in a valid database within its bounds
 abbrev pub MayAudit : (fix : Bool) → (file : ℕ) → (old mid : Machine) → Type 0
@@ -360,7 +353,8 @@ MayOwn places k numbers (get g) old mid = MayGet g (database old)
 MayOwn places k numbers checkpoint old mid = old.core.generation + 1 < 2 ^ 62
 MayOwn places k numbers (on_tree work) old mid = MayOn k work old
 MayOwn places k numbers expire old mid = StaysWithin old mid
-MayOwn places k numbers back_up_database old mid = MayBackUpDatabase old
+MayOwn places k numbers back_up_database old mid = MayBackUpDatabase None old
+MayOwn places k numbers back_up_since old mid = MayFollow old
 MayOwn places k numbers (delete_history to) old mid = StaysWithin old mid
 MayOwn places k numbers (audit_volume fix) old mid = MayAudit fix (the_number numbers) old mid
 MayOwn places k numbers none_but_reuse old mid = Unit {0}
