@@ -11,4 +11,4 @@ mod trees;
 
 pub use block::{Block, Fate, Line};
 pub use part::{Part, begins_block};
-pub use trees::in_use;
+pub use trees::{first_job, in_use};

@@ -15,8 +15,8 @@ fn names(tree: u64, line: &Line) -> bool
     }
 }
 
-/// The job of the first line that names the tree.
-fn first_job(tree: u64, lines: &[Line]) -> Option<u32>
+/// The place of the job that has a tree: that of the first line of a block, which has these lines, that is done and names it. None where no line does.
+pub fn first_job(tree: u64, lines: &[Line]) -> Option<u32>
     ensures { result ≡ first_job tree lines.now }
 {
     'lines: for line in lines {

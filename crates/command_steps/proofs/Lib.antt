@@ -3,5 +3,6 @@ pub mod Changed
 pub mod Looked
 pub mod Pieces
 pub mod Treed
+pub mod Withheld
 pub mod Worked
 pub mod Written

@@ -3,6 +3,7 @@ pub mod Answers
 pub mod Behind
 pub mod Clients
 pub mod Doing
+pub mod Jobs
 pub mod Leaving
 pub mod Lines
 pub mod Owns

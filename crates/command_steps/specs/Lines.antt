@@ -37,6 +37,10 @@ abbrev pub read_as : Result Command Refusal → Line
 read_as (Ok c) = if is_done c then asks c else refused (UnknownWord 1)
 read_as (Err why) = refused why
 
+-- what a line is that stands in a block, or in none
+abbrev pub line_in : (in_block : Bool) → List ℕ → Line
+line_in in_block line = if is_comment line then comment else read_as (command line in_block)
+
 -- what a line outside blocks is
 abbrev pub line_of : List ℕ → Line
-line_of line = if is_comment line then comment else read_as (command line false)
+line_of line = line_in false line

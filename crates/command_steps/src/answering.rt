@@ -7,10 +7,10 @@ ghost use Rattle.sessions.specs.Asking.{unasked};
 ghost use Rattle.steps.specs.Calls.{Call};
 ghost use Rattle.command_steps.specs.Answering.{AnswersLine, AsksLog, DoesOrWants, Follows, IfLong, halted_behind, long_log, unless_full};
 ghost use Rattle.command_steps.specs.Clients.{client};
-ghost use Rattle.command_steps.specs.Lines.{line_of};
+ghost use Rattle.command_steps.specs.Lines.{line_in, line_of};
 
 use crate::doing::do_command;
-use crate::lines::{Line, line_of};
+use crate::lines::{Line, line_in};
 use crate::reply::{ends, refused_so};
 use choosers::Binder;
 use client_trees::Tree;
@@ -26,8 +26,8 @@ const LONG_LOG: u64 = 4194304;
 
 // ---- the line itself
 
-/// Does what a line is, and answers it.
-fn do_line<P: Stepper, T: Tree>(
+/// Does what a line is that stands in a block, or in none, and answers it.
+pub(crate) fn do_line<P: Stepper, T: Tree>(
     alloc: Global,
     p: &mut P,
     trees: &mut [T],
@@ -35,14 +35,15 @@ fn do_line<P: Stepper, T: Tree>(
     buffer: &mut [u8],
     number: u32,
     line: &[u8],
+    in_block: bool,
 ) -> Result<(Reply, Option<Refusal>), Halt>
     requires some { 1 ≤ length buffer.old }
     requires few { length buffer.old ≤ 2 ^ 16 }
     requires short { length line.now < 2 ^ 32 - 1 }
-    ensures does { Call P.did p.old p.new (λ events. DoesOrWants (client T.files T.fault_count binder.now trees.old trees.new) number (line_of line.now) events result) }
+    ensures does { Call P.did p.old p.new (λ events. DoesOrWants (client T.files T.fault_count binder.now trees.old trees.new) number (line_in in_block line.now) events result) }
     ensures long { length buffer.new ≡ length buffer.old }
 {
-    match line_of(alloc, line) {
+    match line_in(alloc, line, in_block) {
         Ok(Line::Comment) => Ok((Reply::nothing(alloc), None)),
         Ok(Line::Refused(why)) => refused_so(alloc, number, why),
         Ok(Line::Asks(command)) => {
@@ -173,7 +174,7 @@ pub fn answer_line<P: Stepper, T: Tree>(
     ensures answers { Call P.did p.old p.new (λ events. AnswersLine (client T.files T.fault_count binder.now trees.old trees.new) number (line_of line.now) events result) }
     ensures long { length buffer.new ≡ length buffer.old }
 {
-    match do_line(alloc, p, trees, binder, buffer, number, line) {
+    match do_line(alloc, p, trees, binder, buffer, number, line, false) {
         Ok(replied) => match halted_behind(follow(p)) {
             None => Ok(replied),
             Some(how) => Err(how),

@@ -4,6 +4,7 @@
 mod answering;
 mod behind;
 mod doing;
+mod jobs;
 pub mod laws;
 mod lines;
 mod looking;
@@ -15,4 +16,5 @@ mod trees;
 mod writing;
 
 pub use answering::answer_line;
+pub use jobs::{answer_in_job, refuse_line};
 pub use outcome::Outcome;

@@ -1,7 +1,7 @@
 // What a line of the script is.
-ghost use Rattle.std.specs.Prelude.{◌≡◌, ◌<◌, ◌-◌, ◌^◌, false, length, IfOk, IfErr};
+ghost use Rattle.std.specs.Prelude.{◌≡◌, ◌<◌, ◌-◌, ◌^◌, length, IfOk, IfErr};
 ghost use Rattle.kinds.specs.declared.refusal.Refusal.TheVariants.{Memory};
-ghost use Rattle.command_steps.specs.Lines.{does_file, is_done, line_of};
+ghost use Rattle.command_steps.specs.Lines.{does_file, is_done, line_in};
 ghost use Rattle.command_steps.specs.Reading.{line_view};
 
 use admin_words::command::FileCommand;
@@ -46,20 +46,21 @@ fn is_done(command: &Command) -> bool
     }
 }
 
-/// What a line outside blocks is. Its one refusal is want of memory.
-pub(crate) fn line_of(alloc: Global, line: &[u8]) -> Result<Line, Refusal>
+/// What a line is that stands in a block, or in none. Its one refusal is want of memory.
+pub(crate) fn line_in(alloc: Global, line: &[u8], in_block: bool) -> Result<Line, Refusal>
     requires { length line.now < 2 ^ 32 - 1 }
-    ensures said { IfOk result (λ it. line_view it ≡ line_of line.now) }
+    ensures said { IfOk result (λ it. line_view it ≡ line_in in_block line.now) }
     ensures memory { IfErr result (λ e. e ≡ Memory) }
 {
     if is_comment(line) {
         return Ok(Line::Comment);
     }
-    match read_line(alloc, line, false) {
+    match read_line(alloc, line, in_block) {
         Ok(command) => {
             if is_done(&command) {
                 Ok(Line::Asks(command))
             } else {
+                drop(command);
                 Ok(Line::Refused(Refusal::UnknownWord(1)))
             }
         }

@@ -1,5 +1,6 @@
 -- Jobs with the passes of their actors.
 use Rattle.std.proofs.Common.{◌≡◌, ℕ, zero, suc, ◌+◌, ◌<◌, List, [], ◌∷◌, ◌++◌, map, length, Option, None, Some, refl, sym, ap, subst, ◌∙◌, arith}
+use Rattle.std.proofs.lemmas.List.{length-map}
 use Rattle.std.specs.Prelude.{IfSome, slice_index_or}
 use Rattle.std.specs.List.{AllByRecursion}
 use Rattle.steps.specs.Events.{Event}
@@ -69,3 +70,8 @@ module _ {J : Type 0} where
       let t = subst (λ (o : Option Diary). IfSome o (λ diary. diary.1 ≡ events_of diary.0 turns)) w.2 (all_at (IsTold turns) after i (d, None) (omega (arith, within, same)) told) in
       subst (λ (j : J). did (slice_index_or jobs i d) (first + i) (events_of (first + i) turns) j) (sym (ap (λ (s : List J). slice_index_or s i d) are ∙ job_at after i d))
       (subst (λ (es : List Event). did (slice_index_or jobs i d) (first + i) es now.0) t w.1)
+
+  -- as many jobs come back as were run
+  pub many_done : (first : ℕ) (jobs done : List J) (before after : List (Seat J)) → before ≡ seats_of first jobs → length after ≡ length before → done ≡ map (λ s. s.0) after → length done ≡ length jobs
+  many_done first jobs done before after is same are =
+      ap (λ (l : List J). length l) are ∙ length-map after (λ (s : Seat J). s.0) ∙ same ∙ ap (λ (l : List (Seat J)). length l) is ∙ seats_length first jobs

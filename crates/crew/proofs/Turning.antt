@@ -53,7 +53,7 @@ module _ {S : Type 0} (told : S → Option History) (moment : S → ℕ) (faults
     abbrev Ended : List Turn → Hall S → Machine → Type 0
     Ended turns new m = (last : Machine) × Turned trusted hall_places turns m last × Is told moment faults new last × IsKnown told moment faults trusted new × KeepsStamps m.core last.core
 
-    keeps : (a b c : Machine) → KeepsStamps a.core b.core → KeepsStamps b.core c.core → KeepsStamps a.core c.core
+    pub keeps : (a b c : Machine) → KeepsStamps a.core b.core → KeepsStamps b.core c.core → KeepsStamps a.core c.core
     keeps a b c first second = (first.0 ++ second.0, second.1 ∙ ap (λ (l : List ℕ). l ++ second.0) first.1 ∙ append_assoc a.core.stamps first.0 second.0)
 
     run : (turns : List Turn) (old new : Hall S) (m : Machine) → Is told moment faults old m → IsKnown told moment faults trusted old → Ran told moment faults turns old new → Ended turns new m

@@ -1,14 +1,15 @@
 -- What several actors did on a hall, one step after the other.
-use Rattle.std.specs.Prelude.{◌≡◌, ◌⊎◌, ℕ, false, List, [], ◌∷◌, Option, Some}
+use Rattle.std.specs.Prelude.{◌≡◌, ◌⊎◌, ℕ, ◌≤◌, false, List, [], ◌∷◌, Option, Some}
 use Rattle.std.specs.List.{AllByRecursion}
 use Rattle.store_api.specs.Disk.{History}
-use Rattle.hall.specs.Alone.{is_read}
+use Rattle.hall.specs.Alone.{Continues, is_read}
 use Rattle.hall.specs.Held.{Hall, Held}
 use Rattle.hall.specs.Steps.{Goes, Steps}
 use Rattle.machine.specs.Alone.{Moves}
+use Rattle.machine.specs.Fits.{Fits, History as Run}
 use Rattle.machine.specs.Machine.{Places}
-use Rattle.machine.specs.State.{Machine}
-use Rattle.machine.specs.Turns.{Turn}
+use Rattle.machine.specs.State.{Machine, inventory}
+use Rattle.machine.specs.Turns.{Turn, events_of, own_in}
 
 -- Each of these turns is a step of its actor on the hall that the one before it left, behind the transaction that was the last by then.
 abbrev pub Ran : {S : Type 0} → (told : S → Option History) → (moment : S → ℕ) → (faults : S → ℕ → ℕ) → List Turn → Hall S → Hall S → Type 0
@@ -39,3 +40,10 @@ Turned trusted places (t ∷ turns) old new = (next : Machine) × Moves trusted 
 -- What was read are the machine's bytes: the store tells its bytes and was sound when the hall was opened, or nobody read.
 abbrev pub ReadExactly : (trusted : Type 0) → List Turn → Type 0
 ReadExactly trusted turns = trusted ⊎ AllByRecursion (λ t. is_read t.did.deed ≡ false) turns
+
+-- What each actor did in these turns, which led from the one state of the machine to the other, fits every history that goes on from behind them: each of its steps was made on the database of its number, and what joined
+-- by it stands in the history.
+abbrev pub EachFits : List Turn → (old last : Machine) → Type 0
+EachFits turns old last =
+    (w : Run) → Continues last w → (actor reached : ℕ) → reached ≤ (inventory old.core).number
+    → (n : ℕ) × (n ≤ (inventory last.core).number) × Fits w actor (own_in actor reached old.core) (events_of actor turns) (own_in actor n last.core)

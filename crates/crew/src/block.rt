@@ -142,6 +142,7 @@ fn in_block<
     requires few { first + vec_len jobs < 2 ^ 32 }
     ensures ran { OnOk result.ended ((turns : List Told) × RanFrom S.told S.moment_of S.faults_of B.first turns result.hall × AllByRecursion (IsWithin first (first + length jobs.items)) turns × EachDid J.did first turns jobs.items result.jobs.items) }
     ensures none { OnErr result.ended ((result.hall ≡ hall) × (result.jobs.items ≡ jobs.items)) }
+    ensures many { length result.jobs.items ≡ length jobs.items }
 {
     let Ok(room) = Vec::with_capacity(alloc, jobs.len()) else {
         return unrun(hall, jobs);
@@ -203,6 +204,7 @@ pub fn run_block<S: Store + Send, J: Job + Drop + Send, R: Threads + Wait + Sync
     requires { first + vec_len jobs < 2 ^ 32 }
     ensures ran { OnOk result.ended (CameTo S.told S.moment_of S.faults_of J.did first hall jobs.items result.hall result.jobs.items) }
     ensures none { OnErr result.ended ((result.hall ≡ hall) × (result.jobs.items ≡ jobs.items)) }
+    ensures many { length result.jobs.items ≡ length jobs.items }
 {
     match open_cell(alloc) {
         Ok((cell, keeper)) => {

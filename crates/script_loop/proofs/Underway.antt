@@ -16,7 +16,7 @@ use Rattle.script_loop.specs.Reply.{Answer}
 use Rattle.script_loop.specs.Ends.{last_line, PutsLast}
 use Rattle.script_loop.specs.Limit.{first_excess, excess_from}
 use Rattle.script_loop.specs.Reading.{TakesLine, IsTooLong}
-use Rattle.script_loop.specs.Runs.{Runs, IsFront, AreFirst, IsWhole, Exceeds, Answers, Prints, Says}
+use Rattle.script_loop.specs.Runs.{Runs, RunsOut, IsFront, AreFirst, IsWhole, Exceeds, Answers, Prints, Says}
 use Rattle.script_loop.specs.Steps.{TakesOne, HasTaken, Progress, Underway, HasPut, Stops}
 use Rattle.script_loop.proofs.Tallies.{added_assoc, added_comm}
 
@@ -94,9 +94,16 @@ take-nil count = let none : List ℕ = [] in take_all count none (omega arith)
 pub put_front : (text whole : List ℕ) (before after : Option (List ℕ)) → text ≡ whole → ((count : ℕ) × (count ≤ length text) × Appends before after (take count text)) → (front : List ℕ) × IsFront front whole × Appends before after front
 put_front text whole before after same (count, within, put) = (take count text, (drop count text, sym same ∙ sym (take-append-drop count text)), put)
 
-module _ {S : Type 0} (serves : S → ℕ → List ℕ → Answer → S → Type 0) where
+-- a front of a reply was put behind a text, with which a longer text begins
+behind_front : (text front rest reply last : List ℕ) → reply ≡ front ++ rest → IsFront (text ++ front) ((text ++ reply) ++ last)
+behind_front text front rest reply last whole = (
+  rest ++ last,
+  ap (λ l. (text ++ l) ++ last) whole ∙ ap (λ l. l ++ last) (sym (append_assoc text front rest)) ∙ append_assoc (text ++ front) rest last,
+)
+
+module _ {S : Type 0} (serves : S → ℕ → Option (List ℕ) → Answer → S → Type 0) where
   -- a run goes on by one line
-  pub run_more : (n m : ℕ) (old mid new : S) (taken : List (List ℕ)) (line text : List ℕ) (tally : Tally) (reply : Answer) → m ≡ n + length taken → Runs serves n old taken text tally mid → serves mid m line reply new
+  pub run_more : (n m : ℕ) (old mid new : S) (taken : List (List ℕ)) (line text : List ℕ) (tally : Tally) (reply : Answer) → m ≡ n + length taken → Runs serves n old taken text tally mid → serves mid m (Some line) reply new
       → Runs serves n old (taken ++ line ∷ []) (text ++ reply.text) (added tally reply.tally) new
   run_more n m old mid new [] line text tally reply place (none, zero_tally, same) served =
       let here : m ≡ n = omega arith in (
@@ -104,7 +111,7 @@ module _ {S : Type 0} (serves : S → ℕ → List ℕ → Answer → S → Type
         new,
         [],
         no_tally,
-        subst (λ k. serves old k line reply new) here (subst (λ s. serves s m line reply new) same served),
+        subst (λ k. serves old k (Some line) reply new) here (subst (λ s. serves s m (Some line) reply new) same served),
         ap (λ l. l ++ reply.text) none ∙ sym (append-nil reply.text),
         ap (λ t. added t reply.tally) zero_tally ∙ added_comm no_tally reply.tally,
         (refl, refl, refl),
@@ -126,11 +133,13 @@ module _ {S : Type 0} (serves : S → ℕ → List ℕ → Answer → S → Type
   begins start script contents =
       record { taken = []; text = []; many = refl; ran = (refl, refl, refl); read = nothing_taken script; printed_so_far = Appends-nil contents }
 
-module _ {S : Type 0} (serves : S → ℕ → List ℕ → Answer → S → Type 0) (halts : S → ℕ → List ℕ → Halt → S → Type 0) where
+module _ {S : Type 0} (serves : S → ℕ → Option (List ℕ) → Answer → S → Type 0) (halts : S → ℕ → Option (List ℕ) → Halt → S → Type 0) where
   -- a line was taken and answered
   pub goes_on : (start old new : S) (script contents come left before after : Option (List ℕ)) (n : ℕ) (tally sum : Tally) → n ≤ 2 ^ 20 → Underway serves start script contents n tally old come before
       → TakesOne serves halts n tally old new come left (Ok sum) before after → Underway serves start script contents (n + 1) sum new left after
-  goes_on start old new script contents come left before after n tally sum within so_far (line, takes, (reply, served, (sum_is, put))) =
+  goes_on start old new script contents come left before after n tally sum within so_far (inr (inl (at_end, ends))) = absurd ends
+  goes_on start old new script contents come left before after n tally sum within so_far (inr (inr (none, kept, quiet))) = absurd none
+  goes_on start old new script contents come left before after n tally sum within so_far (inl (line, takes, (reply, served, (sum_is, put)))) =
       record {
         taken = so_far.taken ++ line ∷ [];
         text = so_far.text ++ reply.text;
@@ -142,7 +151,7 @@ module _ {S : Type 0} (serves : S → ℕ → List ℕ → Answer → S → Type
 
   -- a line was taken and answered: had the sink not failed, the source might have
   unprinted : (start old new : S) (script contents come left before : Option (List ℕ)) (n : ℕ) (tally : Tally) (line : List ℕ) (reply : Answer) → n ≤ 2 ^ 20 → (so_far : Underway serves start script contents n tally old come before)
-      → TakesLine come left line → serves old n line reply new → Answers serves halts start script SourceFault (so_far.text ++ reply.text) new
+      → TakesLine come left line → serves old n (Some line) reply new → Answers serves halts start script SourceFault (so_far.text ++ reply.text) new
   unprinted start old new script contents come left before n tally line reply within so_far takes served =
       let read = one_more script come left so_far.taken line n so_far.many within so_far.read takes in (
         so_far.taken ++ line ∷ [],
@@ -151,49 +160,80 @@ module _ {S : Type 0} (serves : S → ℕ → List ℕ → Answer → S → Type
         are_first script left (so_far.taken ++ line ∷ []) read,
       )
 
+  -- the script's end was answered behind the lines
+  ran_out : (start old new : S) (script contents come before : Option (List ℕ)) (n : ℕ) (tally sum : Tally) (reply : Answer) → (so_far : Underway serves start script contents n tally old come before) → serves old n None reply new
+      → sum ≡ added tally reply.tally → RunsOut serves start so_far.taken (so_far.text ++ reply.text) sum new
+  ran_out start old new script contents come before n tally sum reply so_far served is =
+      (so_far.text, tally, old, reply, so_far.ran, subst (λ k. serves old k None reply new) (sym so_far.many) served, refl, is)
+
   -- where the run ended at line n
   pub stops : (start old new : S) (script contents come left before after : Option (List ℕ)) (n : ℕ) (tally : Tally) (end : End) → n ≤ 2 ^ 20 → Underway serves start script contents n tally old come before
       → TakesOne serves halts n tally old new come left (Err end) before after → Stops serves halts start new script contents after end
-  stops start old new script contents come left before after n tally (Done other) within so_far (same, at_end, kept, quiet) = (
+  stops start old new script contents come left before after n tally (Done sum) within so_far (inl (line, takes, answers)) = absurd answers
+  stops start old new script contents come left before after n tally SourceFault within so_far (inl (line, takes, answers)) = absurd answers
+  stops start old new script contents come left before after n tally (TooLong m) within so_far (inl (line, takes, answers)) = absurd answers
+  stops start old new script contents come left before after n tally (Halted halt) within so_far (inl (line, takes, (halted, quiet))) =
+      let read = one_more script come left so_far.taken line n so_far.many within so_far.read takes in (
+        so_far.text,
+        Appends-kept contents before after so_far.text so_far.printed_so_far quiet,
+        (so_far.taken, tally, old, so_far.ran, inl (line, are_first script left (so_far.taken ++ line ∷ []) read, subst (λ k. halts old k (Some line) halt new) (sym so_far.many) halted)),
+      )
+  stops start old new script contents come left before after n tally SinkFault within so_far (inl (line, takes, (reply, served, (front, (rest, whole), put)))) =
+      let answers = unprinted start old new script contents come left before n tally line reply within so_far takes served in (
+        so_far.text ++ front,
+        Appends-trans contents before after so_far.text front so_far.printed_so_far put,
+        (SourceFault, (so_far.text ++ reply.text) ++ last_line SourceFault, (so_far.text ++ reply.text, refl, answers), behind_front so_far.text front rest reply.text (last_line SourceFault) whole),
+      )
+  stops start old new script contents come left before after n tally (Done sum) within so_far (inr (inl (at_end, (reply, served, (sum_is, put))))) = (
+    so_far.text ++ reply.text,
+    Appends-trans contents before after so_far.text reply.text so_far.printed_so_far put,
+    (so_far.taken, ran_out start old new script contents come before n tally sum reply so_far served sum_is, is_whole script come so_far.taken n so_far.many within so_far.read at_end),
+  )
+  stops start old new script contents come left before after n tally (Halted halt) within so_far (inr (inl (at_end, (halted, quiet)))) = (
     so_far.text,
     Appends-kept contents before after so_far.text so_far.printed_so_far quiet,
-    (so_far.taken, subst (λ t. Runs serves 1 start so_far.taken so_far.text t new) (sym same) (subst (Runs serves 1 start so_far.taken so_far.text tally) (sym kept) so_far.ran), is_whole script come so_far.taken n so_far.many within so_far.read at_end),
+    (
+      so_far.taken,
+      tally,
+      old,
+      so_far.ran,
+      inr (inl (is_whole script come so_far.taken n so_far.many within so_far.read at_end, subst (λ k. halts old k None halt new) (sym so_far.many) halted)),
+    ),
   )
-  stops start old new script contents come left before after n tally SourceFault within so_far (kept, quiet) = (
+  stops start old new script contents come left before after n tally SinkFault within so_far (inr (inl (at_end, (reply, served, (front, (rest, whole), put))))) =
+      let sum : Tally = added tally reply.tally in (
+        so_far.text ++ front,
+        Appends-trans contents before after so_far.text front so_far.printed_so_far put,
+        (
+          Done sum,
+          (so_far.text ++ reply.text) ++ last_line (Done sum),
+          (
+            so_far.text ++ reply.text,
+            refl,
+            (so_far.taken, ran_out start old new script contents come before n tally sum reply so_far served refl, is_whole script come so_far.taken n so_far.many within so_far.read at_end),
+          ),
+          behind_front so_far.text front rest reply.text (last_line (Done sum)) whole,
+        ),
+      )
+  stops start old new script contents come left before after n tally SourceFault within so_far (inr (inl (at_end, ends))) = absurd ends
+  stops start old new script contents come left before after n tally (TooLong m) within so_far (inr (inl (at_end, ends))) = absurd ends
+  stops start old new script contents come left before after n tally (Done sum) within so_far (inr (inr (none, kept, quiet))) = absurd none
+  stops start old new script contents come left before after n tally (Halted halt) within so_far (inr (inr (none, kept, quiet))) = absurd none
+  stops start old new script contents come left before after n tally SinkFault within so_far (inr (inr (none, kept, quiet))) = absurd none
+  stops start old new script contents come left before after n tally SourceFault within so_far (inr (inr (none, kept, quiet))) = (
     so_far.text,
     Appends-kept contents before after so_far.text so_far.printed_so_far quiet,
     (so_far.taken, tally, subst (Runs serves 1 start so_far.taken so_far.text tally) (sym kept) so_far.ran, are_first script come so_far.taken so_far.read),
   )
-  stops start old new script contents come left before after n tally (TooLong m) within so_far (same, long, kept, quiet) = (
+  stops start old new script contents come left before after n tally (TooLong m) within so_far (inr (inr ((same, long), kept, quiet))) = (
     so_far.text,
     Appends-kept contents before after so_far.text so_far.printed_so_far quiet,
     (so_far.taken, tally, subst (Runs serves 1 start so_far.taken so_far.text tally) (sym kept) so_far.ran, subst (Exceeds script so_far.taken) (sym same) (line_exceeds script come so_far.taken n so_far.many within so_far.read long)),
   )
-  stops start old new script contents come left before after n tally (Halted halt) within so_far (line, takes, (halted, quiet)) =
-      let read = one_more script come left so_far.taken line n so_far.many within so_far.read takes in (
-        so_far.text,
-        Appends-kept contents before after so_far.text so_far.printed_so_far quiet,
-        (so_far.taken, tally, old, so_far.ran, inl (line, are_first script left (so_far.taken ++ line ∷ []) read, subst (λ k. halts old k line halt new) (sym so_far.many) halted)),
-      )
-  stops start old new script contents come left before after n tally SinkFault within so_far (line, takes, (reply, served, (front, (rest, whole), put))) =
-      let answers = unprinted start old new script contents come left before n tally line reply within so_far takes served in
-      let all = so_far.text ++ reply.text in (
-        so_far.text ++ front,
-        Appends-trans contents before after so_far.text front so_far.printed_so_far put,
-        (
-          SourceFault,
-          all ++ last_line SourceFault,
-          (all, refl, answers),
-          (
-            rest ++ last_line SourceFault,
-            ap (λ l. (so_far.text ++ l) ++ last_line SourceFault) whole ∙ ap (λ l. l ++ last_line SourceFault) (sym (append_assoc so_far.text front rest)) ∙ append_assoc (so_far.text ++ front) rest (last_line SourceFault),
-          ),
-        ),
-      )
 
   -- where memory was wanted before the first line
   pub no_reader : (start : S) (script contents : Option (List ℕ)) → Stops serves halts start start script contents contents (Halted Memory)
-  no_reader start script contents = ([], Appends-nil contents, ([], no_tally, start, (refl, refl, refl), inr (refl, refl, refl)))
+  no_reader start script contents = ([], Appends-nil contents, ([], no_tally, start, (refl, refl, refl), inr (inr (refl, refl, refl))))
 
   -- where line 2^20 was answered
   pub full : (start state : S) (script contents come put : Option (List ℕ)) (n : ℕ) (tally : Tally) → n ≡ 2 ^ 20 + 1 → Underway serves start script contents n tally state come put → Stops serves halts start state script contents put (TooLong (2 ^ 20))

@@ -6,3 +6,4 @@ pub mod Runs
 pub mod Reading
 pub mod Places
 pub mod Steps
+pub mod Pauses

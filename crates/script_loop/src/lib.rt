@@ -9,9 +9,9 @@ mod reply;
 mod script;
 mod tally;
 
-pub use answerer::Answerer;
+pub use answerer::{Answered, Answerer};
 pub use ends::{End, Halt, number_line, put_last};
 pub use reader::{LineReader, Next};
 pub use reply::Reply;
-pub use script::run;
+pub use script::{Progress, answered, begin, run};
 pub use tally::Tally;

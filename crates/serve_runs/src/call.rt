@@ -1,10 +1,13 @@
 //! A call of the server, and what it leaves.
 use choosers::Binder;
 use client_trees::{MemTree, Tree};
+use crew::{Gate, OpenGate};
 use mem_files::{MemReader, MemWriter};
 use real_edge::{StdSink, StdSource};
 use std::alloc::{AllocError, Global};
 use std::io::Read;
+use std::sync::Wait;
+use std::thread::Threads;
 use store_api::Store;
 use tsm_top::{Ended, serve};
 
@@ -88,13 +91,20 @@ fn owned(alloc: Global, words: &[&str]) -> Result<Vec<String>, AllocError> {
 }
 
 /// Calls the server, as the program does: over streams of which each call is one of the reader or the writer.
-pub fn call<S: Store + Drop, T: Tree + Drop>(
+pub fn call<
+    S: Store + Drop + Send,
+    T: Tree + Drop + Send,
+    R: Threads + Wait + Sync,
+    G: Gate + Sync,
+>(
+    rt: &R,
     alloc: Global,
     words: &[&str],
     under: Under<S, T>,
     binder: Binder,
     reader: MemReader,
     writer: MemWriter,
+    gate: &G,
 ) -> Result<(Under<S, T>, Said), AllocError> {
     let words = owned(alloc, words)?;
     let Under { store, trees } = under;
@@ -102,14 +112,25 @@ pub fn call<S: Store + Drop, T: Tree + Drop>(
     let mut writer = writer;
     let mut script = StdSource::new(&mut reader);
     let mut out = StdSink::new(&mut writer);
-    let ended = serve(alloc, &words, store, trees, &mut script, &mut out, binder);
+    let ended = serve(
+        rt,
+        alloc,
+        &words,
+        store,
+        trees,
+        &mut script,
+        &mut out,
+        gate,
+        binder,
+    );
     let (under, mut said) = parts(alloc, ended, unread(&mut reader));
     said.put = writer.bytes().to_vec(alloc)?;
     Ok((under, said))
 }
 
 /// The same with no trees and no include-exclude list.
-pub fn call_alone<S: Store + Drop>(
+pub fn call_alone<S: Store + Drop + Send, R: Threads + Wait + Sync>(
+    rt: &R,
     alloc: Global,
     words: &[&str],
     store: S,
@@ -121,7 +142,7 @@ pub fn call_alone<S: Store + Drop>(
         trees: Vec::<MemTree>::new(alloc),
     };
     let binder = Binder::new(Vec::new(alloc));
-    let (under, said) = call(alloc, words, under, binder, reader, writer)?;
+    let (under, said) = call(rt, alloc, words, under, binder, reader, writer, &OpenGate)?;
     let Under { store, trees } = under;
     drop(trees);
     Ok((store, said))

@@ -2,37 +2,93 @@
 use crate::trials::digit;
 use mem_files::{MemReader, MemWriter};
 use real_edge::{StdSink, StdSource};
-use script_loop::{Answerer, Halt, Reply, run};
+use script_loop::{Answered, Answerer, End, Halt, Reply, answered, begin, run};
 use std::alloc::{AllocError, Global};
-use tree_api::{MemSink, MemSource, Sink};
+use tree_api::{MemSink, MemSource, Sink, Source};
+
+/// No more lines than these are taken.
+const LINES: u32 = 1048576;
 
 /// Prints each line; `two` gives two lines, `no` is refused, `bad` counts a failed file, `full` ends the run, and an empty
-/// line is a comment.
+/// line is a comment. It asks at `ask` before it is answered, and behind `open` at the script's end.
 #[derive(Drop)]
-struct Echo;
+struct Echo {
+    is_open: bool,
+    /// It has asked at the script's end.
+    is_over: bool,
+}
+
+fn said(reply: Result<Reply, AllocError>) -> Answered {
+    match reply {
+        Ok(reply) => Answered::Replied(reply),
+        Err(_) => Answered::Ended(Halt::Memory),
+    }
+}
 
 impl Answerer for Echo {
     ghost serves = { λ _ _ _ _ _. Unit {0} };
 
     ghost halts = { λ _ _ _ _ _. Unit {0} };
 
+    ghost asks = { λ _ _ _ _. Unit {0} };
+
     ghost can_take = { λ _ _. Unit {0} };
 
-    fn answer(
-        &mut self,
-        alloc: Global,
-        number: u32,
-        line: &[u8],
-        _left: u32,
-    ) -> Result<Reply, Halt> {
+    fn answer(&mut self, alloc: Global, number: u32, line: &[u8], _left: u32) -> Answered {
         if line == b"full".as_slice() {
-            return Err(Halt::RunFull);
+            return Answered::Ended(Halt::RunFull);
         }
-        match echoed(alloc, number, line) {
+        if line == b"ask".as_slice() {
+            return Answered::Asked;
+        }
+        if line == b"open".as_slice() {
+            self.is_open = true;
+        }
+        said(echoed(alloc, number, line))
+    }
+
+    fn finish(&mut self, alloc: Global, _number: u32, _left: u32) -> Answered {
+        if self.is_open {
+            self.is_over = true;
+            return Answered::Asked;
+        }
+        Answered::Replied(Reply::nothing(alloc))
+    }
+}
+
+/// What is asked for is answered as the line `asked`, and at the script's end as `end`.
+fn run_all<I: Source, O: Sink>(alloc: Global, script: &mut I, out: &mut O) -> End {
+    let mut echo = Echo {
+        is_open: false,
+        is_over: false,
+    };
+    let mut progress = match begin(alloc, &echo, out) {
+        Ok(progress) => progress,
+        Err(end) => return end,
+    };
+    for _ in 0..=LINES {
+        if progress.number() > LINES + 1 {
+            return End::TooLong(LINES);
+        }
+        match run(alloc, &mut progress, &mut echo, script, out) {
+            Some(end) => return end,
+            None => {}
+        }
+        let words = if echo.is_over {
+            b"end".as_slice()
+        } else {
+            b"asked".as_slice()
+        };
+        let reply = match echoed(alloc, progress.number(), words) {
             Ok(reply) => Ok(reply),
             Err(_) => Err(Halt::Memory),
+        };
+        match answered(&echo, &mut progress, reply, out) {
+            Some(end) => return end,
+            None => {}
         }
     }
+    End::TooLong(LINES)
 }
 
 /// A printed line that the script's line with this number causes.
@@ -66,7 +122,7 @@ fn ran(alloc: Global, reader: MemReader, writer: MemWriter) -> (u8, u64, MemWrit
     let mut writer = writer;
     let mut source = StdSource::new(reader);
     let mut sink = StdSink::new(&mut writer);
-    let end = run(alloc, &mut Echo, &mut source, &mut sink);
+    let end = run_all(alloc, &mut source, &mut sink);
     let faults = sink.faults();
     (end.status(), faults, writer)
 }

@@ -5,7 +5,9 @@
 //!   line of N letters; `letters N`: the same without LF; `empty N`: N lines without a byte; `days N`: N lines `DAY 1`.
 //! - `do WORD..`: the server is called with these words and that script, which is empty again then. Printed are what it put, its status, how
 //!   many transactions it made, of how many it says when they were durable, and the newest image's generation; or, where it opened no
-//!   database, how many bytes of the script it didn't read. `last WORD..`: the same with the last line alone of what it put.
+//!   database, how many bytes of the script it didn't read. `last WORD..`: the same with the last line alone of what it put. `any WORD..`: the same with `*` for each object's number.
+//!   `held N WORD..`: the same, where N actors of the script's blocks are held before their second step, each up to 2^30 turns, until all of them have come there; and at the end whether they had, which they can only where
+//!   they run side by side, or one was held to its limit.
 //! - `source N CALL..`, `sink N CALL..`: in the next call standard input gives, or standard output takes, at most N bytes at a time, and those
 //!   calls fail; of `sink 0` it takes none. The server reads and writes them as the program does, by `StdSource` and `StdSink`.
 //! - `new`: an empty store. `stop CHOICE`: the machine stops and starts again. `fail MOMENT..`: the calls that begin then fail.
@@ -30,7 +32,7 @@
 //! - `folder stops CHOICE`, `folder again CHOICE`, `folder opens CHOICE`, `folder faults`: the same over a store in a folder in memory, for each
 //!   call of the folder's files.
 //! - `echo`: the script is run over an answerer that gives each line back; of the line `two` it gives two, it refuses `no`, of `bad` it counts a
-//!   failed file, with `full` it ends the run, and an empty line is a comment. Printed are what was put, with `\r` for CR, and the status. `pieces`:
+//!   failed file, with `full` it ends the run, and an empty line is a comment. At `ask` it asks, and the line is answered as `asked`; behind `open` it asks at the script's end, which is answered as the line `end`. Printed are what was put, with `\r` for CR, and the status. `pieces`:
 //!   the same, where the streams move 1, 2, 5 and 100,000 bytes at a time, if it is the same for each. `sinks`: the status for each call of a sink
 //!   that fails, where it takes a byte at a time and took all bytes before that call.
 //!
@@ -38,12 +40,14 @@
 #![tactic(auto)]
 
 mod answer;
+mod bench;
 mod blank;
 mod call;
 mod devices;
 mod echo;
 mod files;
 mod folders;
+mod gates;
 mod recovering;
 mod run;
 mod sweeps;
@@ -53,9 +57,15 @@ mod trials;
 use run::Run;
 use std::io;
 use std::io::{BufWriter, Write};
+use std::sync::Wait;
+use std::thread::Threads;
 
 /// Puts what the line is answered; nothing for a line of the server's script.
-fn answer_line<W: Write>(run: &mut Run, line: &str, out: &mut W) -> io::Result<()> {
+fn answer_line<R: Threads + Wait + Sync, W: Write>(
+    run: &mut Run<'_, R>,
+    line: &str,
+    out: &mut W,
+) -> io::Result<()> {
     match run.line(line)? {
         Some(text) => {
             out.write_all(text.as_bytes())?;
@@ -66,7 +76,7 @@ fn answer_line<W: Write>(run: &mut Run, line: &str, out: &mut W) -> io::Result<(
 }
 
 /// Puts what each line is answered.
-fn answer_all(rt: &HostRuntime, run: &mut Run) -> io::Result<()> {
+fn answer_all<R: Threads + Wait + Sync>(rt: &HostRuntime, run: &mut Run<'_, R>) -> io::Result<()> {
     let alloc = rt.alloc();
     let mut out = BufWriter::new(alloc, io::writer(rt))?;
     for line in rt.lines(alloc) {
@@ -77,6 +87,6 @@ fn answer_all(rt: &HostRuntime, run: &mut Run) -> io::Result<()> {
 }
 
 fn main(rt: HostRuntime) -> io::Result<()> {
-    let mut run = Run::new(rt.alloc());
+    let mut run = Run::new(&rt, rt.alloc());
     answer_all(&rt, &mut run)
 }

@@ -5,6 +5,8 @@ use crate::files::copied;
 use crate::trials::{Failed, MOST, Trial, answers, ask, digit, failed_over, from};
 use mem_store::MemStore;
 use std::alloc::AllocError;
+use std::sync::Wait;
+use std::thread::Threads;
 use store_api::Store;
 
 /// What the script is answered over the store as it was, and over what is restored.
@@ -15,13 +17,17 @@ struct Sides {
 }
 
 /// A copy of the store, all of which is on the disk.
-fn copy_of(trial: &Trial, store: &MemStore) -> Result<MemStore, Fault> {
+fn copy_of<R>(trial: &Trial<'_, R>, store: &MemStore) -> Result<MemStore, Fault> {
     copied(MemStore::new(trial.alloc), store)
 }
 
-fn new_sides(trial: &Trial, words: &[&str], store: &MemStore) -> Result<Sides, Fault> {
+fn new_sides<R: Threads + Wait + Sync>(
+    trial: &Trial<'_, R>,
+    words: &[&str],
+    store: &MemStore,
+) -> Result<Sides, Fault> {
     let before = answers(trial, copy_of(trial, store)?)?;
-    let (restored, _said) = ask(trial.alloc, words, copy_of(trial, store)?, "")?;
+    let (restored, _said) = ask(trial.rt, trial.alloc, words, copy_of(trial, store)?, "")?;
     Ok(Sides {
         before,
         after: answers(trial, restored)?,
@@ -29,7 +35,11 @@ fn new_sides(trial: &Trial, words: &[&str], store: &MemStore) -> Result<Sides, F
 }
 
 /// Which of the two the script is answered over what was left.
-fn sign(trial: &Trial, sides: &Sides, store: MemStore) -> Result<char, AllocError> {
+fn sign<R: Threads + Wait + Sync>(
+    trial: &Trial<'_, R>,
+    sides: &Sides,
+    store: MemStore,
+) -> Result<char, AllocError> {
     let said = answers(trial, store)?;
     Ok(if said.as_str() == sides.before.as_str() {
         '='
@@ -41,20 +51,24 @@ fn sign(trial: &Trial, sides: &Sides, store: MemStore) -> Result<char, AllocErro
 }
 
 /// What is left by a restore all of whose calls fail from this one on, and a stop there; and whether one failed.
-fn stopped(
-    trial: &Trial,
+fn stopped<R: Threads + Wait + Sync>(
+    trial: &Trial<'_, R>,
     words: &[&str],
     store: &MemStore,
     call: u64,
 ) -> Result<(MemStore, bool), Fault> {
     let copy = copy_of(trial, store)?;
     let failing = from(trial.alloc, copy.moment().saturating_add(call))?;
-    let (store, said) = ask(trial.alloc, words, copy.with_failing(failing), "")?;
+    let (store, said) = ask(trial.rt, trial.alloc, words, copy.with_failing(failing), "")?;
     Ok((left(trial.alloc, store, trial.choice), said.status == 5))
 }
 
 /// The sign for each call that is the first that fails before a stop, and at last for the restore in which none does.
-pub fn stops(trial: &Trial, words: &[&str], store: &MemStore) -> Result<String, Fault> {
+pub fn stops<R: Threads + Wait + Sync>(
+    trial: &Trial<'_, R>,
+    words: &[&str],
+    store: &MemStore,
+) -> Result<String, Fault> {
     let sides = new_sides(trial, words, store)?;
     let mut signs = String::new(trial.alloc);
     for call in 0..MOST {
@@ -68,20 +82,24 @@ pub fn stops(trial: &Trial, words: &[&str], store: &MemStore) -> Result<String, 
 }
 
 /// How a restore went of which this call fails, and what is left by it.
-fn failed(
-    trial: &Trial,
+fn failed<R: Threads + Wait + Sync>(
+    trial: &Trial<'_, R>,
     words: &[&str],
     store: &MemStore,
     call: u64,
 ) -> Result<(MemStore, u8), Fault> {
     let copy = copy_of(trial, store)?;
     let failing = [copy.moment().saturating_add(call)].to_vec(trial.alloc)?;
-    let (store, said) = ask(trial.alloc, words, copy.with_failing(failing), "")?;
+    let (store, said) = ask(trial.rt, trial.alloc, words, copy.with_failing(failing), "")?;
     Ok((store, said.status))
 }
 
 /// The status, the first file with faults and the sign, where the one call fails, for each call up to the first that isn't made.
-pub fn faults(trial: &Trial, words: &[&str], store: &MemStore) -> Result<String, Fault> {
+pub fn faults<R: Threads + Wait + Sync>(
+    trial: &Trial<'_, R>,
+    words: &[&str],
+    store: &MemStore,
+) -> Result<String, Fault> {
     let sides = new_sides(trial, words, store)?;
     let mut statuses = String::new(trial.alloc);
     let mut files = String::new(trial.alloc);

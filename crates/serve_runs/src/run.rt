@@ -1,18 +1,21 @@
 //! A run over the commands.
 use crate::answer::{Fault, large, number, numbers, text};
+use crate::bench::Bench;
 use crate::blank::BlankStore;
 use crate::call::{Said, Under, call, call_alone, last_line, text_of, words_of};
-use crate::devices::Devices;
-use crate::folders::Folders;
-use crate::trials::{Bench, Trial};
+use crate::gates::{Holding, without_objects};
+use crate::trials::Trial;
 use crate::{echo, files, recovering, sweeps, trees};
 use choosers::Binder;
 use client_trees::MemTree;
+use crew::{Gate, OpenGate};
 use hex::{decode, encode};
 use mem_files::{MemReader, MemWriter};
 use mem_store::MemStore;
 use std::alloc::{AllocError, Global};
 use std::mem;
+use std::sync::Wait;
+use std::thread::Threads;
 use store_api::Store;
 use tree_api::{MemSink, MemSource};
 
@@ -25,7 +28,8 @@ struct Way {
 
 /// The store and the clients' trees that the commands are about, and what the next call of the server is given.
 #[derive(Drop)]
-pub struct Run {
+pub struct Run<'a, R> {
+    rt: &'a R,
     alloc: Global,
     store: MemStore,
     trees: Vec<MemTree>,
@@ -67,10 +71,11 @@ fn writer(alloc: Global, way: Way) -> MemWriter {
     MemWriter::new(MemSink::new(alloc).with_failing(failing), most)
 }
 
-impl Run {
+impl<'a, R> Run<'a, R> {
     /// An empty store, no trees, and no script.
-    pub fn new(alloc: Global) -> Run {
+    pub fn new(rt: &'a R, alloc: Global) -> Run<'a, R> {
         Run {
+            rt,
             alloc,
             store: MemStore::new(alloc),
             trees: Vec::new(alloc),
@@ -94,50 +99,6 @@ impl Run {
     fn take_binder(&mut self) -> Result<Binder, Fault> {
         let rules = mem::replace(&mut self.rules, String::new(self.alloc));
         trees::binder_of(self.alloc, rules.as_bytes())
-    }
-
-    /// Calls the server over the store and the trees.
-    fn ask(&mut self, words: &[&str]) -> Result<Said, Fault> {
-        let alloc = self.alloc;
-        let script = self.take_script();
-        let from = mem::replace(&mut self.source, plain(alloc));
-        let to = mem::replace(&mut self.sink, plain(alloc));
-        let from = reader(alloc, &script, from)?;
-        let binder = self.take_binder()?;
-        let under = Under {
-            store: mem::replace(&mut self.store, MemStore::new(alloc)),
-            trees: mem::replace(&mut self.trees, Vec::new(alloc)),
-        };
-        let (under, answered) = call(alloc, words, under, binder, from, writer(alloc, to))?;
-        let Under { store, trees } = under;
-        drop(mem::replace(&mut self.store, store));
-        drop(mem::replace(&mut self.trees, trees));
-        Ok(answered)
-    }
-
-    fn call(&mut self, words: &[&str]) -> Result<String, Fault> {
-        let answered = self.ask(words)?;
-        Ok(words_of(self.alloc, &answered, text_of(&answered))?)
-    }
-
-    fn call_long(&mut self, words: &[&str]) -> Result<String, Fault> {
-        let answered = self.ask(words)?;
-        Ok(words_of(self.alloc, &answered, last_line(&answered))?)
-    }
-
-    fn call_blank(&mut self, moment: &str, bytes: &str, words: &[&str]) -> Result<String, Fault> {
-        let alloc = self.alloc;
-        let script = self.take_script();
-        let store = BlankStore::new(large(moment)?, self.bytes(bytes)?);
-        let from = reader(alloc, &script, plain(alloc))?;
-        let (_store, answered) = call_alone(
-            alloc,
-            words,
-            store,
-            from,
-            writer(alloc, plain(alloc)),
-        )?;
-        Ok(words_of(alloc, &answered, text_of(&answered))?)
     }
 
     /// The bytes that a word spells; `-` spells none.
@@ -178,17 +139,6 @@ impl Run {
     fn fail_tree(&mut self, tree: &str, calls: &[&str]) -> Result<String, Fault> {
         trees::fail_at(self.alloc, &mut self.trees, tree, calls)?;
         self.done()
-    }
-
-    /// What a command on the trees is answered.
-    fn on_trees(&mut self, words: &[&str]) -> Result<String, Fault> {
-        match words {
-            ["trees", count] => self.plant(count),
-            ["put", tree, path, mtime, bytes] => self.put_file(tree, path, mtime, bytes),
-            ["tree", tree, path] => trees::show(self.alloc, &self.trees, tree, path),
-            ["break", tree, calls @ ..] => self.fail_tree(tree, calls),
-            _ => self.on_store(words),
-        }
     }
 
     fn stop(&mut self, choice: &str) -> Result<String, Fault> {
@@ -304,19 +254,103 @@ impl Run {
     }
 
     /// The trial of the script, which is empty then.
-    fn trial(&mut self, choice: &str) -> Result<Trial, Fault> {
+    fn trial(&mut self, choice: &str) -> Result<Trial<'a, R>, Fault> {
         let choice = large(choice)?;
         let script = self.take_script();
-        Ok(Trial::new(self.alloc, choice, script)?)
+        Ok(Trial::new(self.rt, self.alloc, choice, script)?)
+    }
+}
+
+impl<R: Threads + Wait + Sync> Run<'_, R> {
+    /// Calls the server over the store and the trees.
+    fn ask<G: Gate + Sync>(&mut self, words: &[&str], gate: &G) -> Result<Said, Fault> {
+        let alloc = self.alloc;
+        let script = self.take_script();
+        let from = mem::replace(&mut self.source, plain(alloc));
+        let to = mem::replace(&mut self.sink, plain(alloc));
+        let from = reader(alloc, &script, from)?;
+        let binder = self.take_binder()?;
+        let under = Under {
+            store: mem::replace(&mut self.store, MemStore::new(alloc)),
+            trees: mem::replace(&mut self.trees, Vec::new(alloc)),
+        };
+        let (under, answered) = call(
+            self.rt,
+            alloc,
+            words,
+            under,
+            binder,
+            from,
+            writer(alloc, to),
+            gate,
+        )?;
+        let Under { store, trees } = under;
+        drop(mem::replace(&mut self.store, store));
+        drop(mem::replace(&mut self.trees, trees));
+        Ok(answered)
+    }
+
+    fn call(&mut self, words: &[&str]) -> Result<String, Fault> {
+        let answered = self.ask(words, &OpenGate)?;
+        Ok(words_of(self.alloc, &answered, text_of(&answered))?)
+    }
+
+    fn call_long(&mut self, words: &[&str]) -> Result<String, Fault> {
+        let answered = self.ask(words, &OpenGate)?;
+        Ok(words_of(self.alloc, &answered, last_line(&answered))?)
+    }
+
+    /// The same, without the numbers of objects.
+    fn call_any(&mut self, words: &[&str]) -> Result<String, Fault> {
+        let answered = self.ask(words, &OpenGate)?;
+        let put = without_objects(self.alloc, text_of(&answered))?;
+        Ok(words_of(self.alloc, &answered, &put)?)
+    }
+
+    /// The same, where so many actors are held, and whether all of them came.
+    fn call_held(&mut self, many: &str, words: &[&str]) -> Result<String, Fault> {
+        let gate = Holding::new(number(many)?);
+        let answered = self.ask(words, &gate)?;
+        let put = without_objects(self.alloc, text_of(&answered))?;
+        let told = words_of(self.alloc, &answered, &put)?;
+        let came = gate.told();
+        Ok(format!(in self.alloc; "{told}\n{came}")?)
+    }
+
+    fn call_blank(&mut self, moment: &str, bytes: &str, words: &[&str]) -> Result<String, Fault> {
+        let alloc = self.alloc;
+        let script = self.take_script();
+        let store = BlankStore::new(large(moment)?, self.bytes(bytes)?);
+        let from = reader(alloc, &script, plain(alloc))?;
+        let (_store, answered) = call_alone(
+            self.rt,
+            alloc,
+            words,
+            store,
+            from,
+            writer(alloc, plain(alloc)),
+        )?;
+        Ok(words_of(alloc, &answered, text_of(&answered))?)
+    }
+
+    /// What a command on the trees is answered.
+    fn on_trees(&mut self, words: &[&str]) -> Result<String, Fault> {
+        match words {
+            ["trees", count] => self.plant(count),
+            ["put", tree, path, mtime, bytes] => self.put_file(tree, path, mtime, bytes),
+            ["tree", tree, path] => trees::show(self.alloc, &self.trees, tree, path),
+            ["break", tree, calls @ ..] => self.fail_tree(tree, calls),
+            _ => self.on_store(words),
+        }
     }
 
     /// What a command on many stores is answered, each of whose calls can fail; none where it is no such command.
-    fn sweep<B: Bench>(&mut self, words: &[&str]) -> Result<Option<String>, Fault> {
+    fn sweep(&mut self, bench: Bench, words: &[&str]) -> Result<Option<String>, Fault> {
         Ok(Some(match words {
-            ["stops", choice] => sweeps::stops::<B>(&self.trial(choice)?)?,
-            ["again", choice] => sweeps::again::<B>(&self.trial(choice)?)?,
-            ["opens", choice] => sweeps::opens::<B>(&self.trial(choice)?, &self.store)?,
-            ["faults"] => sweeps::faults::<B>(&self.trial("0")?)?,
+            ["stops", choice] => sweeps::stops(bench, &self.trial(choice)?)?,
+            ["again", choice] => sweeps::again(bench, &self.trial(choice)?)?,
+            ["opens", choice] => sweeps::opens(bench, &self.trial(choice)?, &self.store)?,
+            ["faults"] => sweeps::faults(bench, &self.trial("0")?)?,
             _ => return Ok(None),
         }))
     }
@@ -334,7 +368,7 @@ impl Run {
 
     /// The same over the calls of a store, and what another command on the script is answered.
     fn on_calls(&mut self, words: &[&str]) -> Result<String, Fault> {
-        match self.sweep::<Devices>(words)? {
+        match self.sweep(Bench::Devices, words)? {
             Some(text) => Ok(text),
             None => self.on_script(words),
         }
@@ -350,7 +384,7 @@ impl Run {
             ["show", file] => self.show(file),
             ["faults", file] => self.faults(file),
             ["moment"] => self.moment(),
-            ["folder", words @ ..] => self.sweep::<Folders>(words)?.ok_or(Fault::NoCommand),
+            ["folder", words @ ..] => self.sweep(Bench::Folders, words)?.ok_or(Fault::NoCommand),
             ["restore", words @ ..] => self.restore(words),
             _ => self.on_calls(words),
         }
@@ -361,6 +395,8 @@ impl Run {
         match words {
             ["do", words @ ..] => self.call(words),
             ["last", words @ ..] => self.call_long(words),
+            ["any", words @ ..] => self.call_any(words),
+            ["held", many, words @ ..] => self.call_held(many, words),
             ["blank", moment, bytes, words @ ..] => self.call_blank(moment, bytes, words),
             ["source", most, calls @ ..] => self.set_source(most, calls),
             ["sink", most, calls @ ..] => self.set_sink(most, calls),

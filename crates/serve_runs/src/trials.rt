@@ -1,11 +1,11 @@
 //! What is tried over and over with another call that fails, and what comes of it once.
-use crate::answer::Fault;
 use crate::call::{Said, call_alone, text_of, words_of};
 use crate::files::FILES;
 use hex::encode;
 use mem_files::{MemReader, MemWriter};
-use mem_store::MemStore;
 use std::alloc::{AllocError, Global};
+use std::sync::Wait;
+use std::thread::Threads;
 use store_api::Store;
 use tree_api::{MemSink, MemSource};
 
@@ -17,7 +17,8 @@ const REST: u64 = 64;
 
 /// A script, the choice by which the machine stops, the GETs of all files that the script stores, and what answers each.
 #[derive(Drop)]
-pub struct Trial {
+pub struct Trial<'a, R> {
+    pub rt: &'a R,
     pub alloc: Global,
     pub choice: u64,
     pub script: String,
@@ -54,28 +55,6 @@ pub struct Opened {
     pub has_failed_again: bool,
 }
 
-/// What is under a run: a store's calls, or the calls of the files that a store stands over.
-pub trait Bench {
-    /// The script is run by `fresh`, and all calls fail from this one on; there the machine stops.
-    fn stopped(trial: &Trial, call: u64) -> Result<Stopped, AllocError>;
-
-    /// What is shown after the same and one more stop, in the opening that follows, of which all calls fail from the later one on; and
-    /// whether one failed.
-    fn stopped_again(trial: &Trial, call: u64, later: u64) -> Result<(char, bool), AllocError>;
-
-    /// The script is run by `fresh`, and this call fails.
-    fn failed(trial: &Trial, call: u64) -> Result<Failed, AllocError>;
-
-    /// The script is run over what is left of a store behind an opening of which all calls fail from this one on, and a stop; and behind
-    /// another opening of which all calls fail from the later one on, and a stop, where there is one.
-    fn opened(
-        trial: &Trial,
-        store: &MemStore,
-        call: u64,
-        later: Option<u64>,
-    ) -> Result<Opened, Fault>;
-}
-
 /// The sign of a number below ten.
 pub fn digit(number: usize) -> char {
     match char::from_digit((number % 10) as u32, 10) {
@@ -99,9 +78,14 @@ fn shown_as(alloc: Global, text: &str, number: usize) -> Result<String, AllocErr
     format!(in alloc; "{number} DATA {digits}\n{number} OK object={number} size={size}\n")
 }
 
-impl Trial {
+impl<'a, R> Trial<'a, R> {
     /// The trial of a script.
-    pub fn new(alloc: Global, choice: u64, script: String) -> Result<Trial, AllocError> {
+    pub fn new(
+        rt: &'a R,
+        alloc: Global,
+        choice: u64,
+        script: String,
+    ) -> Result<Trial<'a, R>, AllocError> {
         let mut gets = String::new(alloc);
         let mut answers = Vec::new(alloc);
         for line in script.lines() {
@@ -113,6 +97,7 @@ impl Trial {
             }
         }
         Ok(Trial {
+            rt,
             alloc,
             choice,
             script,
@@ -155,7 +140,8 @@ pub fn from(alloc: Global, call: u64) -> Result<Vec<u64>, AllocError> {
 }
 
 /// A call of the server over a store with these words, and with a script.
-pub fn ask<S: Store + Drop>(
+pub fn ask<S: Store + Drop + Send, R: Threads + Wait + Sync>(
+    rt: &R,
     alloc: Global,
     words: &[&str],
     store: S,
@@ -163,26 +149,30 @@ pub fn ask<S: Store + Drop>(
 ) -> Result<(S, Said), AllocError> {
     let reader = MemReader::new(MemSource::new(alloc, script.as_bytes().to_vec(alloc)?));
     let writer = MemWriter::new(MemSink::new(alloc), usize::MAX);
-    call_alone(alloc, words, store, reader, writer)
+    call_alone(rt, alloc, words, store, reader, writer)
 }
 
 /// The same with one word.
-pub fn run<S: Store + Drop>(
+pub fn run<S: Store + Drop + Send, R: Threads + Wait + Sync>(
+    rt: &R,
     alloc: Global,
     word: &str,
     store: S,
     script: &str,
 ) -> Result<(S, Said), AllocError> {
-    ask(alloc, &[word], store, script)
+    ask(rt, alloc, &[word], store, script)
 }
 
 /// What is shown over a store, where no call fails.
-pub fn shown_over<S: Store + Drop>(trial: &Trial, store: S) -> Result<char, AllocError> {
-    let (store, opened) = run(trial.alloc, "run", store, "")?;
+pub fn shown_over<S: Store + Drop + Send, R: Threads + Wait + Sync>(
+    trial: &Trial<'_, R>,
+    store: S,
+) -> Result<char, AllocError> {
+    let (store, opened) = run(trial.rt, trial.alloc, "run", store, "")?;
     match text_of(&opened) {
         "NOT FORMATTED\n" => Ok('-'),
         "END 0 0 0\n" => {
-            let (store, said) = run(trial.alloc, "run", store, &trial.gets)?;
+            let (store, said) = run(trial.rt, trial.alloc, "run", store, &trial.gets)?;
             drop(store);
             Ok(digit(trial.count_shown(&said)))
         }
@@ -191,8 +181,8 @@ pub fn shown_over<S: Store + Drop>(trial: &Trial, store: S) -> Result<char, Allo
 }
 
 /// How a run went, over what a stop has left.
-pub fn stopped_over<S: Store + Drop>(
-    trial: &Trial,
+pub fn stopped_over<S: Store + Drop + Send, R: Threads + Wait + Sync>(
+    trial: &Trial<'_, R>,
     said: &Said,
     left: S,
 ) -> Result<Stopped, AllocError> {
@@ -222,8 +212,11 @@ pub fn failed_over<S: Store>(store: &S, status: u8) -> Failed {
 }
 
 /// What the script is answered over a store, and how that run ends.
-pub fn answers<S: Store + Drop>(trial: &Trial, store: S) -> Result<String, AllocError> {
-    let (store, said) = run(trial.alloc, "run", store, &trial.script)?;
+pub fn answers<S: Store + Drop + Send, R: Threads + Wait + Sync>(
+    trial: &Trial<'_, R>,
+    store: S,
+) -> Result<String, AllocError> {
+    let (store, said) = run(trial.rt, trial.alloc, "run", store, &trial.script)?;
     drop(store);
     words_of(trial.alloc, &said, text_of(&said))
 }

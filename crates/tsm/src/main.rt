@@ -4,6 +4,7 @@
 mod rules;
 
 use choosers::Binder;
+use crew::OpenGate;
 use folder_trees::FolderTree;
 use real_edge::{FolderStore, RealFiles, StdSink, StdSource};
 use rules::{NoRules, read_list};
@@ -49,7 +50,17 @@ fn main(rt: HostRuntime) -> ExitCode {
     };
     let store = FolderStore::new(RealFiles::new(rt, alloc, FOLDER), alloc);
     let mut script = StdSource::new(rt.reader());
-    let ended = serve(alloc, &words, store, trees, &mut script, &mut out, binder);
+    let ended = serve(
+        &rt,
+        alloc,
+        &words,
+        store,
+        trees,
+        &mut script,
+        &mut out,
+        &OpenGate,
+        binder,
+    );
     let status = ended.status;
     drop(ended);
     ExitCode::from(status)

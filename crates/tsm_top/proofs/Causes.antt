@@ -1,5 +1,5 @@
 -- A run that a fault of an image or a log halted: the count of that file's faults rose.
-use Rattle.std.proofs.Common.{◌≡◌, ⊎_elim, inl, inr, ℕ, ◌+◌, ◌<◌, Bool, true, false, if◌then◌else◌, Option, List, [], ◌∷◌, length, sym, ◌∙◌, subst, arith}
+use Rattle.std.proofs.Common.{◌≡◌, ⊎_elim, inl, inr, ℕ, ◌+◌, ◌<◌, Bool, true, false, if◌then◌else◌, Option, None, Some, List, [], ◌∷◌, length, sym, ap, ◌∙◌, subst, arith}
 use Rattle.store_api.specs.Cause.{NoneFell, Rose}
 use Rattle.store_api.specs.Disk.{History}
 use Rattle.kinds.specs.declared.refusal.OpenRefused.TheVariants as opening
@@ -15,29 +15,91 @@ use Rattle.script_loop.specs.declared.ends.End.{End}
 use Rattle.script_loop.specs.declared.ends.End.TheVariants.{Done, SourceFault, SinkFault, Halted, TooLong}
 use Rattle.tsm_top.specs.declared.note.Note.{Note}
 use Rattle.tsm_top.specs.Serve.{Closing, Command, RanScript, Shuts, closing_status, exists, formatted, no_command, refused_opening, restored, unread, untold}
-use Rattle.tsm_top.specs.Sites.{RepliesAt, Site, StopsAt}
+use Rattle.tsm_top.specs.Sites.{RepliesAt, Site, site}
+use Rattle.tsm_top.specs.Stands.{AnswersAt, AnswersHere, AnswersIn, AnswersInside, EndsAt, EndsHere, EndsIn, EndsInBlock, EndsInside, RunsBlock, Stand, left_by}
+use Rattle.blocks.specs.Parts.{begins, part}
+use Rattle.blocks.specs.Shapes.{Gathered, begun, is_end, with_line}
+use Rattle.machine.specs.State.{Machine}
+use Rattle.script_loop.specs.Reply.{Answer}
 use Rattle.tsm_top.proofs.Recovering.{told_other}
 
 -- the count of some image's or log's file rose
-abbrev pub RoseSince : Site → Site → Type 0
-RoseSince old new = (file : ℕ) × (file < 4) × Rose (old.machine.counts file) (new.machine.counts file)
+abbrev pub RoseSince : Machine → Machine → Type 0
+RoseSince old new = (file : ℕ) × (file < 4) × Rose (old.counts file) (new.counts file)
 
 module _ (trusted : Type 0) (choice : List Rule) (told : Option History) where
-  -- counts don't fall in a line, nor over lines
-  runs_counts : (lines : List (List ℕ)) (n : ℕ) (old new : Site) (text : List ℕ) (tally : Tally) → Runs (RepliesAt trusted choice told) n old lines text tally new → NoneFell old.machine.counts new.machine.counts
-  runs_counts [] n old new text tally run = subst (λ (s : Site). NoneFell old.machine.counts s.machine.counts) (sym run.2) (λ file. omega arith)
-  runs_counts (line ∷ more) n old new text tally (answer, mid, rest, others, is, text_is, tally_is, run) =
+  still : (old new : Stand) → new ≡ old → NoneFell old.site.machine.counts new.site.machine.counts
+  still old new same = subst (λ (s : Stand). NoneFell old.site.machine.counts s.site.machine.counts) (sym same) (λ file. omega arith)
+
+  -- counts don't fall in a line, nor in a block, nor over lines
+  line_counts : (old new : Site) (n : ℕ) (line : List ℕ) (answer : Answer) → RepliesAt trusted choice told old n line answer new → NoneFell old.machine.counts new.machine.counts
+  line_counts old new n line answer is =
       let first : NoneFell old.machine.counts is.1.mid.counts = is.1.first.counts in
-      let later : NoneFell is.1.mid.counts mid.machine.counts = is.1.behind.counts in
-      let after = runs_counts more (n + 1) mid new rest others run in
-      λ file. omega (arith, first file, later file, after file)
+      let later : NoneFell is.1.mid.counts new.machine.counts = is.1.behind.counts in
+      λ file. omega (arith, first file, later file)
+
+  block_counts : (b : Gathered) (first : ℕ) (old new : Site) (n : ℕ) (answer : Answer) → RunsBlock trusted choice told b first old n answer new → NoneFell old.machine.counts new.machine.counts
+  block_counts b first old new n answer is =
+      let by_jobs : NoneFell old.machine.counts is.mid.counts = is.ran.onward.counts in
+      let later : NoneFell is.mid.counts new.machine.counts = line_counts (site is.mid (left_by b old.trees is.came) old.notes) (site new.machine new.trees old.notes) n [] is.follow is.follows in
+      λ file. omega (arith, by_jobs file, later file)
+
+  -- nothing but what is open changes
+  kept_counts : (old new : Stand) (b : Option Gathered) → new ≡ record { site = old.site; block = b; jobs = old.jobs } → NoneFell old.site.machine.counts new.site.machine.counts
+  kept_counts old new b same = subst (λ (s : Site). NoneFell old.site.machine.counts s.machine.counts) (sym (ap (λ (s : Stand). s.site) same)) (λ file. omega arith)
+
+  here_counts : (b : Bool) (old new : Stand) (n : ℕ) (line : List ℕ) (answer : Answer) → AnswersHere trusted choice told b old n line answer new → NoneFell old.site.machine.counts new.site.machine.counts
+  here_counts true old new n line answer is = kept_counts old new (Some begun) is.1
+  here_counts false old new n line answer is = line_counts old.site new.site n line answer is.0
+
+  inside_counts : (b : Bool) (g : Gathered) (old new : Stand) (n : ℕ) (line : List ℕ) (answer : Answer) → AnswersInside trusted choice told b g old n line answer new → NoneFell old.site.machine.counts new.site.machine.counts
+  inside_counts true g old new n line answer is = block_counts g (old.jobs + 1) old.site new.site n answer is.0
+  inside_counts false g old new n line answer is = kept_counts old new (Some (with_line g n line)) is.1
+
+  counts_in : (x : Option Gathered) (old new : Stand) (n : ℕ) (given : Option (List ℕ)) (answer : Answer) → AnswersIn trusted choice told x old n given answer new → NoneFell old.site.machine.counts new.site.machine.counts
+  counts_in None old new n (Some line) answer is = here_counts (begins line) old new n line answer is
+  counts_in (Some g) old new n (Some line) answer is = inside_counts (is_end (part line)) g old new n line answer is
+  counts_in None old new n None answer is = still old new is.1
+  counts_in (Some g) old new n None answer is = block_counts g (old.jobs + 1) old.site new.site n answer is.0
+
+  runs_counts : (lines : List (List ℕ)) (n : ℕ) (old new : Stand) (text : List ℕ) (tally : Tally) → Runs (AnswersAt trusted choice told) n old lines text tally new → NoneFell old.site.machine.counts new.site.machine.counts
+  runs_counts [] n old new text tally run = still old new run.2
+  runs_counts (line ∷ more) n old new text tally (answer, mid, rest, others, is, text_is, tally_is, run) =
+      let first : NoneFell old.site.machine.counts mid.site.machine.counts = counts_in old.block old mid n (Some line) answer is in
+      let after : NoneFell mid.site.machine.counts new.site.machine.counts = runs_counts more (n + 1) mid new rest others run in
+      λ file. omega (arith, first file, after file)
 
   module _ (file : ℕ) where
-    halts_rose : (script : Option (List ℕ)) (taken : List (List ℕ)) (mid new : Site) → Halts (StopsAt trusted choice told) script taken mid (halt.LogFault file) new → RoseSince mid new
-    halts_rose script taken mid new (inl (line, front, stops)) = (file, stops.0.cause.0, stops.0.cause.1)
-    halts_rose script taken mid new (inr memory) = absurd (cc (memory.0))
+    -- a block that the fault of this file ended
+    block_rose : (b : Gathered) (first : ℕ) (old new : Site) (n : ℕ) → EndsInBlock trusted choice told b first old n (halt.LogFault file) new → RoseSince old.machine new.machine
+    block_rose b first old new n (inl ended) = (file, ended.cause.0, ended.cause.1)
+    block_rose b first old new n (inr (inl (same, memory, notes))) = absurd (cc memory)
+    block_rose b first old new n (inr (inr (mid, came, ran, ended, rests, stops))) =
+        let before = ran.onward.counts file in
+        (file, stops.0.cause.0, (let rose = stops.0.cause.1 in omega (arith, before, rose)))
 
-    prints_rose : (old new : Site) (script : Option (List ℕ)) (put : List ℕ) → Prints (RepliesAt trusted choice told) (StopsAt trusted choice told) old script (Halted (halt.LogFault file)) put new → RoseSince old new
+    here_rose : (b : Bool) (old new : Stand) (n : ℕ) (line : List ℕ) → EndsHere trusted choice told b old n line (halt.LogFault file) new → RoseSince old.site.machine new.site.machine
+    here_rose true old new n line is = absurd is
+    here_rose false old new n line is = (file, is.0.cause.0, is.0.cause.1)
+
+    inside_rose : (b : Bool) (g : Gathered) (old new : Stand) (n : ℕ) → EndsInside trusted choice told b g old n (halt.LogFault file) new → RoseSince old.site.machine new.site.machine
+    inside_rose true g old new n is = block_rose g (old.jobs + 1) old.site new.site n is
+    inside_rose false g old new n is = absurd is
+
+    rose_in : (x : Option Gathered) (old new : Stand) (n : ℕ) (given : Option (List ℕ)) → EndsIn trusted choice told x old n given (halt.LogFault file) new → RoseSince old.site.machine new.site.machine
+    rose_in None old new n (Some line) (inl is) = here_rose (begins line) old new n line is
+    rose_in None old new n (Some line) (inr memory) = absurd (cc (memory.0))
+    rose_in (Some g) old new n (Some line) (inl is) = inside_rose (is_end (part line)) g old new n is
+    rose_in (Some g) old new n (Some line) (inr memory) = absurd (cc (memory.0))
+    rose_in None old new n None is = absurd is
+    rose_in (Some g) old new n None is = block_rose g (old.jobs + 1) old.site new.site n is
+
+    halts_rose : (script : Option (List ℕ)) (taken : List (List ℕ)) (mid new : Stand) → Halts (EndsAt trusted choice told) script taken mid (halt.LogFault file) new → RoseSince mid.site.machine new.site.machine
+    halts_rose script taken mid new (inl (line, front, stops)) = rose_in mid.block mid new (length taken + 1) (Some line) stops
+    halts_rose script taken mid new (inr (inl (whole, ended))) = rose_in mid.block mid new (length taken + 1) None ended
+    halts_rose script taken mid new (inr (inr memory)) = absurd (cc (memory.0))
+
+    prints_rose : (old new : Stand) (script : Option (List ℕ)) (put : List ℕ) → Prints (AnswersAt trusted choice told) (EndsAt trusted choice told) old script (Halted (halt.LogFault file)) put new → RoseSince old.site.machine new.site.machine
     prints_rose old new script printed (text, whole, (taken, tally, mid, run, halts)) =
         let rose = halts_rose script taken mid new halts in
         let before = runs_counts taken 1 old mid text tally run in
@@ -48,7 +110,7 @@ module _ (trusted : Type 0) (choice : List Rule) (told : Option History) where
   done_not false is = absurd (omega (arith, is))
 
   -- a status of 6 is that of a halt by the fault of a file
-  status_fault : (old new : Site) (script : Option (List ℕ)) (end : End) (put : List ℕ) → status_of end ≡ 6 → Prints (RepliesAt trusted choice told) (StopsAt trusted choice told) old script end put new → RoseSince old new
+  status_fault : (old new : Stand) (script : Option (List ℕ)) (end : End) (put : List ℕ) → status_of end ≡ 6 → Prints (AnswersAt trusted choice told) (EndsAt trusted choice told) old script end put new → RoseSince old.site.machine new.site.machine
   status_fault old new script (Done tally) printed is run = absurd (done_not _ is)
   status_fault old new script SourceFault printed is run = absurd (omega (arith, is))
   status_fault old new script SinkFault printed is run = absurd (omega (arith, is))

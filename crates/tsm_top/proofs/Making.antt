@@ -19,9 +19,11 @@ use Rattle.vault.specs.Openings.{Calm, Spared, is_formatted as has_gate, Formatt
 use Rattle.vault.specs.Recovery.{Recovers, IsBase}
 use Rattle.vault.proofs.Sounding.{ends_log, newest_one, within_recovers}
 use Rattle.vault.proofs.Unique.{one_database, one_form, is_formatted, not_damaged_there}
+use Rattle.hall.specs.Protected.{HadBackups}
+use Rattle.hall.proofs.BackupsOpened.{had_fresh}
 use Rattle.hall_turns.proofs.Stops.{new_sound}
 use Rattle.tsm_top.specs.declared.note.Note.{Note}
-use Rattle.tsm_top.specs.Serve.{Command, format, run, fresh_run, Closing, no_command, formatted, exists, refused_opening, restored, untold, unread, HasCause, OpensNot, IsNone, IsNew, HasImage, RunsOver, StartsAt, Sure, Spares, Opens, Later, RanScript, RoseBetween}
+use Rattle.tsm_top.specs.Serve.{Command, format, run, fresh_run, Closing, no_command, formatted, exists, refused_opening, restored, untold, unread, HasCause, OpensNot, IsNone, IsNew, Had, HasImage, RunsOver, StartsAt, Sure, Spares, Opens, Later, RanScript, RoseBetween}
 
 -- files that hold a new database recover to it alone
 new_base : (h : History) → IsNew (Some h) → IsBase meaning 0 fresh (reads h)
@@ -66,6 +68,11 @@ new_sure : (first : ℕ → List ℕ) (x y : Option History) → is_some y ≡ i
 new_sure first x None same new known = absurd (cc)
 new_sure first x (Some h) same new known = new_sound first h (λ moment image from to here. (new moment image from to here).recovers)
 
+-- it lists no backup
+new_had : (y : Option History) → IsNew y → Had run y
+new_had None new = tt
+new_had (Some h) new = λ v is_v. subst (λ (w : Inv). HadBackups w (now h) h) (one_database meaning is_meaning (reads h) fresh v (new_recovers h new) is_v) (had_fresh h)
+
 -- its newest image is of generation 0, and it is opened as that
 new_starts : (x y : Option History) (start : ℕ) → is_some y ≡ is_some x → IsNew y → StartsAt run y start → StartsAt fresh_run x start
 new_starts None y start same new starts = tt
@@ -99,6 +106,7 @@ new_script x y left_told k before after opened last end status journal stamps no
   starts = new_starts x y ran.start same new ran.starts;
   whole = ran.whole;
   sound = λ contents known. ran.sound contents (new_sure contents x y same new known);
+  backups = λ contents known had. ran.backups contents (new_sure contents x y same new known) (new_had y new);
 }
 
 -- opening it changes nothing that is read

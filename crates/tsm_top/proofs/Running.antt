@@ -1,6 +1,6 @@
 -- A script's run on a hall and the clients' trees is a run of the machine beside them, line by line.
-use Rattle.std.proofs.Common.{◌≡◌, inl, inr, ℕ, ◌+◌, Option, None, Some, List, [], ◌∷◌, length, Ok, Err, refl, sym, ap, subst, ◌∙◌, arith}
-use Rattle.std.specs.Prelude.{IfSome, ◌≤◌, true}
+use Rattle.std.proofs.Common.{◌≡◌, ◌⊎◌, inl, inr, ℕ, ◌+◌, Bool, true, false, Option, None, Some, List, [], ◌∷◌, ◌++◌, length, Ok, Err, refl, sym, ap, subst, ◌∙◌, arith}
+use Rattle.std.specs.Prelude.{IfSome, ◌≤◌}
 use Rattle.std.specs.List.{AllByRecursion}
 use Rattle.store_api.specs.Disk.{History, ImageAt, now}
 use Rattle.store_api.specs.Runs.{GoesOn}
@@ -14,12 +14,14 @@ use Rattle.script_loop.specs.Reply.{Answer}
 use Rattle.script_loop.specs.Runs.{Allows, Answers, Halts, Prints, Runs, Says}
 use Rattle.script_loop.specs.declared.tally.Tally.{Tally}
 use Rattle.script_loop.specs.declared.ends.Halt.{Halt}
+use Rattle.script_loop.specs.declared.ends.Halt.TheVariants.{Memory}
 use Rattle.script_loop.specs.declared.ends.End.{End}
 use Rattle.script_loop.specs.declared.ends.End.TheVariants.{Done, SourceFault, SinkFault, Halted, TooLong}
 use Rattle.steps.specs.Events.{Event}
 use Rattle.machine.specs.Alone.{Alone}
 use Rattle.machine.specs.Stamps.{KeepsStamps}
 use Rattle.machine.specs.State.{Machine, inventory}
+use Rattle.machine.specs.Turns.{Turn, own_in}
 use Rattle.hall.specs.Alone.{Ran as RanOn}
 use Rattle.hall.specs.Good.{Is, Rise, WasSound}
 use Rattle.hall.specs.Held.{Hall}
@@ -29,18 +31,32 @@ use Rattle.hall.proofs.Databases.{valid_at}
 use Rattle.hall_turns.specs.Left.{GivesState}
 use Rattle.hall_turns.proofs.Lefts.{inv_at_all}
 use Rattle.command_steps.specs.Answering.{AnswersLine}
-use Rattle.command_steps.specs.Clients.{Client, all_seen, client}
+use Rattle.command_steps.specs.Answers.{nothing}
+use Rattle.command_steps.specs.Clients.{Client, Known, all_seen, client}
 use Rattle.command_steps.specs.Lines.{Line, line_of}
 use Rattle.line_results.specs.Clauses.{Holds}
 use Rattle.line_results.specs.Lines.{Halts as EndsLine, Replies}
 use Rattle.line_results.specs.Resting.{HasSizes, IsAtRest, Onward}
-use Rattle.tsm_top.specs.Notes.{note_of, number_in, with_note}
+use Rattle.blocks.specs.Parts.{begins, part}
+use Rattle.blocks.specs.Shapes.{Gathered, begun, is_end, with_line}
+use Rattle.crew.specs.Ran.{EachFits, RanFrom, Turned, began}
+use Rattle.line_jobs.specs.Ran.{EndsLines, IsEnding, Worked, ending, shared}
+use Rattle.line_jobs.specs.Shares.{Came, with_said}
+use Rattle.line_jobs.specs.declared.job.Said.{Said}
+use Rattle.block_results.proofs.Jobs.{block-held}
+use Rattle.tsm_top.specs.InBlock.{BlockEnds, BlockHalted, BlockRan, IsCause, JobsRan}
+use Rattle.tsm_top.specs.Notes.{note_of, notes_of, number_in, with_note}
+use Rattle.tsm_top.specs.Servers.{EndsBlock, EndsOutside, HaltsBy, HaltsHere, HaltsIn, HaltsInside, Keeps, Serves as ServesBy, ServesBlock, ServesHere, ServesIn, ServesInside, ServesOutside, Stays}
 use Rattle.tsm_top.specs.Sessions.{HaltsLine, ServesLine, number_of}
 use Rattle.tsm_top.specs.Sites.{IsInOrder, IsTimely, RepliesAt, Site, StopsAt, between, site}
+use Rattle.tsm_top.specs.Stands.{AnswersAt, AnswersBlock, AnswersHere, AnswersIn, AnswersInside, EndsAt, EndsHere, EndsIn, EndsInBlock, EndsInside, JobsTurned, RunsBlock, Stand, left_by}
 use Rattle.tsm_top.specs.declared.note.Note.{Note}
+use Rattle.tsm_top.specs.declared.server.Server.{Server}
 use Rattle.tsm_top.specs.declared.session.Session.{Session}
+use Rattle.tsm_top.proofs.Resting.{at_rest}
 use Rattle.tsm_top.proofs.There.{there}
 use Rattle.tsm_top.proofs.Treed.{ChangeTheirTree, leaves_file}
+use Rattle.tsm_top.proofs.Turning.{further, here, jobs_add, turned_on}
 
 -- ---- the laws that a run stands on
 
@@ -51,7 +67,20 @@ AreAlone {S} trusted told moment faults =
     → RanOn told moment faults actor events old new
     → (last : Machine) × Alone trusted hall_places actor events m last × Is told moment faults new last × (trusted → IsTrusted (told new.store) new.held) × KeepsStamps m.core last.core
 
+-- what several actors did in a block is one
+abbrev pub AreTurned : {S : Type 0} → (trusted : Type 0) → (told : S → Option History) → (moment : S → ℕ) → (faults : S → ℕ → ℕ) → Type 0
+AreTurned {S} trusted told moment faults =
+    (turns : List Turn) (old new : Hall S) (m : Machine) → Is told moment faults old m → (trusted → IsTrusted (told old.store) old.held)
+    → RanFrom told moment faults (Some (began told moment faults old)) turns new
+    → (last : Machine) × Turned trusted hall_places turns m last × Is told moment faults new last × (trusted → IsTrusted (told new.store) new.held) × KeepsStamps m.core last.core × (trusted → EachFits turns m last)
+
 -- and the store goes on meanwhile
+abbrev pub BlocksGo : {S : Type 0} → (told : S → Option History) → (moment : S → ℕ) → (faults : S → ℕ → ℕ) → Type 0
+BlocksGo {S} told moment faults =
+    (turns : List Turn) (old new : Hall S) → RanFrom told moment faults (Some (began told moment faults old)) turns new
+    → (new.held.base ≡ old.held.base) × (new.held.opened ≡ old.held.opened) × Told (told old.store) (told new.store) (GoesOn (λ file. Unit {0}))
+
+-- so it does behind one actor's steps
 abbrev pub GoOn : {S : Type 0} → (told : S → Option History) → (moment : S → ℕ) → (faults : S → ℕ → ℕ) → Type 0
 GoOn {S} told moment faults =
     (actor : ℕ) (events : List Event) (old new : Hall S) → RanOn told moment faults actor events old new
@@ -80,12 +109,6 @@ Hold trusted =
     (k : Client) (n : ℕ) (line : Line) (answer : Answer) (why : Option Refusal) (old new : Machine) → (r : Replies trusted hall_places k n line old answer why new)
     → Holds trusted hall_places k n line old r.mid answer r.added
 
-onward_then : (a b c : Machine) → Onward a b → Onward b c → Onward a c
-onward_then a b c first second = record {
-  counts = λ file. (let one = first.counts file in let two = second.counts file in omega (arith, one, two));
-  since = (let one = first.since in let two = second.since in omega (arith, one, two));
-}
-
 -- stamps that rise to a moment are at most that
 over : (first last : ℕ) (stamps : List ℕ) → Rise first last stamps → first ≤ last
 over first last [] rise = rise
@@ -104,9 +127,6 @@ in_order told moment faults hall m is = record {
   next_file = is.good.numbers.next_file.1;
   next_object = is.good.numbers.next_object.1;
 }
-
-onward_here : (a : Machine) → Onward a a
-onward_here a = record { counts = λ file. omega arith; since = omega arith }
 
 module _ {S T : Type 0} (told : S → Option History) (moment : S → ℕ) (faults : S → ℕ → ℕ) (files : T → Option Files) (tree_faults : T → ℕ) (clock : (s : S) → IfSome (told s) (λ h. now h ≡ moment s))
     (changes : ChangeTheirTree) (steps_go : GoOn told moment faults) (gives : AreThere told moment faults)
@@ -173,7 +193,7 @@ module _ {S T : Type 0} (told : S → Option History) (moment : S → ℕ) (faul
         next = run.0;
         at = record { is = run.2; known = run.3; rests = r.rests; binder = binder ∙ at.binder };
         goes = on;
-        onward = onward_then m r.mid run.0 r.first r.behind;
+        onward = further m r.mid run.0 r.first r.behind;
         same = run.2.core.base ∙ on.0 ∙ sym at.is.core.base;
         run = λ last more. (
           why,
@@ -215,111 +235,482 @@ module _ {S T : Type 0} (told : S → Option History) (moment : S → ℕ) (faul
         run = (r, changes.only k n (line_of line) events (Err how) said, timely told moment faults new.hall m run.0 run.2 run.4, in_order told moment faults new.hall run.0 run.2, (λ t free durable. there told moment faults clock gives new.hall run.0 (told new.hall.store) run.2 free durable (run.3 t) (goes_here (told new.hall.store))), notes);
       }
 
-  -- ---- lines
+  -- ---- where a session comes to
 
-  pub record RanLines (n : ℕ) (old new : Session S T) (lines : List (List ℕ)) (text : List ℕ) (tally : Tally) (m : Machine) : Type 0 where
+  -- A session was led to another one, at rest in a state of the machine, and this holds of that state, by what the store tells in the end.
+  pub record Led (old new : Session S T) (m : Machine) (P : Option History → Machine → Type 0) : Type 0 where
     pub next : Machine
     pub at : At new next
     pub goes : Goes old new
     pub onward : Onward m next
     pub same : next.core.base ≡ m.core.base
-    pub run : (last : Session S T) → Goes new last → Runs (Machined last) n (of old m) lines text tally (of new next)
+    pub run : (last : Session S T) → Goes new last → P (told last.hall.store) next
 
-  runs : (lines : List (List ℕ)) (n : ℕ) (old new : Session S T) (text : List ℕ) (tally : Tally) (m : Machine) → At old m → Runs Serves n old lines text tally new → RanLines n old new lines text tally m
-  runs [] n old new text tally m at run = record {
-    next = m;
-    at = subst (λ (s : Session S T). At s m) (sym run.2) at;
-    goes = subst (λ (s : Session S T). Goes old s) (sym run.2) (here_goes old);
-    onward = onward_here m;
-    same = refl;
-    run = λ last more. (run.0, run.1, ap (λ (s : Session S T). of s m) run.2);
-  }
-  runs (line ∷ more) n old new text tally m at (answer, mid, rest, others, serves, is, counts, run) =
-      let one = step old mid n line answer m at serves in
-      let next = runs more (n + 1) mid new rest others one.next one.at run in
-      record {
-        next = next.next;
-        at = next.at;
-        goes = then_goes old mid new one.goes next.goes;
-        onward = onward_then m one.next next.next one.onward next.onward;
-        same = next.same ∙ one.same;
-        run = λ last on. (answer, of mid one.next, rest, others, one.run last (then_goes mid new last next.goes on), is, counts, next.run last on);
-      }
-
-  -- ---- how a run ended
-
-  pub record Ended (old new : Session S T) (m : Machine) (P : Site → Type 0) : Type 0 where
+  -- or the run ended with this one
+  pub record Ended (old new : Session S T) (m : Machine) (P : Option History → Machine → Type 0) : Type 0 where
     pub next : Machine
     pub is : Is told moment faults new.hall next
     pub known : trusted → IsTrusted (told new.hall.store) new.hall.held
     pub goes : Goes old new
     pub onward : Onward m next
     pub same : next.core.base ≡ m.core.base
-    pub run : P (of new next)
+    pub run : P (told new.hall.store) next
 
-  halts : (script : Option (List ℕ)) (taken : List (List ℕ)) (tally : Tally) (text : List ℕ) (old mid new : Session S T) (how : Halt) (m : Machine) → RanLines 1 old mid taken text tally m
-      → Halts Stops script taken mid how new → Ended old new m (λ after. Answers (Machined new) (Ending new) (of old m) script (Halted how) text after)
-  halts script taken tally text old mid new how m ran (inl (line, front, stopped)) =
-      let last = halt mid new (length taken + 1) line how ran.next ran.at stopped in
-      record {
-        next = last.next;
-        is = last.is;
-        known = last.known;
-        goes = then_goes old mid new ran.goes last.goes;
-        onward = onward_then m ran.next last.next ran.onward last.onward;
-        same = last.same ∙ ran.same;
-        run = (taken, tally, of mid ran.next, ran.run new last.goes, inl (line, front, last.run));
-      }
-  halts script taken tally text old mid new how m ran (inr (is, none, same)) = record {
-    next = ran.next;
-    is = subst (λ (s : Session S T). Is told moment faults s.hall ran.next) (sym same) ran.at.is;
-    known = subst (λ (s : Session S T). trusted → IsTrusted (told s.hall.store) s.hall.held) (sym same) ran.at.known;
-    goes = subst (λ (s : Session S T). Goes old s) (sym same) ran.goes;
-    onward = ran.onward;
-    same = ran.same;
-    run = (taken, tally, of mid ran.next, ran.run new (subst (λ (s : Session S T). Goes mid s) (sym same) (here_goes mid)), inr (is, none, ap (λ (s : Session S T). of s ran.next) same));
-  }
+  led_by : (old new : Session S T) (n : ℕ) (line : List ℕ) (answer : Answer) (m : Machine) → At old m → Serves old n line answer new → Led old new m (λ y next. RepliesAt trusted choice y (of old m) n line answer (of new next))
+  led_by old new n line answer m at served =
+      let s = step old new n line answer m at served in
+      record { next = s.next; at = s.at; goes = s.goes; onward = s.onward; same = s.same; run = s.run }
 
-  at_end : (old new : Session S T) (m : Machine) (n : ℕ) (lines : List (List ℕ)) (text : List ℕ) (tally : Tally) (P : Site → Type 0) → (ran : RanLines n old new lines text tally m)
-      → P (of new ran.next) → Ended old new m P
-  at_end old new m n lines text tally P ran run = record { next = ran.next; is = ran.at.is; known = ran.at.known; goes = ran.goes; onward = ran.onward; same = ran.same; run = run }
+  ended_by : (old new : Session S T) (n : ℕ) (line : List ℕ) (how : Halt) (m : Machine) → At old m → Stops old n line how new → Ended old new m (λ y next. StopsAt trusted choice y (of old m) n line how (of new next))
+  ended_by old new n line how m at stopped =
+      let s = halt old new n line how m at stopped in
+      record { next = s.next; is = s.is; known = s.known; goes = s.goes; onward = s.onward; same = s.same; run = s.run }
 
-  answers : (end : End) (script : Option (List ℕ)) (text : List ℕ) (old new : Session S T) (m : Machine) → At old m → Answers Serves Stops old script end text new
-      → Ended old new m (λ after. Answers (Machined new) (Ending new) (of old m) script end text after)
-  answers (Done tally) script text old new m at (taken, run, whole) =
-      let ran = runs taken 1 old new text tally m at run in
-      at_end old new m 1 taken text tally (λ after. Answers (Machined new) (Ending new) (of old m) script (Done tally) text after) ran (taken, ran.run new (here_goes new), whole)
-  answers SourceFault script text old new m at (taken, tally, run, front) =
-      let ran = runs taken 1 old new text tally m at run in
-      at_end old new m 1 taken text tally (λ after. Answers (Machined new) (Ending new) (of old m) script SourceFault text after) ran (taken, tally, ran.run new (here_goes new), front)
-  answers SinkFault script text old new m at none = absurd none
-  answers (Halted how) script text old new m at (taken, tally, mid, run, is) = halts script taken tally text old mid new how m (runs taken 1 old mid text tally m at run) is
-  answers (TooLong n) script text old new m at (taken, tally, run, exceeds) =
-      let ran = runs taken 1 old new text tally m at run in
-      at_end old new m 1 taken text tally (λ after. Answers (Machined new) (Ending new) (of old m) script (TooLong n) text after) ran (taken, tally, ran.run new (here_goes new), exceeds)
+  map_led : (old new : Session S T) (m : Machine) (P Q : Option History → Machine → Type 0) → ((y : Option History) (next : Machine) → P y next → Q y next) → Led old new m P → Led old new m Q
+  map_led old new m P Q leads s = record { next = s.next; at = s.at; goes = s.goes; onward = s.onward; same = s.same; run = λ last more. leads (told last.hall.store) s.next (s.run last more) }
 
-  with_run : (old new : Session S T) (m : Machine) (P Q : Site → Type 0) → ((after : Site) → P after → Q after) → Ended old new m P → Ended old new m Q
-  with_run old new m P Q leads ran = record { next = ran.next; is = ran.is; known = ran.known; goes = ran.goes; onward = ran.onward; same = ran.same; run = leads (of new ran.next) ran.run }
+  map_ended : (old new : Session S T) (m : Machine) (P Q : Option History → Machine → Type 0) → ((y : Option History) (next : Machine) → P y next → Q y next) → Ended old new m P → Ended old new m Q
+  map_ended old new m P Q leads s = record { next = s.next; is = s.is; known = s.known; goes = s.goes; onward = s.onward; same = s.same; run = leads (told new.hall.store) s.next s.run }
 
-  allows : (end : End) (script : Option (List ℕ)) (whole : List ℕ) (old new : Session S T) (m : Machine) → At old m → Allows Serves Stops old script end whole new
-      → Ended old new m (λ after. Allows (Machined new) (Ending new) (of old m) script end whole after)
-  allows end script whole old new m at (text, is, run) =
-      with_run old new m (λ after. Answers (Machined new) (Ending new) (of old m) script end text after) (λ after. Allows (Machined new) (Ending new) (of old m) script end whole after) (λ after a. (text, is, a))
-      (answers end script text old new m at run)
+  -- nothing was done
+  stays_led : (x : Session S T) (m : Machine) (P : Option History → Machine → Type 0) → At x m → ((y : Option History) → P y m) → Led x x m P
+  stays_led x m P at run = record { next = m; at = at; goes = here_goes x; onward = here m; same = refl; run = λ last more. run (told last.hall.store) }
 
-  prints : (end : End) (script : Option (List ℕ)) (put : List ℕ) (old new : Session S T) (m : Machine) → At old m → Prints Serves Stops old script end put new
-      → Ended old new m (λ after. Prints (Machined new) (Ending new) (of old m) script end put after)
-  prints (Done tally) script put old new m at run = allows (Done tally) script put old new m at run
-  prints SourceFault script put old new m at run = allows SourceFault script put old new m at run
-  prints SinkFault script put old new m at (other, whole, run, front) =
-      with_run old new m (λ after. Allows (Machined new) (Ending new) (of old m) script other whole after) (λ after. Prints (Machined new) (Ending new) (of old m) script SinkFault put after)
-      (λ after a. (other, whole, a, front)) (allows other script whole old new m at run)
-  prints (Halted how) script put old new m at run = allows (Halted how) script put old new m at run
-  prints (TooLong n) script put old new m at run = allows (TooLong n) script put old new m at run
+  -- at the end of all
+  led_ended : (old new : Session S T) (m : Machine) (P : Option History → Machine → Type 0) → Led old new m P → Ended old new m P
+  led_ended old new m P s = record { next = s.next; is = s.at.is; known = s.at.known; goes = s.goes; onward = s.onward; same = s.same; run = s.run new (here_goes new) }
 
-  -- what the session's run says, the machine's says
-  pub says : (end : End) (script before after : Option (List ℕ)) (old new : Session S T) (m : Machine) → At old m → Says Serves Stops old new script before after end
-      → Ended old new m (λ left. Says (Machined new) (Ending new) (of old m) left script before after end)
-  says end script before after old new m at (put, appends, run) =
-      with_run old new m (λ left. Prints (Machined new) (Ending new) (of old m) script end put left) (λ left. Says (Machined new) (Ending new) (of old m) left script before after end)
-      (λ left a. (put, appends, a)) (prints end script put old new m at run)
+  with_parts : (P : List Known → List Note → List Known → List Note → Type 0) (a b : List Known) (c d : List Note) (e f : List Known) (g h : List Note) → a ≡ b → c ≡ d → e ≡ f → g ≡ h → P a c e g → P b d f h
+  with_parts P a b c d e f g h one two three four p =
+      subst (λ (l : List Note). P b d f l) four (subst (λ (l : List Known). P b d l g) three (subst (λ (l : List Note). P b l e g) two (subst (λ (l : List Known). P l c e g) one p)))
+
+  module _ (blocks_go : BlocksGo told moment faults) (turned : AreTurned trusted told moment faults) where
+    abbrev pub knows : List T → List Known
+    knows trees = all_seen files tree_faults trees
+
+    -- ---- a block
+
+    pub record Blocked (old mid : Session S T) (b : Gathered) (first : ℕ) (came : List Came) (m : Machine) : Type 0 where
+      pub next : Machine
+      pub is : Is told moment faults mid.hall next
+      pub known : trusted → IsTrusted (told mid.hall.store) mid.hall.held
+      pub goes : Goes old mid
+      pub same : next.core.base ≡ m.core.base
+      pub ran : JobsTurned trusted choice b first m next (knows old.trees.items) came
+
+    jobs : (old mid : Session S T) (b : Gathered) (first : ℕ) (came : List Came) (m : Machine) → At old m → Worked told moment faults old.binder b.lines (b.job + 1) first old.hall mid.hall (knows old.trees.items) came
+        → Blocked old mid b first came m
+    jobs old mid b first came m at worked_so =
+        let worked : Worked told moment faults choice b.lines (b.job + 1) first old.hall mid.hall (knows old.trees.items) came =
+        subst (λ (rules : List Rule). Worked told moment faults rules b.lines (b.job + 1) first old.hall mid.hall (knows old.trees.items) came) at.binder worked_so in
+        let run = turned worked.turns old.hall mid.hall m at.is at.known worked.ran in
+        let on = blocks_go worked.turns old.hall mid.hall worked.ran in
+        let joined = jobs_add trusted first (first + (b.job + 1)) worked.turns m run.0 run.1 worked.nobody in
+        record {
+          next = run.0;
+          is = run.2;
+          known = run.3;
+          goes = on;
+          same = run.2.core.base ∙ on.0 ∙ sym at.is.core.base;
+          ran = record {
+            turns = worked.turns;
+            turned = run.1;
+            nobody = worked.nobody;
+            done = worked.done;
+            fits = run.5;
+            hold = λ sure w goes.
+                block-held w choice b.lines first (inventory m.core).number m.core worked.turns (shared b.lines (b.job + 1) (knows old.trees.items)) came at.rests.tickets at.rests.image
+                (λ actor. (let fits = run.5 sure w goes actor (inventory m.core).number (omega arith) in (own_in actor fits.0 run.0.core, fits.2))) worked.done;
+            added = joined.0;
+            adds = joined.1;
+            by_jobs = joined.2;
+            onward = turned_on trusted hall_places worked.turns m run.0 run.1;
+            timely = timely told moment faults mid.hall m run.0 run.2 run.4;
+            in_order = in_order told moment faults mid.hall run.0 run.2;
+          };
+        }
+
+    block : (old new : Session S T) (b : Gathered) (first n : ℕ) (answer : Answer) (m : Machine) → At old m → BlockRan told moment faults files tree_faults b first n old answer new
+        → Led old new m (λ y next. RunsBlock trusted choice y b first (of old m) n answer (of new next))
+    block old new b first n answer m at (mid, said, jobs_ran, (rests, done)) =
+        let lines = jobs_ran.ran in
+        let came = lines.0 in
+        let middle = jobs old mid b first came m at lines.1 in
+        let place : At mid middle.next = record { is = middle.is; known = middle.known; rests = at_rest told moment faults mid.hall middle.next middle.is rests; binder = jobs_ran.binder ∙ at.binder } in
+        let behind = led_by mid done.behind n [] done.follow middle.next place done.follows in
+        let further_on : Goes mid new =
+        subst (λ (h : Hall S). (h.held.base ≡ mid.hall.held.base) × (h.held.opened ≡ mid.hall.held.opened) × Told (told mid.hall.store) (told h.store) (GoesOn (λ file. Unit {0}))) (sym done.hall) behind.goes in
+        let still_noted : done.behind.notes.items ≡ mid.notes.items = done.follows.3 in
+        record {
+          next = behind.next;
+          at = record {
+            is = subst (λ (h : Hall S). Is told moment faults h behind.next) (sym done.hall) behind.at.is;
+            known = subst (λ (h : Hall S). trusted → IsTrusted (told h.store) h.held) (sym done.hall) behind.at.known;
+            rests = behind.at.rests;
+            binder = done.binder ∙ behind.at.binder;
+          };
+          goes = then_goes old mid new middle.goes further_on;
+          onward = further m middle.next behind.next middle.ran.onward behind.onward;
+          same = behind.same ∙ middle.same;
+          run = λ last more. record {
+            mid = middle.next;
+            came = came;
+            ran = middle.ran;
+            ended = lines.2;
+            rests = place.rests;
+            answered = done.answered ∙ ap (λ (s : List Said). with_said nothing s) lines.3;
+            follow = done.follow;
+            follows =
+                with_parts (λ k l v w. RepliesAt trusted choice (told last.hall.store) (site middle.next k l) n [] done.follow (site behind.next v w)) (knows mid.trees.items) (left_by b (knows old.trees.items) came) mid.notes.items old.notes.items
+                (knows done.behind.trees.items) (knows new.trees.items) done.behind.notes.items old.notes.items lines.4 jobs_ran.notes (sym (ap (λ (l : List T). knows l) done.trees)) (still_noted ∙ jobs_ran.notes)
+                (behind.run last (subst (λ (h : Hall S). (last.hall.held.base ≡ h.held.base) × (last.hall.held.opened ≡ h.held.opened) × Told (told h.store) (told last.hall.store) (GoesOn (λ file. Unit {0}))) done.hall more));
+            noted =
+                done.notes ∙ ap (λ (l : List Note). l ++ notes_of first (number_of old.hall) (number_of mid.hall) said) jobs_ran.notes
+                ∙ ap (λ (k : ℕ). old.notes.items ++ notes_of first k (number_of mid.hall) said) (numbered old.hall m at.is)
+                ∙ ap (λ (k : ℕ). old.notes.items ++ notes_of first (number_in m) k said) (numbered mid.hall middle.next middle.is)
+                ∙ ap (λ (s : List Said). old.notes.items ++ notes_of first (number_in m) (number_in middle.next) s) lines.3;
+          };
+        }
+
+    caused : (old new : Hall S) (m next : Machine) (how : Halt) → Is told moment faults old m → Is told moment faults new next → IsCause (faults old.store) (faults new.store) (moment new.store) how → IsCause m.counts next.counts next.moment how
+    caused old new m next how is after cause =
+        subst (λ (f : ℕ → ℕ). IsCause f next.counts next.moment how) (sym is.counts)
+        (subst (λ (f : ℕ → ℕ). IsCause (faults old.store) f next.moment how) (sym after.counts) (subst (λ (t : ℕ). IsCause (faults old.store) (faults new.store) t how) (sym after.clock) cause))
+
+    memory_so : (said how : Halt) → said ≡ Memory → (how ≡ said) ⊎ (how ≡ Memory) → how ≡ Memory
+    memory_so said how wanted (inl is) = is ∙ wanted
+    memory_so said how wanted (inr is) = is
+
+    ended_so : (said how : Halt) (x : Option Halt) (P : Type 0) → (IsEnding x said × P) ⊎ (said ≡ Memory) → (how ≡ said) ⊎ (how ≡ Memory) → (IsEnding x how × P) ⊎ (how ≡ Memory)
+    ended_so said how x P (inl (ends, p)) (inl is) = inl (subst (λ (h : Halt). IsEnding x h) (sym is) ends, p)
+    ended_so said how x P (inl (ends, p)) (inr is) = inr is
+    ended_so said how x P (inr wanted) same = inr (memory_so said how wanted same)
+
+    memory_cause : (old new : ℕ → ℕ) (t : ℕ) (how : Halt) → how ≡ Memory → IsCause old new t how
+    memory_cause old new t how is = subst (λ (h : Halt). IsCause old new t h) (sym is) tt
+
+    -- the block ended the run
+    abbrev pub BlockStops : (old new : Session S T) → Gathered → (first n : ℕ) → Halt → Machine → Type 0
+    BlockStops old new b first n how m = Ended old new m (λ y next. EndsInBlock trusted choice y b first (of old m) n how (of new next))
+
+    jobs_stop : (old new : Session S T) (b : Gathered) (first n : ℕ) (how : Halt) (m : Machine) (came : List Came) → At old m → Worked told moment faults old.binder b.lines (b.job + 1) first old.hall new.hall (knows old.trees.items) came
+        → IsCause (faults old.hall.store) (faults new.hall.store) (moment new.hall.store) how → (IsEnding (ending came) how × (knows new.trees.items ≡ left_by b (knows old.trees.items) came)) ⊎ (how ≡ Memory)
+        → new.notes.items ≡ old.notes.items → BlockStops old new b first n how m
+    jobs_stop old new b first n how m came at worked cause ended notes =
+        let middle = jobs old new b first came m at worked in
+        record {
+          next = middle.next;
+          is = middle.is;
+          known = middle.known;
+          goes = middle.goes;
+          onward = middle.ran.onward;
+          same = middle.same;
+          run = inl (record { came = came; ran = middle.ran; cause = caused old.hall new.hall m middle.next how at.is middle.is cause; ended = ended; noted = notes });
+        }
+
+    none_ran : (old new : Session S T) (b : Gathered) (first n : ℕ) (how : Halt) (m : Machine) → At old m → new.hall ≡ old.hall → how ≡ Memory → new.notes.items ≡ old.notes.items → BlockStops old new b first n how m
+    none_ran old new b first n how m at same wanted notes = record {
+      next = m;
+      is = subst (λ (h : Hall S). Is told moment faults h m) (sym same) at.is;
+      known = subst (λ (h : Hall S). trusted → IsTrusted (told h.store) h.held) (sym same) at.known;
+      goes = subst (λ (h : Hall S). (h.held.base ≡ old.hall.held.base) × (h.held.opened ≡ old.hall.held.opened) × Told (told old.hall.store) (told h.store) (GoesOn (λ file. Unit {0}))) (sym same) (here_goes old);
+      onward = here m;
+      same = refl;
+      run = inr (inl (refl, wanted, notes));
+    }
+
+    by_jobs : (old new : Session S T) (b : Gathered) (first n : ℕ) (how said : Halt) (m : Machine) → At old m
+        → EndsLines told moment faults old.binder b.lines (b.job + 1) first old.hall new.hall (knows old.trees.items) said (knows new.trees.items) → (how ≡ said) ⊎ (how ≡ Memory)
+        → IsCause (faults old.hall.store) (faults new.hall.store) (moment new.hall.store) how → new.notes.items ≡ old.notes.items → BlockStops old new b first n how m
+    by_jobs old new b first n how said m at (inl (came, worked, ended)) same cause notes =
+        jobs_stop old new b first n how m came at worked cause (ended_so said how (ending came) (knows new.trees.items ≡ left_by b (knows old.trees.items) came) ended same) notes
+    by_jobs old new b first n how said m at (inr (unchanged, wanted)) same cause notes = none_ran old new b first n how m at unchanged (memory_so said how wanted same) notes
+
+    behind_jobs : (old new : Session S T) (b : Gathered) (first n : ℕ) (how : Halt) (m : Machine) (mid : Session S T) (said : List Said) → At old m → JobsRan told moment faults files tree_faults b first old said mid
+        → BlockHalted told moment faults files tree_faults mid n how new → BlockStops old new b first n how m
+    behind_jobs old new b first n how m mid said at ran (inl (same, wanted)) =
+        subst (λ (s : Session S T). BlockStops old s b first n how m) (sym same)
+        (jobs_stop old mid b first n how m ran.ran.0 at ran.ran.1 (memory_cause (faults old.hall.store) (faults mid.hall.store) (moment mid.hall.store) how wanted) (inr wanted) ran.notes)
+    behind_jobs old new b first n how m mid said at ran (inr (rests, stopped)) =
+        let lines = ran.ran in
+        let middle = jobs old mid b first lines.0 m at lines.1 in
+        let place : At mid middle.next = record { is = middle.is; known = middle.known; rests = at_rest told moment faults mid.hall middle.next middle.is rests; binder = ran.binder ∙ at.binder } in
+        let behind = ended_by mid new n [] how middle.next place stopped in
+        record {
+          next = behind.next;
+          is = behind.is;
+          known = behind.known;
+          goes = then_goes old mid new middle.goes behind.goes;
+          onward = further m middle.next behind.next middle.ran.onward behind.onward;
+          same = behind.same ∙ middle.same;
+          run = inr (inr (
+            middle.next,
+            lines.0,
+            middle.ran,
+            lines.2,
+            place.rests,
+            with_parts (λ k l v w. StopsAt trusted choice (told new.hall.store) (site middle.next k l) n [] how (site behind.next v w)) (knows mid.trees.items) (left_by b (knows old.trees.items) lines.0) mid.notes.items old.notes.items
+                (knows new.trees.items) (knows new.trees.items) new.notes.items new.notes.items lines.4 ran.notes refl refl behind.run,
+          ));
+        }
+
+    block_stops : (old new : Session S T) (b : Gathered) (first n : ℕ) (how : Halt) (m : Machine) → At old m → BlockEnds told moment faults files tree_faults b first n old how new → BlockStops old new b first n how m
+    block_stops old new b first n how m at (inl e) = by_jobs old new b first n how e.said m at e.ended e.answered e.cause e.notes
+    block_stops old new b first n how m at (inr (mid, said, ran, halted)) = behind_jobs old new b first n how m mid said at ran halted
+
+    -- ---- what is given to a server
+
+    abbrev pub stand_of : Site → Option Gathered → ℕ → Stand
+    stand_of w b j = record { site = w; block = b; jobs = j }
+
+    -- where a server with this session stands
+    abbrev pub stand : Server S T → Session S T → Machine → Stand
+    stand s x m = stand_of (of x m) s.block s.jobs
+
+    abbrev pub Gives : Server S T → ℕ → Option (List ℕ) → Answer → Server S T → Type 0
+    Gives = ServesBy told moment faults files tree_faults
+
+    abbrev pub Halts_ : Server S T → ℕ → Option (List ℕ) → Halt → Server S T → Type 0
+    Halts_ = HaltsBy told moment faults files tree_faults
+
+    -- A session was led to that of this server, and this holds of where it stands.
+    pub record Comes (old : Session S T) (new : Server S T) (m : Machine) (P : Option History → Stand → Type 0) : Type 0 where
+      pub session : Session S T
+      pub there : new.session ≡ session
+      pub led : Led old session m (λ y next. P y (stand new session next))
+
+    -- or the run ended there
+    pub record Stopped (old : Session S T) (new : Server S T) (m : Machine) (P : Option History → Stand → Type 0) : Type 0 where
+      pub session : Session S T
+      pub there : new.session ≡ session
+      pub ended : Ended old session m (λ y next. P y (stand new session next))
+
+    same_block : (s : Server S T) (a b : Gathered) → s.block ≡ Some a → s.block ≡ Some b → a ≡ b
+    same_block s a b one other = (let both : ◌≡◌ {A = Option Gathered} (Some a) (Some b) = sym one ∙ other in cc)
+
+    worked : (old new : Server S T) (x : Session S T) (Of : Session S T → Session S T → Type 0) → old.session ≡ x → Of old.session new.session → (b : Session S T) × (new.session ≡ b) × Of x b
+    worked old new x Of at did = (new.session, refl, subst (λ (a : Session S T). Of a new.session) at did)
+
+    outside : (old new : Server S T) (x : Session S T) (n : ℕ) (l : List ℕ) (answer : Answer) (m : Machine) → old.session ≡ x → At x m → old.block ≡ None → ServesOutside told moment faults files tree_faults old n l answer new
+        → Comes x new m (λ y s. AnswersHere trusted choice y false (stand old x m) n l answer s)
+    outside old new x n l answer m there_is at none (works, (still_open, as_many)) =
+        let w = worked old new x (λ a b. ServesLine told moment faults files tree_faults a n l answer b) there_is works in
+        record {
+          session = w.0;
+          there = w.1;
+          led = map_led x w.0 m (λ y next. RepliesAt trusted choice y (of x m) n l answer (of w.0 next)) (λ y next. AnswersHere trusted choice y false (stand old x m) n l answer (stand new w.0 next)) (λ y next r. (r, still_open ∙ none, as_many))
+              (led_by x w.0 n l answer m at w.2);
+        }
+
+    run_block : (old new : Server S T) (x : Session S T) (b : Gathered) (n : ℕ) (answer : Answer) (m : Machine) → old.session ≡ x → At x m → old.block ≡ Some b → ServesBlock told moment faults files tree_faults old n answer new
+        → Comes x new m (λ y s. AnswersBlock trusted choice y b (stand old x m) n answer s)
+    run_block old new x b n answer m there_is at was_open (c, is_open, works, closed, counted) =
+        let same = same_block old c b is_open was_open in
+        let w = worked old new x (λ p q. BlockRan told moment faults files tree_faults c (old.jobs + 1) n p answer q) there_is works in
+        record {
+          session = w.0;
+          there = w.1;
+          led = map_led x w.0 m (λ y next. RunsBlock trusted choice y b (old.jobs + 1) (of x m) n answer (of w.0 next)) (λ y next. AnswersBlock trusted choice y b (stand old x m) n answer (stand new w.0 next))
+              (λ y next r. (r, closed, counted ∙ ap (λ (g : Gathered). old.jobs + (g.job + 1)) same))
+              (block x w.0 b (old.jobs + 1) n answer m at (subst (λ (g : Gathered). BlockRan told moment faults files tree_faults g (old.jobs + 1) n x answer w.0) same w.2));
+        }
+
+    -- the session stays, and so the block and the jobs are then
+    unmoved : (new : Server S T) (x : Session S T) (m : Machine) (P : Option History → Stand → Type 0) (block : Option Gathered) (many : ℕ) → At x m → new.session ≡ x → new.block ≡ block → new.jobs ≡ many
+        → ((y : Option History) → P y (stand_of (of x m) block many)) → Comes x new m P
+    unmoved new x m P block many at there_is is_open counted run = record {
+      session = x;
+      there = there_is;
+      led = stays_led x m (λ y next. P y (stand new x next)) at (λ y. subst (λ (j : ℕ). P y (stand_of (of x m) new.block j)) (sym counted) (subst (λ (b : Option Gathered). P y (stand_of (of x m) b many)) (sym is_open) (run y)));
+    }
+
+    keeps_line : (old new : Server S T) (x : Session S T) (b : Gathered) (answer : Answer) (m : Machine) → old.session ≡ x → At x m → (answer ≡ nothing) × Keeps b old new
+        → Comes x new m (λ y s. (answer ≡ nothing) × (s ≡ stand_of (of x m) (Some b) old.jobs))
+    keeps_line old new x b answer m there_is at (none, (kept, opened, counted)) =
+        unmoved new x m (λ y s. (answer ≡ nothing) × (s ≡ stand_of (of x m) (Some b) old.jobs)) (Some b) old.jobs at (kept ∙ there_is) opened counted (λ y. (none, refl))
+
+    at_rest_still : (old new : Server S T) (x : Session S T) (answer : Answer) (m : Machine) → old.session ≡ x → At x m → (answer ≡ nothing) × Stays old new → Comes x new m (λ y s. (answer ≡ nothing) × (s ≡ stand old x m))
+    at_rest_still old new x answer m there_is at (none, (kept, (opened, counted))) =
+        unmoved new x m (λ y s. (answer ≡ nothing) × (s ≡ stand old x m)) old.block old.jobs at (kept ∙ there_is) opened counted (λ y. (none, refl))
+
+    here_step : (b : Bool) (old new : Server S T) (x : Session S T) (n : ℕ) (l : List ℕ) (answer : Answer) (m : Machine) → old.session ≡ x → At x m → old.block ≡ None
+        → ServesHere told moment faults files tree_faults b old n l answer new → Comes x new m (λ y s. AnswersHere trusted choice y b (stand old x m) n l answer s)
+    here_step true old new x n l answer m there_is at none served = keeps_line old new x begun answer m there_is at served
+    here_step false old new x n l answer m there_is at none served = outside old new x n l answer m there_is at none served
+
+    inside_step : (b : Bool) (g : Gathered) (old new : Server S T) (x : Session S T) (n : ℕ) (l : List ℕ) (answer : Answer) (m : Machine) → old.session ≡ x → At x m → old.block ≡ Some g
+        → ServesInside told moment faults files tree_faults b g old n l answer new → Comes x new m (λ y s. AnswersInside trusted choice y b g (stand old x m) n l answer s)
+    inside_step true g old new x n l answer m there_is at is served = run_block old new x g n answer m there_is at is served
+    inside_step false g old new x n l answer m there_is at is served = keeps_line old new x (with_line g n l) answer m there_is at served
+
+    step_in : (o : Option Gathered) (old new : Server S T) (x : Session S T) (n : ℕ) (given : Option (List ℕ)) (answer : Answer) (m : Machine) → old.session ≡ x → At x m → old.block ≡ o
+        → ServesIn told moment faults files tree_faults o old n given answer new → Comes x new m (λ y s. AnswersIn trusted choice y o (stand old x m) n given answer s)
+    step_in None old new x n (Some l) answer m there_is at is served = here_step (begins l) old new x n l answer m there_is at is served
+    step_in (Some g) old new x n (Some l) answer m there_is at is served = inside_step (is_end (part l)) g old new x n l answer m there_is at is served
+    step_in None old new x n None answer m there_is at is served = at_rest_still old new x answer m there_is at served
+    step_in (Some g) old new x n None answer m there_is at is served = run_block old new x g n answer m there_is at is served
+
+    given_step : (old new : Server S T) (x : Session S T) (n : ℕ) (given : Option (List ℕ)) (answer : Answer) (m : Machine) → old.session ≡ x → At x m → Gives old n given answer new
+        → Comes x new m (λ y s. AnswersAt trusted choice y (stand old x m) n given answer s)
+    given_step old new x n given answer m there_is at served = step_in old.block old new x n given answer m there_is at refl served
+
+    -- ---- what ends the run
+
+    outside_stops : (old new : Server S T) (x : Session S T) (n : ℕ) (l : List ℕ) (how : Halt) (m : Machine) → old.session ≡ x → At x m → EndsOutside told moment faults files tree_faults old n l how new
+        → Stopped x new m (λ y s. StopsAt trusted choice y (of x m) n l how s.site)
+    outside_stops old new x n l how m there_is at (works, still_open) =
+        let w = worked old new x (λ a b. HaltsLine told moment faults files tree_faults a n l how b) there_is works in
+        record { session = w.0; there = w.1; ended = ended_by x w.0 n l how m at w.2 }
+
+    block_halts : (old new : Server S T) (x : Session S T) (b : Gathered) (n : ℕ) (how : Halt) (m : Machine) → old.session ≡ x → At x m → old.block ≡ Some b → EndsBlock told moment faults files tree_faults old n how new
+        → Stopped x new m (λ y s. EndsInBlock trusted choice y b (old.jobs + 1) (of x m) n how s.site)
+    block_halts old new x b n how m there_is at was_open (c, is_open, works) =
+        let same = same_block old c b is_open was_open in
+        let w = worked old new x (λ p q. BlockEnds told moment faults files tree_faults c (old.jobs + 1) n p how q) there_is works in
+        record { session = w.0; there = w.1; ended = block_stops x w.0 b (old.jobs + 1) n how m at (subst (λ (g : Gathered). BlockEnds told moment faults files tree_faults g (old.jobs + 1) n x how w.0) same w.2) }
+
+    comes_ended : (old : Session S T) (new : Server S T) (m : Machine) (P : Option History → Stand → Type 0) → Comes old new m P → Stopped old new m P
+    comes_ended old new m P c = record { session = c.session; there = c.there; ended = led_ended old c.session m (λ y next. P y (stand new c.session next)) c.led }
+
+    map_stopped : (old : Session S T) (new : Server S T) (m : Machine) (P Q : Option History → Stand → Type 0) → ((y : Option History) (s : Stand) → P y s → Q y s) → Stopped old new m P → Stopped old new m Q
+    map_stopped old new m P Q leads e = record {
+      session = e.session;
+      there = e.there;
+      ended = map_ended old e.session m (λ y next. P y (stand new e.session next)) (λ y next. Q y (stand new e.session next)) (λ y next r. leads y (stand new e.session next) r) e.ended;
+    }
+
+    wants : (old new : Server S T) (x : Session S T) (how : Halt) (m : Machine) → old.session ≡ x → At x m → (how ≡ Memory) × Stays old new → Stopped x new m (λ y s. (how ≡ Memory) × (s ≡ stand old x m))
+    wants old new x how m there_is at (wanted, (kept, (opened, counted))) =
+        comes_ended x new m (λ y s. (how ≡ Memory) × (s ≡ stand old x m)) (unmoved new x m (λ y s. (how ≡ Memory) × (s ≡ stand old x m)) old.block old.jobs at (kept ∙ there_is) opened counted (λ y. (wanted, refl)))
+
+    here_stops : (b : Bool) (old new : Server S T) (x : Session S T) (n : ℕ) (l : List ℕ) (how : Halt) (m : Machine) → old.session ≡ x → At x m → HaltsHere told moment faults files tree_faults b old n l how new
+        → Stopped x new m (λ y s. EndsHere trusted choice y b (stand old x m) n l how s)
+    here_stops true old new x n l how m there_is at none = absurd none
+    here_stops false old new x n l how m there_is at stops = outside_stops old new x n l how m there_is at stops
+
+    inside_stops : (b : Bool) (g : Gathered) (old new : Server S T) (x : Session S T) (n : ℕ) (how : Halt) (m : Machine) → old.session ≡ x → At x m → old.block ≡ Some g
+        → HaltsInside told moment faults files tree_faults b old n how new → Stopped x new m (λ y s. EndsInside trusted choice y b g (stand old x m) n how s)
+    inside_stops true g old new x n how m there_is at is stops = block_halts old new x g n how m there_is at is stops
+    inside_stops false g old new x n how m there_is at is none = absurd none
+
+    stop_in : (o : Option Gathered) (old new : Server S T) (x : Session S T) (n : ℕ) (given : Option (List ℕ)) (how : Halt) (m : Machine) → old.session ≡ x → At x m → old.block ≡ o
+        → HaltsIn told moment faults files tree_faults o old n given how new → Stopped x new m (λ y s. EndsIn trusted choice y o (stand old x m) n given how s)
+    stop_in None old new x n (Some l) how m there_is at is (inl stops) =
+        map_stopped x new m (λ y s. EndsHere trusted choice y (begins l) (stand old x m) n l how s) (λ y s. EndsIn trusted choice y None (stand old x m) n (Some l) how s) (λ y s r. inl r)
+        (here_stops (begins l) old new x n l how m there_is at stops)
+    stop_in None old new x n (Some l) how m there_is at is (inr wanted) =
+        map_stopped x new m (λ y s. (how ≡ Memory) × (s ≡ stand old x m)) (λ y s. EndsIn trusted choice y None (stand old x m) n (Some l) how s) (λ y s r. inr r) (wants old new x how m there_is at wanted)
+    stop_in (Some g) old new x n (Some l) how m there_is at is (inl stops) =
+        map_stopped x new m (λ y s. EndsInside trusted choice y (is_end (part l)) g (stand old x m) n how s) (λ y s. EndsIn trusted choice y (Some g) (stand old x m) n (Some l) how s) (λ y s r. inl r)
+        (inside_stops (is_end (part l)) g old new x n how m there_is at is stops)
+    stop_in (Some g) old new x n (Some l) how m there_is at is (inr wanted) =
+        map_stopped x new m (λ y s. (how ≡ Memory) × (s ≡ stand old x m)) (λ y s. EndsIn trusted choice y (Some g) (stand old x m) n (Some l) how s) (λ y s r. inr r) (wants old new x how m there_is at wanted)
+    stop_in None old new x n None how m there_is at is none = absurd none
+    stop_in (Some g) old new x n None how m there_is at is stops = block_halts old new x g n how m there_is at is stops
+
+    given_halt : (old new : Server S T) (x : Session S T) (n : ℕ) (given : Option (List ℕ)) (how : Halt) (m : Machine) → old.session ≡ x → At x m → Halts_ old n given how new
+        → Stopped x new m (λ y s. EndsAt trusted choice y (stand old x m) n given how s)
+    given_halt old new x n given how m there_is at stops = stop_in old.block old new x n given how m there_is at refl stops
+
+    -- ---- lines
+
+    runs : (lines : List (List ℕ)) (n : ℕ) (old new : Server S T) (x : Session S T) (text : List ℕ) (tally : Tally) (m : Machine) → old.session ≡ x → At x m → Runs Gives n old lines text tally new
+        → Comes x new m (λ y s. Runs (AnswersAt trusted choice y) n (stand old x m) lines text tally s)
+    runs [] n old new x text tally m there_is at (none, zero_tally, same) =
+        unmoved new x m (λ y s. Runs (AnswersAt trusted choice y) n (stand old x m) [] text tally s) old.block old.jobs at (ap (λ (s : Server S T). s.session) same ∙ there_is) (ap (λ (s : Server S T). s.block) same)
+        (ap (λ (s : Server S T). s.jobs) same) (λ y. (none, zero_tally, refl))
+    runs (l ∷ more) n old new x text tally m there_is at (answer, mid, rest, others, serves, is, counts, run) =
+        let one = given_step old mid x n (Some l) answer m there_is at serves in
+        let next = runs more (n + 1) mid new one.session rest others one.led.next one.there one.led.at run in
+        record {
+          session = next.session;
+          there = next.there;
+          led = record {
+            next = next.led.next;
+            at = next.led.at;
+            goes = then_goes x one.session next.session one.led.goes next.led.goes;
+            onward = further m one.led.next next.led.next one.led.onward next.led.onward;
+            same = next.led.same ∙ one.led.same;
+            run = λ last on. (answer, stand mid one.session one.led.next, rest, others, one.led.run last (then_goes one.session next.session last next.led.goes on), is, counts, next.led.run last on);
+          };
+        }
+
+    -- ---- how a run ended
+
+    -- some lines, and then what ended the run
+    then_ends : (old : Session S T) (mid new : Server S T) (m : Machine) (A B C : Option History → Stand → Type 0) → (first : Comes old mid m A) → Stopped first.session new first.led.next B
+        → ((y : Option History) (s : Stand) → A y (stand mid first.session first.led.next) → B y s → C y s) → Stopped old new m C
+    then_ends old mid new m A B C first last leads =
+        let on = last.ended in
+        record {
+          session = last.session;
+          there = last.there;
+          ended = record {
+            next = on.next;
+            is = on.is;
+            known = on.known;
+            goes = then_goes old first.session last.session first.led.goes on.goes;
+            onward = further m first.led.next on.next first.led.onward on.onward;
+            same = on.same ∙ first.led.same;
+            run = leads (told last.session.hall.store) (stand new last.session on.next) (first.led.run last.session on.goes) on.run;
+          };
+        }
+
+    halts : (script : Option (List ℕ)) (taken : List (List ℕ)) (tally : Tally) (text : List ℕ) (old mid new : Server S T) (how : Halt) (x : Session S T) (m : Machine)
+        → Comes x mid m (λ y s. Runs (AnswersAt trusted choice y) 1 (stand old x m) taken text tally s) → Halts Halts_ script taken mid how new
+        → Stopped x new m (λ y s. Answers (AnswersAt trusted choice y) (EndsAt trusted choice y) (stand old x m) script (Halted how) text s)
+    halts script taken tally text old mid new how x m ran (inl (l, front, stops)) =
+        then_ends x mid new m (λ y s. Runs (AnswersAt trusted choice y) 1 (stand old x m) taken text tally s)
+        (λ y s. EndsAt trusted choice y (stand mid ran.session ran.led.next) (length taken + 1) (Some l) how s) (λ y s. Answers (AnswersAt trusted choice y) (EndsAt trusted choice y) (stand old x m) script (Halted how) text s) ran
+        (given_halt mid new ran.session (length taken + 1) (Some l) how ran.led.next ran.there ran.led.at stops) (λ y s a b. (taken, tally, stand mid ran.session ran.led.next, a, inl (l, front, b)))
+    halts script taken tally text old mid new how x m ran (inr (inl (whole, stops))) =
+        then_ends x mid new m (λ y s. Runs (AnswersAt trusted choice y) 1 (stand old x m) taken text tally s)
+        (λ y s. EndsAt trusted choice y (stand mid ran.session ran.led.next) (length taken + 1) None how s) (λ y s. Answers (AnswersAt trusted choice y) (EndsAt trusted choice y) (stand old x m) script (Halted how) text s) ran
+        (given_halt mid new ran.session (length taken + 1) None how ran.led.next ran.there ran.led.at stops) (λ y s a b. (taken, tally, stand mid ran.session ran.led.next, a, inr (inl (whole, b))))
+    halts script taken tally text old mid new how x m ran (inr (inr (is, none, same))) =
+        then_ends x mid new m (λ y s. Runs (AnswersAt trusted choice y) 1 (stand old x m) taken text tally s) (λ y s. s ≡ stand mid ran.session ran.led.next)
+        (λ y s. Answers (AnswersAt trusted choice y) (EndsAt trusted choice y) (stand old x m) script (Halted how) text s) ran
+        (comes_ended ran.session new ran.led.next (λ y s. s ≡ stand mid ran.session ran.led.next)
+        (unmoved new ran.session ran.led.next (λ y s. s ≡ stand mid ran.session ran.led.next) mid.block mid.jobs ran.led.at (ap (λ (s : Server S T). s.session) same ∙ ran.there) (ap (λ (s : Server S T). s.block) same)
+        (ap (λ (s : Server S T). s.jobs) same) (λ y. refl))) (λ y s a b. (taken, tally, stand mid ran.session ran.led.next, a, inr (inr (is, none, b))))
+
+    answers : (end : End) (script : Option (List ℕ)) (text : List ℕ) (old new : Server S T) (x : Session S T) (m : Machine) → old.session ≡ x → At x m → Answers Gives Halts_ old script end text new
+        → Stopped x new m (λ y s. Answers (AnswersAt trusted choice y) (EndsAt trusted choice y) (stand old x m) script end text s)
+    answers (Done tally) script text old new x m there_is at (taken, (front, others, mid, reply, run, last, text_is, tally_is), whole) =
+        let ran = runs taken 1 old mid x front others m there_is at run in
+        then_ends x mid new m (λ y s. Runs (AnswersAt trusted choice y) 1 (stand old x m) taken front others s) (λ y s. AnswersAt trusted choice y (stand mid ran.session ran.led.next) (length taken + 1) None reply s)
+        (λ y s. Answers (AnswersAt trusted choice y) (EndsAt trusted choice y) (stand old x m) script (Done tally) text s) ran
+        (comes_ended ran.session new ran.led.next (λ y s. AnswersAt trusted choice y (stand mid ran.session ran.led.next) (length taken + 1) None reply s)
+        (given_step mid new ran.session (length taken + 1) None reply ran.led.next ran.there ran.led.at last))
+        (λ y s a b. (taken, (front, others, stand mid ran.session ran.led.next, reply, a, b, text_is, tally_is), whole))
+    answers SourceFault script text old new x m there_is at (taken, tally, run, front) =
+        map_stopped x new m (λ y s. Runs (AnswersAt trusted choice y) 1 (stand old x m) taken text tally s) (λ y s. Answers (AnswersAt trusted choice y) (EndsAt trusted choice y) (stand old x m) script SourceFault text s) (λ y s r. (taken, tally, r, front))
+        (comes_ended x new m (λ y s. Runs (AnswersAt trusted choice y) 1 (stand old x m) taken text tally s) (runs taken 1 old new x text tally m there_is at run))
+    answers SinkFault script text old new x m there_is at none = absurd none
+    answers (Halted how) script text old new x m there_is at (taken, tally, mid, run, is) = halts script taken tally text old mid new how x m (runs taken 1 old mid x text tally m there_is at run) is
+    answers (TooLong n) script text old new x m there_is at (taken, tally, run, exceeds) =
+        map_stopped x new m (λ y s. Runs (AnswersAt trusted choice y) 1 (stand old x m) taken text tally s) (λ y s. Answers (AnswersAt trusted choice y) (EndsAt trusted choice y) (stand old x m) script (TooLong n) text s) (λ y s r. (taken, tally, r, exceeds))
+        (comes_ended x new m (λ y s. Runs (AnswersAt trusted choice y) 1 (stand old x m) taken text tally s) (runs taken 1 old new x text tally m there_is at run))
+
+    allows : (end : End) (script : Option (List ℕ)) (whole : List ℕ) (old new : Server S T) (x : Session S T) (m : Machine) → old.session ≡ x → At x m → Allows Gives Halts_ old script end whole new
+        → Stopped x new m (λ y s. Allows (AnswersAt trusted choice y) (EndsAt trusted choice y) (stand old x m) script end whole s)
+    allows end script whole old new x m there_is at (text, is, run) =
+        map_stopped x new m (λ y s. Answers (AnswersAt trusted choice y) (EndsAt trusted choice y) (stand old x m) script end text s) (λ y s. Allows (AnswersAt trusted choice y) (EndsAt trusted choice y) (stand old x m) script end whole s) (λ y s a. (text, is, a))
+        (answers end script text old new x m there_is at run)
+
+    prints : (end : End) (script : Option (List ℕ)) (put : List ℕ) (old new : Server S T) (x : Session S T) (m : Machine) → old.session ≡ x → At x m → Prints Gives Halts_ old script end put new
+        → Stopped x new m (λ y s. Prints (AnswersAt trusted choice y) (EndsAt trusted choice y) (stand old x m) script end put s)
+    prints (Done tally) script put old new x m there_is at run = allows (Done tally) script put old new x m there_is at run
+    prints SourceFault script put old new x m there_is at run = allows SourceFault script put old new x m there_is at run
+    prints SinkFault script put old new x m there_is at (other, whole, run, front) =
+        map_stopped x new m (λ y s. Allows (AnswersAt trusted choice y) (EndsAt trusted choice y) (stand old x m) script other whole s) (λ y s. Prints (AnswersAt trusted choice y) (EndsAt trusted choice y) (stand old x m) script SinkFault put s) (λ y s a. (other, whole, a, front))
+        (allows other script whole old new x m there_is at run)
+    prints (Halted how) script put old new x m there_is at run = allows (Halted how) script put old new x m there_is at run
+    prints (TooLong n) script put old new x m there_is at run = allows (TooLong n) script put old new x m there_is at run
+
+    -- what the server's run says, the machine's says
+    pub says : (end : End) (script before after : Option (List ℕ)) (old new : Server S T) (x : Session S T) (m : Machine) → old.session ≡ x → At x m → Says Gives Halts_ old new script before after end
+        → Stopped x new m (λ y s. Says (AnswersAt trusted choice y) (EndsAt trusted choice y) (stand old x m) s script before after end)
+    says end script before after old new x m there_is at (put, appends, run) =
+        map_stopped x new m (λ y s. Prints (AnswersAt trusted choice y) (EndsAt trusted choice y) (stand old x m) script end put s) (λ y s. Says (AnswersAt trusted choice y) (EndsAt trusted choice y) (stand old x m) s script before after end) (λ y s a. (put, appends, a))
+        (prints end script put old new x m there_is at run)

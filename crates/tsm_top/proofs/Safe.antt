@@ -16,4 +16,5 @@ safe command k told left_told before after opened last end status journal stamps
   safe = λ contents known.
       let over = (ran.sound contents known).3 in
       (over.final, over.base_stays, sym over.journal_is, sym over.stamps_are, over.images tt, over.left tt);
+  backups = ran.backups;
 }

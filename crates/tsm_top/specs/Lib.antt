@@ -1,8 +1,11 @@
+pub mod InBlock
 pub mod Notes
 pub mod OneLine
 pub mod Restored
 pub mod Serve
+pub mod Servers
 pub mod Sessions
 pub mod Sites
 pub mod Spots
+pub mod Stands
 pub mod Trees

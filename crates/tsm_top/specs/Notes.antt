@@ -1,8 +1,9 @@
 -- What is noted of the lines of a script.
-use Rattle.std.specs.Prelude.{ℕ, ◌==◌, if◌then◌else◌, Option, List, [], ◌∷◌, ◌++◌}
+use Rattle.std.specs.Prelude.{ℕ, ◌+◌, ◌-◌, ◌^◌, ◌==◌, min, if◌then◌else◌, Option, List, [], ◌∷◌, ◌++◌}
 use Rattle.kinds.specs.declared.refusal.Refusal.{Refusal}
 use Rattle.machine.specs.State.{Machine, inventory}
 use Rattle.command_steps.specs.Lines.{Line, asks, comment, refused}
+use Rattle.line_jobs.specs.declared.job.Said.{Said}
 use Rattle.tsm_top.specs.declared.note.Note.{Note}
 
 -- the number of the last transaction
@@ -22,3 +23,15 @@ abbrev pub with_note : Line → Note → List Note → List Note
 with_note comment note notes = notes
 with_note (refused why) note notes = notes ++ note ∷ []
 with_note (asks command) note notes = notes ++ note ∷ []
+
+-- ---- in a block
+
+-- The note of a line of a block, of which this was said, whose first job's actor has the number `first`: its actor, and the number of the last transaction before the block and of the one behind its jobs.
+abbrev pub note_in_block : (first before after : ℕ) → Said → Note
+note_in_block first before after s = record { line = s.number; actor = min (first + s.job) (2 ^ 32 - 1); n = before; last = after; refused = s.why }
+
+-- the notes of the lines of a block, of which this was said: a comment, which counts as no command, has none
+abbrev pub notes_of : (first before after : ℕ) → List Said → List Note
+notes_of first before after [] = []
+notes_of first before after (s ∷ said) =
+    if s.reply.tally.commands == 0 then notes_of first before after said else note_in_block first before after s ∷ notes_of first before after said

@@ -23,21 +23,25 @@ use Rattle.vault.specs.Recovery.{Recovers, IsBase}
 use Rattle.hall.specs.Good.{AlwaysSafe, Is, Rise}
 use Rattle.hall.specs.Held.{Hall}
 use Rattle.hall.specs.Opening.{IsSound}
+use Rattle.hall.specs.Protected.{AlwaysBacked, HadBackups}
 use Rattle.hall.specs.Steps.{IsTrusted}
 use Rattle.hall_turns.specs.Left.{LeavesSound}
+use Rattle.hall_turns.specs.Runs.{HasOwnBackups}
 use Rattle.command_steps.specs.Clients.{Client}
 use Rattle.line_results.specs.Resting.{IsAtRest, Onward}
 use Rattle.machine.specs.State.{Machine}
+use Rattle.blocks.specs.Shapes.{Gathered}
 use Rattle.db_restore.specs.Chained.{MayNotRestore}
 use Rattle.db_restore.specs.declared.done.RestoreDone.{RestoreDone}
 use Rattle.db_restore.specs.declared.refused.NotRestored.{NotRestored}
 use Rattle.recoveries.specs.Telling.{told_lines, told_status}
-use Rattle.recoveries.specs.Words.{wanted}
+use Rattle.program_words.specs.Words.{wanted}
 use Rattle.tsm_top.specs.declared.note.Note.{Note}
 use Rattle.tsm_top.specs.declared.top.NotMade.{NotMade}
 use Rattle.tsm_top.specs.declared.top.NotMade.TheVariants.{Exists, Refused}
 use Rattle.tsm_top.specs.Restored.{IsRestored}
-use Rattle.tsm_top.specs.Sites.{IsThere, RepliesAt, StopsAt, site}
+use Rattle.tsm_top.specs.Sites.{IsThere, site}
+use Rattle.tsm_top.specs.Stands.{AnswersAt, EndsAt, standing}
 
 -- What the words ask: a new database, a script over the one that is there or over a new one, or that the one which the backup in a file gives is restored on a day, without what lies in the files that are skipped.
 pub data Command : Type 0 where
@@ -228,6 +232,19 @@ Sure run contents (Some h) = IsSound contents h
 Sure fresh_run contents told = is_some told ≡ true
 Sure (restore file day skipped) contents told = ⊥
 
+-- what the store has of database backups at the start: where a database is run, those that this one lists as whole and that are protected on its day (`HasOwnBackups`); a new database lists none, so nothing is asked of its store
+abbrev pub Had : Command → (told : Option History) → Type 0
+Had format told = ⊥
+Had run told = IfSome told HasOwnBackups
+Had fresh_run told = Unit {0}
+Had (restore file day skipped) told = ⊥
+
+-- What no stop takes of database backups: at every moment since the opening each image that a stop may leave backs the database to which it recovers, so that it gives back each backup that this one lists as whole
+-- and that is protected on its day, with every copy that the backup placed on sequential volumes; and the store that is left has the backups of the database to which it recovers, so that a run over it keeps them, too.
+pub record KeepsBacked (opened : ℕ) (h : History) : Type 0 where
+  pub always : AlwaysBacked opened h
+  pub left : HasOwnBackups h
+
 -- How a run begins: with the database that was opened, which is valid, no transaction, no ticket and no image; the numbers that are drawn next are that database's, and the first ticket's is 1.
 pub record Begins (base : Inv) (opened : ℕ) (counts : ℕ → ℕ) (m : Machine) : Type 0 where
   pub database : m.core.base ≡ base
@@ -248,7 +265,9 @@ pub record Ran (trusted : Type 0) (k : Client) (base : Inv) (left_told : Option 
   pub begins : Begins base opened before first
   pub there : trusted → IsThere left_told first
   pub final : Machine
-  pub says : Says (RepliesAt trusted k.choice left_told) (StopsAt trusted k.choice left_told) (site first k.old []) (site final k.new notes) script was is end
+  pub left_open : Option Gathered
+  pub jobs : ℕ
+  pub says : Says (AnswersAt trusted k.choice left_told) (EndsAt trusted k.choice left_told) (standing (site first k.old [])) (record { site = site final k.new notes; block = left_open; jobs = jobs }) script was is end
   pub onward : Onward first final
   pub base_stays : final.core.base ≡ base
   pub journal_is : journal ≡ final.core.journal
@@ -273,13 +292,15 @@ pub record RanScript (command : Command) (k : Client) (told left_told : Option H
   pub whole : (first : Machine) × (first.core.generation ≡ start) × Ran ⊥ k database left_told before after opened last end journal stamps notes generation script was is first
   pub sound : (contents : ℕ → List ℕ) → Sure command contents told
       → (first : Machine) × (first.contents ≡ contents) × (first.core.generation ≡ start) × Ran (Unit {0}) k database left_told before after opened last end journal stamps notes generation script was is first
+  pub backups : (contents : ℕ → List ℕ) → Sure command contents told → Had command told → IfSome left_told (KeepsBacked opened)
 
--- At every moment since the opening each image is safe, and what is left is a sound store.
+-- At every moment since the opening each image is safe, and what is left is a sound store; and where the store had the backups of the database that is run, so does each image of its own database's.
 pub record RanSafe (command : Command) (told left_told : Option History) (opened : ℕ) (journal : List Entry) (stamps : List ℕ) (base : Option Inv) : Type 0 where
   pub database : Inv
   pub base_is : base ≡ Some database
   pub safe : (contents : ℕ → List ℕ) → Sure command contents told
       → (final : Machine) × (final.core.base ≡ database) × (final.core.journal ≡ journal) × (final.core.stamps ≡ stamps) × IfSome left_told (AlwaysSafe final.contents final.core opened) × IfSome left_told (LeavesSound final)
+  pub backups : (contents : ℕ → List ℕ) → Sure command contents told → Had command told → IfSome left_told (KeepsBacked opened)
 
 -- The store counted on: its moment and its counts of faults didn't fall.
 pub record Later {S : Type 0} (moment : S → ℕ) (faults : S → ℕ → ℕ) (old new : S) : Type 0 where
@@ -301,3 +322,4 @@ pub record RanFrom {S : Type 0} (told : S → Option History) (moment : S → �
       → Ran ⊥ k hall.held.base (told left_store) (faults hall.store) (faults left_store) (moment hall.store) (moment left_store) end journal stamps notes generation script was is m
   pub sound : (m : Machine) → Is told moment faults hall m → IsTrusted (told hall.store) hall.held
       → Ran (Unit {0}) k hall.held.base (told left_store) (faults hall.store) (faults left_store) (moment hall.store) (moment left_store) end journal stamps notes generation script was is m
+  pub backups : (m : Machine) → Is told moment faults hall m → IsTrusted (told hall.store) hall.held → IfSome (told hall.store) (λ h. HadBackups hall.held.base (now h) h) → IfSome (told left_store) (KeepsBacked (moment hall.store))

@@ -1,18 +1,19 @@
 // A database is restored from a backup.
 ghost use Rattle.std.specs.Prelude.{◌≡◌};
 ghost use Rattle.tree_api.specs.Cause.{Rose as RoseIn};
-ghost use Rattle.tsm_top.specs.Serve.{Asks, Closing, HasCause, HasCauseOf, Later, Shuts, format, fresh_run, restore, run};
+ghost use Rattle.tsm_top.specs.Serve.{Closing, HasCause, Later, Shuts, restore};
 
-use crate::top::{Ended, USAGE, closed};
+use crate::top::{Ended, closed};
 use client_trees::Tree;
 use db_restore::restore_from;
-use recoveries::{Wanted, lines_of, read_words, status_of};
+use program_words::Wanted;
+use recoveries::{lines_of, status_of};
 use std::alloc::Global;
 use store_api::Store;
 use tree_api::Sink;
 
 // Restores the database that the backup in a file gives, and puts what came of it.
-fn recover<S: Store, T: Tree, O: Sink>(
+pub(crate) fn recover<S: Store, T: Tree, O: Sink>(
     alloc: Global,
     wanted: &Wanted,
     store: S,
@@ -31,28 +32,6 @@ fn recover<S: Store, T: Tree, O: Sink>(
     drop(came);
     match lines {
         Ok(lines) => closed(alloc, store, trees, out, status, lines.as_slice()),
-        Err(_) => closed(alloc, store, trees, out, 8, b"MEMORY\n"),
-    }
-}
-
-// Does what more than one word asks: a database is restored from a backup. Other words are no command.
-pub(crate) fn other<S: Store, T: Tree, O: Sink>(
-    alloc: Global,
-    words: &[String],
-    store: S,
-    trees: Vec<T>,
-    out: &mut O,
-) -> Ended<S, T>
-    requires no_format { Asks words.now format → ⊥ }
-    requires no_run { Asks words.now run → ⊥ }
-    requires no_fresh { Asks words.now fresh_run → ⊥ }
-    ensures outcome { (why : Closing) × HasCauseOf why words.now (S.told store) (S.told result.store) (S.moment_of result.store) (S.faults_of store) (S.faults_of result.store) × Shuts why (O.contents out.old) (O.contents out.new) (RoseIn (O.fault_count out.old) (O.fault_count out.new)) result.status result.journal.items result.stamps.items result.notes.items result.base result.generation result.opened (S.moment_of result.store) }
-    ensures trees { result.trees ≡ trees }
-    ensures later { Later S.moment_of S.faults_of store result.store }
-{
-    match read_words(alloc, words) {
-        Ok(Some(wanted)) => recover(alloc, &wanted, store, trees, out),
-        Ok(None) => closed(alloc, store, trees, out, 2, USAGE),
         Err(_) => closed(alloc, store, trees, out, 8, b"MEMORY\n"),
     }
 }

@@ -22,7 +22,7 @@ use hall_turns::Direct;
 use hall_turns::laws::{halls_at_rest_are_there, halls_leave_sound_stores, runs_are_alone};
 use kinds::Refusal;
 use line_results::laws::{Placing, answered_lines_hold, lines_come_to};
-use script_loop::{Answerer, Halt, Reply};
+use script_loop::{Halt, Reply};
 use std::alloc::Global;
 use store_api::Store;
 
@@ -56,7 +56,7 @@ impl Placing for HallPlaces {
 }
 
 /// Answers a line by the steps of the script, who has the hall alone, and by calls on the tree that it names.
-fn answer_alone<S: Store, T: Tree>(
+pub(crate) fn answer_alone<S: Store, T: Tree>(
     alloc: Global,
     hall: &mut Hall<S>,
     trees: &mut [T],
@@ -138,25 +138,5 @@ impl<S: Store, T: Tree> Session<S, T> {
         answered_lines_hold::<HallPlaces>();
         lines_change_their_tree();
         self.answer_noted(alloc, number, line)
-    }
-}
-
-/// Each line is done and answered by `one_line`.
-impl<S: Store, T: Tree> Answerer for Session<S, T> {
-    ghost serves = { λ old n line answer new. ServesLine S.told S.moment_of S.faults_of T.files T.fault_count old n line answer new };
-
-    ghost halts = { λ old n line halt new. HaltsLine S.told S.moment_of S.faults_of T.files T.fault_count old n line halt new };
-
-    ghost can_take = { λ session lines. can_serve session };
-
-    fn answer(
-        &mut self,
-        alloc: Global,
-        number: u32,
-        line: &[u8],
-        left: u32,
-    ) -> Result<Reply, Halt> {
-        let _left = left;
-        self.one_line(alloc, number, line)
     }
 }

@@ -14,14 +14,18 @@ ghost use Rattle.command_steps.specs.Clients.{client};
 ghost use Rattle.machine.specs.State.{Machine};
 ghost use Rattle.hall.specs.Good.{Is};
 ghost use Rattle.hall.specs.Opening.{IsNewHall};
-ghost use Rattle.tsm_top.specs.Serve.{IsOnly, Asks, AskToRestore, Command, format, run, fresh_run, Closing, no_command, formatted, exists, refused_opening, closing_line, closing_status, HasCauseOf, HasCause, Shuts, OpensNot, PutsLine, RoseBetween, IsOurFile, IsOurClosing, closing_of, HasImage, Spares, Opens, IsNew, StillTells, MakesNot, RanScript, RanFrom, Images, Later};
+ghost use Rattle.tsm_top.specs.Serve.{Asks, AskToRestore, Command, format, run, fresh_run, Closing, no_command, formatted, exists, refused_opening, closing_line, closing_status, HasCauseOf, HasCause, Shuts, OpensNot, PutsLine, RoseBetween, IsOurFile, IsOurClosing, closing_of, HasImage, Spares, Opens, IsNew, StillTells, MakesNot, RanScript, RanFrom, Images, Later};
 
 use crate::note::Note;
-use crate::recover::other;
+use crate::recover::recover;
+use crate::script::{answer_script, clocks_agree};
+use crate::server::Server;
 use crate::session::{HallPlaces, Session};
 use choosers::Binder;
 use client_trees::Tree;
 use command_steps::laws::lines_change_their_tree;
+use crew::Gate;
+use crew::laws::blocks_are_turns;
 use entries::Entry;
 use hall::laws::trusted_halls_are_safe;
 use hall::{Closed, Hall};
@@ -29,8 +33,11 @@ use hall_turns::laws::{halls_at_rest_are_there, halls_leave_sound_stores, runs_a
 use inventory::Inventory;
 use kinds::OpenRefused;
 use line_results::laws::{answered_lines_hold, lines_come_to};
-use script_loop::{number_line, run};
+use program_words::{Asked, read_words};
+use script_loop::number_line;
 use std::alloc::Global;
+use std::sync::Wait;
+use std::thread::Threads;
 use store_api::Store;
 use tree_api::{Sink, Source, put_all};
 use vault::{Vault, is_formatted};
@@ -69,35 +76,36 @@ enum NotMade {
 /// The line that is put where the words are no command.
 pub const USAGE: &[u8] = b"USAGE format | run | fresh | restoredb FILE DAY [FILES] | load N\n";
 
-// Whether the words are this one.
-fn is_only(words: &[String], name: &[u8]) -> bool
-    ensures { IsTrue result ↔ IsOnly name.now words.now }
-{
-    match words {
-        [word] => word.as_bytes() == name,
-        _ => false,
-    }
-}
-
 /// Does what the words behind the program's name ask, and answers how it ended. `format` makes a new database in a store that has none,
 /// `run` opens the store's database, answers each line of a script and puts the answers, and `fresh` does the one and then the other. `restoredb FILE DAY [FILES]` restores the database that the backup in
 /// a file gives, on a day, without the copies that lie in the files behind it, as `restore_from` of `db_restore` says, and puts a line for each object that was lost by it, and the counts.
-/// `alloc` gives the memory, `trees` are the clients' trees, which lines name by their place, from 0, and `binder` has the include-exclude list by which the paths of files are bound to management classes.
+/// `alloc` gives the memory, `trees` are the clients' trees, which lines name by their place, from 0, and `binder` has the include-exclude list by which the paths of files are bound to management classes. `rt` starts
+/// the threads of jobs and waits for them, and `gate` is passed before each of their steps.
 ///
-/// A line is a comment or a command of the administrative command language (`admin_words`), outside blocks. Each command is done but DSMC ARCHIVE and DSMC RETRIEVE,
+/// A line is a comment or a command of the administrative command language (`admin_words`). Between PARALLEL and END, or the script's end, the lines are those of jobs, of which AND ends one and begins the next; they
+/// are done side by side at the block's end, and printed job by job. Each command is done but DSMC ARCHIVE and DSMC RETRIEVE,
 /// which are refused with `UnknownWord(1)`. Where no script is run the trees are given back as they came.
-pub fn serve<S: Store, T: Tree, I: Source, O: Sink>(
+pub fn serve<
+    S: Store + Send,
+    T: Tree + Drop + Send,
+    I: Source,
+    O: Sink,
+    R: Threads + Wait + Sync,
+    G: Gate + Sync,
+>(
+    rt: &R,
     alloc: Global,
     words: &[String],
     store: S,
     trees: Vec<T>,
     script: &mut I,
     out: &mut O,
+    gate: &G,
     binder: Binder,
 ) -> Ended<S, T>
-    // What was put, what is in the journal, and what images of the store give back, by how the call ended. Where a script was run each line has what `Holds` of `line_results` says: which transactions
+    // What was put, what is in the journal, and what images of the store give back, by how the call ended. Where a script was run each line outside blocks has what `Holds` of `line_results` says: which transactions
     // it made, and that its command orders them; the rows that queries show; the bytes that files are shown with; what each stored version says of its bytes; why lines are refused; what lines did that are
-    // answered OK; which lines aren't refused; and in which no file fails. No line changed another tree than the one that it names, in which a WRITE left its file with its bytes and its time, and an ERASE none (`LeavesFile`).
+    // answered OK; which lines aren't refused; and in which no file fails. No line changed another tree than the one that it names, in which a WRITE left its file with its bytes and its time, and an ERASE none (`LeavesFile`). What the lines of a block did are a run of the machine by the actors of its jobs, in one order, and their answers are what was said of them, job by job (`RunsBlock`).
     ensures outcome { ((why : Closing) × HasCauseOf why words.now (S.told store) (S.told result.store) (S.moment_of result.store) (S.faults_of store) (S.faults_of result.store)
         × Shuts why (O.contents out.old) (O.contents out.new) (RoseIn (O.fault_count out.old) (O.fault_count out.new)) result.status result.journal.items result.stamps.items result.notes.items result.base result.generation result.opened (S.moment_of result.store) × (script.new ≡ script.old) × (result.trees ≡ trees))
         ⊎ ((command : Command) × Asks words.now command × (end : End) × (opening : S) × (S.moment_of opening ≡ result.opened) × Later S.moment_of S.faults_of store opening × Later S.moment_of S.faults_of opening result.store × Opens command (S.told store) (S.told opening) × Told (S.told opening) (S.told result.store) (GoesOn (λ file. Unit {0}))
@@ -116,17 +124,26 @@ pub fn serve<S: Store, T: Tree, I: Source, O: Sink>(
     // At every moment since the opening each image that a stop may leave is safe, and what is left is a sound store.
     ensures images { Images (Asks words.now) S.told store result.store result.opened result.journal.items result.stamps.items result.base }
 {
-    call(alloc, words, store, trees, script, out, binder)
+    call(rt, alloc, words, store, trees, script, out, gate, binder)
 }
 
 // Does what the words ask.
-fn call<S: Store, T: Tree, I: Source, O: Sink>(
+fn call<
+    S: Store + Send,
+    T: Tree + Drop + Send,
+    I: Source,
+    O: Sink,
+    R: Threads + Wait + Sync,
+    G: Gate + Sync,
+>(
+    rt: &R,
     alloc: Global,
     words: &[String],
     store: S,
     trees: Vec<T>,
     script: &mut I,
     out: &mut O,
+    gate: &G,
     binder: Binder,
 ) -> Ended<S, T>
     ensures outcome { ((why : Closing) × HasCauseOf why words.now (S.told store) (S.told result.store) (S.moment_of result.store) (S.faults_of store) (S.faults_of result.store)
@@ -142,16 +159,17 @@ fn call<S: Store, T: Tree, I: Source, O: Sink>(
     ensures counts { NoneFell (S.faults_of store) (S.faults_of result.store) }
     ensures opened { (S.moment_of store ≤ result.opened) × (result.opened ≤ S.moment_of result.store) }
 {
-    if is_only(words, b"format") {
-        return format(alloc, store, trees, out);
+    let asked = match read_words(alloc, words) {
+        Ok(Some(asked)) => asked,
+        Ok(None) => return closed(alloc, store, trees, out, 2, USAGE),
+        Err(_) => return closed(alloc, store, trees, out, 8, b"MEMORY\n"),
+    };
+    match asked {
+        Asked::Format => format(alloc, store, trees, out),
+        Asked::Run => open(rt, alloc, store, trees, script, out, gate, binder),
+        Asked::Fresh => format_and_run(rt, alloc, store, trees, script, out, gate, binder),
+        Asked::Restore(wanted) => recover(alloc, &wanted, store, trees, out),
     }
-    if is_only(words, b"run") {
-        return open(alloc, store, trees, script, out, binder);
-    }
-    if is_only(words, b"fresh") {
-        return format_and_run(alloc, store, trees, script, out, binder);
-    }
-    other(alloc, words, store, trees, out)
 }
 
 // What is left where no script was run.
@@ -334,12 +352,21 @@ fn format<S: Store, T: Tree, O: Sink>(
 }
 
 // Makes a new database, and runs the script over it.
-fn format_and_run<S: Store, T: Tree, I: Source, O: Sink>(
+fn format_and_run<
+    S: Store + Send,
+    T: Tree + Drop + Send,
+    I: Source,
+    O: Sink,
+    R: Threads + Wait + Sync,
+    G: Gate + Sync,
+>(
+    rt: &R,
     alloc: Global,
     store: S,
     trees: Vec<T>,
     script: &mut I,
     out: &mut O,
+    gate: &G,
     binder: Binder,
 ) -> Ended<S, T>
     ensures outcome { ((why : Closing) × HasCause (λ command. command ≡ fresh_run) why (S.told store) (S.told result.store) (S.moment_of result.store) (S.faults_of store) (S.faults_of result.store) × Shuts why (O.contents out.old) (O.contents out.new) (RoseIn (O.fault_count out.old) (O.fault_count out.new)) result.status result.journal.items result.stamps.items result.notes.items result.base result.generation result.opened (S.moment_of result.store) × (script.new ≡ script.old) × (result.trees ≡ trees))
@@ -351,18 +378,27 @@ fn format_and_run<S: Store, T: Tree, I: Source, O: Sink>(
 {
     let mut store = store;
     match make(alloc, &mut store) {
-        Ok(()) => open(alloc, store, trees, script, out, binder),
+        Ok(()) => open(rt, alloc, store, trees, script, out, gate, binder),
         Err(why) => not_made(alloc, store, trees, out, why),
     }
 }
 
 // Opens the store's database, and runs the script over it.
-fn open<S: Store, T: Tree, I: Source, O: Sink>(
+fn open<
+    S: Store + Send,
+    T: Tree + Drop + Send,
+    I: Source,
+    O: Sink,
+    R: Threads + Wait + Sync,
+    G: Gate + Sync,
+>(
+    rt: &R,
     alloc: Global,
     store: S,
     trees: Vec<T>,
     script: &mut I,
     out: &mut O,
+    gate: &G,
     binder: Binder,
 ) -> Ended<S, T>
     ensures outcome { ((why : OpenRefused) × OpensNot run (S.told store) (S.moment_of result.store) (RoseBetween (S.faults_of store) (S.faults_of result.store)) why × Spares run (S.told store) (S.told result.store) × Shuts (refused_opening why) (O.contents out.old) (O.contents out.new) (RoseIn (O.fault_count out.old) (O.fault_count out.new)) result.status result.journal.items result.stamps.items result.notes.items result.base result.generation result.opened (S.moment_of result.store) × (script.new ≡ script.old) × (result.trees ≡ trees))
@@ -377,7 +413,7 @@ fn open<S: Store, T: Tree, I: Source, O: Sink>(
         Err((store, refusal)) => return refused_by(alloc, store, trees, out, refusal),
     };
     match pieces(alloc) {
-        Ok(buffer) => run_script(alloc, hall, trees, binder, buffer, script, out),
+        Ok(buffer) => run_script(rt, alloc, hall, trees, binder, buffer, script, out, gate),
         Err(refusal) => refused_by(alloc, into_store(hall), trees, out, refusal),
     }
 }
@@ -403,7 +439,15 @@ fn pieces(alloc: Global) -> Result<Vec<u8>, OpenRefused>
 }
 
 // Runs the script on a hall that was just opened.
-fn run_script<S: Store, T: Tree, I: Source, O: Sink>(
+fn run_script<
+    S: Store + Send,
+    T: Tree + Drop + Send,
+    I: Source,
+    O: Sink,
+    R: Threads + Wait + Sync,
+    G: Gate + Sync,
+>(
+    rt: &R,
     alloc: Global,
     hall: Hall<S>,
     trees: Vec<T>,
@@ -411,6 +455,7 @@ fn run_script<S: Store, T: Tree, I: Source, O: Sink>(
     buffer: Vec<u8>,
     script: &mut I,
     out: &mut O,
+    gate: &G,
 ) -> Ended<S, T>
     requires fresh { IsNewHall (S.moment_of hall.store) hall.held }
     requires state { (m : Machine) × Is S.told S.moment_of S.faults_of hall m }
@@ -426,14 +471,22 @@ fn run_script<S: Store, T: Tree, I: Source, O: Sink>(
     lines_come_to::<HallPlaces>();
     answered_lines_hold::<HallPlaces>();
     lines_change_their_tree();
-    let mut session = Session {
+    blocks_are_turns::<S>();
+    clocks_agree::<S>();
+    let session = Session {
         hall,
         trees,
         binder,
         buffer,
         notes: Vec::new(alloc),
     };
-    let end = run(alloc, &mut session, script, out);
+    let server = Server {
+        session,
+        block: None,
+        jobs: 0,
+    };
+    let (server, end) = answer_script(rt, gate, alloc, server, script, out);
+    let Server { session, .. } = server;
     let Session {
         hall,
         trees,

@@ -1,7 +1,7 @@
 use Rattle.std.proofs.Common.{◌≡◌, ℕ, ◌+◌, length, arith, subst}
 use Rattle.std.specs.List.{AllByRecursion}
 use Rattle.crew.specs.Knowing.{IsWithin}
-use Rattle.crew.proofs.Seating.{each_did}
+use Rattle.crew.proofs.Seating.{each_did, many_done}
 use Rattle.crew.proofs.block.in_block.Goals as goal
 
 pub end_all-jobs-requires-clause-room : goal.end_all-jobs-requires-clause-room
@@ -16,3 +16,7 @@ returns-clause-ran g c = (
   each_did g.J.Job.did c.args.first c.into_parts-hall.result.1.0 c.args.jobs.items c.end_all-jobs.result.items c.begin_all-seats.result.items c.run_all-seats.result.items c.begin_all-seats.ensures.seats
       c.run_all-seats.ensures.len c.run_all-seats.ensures.worked c.end_all-jobs.ensures.told c.end_all-jobs.ensures.jobs,
 )
+
+pub returns-clause-many : goal.returns-clause-many
+returns-clause-many g c =
+    many_done c.args.first c.args.jobs.items c.end_all-jobs.result.items c.begin_all-seats.result.items c.run_all-seats.result.items c.begin_all-seats.ensures.seats c.run_all-seats.ensures.len c.end_all-jobs.ensures.jobs

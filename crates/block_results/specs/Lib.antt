@@ -1,0 +1,4 @@
+pub mod Clauses
+pub mod Jobs
+pub mod Standing
+pub mod Works

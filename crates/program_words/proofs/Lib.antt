@@ -1,0 +1,5 @@
+pub mod Asking
+pub mod Faulting
+pub mod Reading
+pub mod Taking
+pub mod Walking

@@ -1,0 +1,81 @@
+//! Gates before the steps of jobs, and what is printed of jobs that run side by side.
+use crew::Gate;
+use std::alloc::{AllocError, Global};
+use std::sync::atomic::{AtomicBool, AtomicU32, Ordering};
+
+/// So many turns an actor is held at most.
+const TURNS: u32 = 1 << 30;
+
+/// Holds each of so many actors before its second step until all of them have come there. What the first one waits for comes only where they run side by side.
+#[derive(Drop)]
+pub struct Holding {
+    many: u32,
+    here: AtomicU32,
+    is_over: AtomicBool,
+}
+
+impl Holding {
+    /// A gate for so many actors.
+    pub fn new(many: u32) -> Holding {
+        Holding {
+            many,
+            here: AtomicU32::new(0),
+            is_over: AtomicBool::new(false),
+        }
+    }
+
+    /// Whether one was held to its limit.
+    pub fn told(&self) -> &'static str {
+        if self.is_over.load(Ordering::SeqCst) {
+            "held to the limit"
+        } else {
+            "all came"
+        }
+    }
+}
+
+impl Gate for Holding {
+    fn pass(&self, _actor: u32, turn: u64, _last: u64) {
+        if turn != 1 {
+            return;
+        }
+        let _before = self.here.fetch_add(1, Ordering::SeqCst);
+        for _ in 0..TURNS {
+            if self.here.load(Ordering::SeqCst) >= self.many {
+                return;
+            }
+        }
+        self.is_over.store(true, Ordering::SeqCst);
+    }
+}
+
+/// A word that is printed, with `*` in place of an object's number.
+fn without_object(word: &str) -> &str {
+    if word.starts_with("object=") {
+        "object=*"
+    } else {
+        word
+    }
+}
+
+/// A printed line joins the others, with `*` for each object's number.
+fn push_line(text: &mut String, line: &str) -> Result<(), AllocError> {
+    let mut is_first = true;
+    for word in line.split(' ') {
+        if !is_first {
+            text.push(' ')?;
+        }
+        text.push_str(without_object(word))?;
+        is_first = false;
+    }
+    text.push('\n')
+}
+
+/// What was put, with `*` for each object's number: which job gets which one is open.
+pub fn without_objects(alloc: Global, put: &str) -> Result<String, AllocError> {
+    let mut text = String::new(alloc);
+    for line in put.lines() {
+        push_line(&mut text, line)?;
+    }
+    Ok(text)
+}

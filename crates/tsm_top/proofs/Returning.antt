@@ -1,0 +1,131 @@
+-- A backup that an image keeps comes back with its copies in sequential pools where it is restored.
+use Rattle.std.proofs.Common.{◌≡◌, ℕ, ◌+◌, ◌<◌, ◌≤◌, zero, suc, true, List, [], ◌∷◌, length, map, Option, None, Some, Result, Ok, Err, refl, sym, ap, subst, ◌∙◌, arith}
+use Rattle.std.specs.BTreeMap.{is_at}
+use Rattle.std.specs.List.{AllByRecursion, slice_index_or}
+use Rattle.std.specs.Map.{lookup}
+use Rattle.std.specs.Ordering.{nat_cmp}
+use Rattle.store_api.specs.Disk.{History, now, reads}
+use Rattle.store_api.specs.Runs.{Stands}
+use Rattle.store_api.proofs.Pieces.{image_reads}
+use Rattle.contents.specs.Contents.{InImage}
+use Rattle.contents.proofs.Segments.{Carries}
+use Rattle.inventory.specs.Meaningful.{is_meaning}
+use Rattle.inventory.specs.Meant.{meaning}
+use Rattle.inventory_rows.specs.declared.backup.Backup.{Backup}
+use Rattle.inventory_rows.specs.State.{Inv}
+use Rattle.inventory_rules.specs.Backups.{backup_at}
+use Rattle.inventory_rules.specs.Valid.{is_valid}
+use Rattle.vault.specs.Recovery.{Recovers}
+use Rattle.vault.proofs.Sounding.{within_recovers}
+use Rattle.vault.proofs.Unique.{one_database}
+use Rattle.hall.specs.Protected.{EachSequential, GivesBack, HadBackups, HasCopy, Taken, files_of}
+use Rattle.hall.proofs.BackedUp.{Lies, also_sequential, both_sequential, each_lies}
+use Rattle.hall.proofs.BackupsOpened.{gives_alike, gives_valid}
+use Rattle.hall.proofs.Protecting.{copy_carried}
+use Rattle.hall_turns.specs.Runs.{HasOwnBackups}
+use Rattle.backup_payloads.specs.Increments.{Increment}
+use Rattle.db_chains.specs.Chains.{Gives, IsGiven}
+use Rattle.db_chains.specs.declared.refused.ChainRefused.TheVariants as chain
+use Rattle.db_chains.proofs.Unique.{one, whole}
+use Rattle.db_losses.specs.Losses.{Losses, restored}
+use Rattle.db_restore.specs.Chained.{RestoresFrom}
+use Rattle.db_restore.specs.Restoring.{IsInstalled}
+use Rattle.db_restore.specs.Sequential.{KeepsSequential, StandsWith}
+use Rattle.db_restore.specs.declared.done.RestoreDone.{RestoreDone}
+use Rattle.db_restore.specs.declared.refused.NotRestored.{NotRestored}
+use Rattle.db_restore.specs.declared.refused.NotRestored.TheVariants.{Chain, Database}
+use Rattle.db_restore.proofs.Standing.{found}
+use Rattle.db_restore.proofs.Staying.{sequentials_stay}
+use Rattle.tsm_top.specs.Restored.{ComesBack, FindsKept, FindsSequential}
+
+-- ---- lists
+
+all_up : {A : Type 0} (P Q : A → Type 0) (xs : List A) → ((x : A) → P x → Q x) → AllByRecursion P xs → AllByRecursion Q xs
+all_up P Q [] up all = tt
+all_up P Q (x ∷ xs) up all = (up x all.0, all_up P Q xs up all.1)
+
+holds_at : {A : Type 0} (P : A → Type 0) (xs : List A) (k : ℕ) (x : A) → k < length xs → slice_index_or xs k x ≡ x → AllByRecursion P xs → P x
+holds_at P [] k x lt is all = absurd (omega (arith, lt))
+holds_at P (y ∷ xs) zero x lt is all = subst P is all.0
+holds_at P (y ∷ xs) (suc k) x lt is all = holds_at P xs k x (omega (arith, lt)) is all.1
+
+-- ---- files of volumes and backups that read alike
+
+module _ (image other : ℕ → List ℕ) (same : (n : ℕ) → 4 ≤ n → other n ≡ image n) where
+  files_from : (file number : ℕ) (increments : List Increment) (v : Inv) → Gives meaning image file number increments v → AllByRecursion (λ (n : ℕ). 4 ≤ n) (files_of file increments)
+  files_from file number [] v b = (b.possible.0, tt)
+  files_from file number (i ∷ older) v (b, below, (base, gives, makes)) = (b.possible.0, files_from i.after i.number older base gives)
+
+  -- a backup gives the same database
+  gives_there : (file number : ℕ) (increments : List Increment) (v : Inv) → Gives meaning image file number increments v → Gives meaning other file number increments v
+  gives_there file number increments v gives =
+      gives_alike image other file number increments v (λ n one. sym (same n (holds_at (λ (k : ℕ). 4 ≤ k) (files_of file increments) one.0 n one.1 one.2 (files_from file number increments v gives)))) gives
+
+  -- and its copies in sequential pools stand there
+  copies_there : (contents : ℕ → List ℕ) (v : Inv) → is_valid v ≡ true → EachSequential (λ w c. HasCopy (InImage image) (contents w.object) w c) v → EachSequential (λ w c. HasCopy (InImage other) (contents w.object) w c) v
+  copies_there contents v valid each =
+      both_sequential (λ w c. AllByRecursion (Lies v c.pool) c.segments) (λ w c. HasCopy (InImage image) (contents w.object) w c) (λ w c. HasCopy (InImage other) (contents w.object) w c) v
+      (λ w c lies has. copy_carried (InImage image) (InImage other) (contents w.object) w c
+      (all_up (Lies v c.pool) (Carries (InImage image) (InImage other)) c.segments (λ s l piece long f. subst (λ (bytes : List ℕ). Stands bytes s.offset piece) (sym (same s.file l.from)) f) lies) has)
+      (each_lies v valid) each
+
+-- copies that stand with their objects' bytes are found
+are_found : (image : ℕ → List ℕ) (contents : ℕ → List ℕ) (v : Inv) → EachSequential (λ w c. HasCopy (InImage image) (contents w.object) w c) v → KeepsSequential image v
+are_found image contents v each = found image contents v
+    (also_sequential (λ w c. HasCopy (InImage image) (contents w.object) w c) (λ w c. StandsWith image (contents w.object) w c) v (λ w c has. record { size = has.size; digest = has.digest; frames = has.frames }) each)
+
+-- ---- what came of a restore
+
+-- a database that lists no backup has none that a store could lack
+had_none : (v : Inv) (h : History) → v.backups ≡ [] → HadBackups v (now h) h
+had_none v h none = record { before = λ file b at done. absurd (unlisted file b at); given = λ file b p. absurd (unlisted file b p.listed) } where
+  unlisted : (file : ℕ) (b : Backup) → backup_at file v ≡ Some b → ⊥
+  unlisted file b at = no_row file b v.backups none at
+    where
+      no_row : (f : ℕ) (row : Backup) (rows : List (ℕ × Backup)) → rows ≡ [] → lookup (is_at (nat_cmp f)) rows ≡ Some row → ⊥
+      no_row f row [] is found_at = absurd (cc)
+      no_row f row (r ∷ rows) is found_at = absurd (cc)
+
+no_backups : (losses : Losses) (file day : ℕ) (p : Inv) → (restored losses file day p).backups ≡ []
+unfolding restored
+no_backups losses file day p = refl
+
+-- what is restored is what the files recover to
+read_back : (p : Inv) (file day : ℕ) (skipped : List ℕ) (done : RestoreDone) (old new : History) (is : IsInstalled p file day skipped done old new) → Recovers meaning (reads new) (restored is.losses file day p)
+read_back p file day skipped done old new is =
+    within_recovers meaning (reads new) (restored is.losses file day p) (is.images (now new) (reads new) (omega arith) (omega arith) (image_reads new)).recovers
+
+-- so the store has its backups
+pub has_restored : (p : Inv) (file day : ℕ) (skipped : List ℕ) (done : RestoreDone) (old new : History) → IsInstalled p file day skipped done old new → HasOwnBackups new
+has_restored p file day skipped done old new is = λ v recovers.
+    subst (λ (w : Inv). HadBackups w (now new) new) (one_database meaning is_meaning (reads new) (restored is.losses file day p) v (read_back p file day skipped done old new is) recovers)
+    (had_none (restored is.losses file day p) new (no_backups is.losses file day p))
+
+module _ (file day : ℕ) (skipped : List ℕ) (old new : History) (image : ℕ → List ℕ) (b : Backup) (t : Taken) (back : GivesBack image file b t) (same : (other : ℕ) → 4 ≤ other → reads old other ≡ image other) where
+  given : IsGiven meaning (reads old) file t.database
+  given = record { number = b.number; increments = t.increments; gives = gives_there image (reads old) same file b.number t.increments t.database back.gives }
+
+  valid : is_valid t.database ≡ true
+  valid = gives_valid image file b.number t.increments t.database back.gives
+
+  finds : (done : RestoreDone) (p : Inv) → p ≡ t.database → ((other : ℕ) → 4 ≤ other → reads new other ≡ reads old other) → IsInstalled p file day skipped done old new → FindsSequential file day skipped t new
+  finds done p is others installed =
+      let own : IsInstalled t.database file day skipped done old new = subst (λ (v : Inv). IsInstalled v file day skipped done old new) is installed in
+      record {
+        losses = own.losses;
+        recovers = read_back t.database file day skipped done old new own;
+        stay = λ spares. sequentials_stay (reads old) skipped own.losses file day t.database (are_found (reads old) t.contents t.database (copies_there image (reads old) same t.contents t.database valid back.copies)) spares own.judged;
+        copies = copies_there image (reads new) (λ n from. others n from ∙ same n from) t.contents t.database valid back.copies;
+      }
+
+  comes : (came : Result RestoreDone NotRestored) → RestoresFrom file day skipped came old new → ComesBack file day skipped t came new
+  comes (Ok done) from = finds done from.0 (one is_meaning (reads old) file from.0 t.database from.1 given) from.2.1.others from.2.1.installed
+  comes (Err (Chain (chain.NotABackup at))) from = absurd (whole is_meaning (reads old) file at t.database given from.1)
+  comes (Err (Chain (chain.ReadFault at))) from = tt
+  comes (Err (Chain chain.RunFull)) from = tt
+  comes (Err (Chain chain.Memory)) from = tt
+  comes (Err (Database why)) from = tt
+
+pub returns : (file day : ℕ) (skipped : List ℕ) (came : Result RestoreDone NotRestored) (old new : History) → RestoresFrom file day skipped came old new → FindsKept file day skipped came old new
+returns file day skipped came old new from =
+    λ image v b keeps p same. (let it = keeps file b p in (it.0, it.1.row, comes file day skipped old new image b it.0 it.1 same came from))
