@@ -80,6 +80,19 @@ def answers(text):
     return replies, last
 
 
+def by_line(text):
+    """The answers by the numbers of their lines, as lists of lines without them; and the last line, which has no number, or None. A line that has no LF yet is not there."""
+    found, last = {}, None
+    for line in text.split("\n")[:-1]:
+        number, _, words = line.partition(" ")
+        need(last is None, f"{line!r} stands behind the last line {last!r}")
+        if number.isdigit():
+            found.setdefault(int(number), []).append(words)
+        else:
+            last = line
+    return found, last
+
+
 def report(check):
     """Runs a check to its end: status 0 with what it says, or 1 with the first thing that it finds."""
     name = os.path.basename(sys.argv[0])
