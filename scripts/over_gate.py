@@ -21,6 +21,29 @@ def load(name, path):
 
 rt = load("rt", os.path.realpath(shutil.which("rt")))
 rt.rtlib.Crate = rt.Crate
+made_of = {}
+
+
+def stamp(self):
+    """The kit's sum of all that a crate is made from, made once in a process: the kit makes it anew for each path that leads to a library."""
+    if self.folder not in made_of:
+        total = rt.rtlib.hashlib.sha256(repr((self.said, self.has_c)).encode())
+        for file in rt.rtlib.files_of(self.folder):
+            with open(file, "rb") as it:
+                total.update(repr((file.replace(self.folder, ""), it.read())).encode())
+        total.update(repr([it.stamp() for it in self.deps]).encode())
+        made_of[self.folder] = total.hexdigest()
+    return made_of[self.folder]
+
+
+def below(self):
+    """The repository's libraries below a crate, each after those that it uses, found once for each number of libraries that the crate is known to name."""
+    if getattr(self, "reached", (None,))[0] != len(self.deps):
+        self.reached = len(self.deps), [*{it.folder: it for dep in self.deps for it in [*dep.below(), dep]}.values()]
+    return [*self.reached[1]]
+
+
+rt.Crate.stamp, rt.Crate.below = stamp, below
 
 
 def in_turn():
