@@ -3,7 +3,9 @@ use Rattle.std.proofs.Common.{◌≡◌, ◌⊎◌, inl, inr, ℕ, ◌+◌, ◌-
 use Rattle.std.specs.List.{AllByRecursion}
 use Rattle.std.specs.Option.{option_map_or}
 use Rattle.kinds.specs.Refusals.{number_of}
+use Rattle.kinds.specs.declared.refusal.Holder.TheVariants as holder
 use Rattle.kinds.specs.declared.refusal.Refusal.{Refusal}
+use Rattle.kinds.specs.declared.refusal.Refusal.TheVariants as refused
 use Rattle.inventory_answers.specs.Stores.{pool_lines}
 use Rattle.inventory_answers.specs.declared.query.Query.TheVariants as query
 use Rattle.inventory_rows.specs.version_groups.Copies.{has_copy}
@@ -25,15 +27,16 @@ use Rattle.copy_attempts.proofs.Facts.{all-append}
 use Rattle.copy_attempts.specs.Outcomes.{IsOf, MetBy}
 use Rattle.copy_runs.specs.declared.wanted.Moved.{Moved}
 use Rattle.copy_runs.specs.declared.wanted.Wanted.{Wanted}
-use Rattle.copy_runs.specs.Ends.{AreAsking, IsStopped, last_of}
+use Rattle.copy_runs.specs.Ends.{AreAsking, IsAsking, IsEnding, IsStopped, IsUnheld, last_of}
 use Rattle.copy_runs.specs.Processes.{AreMoving, Completes, Ended, IsDoneAllAlong, Process}
 use Rattle.copy_runs.specs.Runs.{EntersOnly, HasFailed, IsCausedByOne, IsEntered, IsEntryFor, is_among}
 use Rattle.copy_runs.specs.Wanting.{IsIn, is_open_for, is_wanted}
 use Rattle.copy_runs.proofs.Entries.{enters-append, unmade-enters}
 use Rattle.copy_runs.proofs.Risen.{call-rises}
 use Rattle.copy_runs.proofs.Told.{reaches}
+use Rattle.copy_runs.proofs.Unheld.{asking-unheld}
 use Rattle.copy_runs.proofs.Whole.{IsBegun, Told, asks-begun, asks-unmade, process-told, reached-last}
-use Rattle.copy_pools.specs.Backups.{Answered, Backup, Begins, HasFailedIn, IsBackedUp, IsBackup, IsEnteredIn, IsFurther, IsNotThere, IsRefused, KindsAre, Listed, are_kinds, further, kind_of, lies_in, pool_kind}
+use Rattle.copy_pools.specs.Backups.{Answered, Backup, Begins, HasFailedIn, IsBackedUp, IsBackup, IsEnteredIn, IsForListed, IsFurther, IsNotThere, IsRefused, KindsAre, Lacks, Listed, TellsOtherwise, are_kinds, further, kind_of, lies_in, pool_kind}
 use Rattle.copy_pools.proofs.Missing.{asked-missing, asked-pools, kind-is, missing-listed}
 
 -- ---- numbers
@@ -155,6 +158,45 @@ asking-backup : (copy : ℕ) (events : List Event) → AreAsking events → AllB
 asking-backup copy [] h = tt
 asking-backup copy (e ∷ events) h = (inl (inl h.0), asking-backup copy events h.1)
 
+-- ---- tickets for listed objects
+
+listed-lacks : (primary copy object : ℕ) (x : Event) (lines : List MissingLine) (line : MissingLine) → Listed primary copy (x ∷ []) lines → IsIn line lines → line.object ≡ object → Lacks primary copy object x.deed
+listed-lacks primary copy object x lines line (n, answer, is, told) within same =
+    (answer, lines, ap (λ (e : Event). e.deed) (first-is x n (Ask (query.Missing primary copy) (Ok answer)) is), told, line, within, same)
+
+of-line : (copy : ℕ) (lines : List MissingLine) (x : Wanted) → IsIn x (map (further copy) lines) → (line : MissingLine) × IsIn line lines × (line.object ≡ x.object)
+of-line copy [] x h = absurd h
+of-line copy (l ∷ lines) x (inl h) = (l, inl refl, ap (λ (y : Wanted). y.object) h)
+of-line copy (l ∷ lines) x (inr h) = (let r = of-line copy lines x h in (r.0, inr r.1, r.2))
+
+-- of an attempt for one of these
+try-listed : (primary copy object : ℕ) (to : Aim) (all : List Event) (d : Deed) → MetBy (Lacks primary copy object) all → IsOf object to 0 d → IsForListed primary copy all d
+try-listed primary copy object to all (OpenCopy number a avoid answer) met (same, is, none) = subst (λ (n : ℕ). MetBy (Lacks primary copy n) all) (sym same) met
+try-listed primary copy object to all d met h = tt
+
+asking-listed : (primary copy : ℕ) (all : List Event) (d : Deed) → IsAsking d → IsForListed primary copy all d
+asking-listed primary copy all d (q, answer, is) = subst (λ (k : Deed). IsForListed primary copy all k) (sym is) tt
+
+ending-listed : (primary copy : ℕ) (all : List Event) (d : Deed) → IsEnding d → IsForListed primary copy all d
+ending-listed primary copy all d (inl h) = asking-listed primary copy all d h
+ending-listed primary copy all d (inr (answer, is)) = subst (λ (k : Deed). IsForListed primary copy all k) (sym is) tt
+
+asks-listed : (primary copy : ℕ) (all events : List Event) → AreAsking events → AllByRecursion (λ e. IsForListed primary copy all e.deed) events
+asks-listed primary copy all [] h = tt
+asks-listed primary copy all (e ∷ events) h = (asking-listed primary copy all e.deed h.0, asks-listed primary copy all events h.1)
+
+moves-listed : (primary copy : ℕ) (x : Event) (lines : List MissingLine) (rest events : List Event) → Listed primary copy (x ∷ []) lines → AreMoving (map (further copy) lines) 0 events
+    → AllByRecursion (λ e. IsForListed primary copy (x ∷ rest) e.deed) events
+moves-listed primary copy x lines rest [] l h = tt
+moves-listed primary copy x lines rest (e ∷ events) l h = (
+  elim h.0 as (λ _. IsForListed primary copy (x ∷ rest) e.deed) [
+    | inl ending ↦ ending-listed primary copy (x ∷ rest) e.deed ending
+    | inr one ↦ (let line = of-line copy lines one.0 one.1 in
+        try-listed primary copy one.0.object one.0.aim (x ∷ rest) e.deed (inl (listed-lacks primary copy one.0.object x lines line.0 l line.1 line.2)) one.2)
+  ],
+  moves-listed primary copy x lines rest events l h.1,
+)
+
 caused : (primary copy : ℕ) (wanted : List Wanted) (events : List Event) (e : Refusal) → AreFurther copy wanted → IsStopped events e ⊎ IsCausedByOne wanted 0 events e
     → IsStopped events e ⊎ IsNotThere primary copy events e
 caused primary copy wanted events e all (inl h) = inl h
@@ -167,13 +209,15 @@ caused primary copy wanted events e all (inr h) = elim h.2 as (λ _. IsStopped e
 ]
 
 came-of : (primary copy : ℕ) (x y : Event) (zs : List Event) (lines : List MissingLine) (result : Result Moved Refusal) → Listed primary copy (x ∷ []) lines → Answered primary copy (y ∷ []) true
-    → AreAsking (x ∷ y ∷ []) → Told (map (further copy) lines) 0 (x ∷ y ∷ []) zs result → Backup primary copy ((x ∷ y ∷ []) ++ zs) result
-came-of primary copy x y zs lines (Ok m) h k asks t =
+    → AreAsking (x ∷ y ∷ []) → Completes (map (further copy) lines) 0 zs result → Told (map (further copy) lines) 0 (x ∷ y ∷ []) zs result → Backup primary copy ((x ∷ y ∷ []) ++ zs) result
+came-of primary copy x y zs lines (Ok m) h k asks g t =
     let p : Process (map (further copy) lines) 0 ((x ∷ y ∷ []) ++ zs) m = t.answers in
     let all : AreFurther copy (map (further copy) lines) = all-further copy lines in
     record {
       came = record {
         failed = p.failed;
+        wanted = map (further copy) lines;
+        order = (x ∷ y ∷ [], zs, refl, (lines, refl, (x ∷ [], y ∷ [], refl, h, k)), g);
         moved = p.moved;
         number = p.number;
         risen = p.risen;
@@ -184,15 +228,19 @@ came-of primary copy x y zs lines (Ok m) h k asks t =
         none_left = p.none_left;
       };
       only = all-append (λ e. IsBackup copy e.deed) (x ∷ y ∷ []) zs (asking-backup copy (x ∷ y ∷ []) asks) (only-backup copy (map (further copy) lines) zs all t.only);
+      listed = all-append (λ e. IsForListed primary copy ((x ∷ y ∷ []) ++ zs) e.deed) (x ∷ y ∷ []) zs (asks-listed primary copy ((x ∷ y ∷ []) ++ zs) (x ∷ y ∷ []) asks)
+          (moves-listed primary copy x lines (y ∷ zs) zs h t.only);
       entries = entries-in copy (map (further copy) lines) ((x ∷ y ∷ []) ++ zs) all
           (enters-append (map (further copy) lines) (x ∷ y ∷ []) zs (asks-enter (map (further copy) lines) (x ∷ y ∷ []) asks) (asks-begun (x ∷ y ∷ []) asks).none_left t.entries);
     }
-came-of primary copy x y zs lines (Err e) h k asks t =
+came-of primary copy x y zs lines (Err e) h k asks g t =
     let p : Ended (map (further copy) lines) 0 ((x ∷ y ∷ []) ++ zs) e = t.answers in
     let all : AreFurther copy (map (further copy) lines) = all-further copy lines in
     record {
-      came = record { cause = caused primary copy (map (further copy) lines) ((x ∷ y ∷ []) ++ zs) e all p.cause; settled = p.settled; none_left = p.none_left };
+      came = record { cause = caused primary copy (map (further copy) lines) ((x ∷ y ∷ []) ++ zs) e all p.cause; unheld = p.unheld; settled = p.settled; none_left = p.none_left };
       only = all-append (λ e. IsBackup copy e.deed) (x ∷ y ∷ []) zs (asking-backup copy (x ∷ y ∷ []) asks) (only-backup copy (map (further copy) lines) zs all t.only);
+      listed = all-append (λ e. IsForListed primary copy ((x ∷ y ∷ []) ++ zs) e.deed) (x ∷ y ∷ []) zs (asks-listed primary copy ((x ∷ y ∷ []) ++ zs) (x ∷ y ∷ []) asks)
+          (moves-listed primary copy x lines (y ∷ zs) zs h t.only);
       entries = entries-in copy (map (further copy) lines) ((x ∷ y ∷ []) ++ zs) all
           (enters-append (map (further copy) lines) (x ∷ y ∷ []) zs (asks-enter (map (further copy) lines) (x ∷ y ∷ []) asks) (asks-begun (x ∷ y ∷ []) asks).none_left t.entries);
     }
@@ -207,9 +255,9 @@ began primary copy wanted xs ys result h g =
     let y : Event = event b.1.0 (Ask (query.Pools None) (Ok b.1.1)) in
     let those : xs ≡ x ∷ y ∷ [] = h.2.2 ∙ ap₂ (λ (p q : List Event). p ++ q) a.2 b.1.2 in
     let asks : AreAsking (x ∷ y ∷ []) = ((query.Missing primary copy, Ok a.1, refl), ((query.Pools None, Ok b.1.1, refl), tt)) in
+    let done : Completes (map (further copy) h.0) 0 ys result = subst (λ (ws : List Wanted). Completes ws 0 ys result) h.1 g in
     subst (λ (es : List Event). Backup primary copy (es ++ ys) result) (sym those)
-    (came-of primary copy x y ys h.0 result (a.0, a.1, refl, a.3) (b.0, (b.1.0, b.1.1, refl, b.1.3), b.2) asks
-    (process-told (map (further copy) h.0) 0 x (y ∷ []) ys result (asks-begun (x ∷ y ∷ []) asks) (subst (λ (ws : List Wanted). Completes ws 0 ys result) h.1 g)))
+    (came-of primary copy x y ys h.0 result (a.0, a.1, refl, a.3) (b.0, (b.1.0, b.1.1, refl, b.1.3), b.2) asks done (process-told (map (further copy) h.0) 0 x (y ∷ []) ys result (asks-begun (x ∷ y ∷ []) asks) done))
 
 not-there : (primary copy : ℕ) (events : List Event) (e : Refusal) → IsRefused primary copy events e → IsStopped events e ⊎ IsNotThere primary copy events e
 not-there primary copy events e (inl (inl h)) = inl h
@@ -222,19 +270,28 @@ not-there primary copy events e (inr h) =
     let those : events ≡ x ∷ y ∷ [] = h.2.2 ∙ ap₂ (λ (p q : List Event). p ++ q) a.2 b.1.2 in
     inr (
       ap (λ k. number_of k == 10) h.0,
-      inr (inl (subst (λ (es : List Event). KindsAre primary copy es false) (sym those) (kinds-of primary copy false x y [] (
-        b.0,
-        (b.1.0, b.1.1, refl, b.1.3),
-        b.2,
-      )))),
+      inr (inl (
+        subst (λ (es : List Event). KindsAre primary copy es false) (sym those) (kinds-of primary copy false x y [] (b.0, (b.1.0, b.1.1, refl, b.1.3), b.2)),
+        subst (λ (es : List Event). MetBy (TellsOtherwise primary copy) es) (sym those) (inr (inl (b.1.1, b.0, refl, b.1.3, b.2))),
+      )),
     )
+
+-- a refusal with NotFound holds nothing
+ten-unheld : (events : List Event) (e : Refusal) → (number_of e == 10) ≡ true → IsUnheld events e
+ten-unheld events e ten number busy = absurd (let odd : false ≡ true = sym (ap (λ (x : Refusal). number_of x == 10) busy) ∙ ten in cc)
+
+begin-unheld : (primary copy : ℕ) (events : List Event) (e : Refusal) → IsRefused primary copy events e → AreAsking events → IsUnheld events e
+begin-unheld primary copy events e (inl (inl stopped)) asks = asking-unheld events e asks stopped
+begin-unheld primary copy events e (inl (inr h)) asks = ten-unheld events e h.0
+begin-unheld primary copy events e (inr h) asks = ten-unheld events e (ap (λ k. number_of k == 10) h.0)
 
 refused-backup : (primary copy : ℕ) (events : List Event) (e : Refusal) → Begins primary copy events (Err e) → Backup primary copy events (Err e)
 refused-backup primary copy events e h =
     let b : IsBegun events = asks-begun events h.1 in
     record {
-      came = record { cause = not-there primary copy events e h.0; settled = λ _. b.settled; none_left = λ _. b.none_left };
+      came = record { cause = not-there primary copy events e h.0; unheld = begin-unheld primary copy events e h.0 h.1; settled = λ _. b.settled; none_left = λ _. b.none_left };
       only = asking-backup copy events h.1;
+      listed = asks-listed primary copy events events h.1;
       entries = entries-in copy [] events (λ x i. absurd i) (asks-enter [] events h.1);
     }
 

@@ -1,6 +1,6 @@
 -- What a copy pool lacks is listed, and what pools are for is told.
-use Rattle.std.proofs.Common.{◌≡◌, ◌⊎◌, inl, inr, ℕ, ◌==◌, ◌&&◌, Bool, true, false, cond, nat_le, List, [], ◌∷◌, ◌++◌, map, Some, None, Result, Ok, Err, refl, sym, ap, subst, ◌∙◌, if◌then◌else◌}
-use Rattle.std.proofs.lemmas.Bool.{eqb-true}
+use Rattle.std.proofs.Common.{◌≡◌, ◌⊎◌, inl, inr, ℕ, ◌==◌, ◌&&◌, Bool, true, false, cond, is_some, nat_le, List, [], ◌∷◌, ◌++◌, map, Some, None, Result, Ok, Err, refl, sym, ap, subst, ◌∙◌, if◌then◌else◌}
+use Rattle.std.proofs.lemmas.Bool.{eq-eqb, eqb-true}
 use Rattle.std.specs.List.{find, flat_map}
 use Rattle.std.specs.Map.{lookup}
 use Rattle.std.specs.Option.{option_map}
@@ -126,13 +126,78 @@ missing-listed primary copy object v x there h =
     let r = found-in object _ x there in
     (line x, r.1, kept-listed primary copy v x h (in-parts x (versions_of v.clients.filespaces) (held_versions v.clients.held) r.0))
 
+-- ---- what is listed is kept
+
+put-out : {A : Type 0} (f : A → ℕ) (x l : A) (xs : List A) → IsIn x (put_line f l xs) → IsIn x (l ∷ xs)
+put-out f x l [] h = h
+put-out f x l (o ∷ xs) h =
+    elim (nat_le (f l) (f o)) as (λ b. IsIn x (if b then l ∷ o ∷ xs else o ∷ put_line f l xs) → IsIn x (l ∷ o ∷ xs)) [
+      | true ↦ λ m. m
+      | false ↦ λ m. elim m as (λ _. IsIn x (l ∷ o ∷ xs)) [
+        | inl a ↦ inr (inl a)
+        | inr r ↦ elim (put-out f x l xs r) as (λ _. IsIn x (l ∷ o ∷ xs)) [ inl a ↦ inl a | inr k ↦ inr (inr k) ]
+      ]
+    ] h
+
+sorted-out : {A : Type 0} (f : A → ℕ) (x : A) (xs : List A) → IsIn x (by_object f xs) → IsIn x xs
+sorted-out f x [] h = h
+sorted-out f x (l ∷ xs) h = elim (put-out f x l (by_object f xs) h) as (λ _. IsIn x (l ∷ xs)) [
+  | inl a ↦ inl a
+  | inr r ↦ inr (sorted-out f x xs r)
+]
+
+version-found : (w : Version) (vs : List Version) → IsIn w vs → is_some (version_of w.object vs) ≡ true
+version-found w [] h = absurd h
+version-found w (v ∷ vs) (inl same) =
+    ap (λ b. is_some (if b then Some v else version_of w.object vs)) (eq-eqb v.object w.object (ap (λ (y : Version). y.object) same))
+version-found w (v ∷ vs) (inr h) = elim (v.object == w.object) as (λ b. is_some (if b then Some v else version_of w.object vs) ≡ true) [
+  | true ↦ refl
+  | false ↦ version-found w vs h
+]
+
+line-same : (b : Bool) (w : Version) (l : MissingLine) → IsIn l (only b (line w)) → w.object ≡ l.object
+line-same true w l (inl same) = ap (λ (y : MissingLine). y.object) same
+line-same true w l (inr h) = absurd h
+line-same false w l h = absurd h
+
+kept-out : (primary copy : ℕ) (v : Inv) (l : MissingLine) → IsIn l (missing_of_filespaces primary copy v.clients.filespaces) ⊎ IsIn l (missing_of_held primary copy v.clients.held)
+    → (w : Version) × (w.object ≡ l.object) × IsIn w (versions_of v.clients.filespaces ++ held_versions v.clients.held)
+kept-out primary copy v l (inl m) =
+    let f = flat-parts (λ (f : ℕ × Filespace). missing_of_filespace primary copy f.1) l v.clients.filespaces m in
+    let g = flat-parts (λ (g : List ℕ × Group). missing_of_group primary copy g.1) l f.0.1.groups f.2 in
+    let w = flat-parts (missing_lines primary copy) l g.0.1.versions g.2 in (
+      w.0,
+      line-same (is_missing primary copy w.0) w.0 l w.2,
+      in-before w.0 (versions_of v.clients.filespaces) (held_versions v.clients.held)
+          (flat-in (λ (f : ℕ × Filespace). versions_in f.1.groups) w.0 f.0 v.clients.filespaces f.1 (flat-in (λ (g : List ℕ × Group). g.1.versions) w.0 g.0 f.0.1.groups g.1 w.1)),
+    )
+kept-out primary copy v l (inr m) =
+    let h = flat-parts (λ (e : ℕ × HeldRow). missing_lines primary copy e.1.held.version) l v.clients.held m in (
+      h.0.1.held.version,
+      line-same (is_missing primary copy h.0.1.held.version) h.0.1.held.version l h.2,
+      in-behind h.0.1.held.version (versions_of v.clients.filespaces) (held_versions v.clients.held)
+          (map-in (λ (e : ℕ × HeldRow). e.1.held.version) h.0 v.clients.held h.1),
+    )
+  where
+    map-in : {A B : Type 0} (f : A → B) (y : A) (ys : List A) → IsIn y ys → IsIn (f y) (map f ys)
+    map-in f y [] k = absurd k
+    map-in f y (z ∷ zs) (inl k) = inl (ap f k)
+    map-in f y (z ∷ zs) (inr k) = inr (map-in f y zs k)
+
+-- each object of the list is kept
+pub listed-kept : (primary copy : ℕ) (v : Inv) (l : MissingLine) → IsIn l (missing_in primary copy v) → is_some (version l.object v) ≡ true
+listed-kept primary copy v l h =
+    let w = kept-out primary copy v l (in-parts l (missing_of_filespaces primary copy v.clients.filespaces) (missing_of_held primary copy v.clients.held)
+    (sorted-out (λ (k : MissingLine). k.object) l (missing_found primary copy v) h)) in
+    subst (λ (n : ℕ). is_some (version n v) ≡ true) w.1 (version-found w.0 (versions_of v.clients.filespaces ++ held_versions v.clients.held) w.2)
+
 -- ---- what was answered
 
 abbrev rows_told : Result Answer Refusal → Rows
 rows_told (Ok a) = a.rows
 rows_told (Err e) = rows.Today
 
-told-missing : (v : Inv) (b : Bool) (xs : List MissingLine) (told : Answer)
+pub told-missing : (v : Inv) (b : Bool) (xs : List MissingLine) (told : Answer)
     → on_ok (λ (r : Rows). record { n = v.number; today = v.today; rows = r }) (on_ok rows.Missing (if b then Ok xs else Err refused.NotFound)) ≡ Ok told
     → told.rows ≡ rows.Missing xs
 told-missing v true xs told h = sym (ap rows_told h)

@@ -26,9 +26,10 @@ use Rattle.copy_attempts.specs.Outcomes.{IsOf, MetBy, may_leave}
 use Rattle.steps.specs.Spent.{AreSettled}
 use Rattle.copy_runs.specs.declared.wanted.Moved.{Moved}
 use Rattle.copy_runs.specs.declared.wanted.Wanted.{Wanted}
-use Rattle.copy_runs.specs.Ends.{AreAsking, AskedPools, IsEnding, IsStopped, IsUnlisted, Unanswered, first_of, last_of}
+use Rattle.copy_runs.specs.Ends.{AreAsking, AskedPools, IsEnding, IsStopped, IsUnheld, IsUnlisted, Unanswered, first_of, last_of}
+use Rattle.copy_runs.specs.Processes.{Completes}
 use Rattle.copy_runs.specs.Runs.{HasFailed, IsEntryFor, LeavesNone, copies_in, failing_in, is_among}
-use Rattle.copy_runs.specs.Wanting.{is_wanted}
+use Rattle.copy_runs.specs.Wanting.{IsIn, is_wanted}
 
 -- ---- what is asked
 
@@ -107,14 +108,26 @@ IsFurther copy x = x.aim ≡ aim.Copy copy
 abbrev pub IsBackup : (copy : ℕ) → Deed → Type 0
 IsBackup copy d = IsEnding d ⊎ ((object : ℕ) × IsOf object (aim.Copy copy) 0 d)
 
+-- the answer to the question for the objects that the copy pool lacks has a line of this one
+abbrev pub Lacks : (primary copy object : ℕ) → Deed → Type 0
+Lacks primary copy object d =
+    (answer : Answer) × (lines : List MissingLine) × (d ≡ Ask (query.Missing primary copy) (Ok answer)) × (answer.rows ≡ rows.Missing lines) × (line : MissingLine) × IsIn line lines × (line.object ≡ object)
+
+-- it opens a ticket for such an object alone
+abbrev pub IsForListed : (primary copy : ℕ) → List Event → Deed → Type 0
+IsForListed primary copy events (OpenCopy object a avoid answer) = MetBy (Lacks primary copy object) events
+IsForListed primary copy events d = Unit {0}
+
 -- each failed object had an attempt for such a copy that failed
 abbrev pub HasFailedIn : (copy : ℕ) → List Event → (object : ℕ) → Type 0
 HasFailedIn copy events object = (x : Wanted) × IsFurther copy x × HasFailed (x ∷ []) 0 events object
 
--- What it did where it answered counts: they are those of the copies in its receipts, and of objects that failed, which are no more than its steps that were so refused; the row; the pools
--- were of their kinds; and no ticket is left.
+-- What it did where it answered counts: what it asked for told it which copies are wanted, and one attempt for each of these came behind it; the counts are those of the copies in its receipts, and of
+-- objects that failed, which are no more than its steps that were so refused; the row; the pools were of their kinds; and no ticket is left.
 pub record BackedUp (primary copy : ℕ) (events : List Event) (m : Moved) : Type 0 where
   pub failed : List ℕ
+  pub wanted : List Wanted
+  pub order : Then (λ xs. Begins primary copy xs (Ok wanted)) (λ ys. Completes wanted 0 ys (Ok m)) events
   pub moved : m.moved ≡ copies_in (receipts events)
   pub number : length failed ≡ m.failed
   pub risen : m.failed ≤ failing_in events
@@ -124,18 +137,24 @@ pub record BackedUp (primary copy : ℕ) (events : List Event) (m : Moved) : Typ
   pub settled : AreSettled events
   pub none_left : LeavesNone events
 
+-- the pools were asked for, and by the answer one of the two isn't there or isn't of its kind
+abbrev pub TellsOtherwise : (primary copy : ℕ) → Deed → Type 0
+TellsOtherwise primary copy d =
+    (answer : Answer) × (lines : List PoolLine) × (d ≡ Ask (query.Pools None) (Ok answer)) × (answer.rows ≡ rows.Pools lines) × (are_kinds (kind_of primary lines) (kind_of copy lines) ≡ false)
+
 -- the pool that was aimed at wasn't there, or a pool that was named, or one isn't of its kind
 abbrev pub IsNotThere : (primary copy : ℕ) → List Event → Refusal → Type 0
 IsNotThere primary copy events e =
     ((number_of e == 10) ≡ true)
     × (MetBy (λ d. d ≡ Ask (query.Missing primary copy) (Err e)) events
-    ⊎ KindsAre primary copy events false
+    ⊎ (KindsAre primary copy events false × MetBy (TellsOtherwise primary copy) events)
     ⊎ ((object : ℕ) × MetBy (λ d. d ≡ OpenCopy object (aim.Copy copy) 0 (Err e)) events))
 
--- What it did where it was refused: the refusal is want of memory, or one that ends a process and that one of its steps met, or a pool isn't there or isn't of its kind; and no ticket is left,
--- unless none can be given back.
+-- What it did where it was refused: the refusal is want of memory, or one that ends a process and that one of its steps met, or a pool isn't there or isn't of its kind; it waits for no transaction that
+-- a force would make durable; and no ticket is left, unless none can be given back.
 pub record Stopped (primary copy : ℕ) (events : List Event) (e : Refusal) : Type 0 where
   pub cause : IsStopped events e ⊎ IsNotThere primary copy events e
+  pub unheld : IsUnheld events e
   pub settled : may_leave (Err e) ≡ false → AreSettled events
   pub none_left : may_leave (Err e) ≡ false → LeavesNone events
 
@@ -148,8 +167,9 @@ abbrev pub IsEnteredIn : (copy : ℕ) → History → (actor : ℕ) → Event �
 IsEnteredIn copy w actor e =
     (object : ℕ) × (c : Change) × IsEntryFor object (aim.Copy copy) c × (slice_get w.journal (e.n - w.base.number) ≡ Some (record { actor = actor; change = c }))
 
--- What it did, that its steps were no others, and that each transaction which joined by them makes one further copy in the copy pool.
+-- What it did, that its steps were no others, that it opened tickets for objects of the list alone, and that each transaction which joined by them makes one further copy in the copy pool.
 pub record Backup (primary copy : ℕ) (events : List Event) (result : Result Moved Refusal) : Type 0 where
   pub came : Came primary copy events result
   pub only : AllByRecursion (λ e. IsBackup copy e.deed) events
+  pub listed : AllByRecursion (λ e. IsForListed primary copy events e.deed) events
   pub entries : (w : History) (actor : ℕ) (a b : Own) → a.tickets ≡ [] → Fits w actor a events b → AllByRecursion (IsEnteredIn copy w actor) (made events)

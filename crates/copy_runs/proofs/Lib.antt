@@ -10,4 +10,5 @@ pub mod Returning
 pub mod Risen
 pub mod Running
 pub mod Told
+pub mod Unheld
 pub mod Whole

@@ -25,6 +25,7 @@ use Rattle.copy_runs.proofs.Ending.{stopped-behind}
 use Rattle.copy_runs.proofs.Entries.{enters-append, unmade-enters}
 use Rattle.copy_runs.proofs.Outcomes.{copies-append, failing-append, then-none}
 use Rattle.copy_runs.proofs.Told.{fits-empty, past-later, reaches}
+use Rattle.copy_runs.proofs.Unheld.{ending-unheld, run-unheld, unheld-behind}
 
 -- ---- questions and the end
 
@@ -200,6 +201,7 @@ process-told wanted avoid x xs ys (Ok m) begun h =
 process-told wanted avoid x xs ys (Err e) begun (inl h) = record {
   answers = record {
     cause = inr (one-behind wanted avoid (x ∷ xs) ys e h.outcome.0);
+    unheld = unheld-behind (x ∷ xs) ys e (run-unheld wanted avoid ys e h);
     settled = λ leave. settled-append (x ∷ xs) ys begun.settled (h.outcome.1 leave);
     none_left = λ leave. then-none (x ∷ xs) ys begun.none_left (h.outcome.2 leave);
   };
@@ -211,6 +213,7 @@ process-told wanted avoid x xs ys (Err e) begun (inr h) =
     subst (λ (es : List Event). Told wanted avoid (x ∷ xs) es (Err e)) (sym h.1.2) (record {
       answers = record {
         cause = inl (stopped-behind (x ∷ xs) (h.1.0 ++ h.1.1) e (stopped-behind h.1.0 h.1.1 e h.1.4.0));
+        unheld = unheld-behind (x ∷ xs) (h.1.0 ++ h.1.1) e (unheld-behind h.1.0 h.1.1 e (ending-unheld h.1.1 e h.1.4.1 h.1.4.0));
         settled = λ leave. settled-append (x ∷ xs) (h.1.0 ++ h.1.1) begun.settled (settled-append h.1.0 h.1.1 run.settled (ends-settled h.1.1 h.1.4.1));
         none_left = λ leave. then-none (x ∷ xs) (h.1.0 ++ h.1.1) begun.none_left (then-none h.1.0 h.1.1 run.none_left (ends-none h.1.1 h.1.4.1));
       };

@@ -1,7 +1,8 @@
 -- How a process begins that copies objects, and how it ends.
-use Rattle.std.specs.Prelude.{◌≡◌, ◌⊎◌, ℕ, ◌==◌, true, if◌then◌else◌, List, [], ◌∷◌, None, Result, Ok, Err}
+use Rattle.std.specs.Prelude.{◌≡◌, ◌⊎◌, ℕ, ◌==◌, true, if◌then◌else◌, List, [], ◌∷◌, None, Some, Result, Ok, Err}
 use Rattle.std.specs.List.{AllByRecursion}
 use Rattle.kinds.specs.Refusals.{number_of}
+use Rattle.kinds.specs.declared.refusal.Holder.TheVariants as holder
 use Rattle.kinds.specs.declared.refusal.Refusal.{Refusal}
 use Rattle.kinds.specs.declared.refusal.Refusal.TheVariants as refused
 use Rattle.inventory_answers.specs.declared.lines.PoolLine.{PoolLine}
@@ -9,7 +10,7 @@ use Rattle.inventory_answers.specs.declared.query.Query.{Query}
 use Rattle.inventory_answers.specs.declared.query.Query.TheVariants as query
 use Rattle.inventory_answers.specs.declared.reply.Answer.{Answer}
 use Rattle.inventory_answers.specs.declared.reply.Rows.TheVariants as rows
-use Rattle.steps.specs.Events.{Deed, Event, event}
+use Rattle.steps.specs.Events.{Deed, Event, event, refusal}
 use Rattle.steps.specs.Events.Deed.{Ask, Force}
 use Rattle.copy_attempts.specs.Attempts.{is_stopping, stopping}
 use Rattle.copy_attempts.specs.Outcomes.{Met, MetBy}
@@ -49,6 +50,10 @@ IsEnding d = IsAsking d ⊎ ((answer : Result ℕ Refusal) × (d ≡ Force answe
 
 abbrev pub AreEnding : List Event → Type 0
 AreEnding events = AllByRecursion (λ e. IsEnding e.deed) events
+
+-- A refusal that names a transaction which isn't forced yet answered a question or a force: behind any other step that is so refused all is forced, and the step is tried again.
+abbrev pub IsUnheld : List Event → Refusal → Type 0
+IsUnheld events e = (number : ℕ) → e ≡ refused.Busy (holder.Unforced number) → MetBy (λ d. IsEnding d × (refusal d ≡ Some e)) events
 
 -- all was made durable, and then the number of the last transaction was asked for
 abbrev pub Finished : List Event → Type 0

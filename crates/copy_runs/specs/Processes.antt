@@ -10,7 +10,7 @@ use Rattle.copy_attempts.specs.Outcomes.{may_leave}
 use Rattle.steps.specs.Spent.{AreSettled}
 use Rattle.copy_runs.specs.declared.wanted.Moved.{Moved}
 use Rattle.copy_runs.specs.declared.wanted.Wanted.{Wanted}
-use Rattle.copy_runs.specs.Ends.{Finished, Finishes, IsEnding, IsStopped, first_of, last_of}
+use Rattle.copy_runs.specs.Ends.{Finished, Finishes, IsEnding, IsStopped, IsUnheld, first_of, last_of}
 use Rattle.copy_runs.specs.Runs.{HasFailed, IsCausedByOne, IsOfOne, LeavesNone, Run, copies_in, failing_in, is_among}
 use Rattle.copy_runs.specs.Wanting.{IsIn, IsPast, IsWantedAllAlong}
 
@@ -39,9 +39,10 @@ pub record Process (wanted : List Wanted) (avoid : ℕ) (events : List Event) (m
   pub settled : AreSettled events
   pub none_left : LeavesNone events
 
--- what a process did that ended with a refusal: it has its cause, and no ticket is left, unless none can be given back
+-- what a process did that ended with a refusal: it has its cause, waits for no transaction that a force would make durable, and no ticket is left, unless none can be given back
 pub record Ended (wanted : List Wanted) (avoid : ℕ) (events : List Event) (e : Refusal) : Type 0 where
   pub cause : IsStopped events e ⊎ IsCausedByOne wanted avoid events e
+  pub unheld : IsUnheld events e
   pub settled : may_leave (Err e) ≡ false → AreSettled events
   pub none_left : may_leave (Err e) ≡ false → LeavesNone events
 

@@ -36,8 +36,8 @@ use Rattle.deletions.specs.declared.objects.Doomed.{Doomed}
 use Rattle.deletions.specs.declared.row.Row.{Row}
 use Rattle.deletions.specs.Discarding.{AreDiscarding, Works, discards}
 use Rattle.deletions.specs.Dropping.{Counts, Drops, IsTaking, doomed, drops, drops_by, drops_in, for_volume}
-use Rattle.deletions.specs.Filespaces.{Answered, is_kept_by}
-use Rattle.deletions.specs.Volumes.{AreDeleting, Asks, ChecksGone, Cleared, Clears, Empties, EmptiedRow, Ends, Finds, Found, HasOneReceipt, IsCaused, IsDeleting, IsGone, IsNotThere, IsPlain, IsRowStep, Listed, Lists, Removes, RemovesRow, RowGone, RowKept, Stops, Taken, TakenOf, Takes, TakesFrom, TakesOf, VolumeDeletion, deleting, gone_by, is_copy_pool, nothing, pool_of, row_found, row_in, row_with}
+use Rattle.deletions.specs.Filespaces.{Answered, IsMissing, is_kept_by}
+use Rattle.deletions.specs.Volumes.{AreDeleting, Asks, ChecksGone, Cleared, Clears, EmptiedRow, Empties, Ends, Finds, Found, HasNotFound, HasNotGone, HasNotListed, HasOneReceipt, IsCaused, IsDeleting, IsGone, IsInPlace, IsNotThere, IsPlain, IsRefusedLast, IsRowStep, IsUnfound, Listed, Lists, Never, Removes, RemovesRow, RowGone, RowKept, Stops, Taken, TakenOf, Takes, TakesFrom, TakesOf, VolumeDeletion, deleting, gone_by, is_copy_pool, nothing, pool_of, row_found, row_in, row_with}
 use Rattle.deletions.proofs.Absent.{is-absent, none-lies, was-there}
 use Rattle.deletions.proofs.Dropped.{drops-append, empties-only}
 use Rattle.deletions.proofs.Waiting.{row-gone-made, row-gone-only}
@@ -85,14 +85,22 @@ caused-behind file xs ys e (inl h) = inl (stopped-behind xs ys e h)
 caused-behind file xs ys e (inr (inl h)) = inr (inl (h.0, met-behind (IsNotThere file e) xs ys h.1))
 caused-behind file xs ys e (inr (inr h)) = inr (inr (h.0, met-behind (λ d. (row : Row) × (d ≡ Commit (deleting row file) [] (Err e))) xs ys h.1))
 
-stops-behind : (discard : Bool) (file : ℕ) (xs ys : List Event) (e : Refusal) → AreDeleting discard file xs → Stops discard file ys e → Stops discard file (xs ++ ys) e
-stops-behind discard file xs ys e a h = record { cause = caused-behind file xs ys e h.cause; only = del-append discard file xs ys a h.only }
+place-so : (P Q : List Event → Type 0) (xs : List Event) (e : Refusal) → (P xs → Q xs) → IsStopped xs e ⊎ P xs → IsStopped xs e ⊎ Q xs
+place-so P Q xs e more (inl h) = inl h
+place-so P Q xs e more (inr h) = inr (more h)
 
-stops-more : (discard : Bool) (file : ℕ) (xs : List Event) (e : Refusal) → Stops false file xs e → Stops discard file xs e
-stops-more discard file xs e h = record { cause = h.cause; only = del-more discard file xs h.only }
+place-behind : (P Q : List Event → Type 0) (xs ys : List Event) (e : Refusal) → (P ys → Q (xs ++ ys)) → IsStopped ys e ⊎ P ys → IsStopped (xs ++ ys) e ⊎ Q (xs ++ ys)
+place-behind P Q xs ys e more (inl h) = inl (stopped-behind xs ys e h)
+place-behind P Q xs ys e more (inr h) = inr (more h)
 
-wanting : (discard : Bool) (file : ℕ) (xs : List Event) (e : Refusal) → e ≡ refused.Memory → AreDeleting discard file xs → Stops discard file xs e
-wanting discard file xs e is only = record { cause = inl (inl is); only = only }
+stops-behind : (discard : Bool) (file : ℕ) (P Q : List Event → Type 0) (xs ys : List Event) (e : Refusal) → (P ys → Q (xs ++ ys)) → AreDeleting discard file xs → Stops discard file P ys e → Stops discard file Q (xs ++ ys) e
+stops-behind discard file P Q xs ys e more a h = record { cause = caused-behind file xs ys e h.cause; only = del-append discard file xs ys a h.only; place = place-behind P Q xs ys e more h.place }
+
+stops-more : (discard : Bool) (file : ℕ) (P : List Event → Type 0) (xs : List Event) (e : Refusal) → Stops false file P xs e → Stops discard file P xs e
+stops-more discard file P xs e h = record { cause = h.cause; only = del-more discard file xs h.only; place = h.place }
+
+wanting : (discard : Bool) (file : ℕ) (P : List Event → Type 0) (xs : List Event) (e : Refusal) → e ≡ refused.Memory → AreDeleting discard file xs → Stops discard file P xs e
+wanting discard file P xs e is only = record { cause = inl (inl is); only = only; place = inl (inl is) }
 
 unlisted-caused : (file : ℕ) (q : Query) (xs : List Event) (e : Refusal) → IsUnlisted q xs e → IsCaused file xs e
 unlisted-caused file q xs e (inl h) = inl h
@@ -107,15 +115,21 @@ pub asked-refused : {S : Type 0} (did : S → List Event → S → Type 0) (p q 
     → Call did p q (λ events. Asks asked events (Err other))
 asked-refused did p q asked e other is d = subst (λ (x : Refusal). Call did p q (λ events. Asks asked events (Err x))) (sym is) (unlisted-by did p q asked e d)
 
-pub unasked : {S : Type 0} (did : S → List Event → S → Type 0) (p q : S) (file : ℕ) (asked : Query) (e : Refusal) → Call did p q (λ events. Asks asked events (Err e)) → Call did p q (λ events. Stops false file events e)
-unasked did p q file asked e a =
-    so_call did (λ events. Asks asked events (Err e)) (λ events. Stops false file events e) p q a (λ xs f. record { cause = unlisted-caused file asked xs e f.0; only = asking-del false file xs f.1 })
+unlisted-place : (So : Deed → Type 0) (q : Query) (xs : List Event) (e : Refusal) → ((d : Deed) → d ≡ Ask q (Err e) → So d) → IsUnlisted q xs e → AreAsking xs → IsStopped xs e ⊎ IsMissing So xs e
+unlisted-place So q xs e more (inl h) asks = inl h
+unlisted-place So q xs e more (inr h) asks = inr (h.0, asks, met-map (λ d. d ≡ Ask q (Err e)) So xs more h.1)
+
+pub unasked : {S : Type 0} (did : S → List Event → S → Type 0) (p q : S) (file : ℕ) (So : Deed → Type 0) (asked : Query) (e : Refusal) → ((d : Deed) → d ≡ Ask asked (Err e) → So d)
+    → Call did p q (λ events. Asks asked events (Err e)) → Call did p q (λ events. Stops false file (λ es. IsMissing So es e) events e)
+unasked did p q file So asked e more a =
+    so_call did (λ events. Asks asked events (Err e)) (λ events. Stops false file (λ es. IsMissing So es e) events e) p q a
+    (λ xs f. record { cause = unlisted-caused file asked xs e f.0; only = asking-del false file xs f.1; place = unlisted-place So asked xs e more f.0 f.1 })
 
 -- an answer without the rows that were asked for
-pub asked-nothing : {S : Type 0} (did : S → List Event → S → Type 0) (p q : S) (file : ℕ) (asked : Query) (answer : Answer) (e : Refusal) → e ≡ refused.Memory
-    → Call did p q (λ events. Asks asked events (Ok answer)) → Call did p q (λ events. Stops false file events e)
-asked-nothing did p q file asked answer e is a =
-    so_call did (λ events. Answered asked events answer) (λ events. Stops false file events e) p q a (λ xs f. wanting false file xs e is (asking-del false file xs (answered-asks asked xs answer f)))
+pub asked-nothing : {S : Type 0} (did : S → List Event → S → Type 0) (p q : S) (file : ℕ) (P : List Event → Type 0) (asked : Query) (answer : Answer) (e : Refusal) → e ≡ refused.Memory
+    → Call did p q (λ events. Asks asked events (Ok answer)) → Call did p q (λ events. Stops false file P events e)
+asked-nothing did p q file P asked answer e is a =
+    so_call did (λ events. Answered asked events answer) (λ events. Stops false file P events e) p q a (λ xs f. wanting false file P xs e is (asking-del false file xs (answered-asks asked xs answer f)))
 
 row-err : (o : Option VolumeLine) (e : Refusal) → row_found o ≡ Err e → e ≡ refused.NotFound
 row-err None e h = let same : refused.NotFound ≡ e = cc in sym same
@@ -124,16 +138,16 @@ row-err (Some line) e h = absurd cc
 found-or : (file : ℕ) (answer : Answer) (lines those : List VolumeLine) (result : Result Row Refusal) (xs : List Event) → those ≡ lines → answer.rows ≡ rows.Volumes lines
     → Answers result (row_in file those) → Answered (query.Volumes None None) xs answer → Finds file xs result
 found-or file answer lines those (Ok row) xs same is said a = (answer, lines, a, is, sym (ap (row_in file) same) ∙ said)
-found-or file answer lines those (Err e) xs same is (inl memory) a = wanting false file xs e memory (asking-del false file xs (answered-asks (query.Volumes None None) xs answer a))
+found-or file answer lines those (Err e) xs same is (inl memory) a = wanting false file (HasNotFound file e) xs e memory (asking-del false file xs (answered-asks (query.Volumes None None) xs answer a))
 found-or file answer lines those (Err e) xs same is (inr said) a =
     let none : row_in file lines ≡ Err e = sym (ap (row_in file) same) ∙ said in
     let not_found : e ≡ refused.NotFound = row-err (row_with file lines) e none in
+    let ten : (number_of e == 10) ≡ true = ap (λ (x : Refusal). number_of x == 10) not_found in
+    let asks : AreAsking xs = answered-asks (query.Volumes None None) xs answer a in
     record {
-      cause = inr (inl (
-        ap (λ (x : Refusal). number_of x == 10) not_found,
-        subst (λ (es : List Event). MetBy (IsNotThere file e) es) (sym a.1) (inl (inr (answer, lines, refl, is, none))),
-      ));
-      only = asking-del false file xs (answered-asks (query.Volumes None None) xs answer a);
+      cause = inr (inl (ten, subst (λ (es : List Event). MetBy (IsNotThere file e) es) (sym a.1) (inl (inr (answer, lines, refl, is, none)))));
+      only = asking-del false file xs asks;
+      place = inr (ten, asks, subst (λ (es : List Event). MetBy (IsUnfound file e) es) (sym a.1) (inl (inr (answer, lines, refl, is, none))));
     }
 
 pub finds-row : {S : Type 0} (did : S → List Event → S → Type 0) (p q : S) (file : ℕ) (answer : Answer) (lines those : List VolumeLine) (result : Result Row Refusal) → those ≡ lines
@@ -146,13 +160,13 @@ pub lists-copies : {S : Type 0} (did : S → List Event → S → Type 0) (p q :
     → Call did p q (λ events. Asks (query.OnVolume file) events (Ok answer)) → Call did p q (λ events. Lists file events result)
 lists-copies did p q file answer (Ok lines) good bad a =
     so_call did (λ events. Answered (query.OnVolume file) events answer) (λ events. Lists file events (Ok lines)) p q a (λ xs f. (answer, f, good lines refl))
-lists-copies did p q file answer (Err e) good bad a = asked-nothing did p q file (query.OnVolume file) answer e (bad e refl) a
+lists-copies did p q file answer (Err e) good bad a = asked-nothing did p q file (HasNotListed file e) (query.OnVolume file) answer e (bad e refl) a
 
 -- ---- what lies on the volume
 
 dropped-or : (file : ℕ) (lines : List CopyLine) (result : Result Removed Refusal) (xs : List Event) → Drops file lines xs result → Takes true file lines xs result
 dropped-or file lines (Ok m) xs f = f
-dropped-or file lines (Err e) xs f = record { cause = inl f.cause; only = taking-del file xs f.only }
+dropped-or file lines (Err e) xs f = record { cause = inl f.cause; only = taking-del file xs f.only; place = inl f.cause }
 
 pub takes-dropped : {S : Type 0} (did : S → List Event → S → Type 0) (p q : S) (file : ℕ) (lines : List CopyLine) (result : Result Removed Refusal) → Call did p q (λ events. Drops file lines events result)
     → Call did p q (λ events. Takes true file lines events result)
@@ -167,11 +181,12 @@ takes-discarded did p q file lines objects count is a =
 pub takes-ended : {S : Type 0} (did : S → List Event → S → Type 0) (p q : S) (file : ℕ) (lines : List CopyLine) (objects : List Doomed) (e : Refusal)
     → Call did p q (λ events. Works (for_volume file) objects events (Err e)) → Call did p q (λ events. Takes false file lines events (Err e))
 takes-ended did p q file lines objects e a =
-    so_call did (λ events. Works (for_volume file) objects events (Err e)) (λ events. Stops true file events e) p q a (λ xs f. record { cause = inl f.cause; only = discarding-del file xs f.only })
+    so_call did (λ events. Works (for_volume file) objects events (Err e)) (λ events. Stops true file Never events e) p q a
+    (λ xs f. record { cause = inl f.cause; only = discarding-del file xs f.only; place = inl f.cause })
 
 pub takes-wanting : {S : Type 0} (did : S → List Event → S → Type 0) (p : S) (file : ℕ) (lines : List CopyLine) (e : Refusal) → did p [] p → e ≡ refused.Memory
     → Call did p p (λ events. Takes false file lines events (Err e))
-takes-wanting did p file lines e stays is = ([], stays, wanting true file [] e is tt)
+takes-wanting did p file lines e stays is = ([], stays, wanting true file Never [] e is tt)
 
 pools-asks : (xs : List Event) (pools : List PoolLine) → AskedPools xs pools → AreAsking xs
 pools-asks xs pools h = subst AreAsking (sym h.2) ((query.Pools None, Ok h.1, refl), tt)
@@ -179,7 +194,7 @@ pools-asks xs pools h = subst AreAsking (sym h.2) ((query.Pools None, Ok h.1, re
 from-or : (pool file : ℕ) (lines : List CopyLine) (pools : List PoolLine) (result : Result Removed Refusal) (xs ys : List Event) → AskedPools xs pools
     → Takes (is_copy_pool pool pools) file lines ys result → TakesFrom pool file lines (xs ++ ys) result
 from-or pool file lines pools (Ok m) xs ys a b = (pools, (xs, ys, refl, a, b))
-from-or pool file lines pools (Err e) xs ys a b = stops-behind true file xs ys e (asking-del true file xs (pools-asks xs pools a)) b
+from-or pool file lines pools (Err e) xs ys a b = stops-behind true file Never Never xs ys e (λ h. h) (asking-del true file xs (pools-asks xs pools a)) b
 
 pub takes-from : {S : Type 0} (did : S → List Event → S → Type 0) → GoesOn did → (p q r : S) (pool file : ℕ) (lines : List CopyLine) (pools : List PoolLine) (is : Bool) (result : Result Removed Refusal)
     → is ≡ is_copy_pool pool pools → Call did p q (λ events. AsksPools events (Ok pools)) → Call did q r (λ events. Takes is file lines events result)
@@ -191,7 +206,7 @@ takes-from did goes p q r pool file lines pools is result same a b =
 pub pools-unasked : {S : Type 0} (did : S → List Event → S → Type 0) (p q : S) (pool file : ℕ) (lines : List CopyLine) (e : Refusal) → Call did p q (λ events. AsksPools events (Err e))
     → Call did p q (λ events. TakesFrom pool file lines events (Err e))
 pools-unasked did p q pool file lines e a =
-    so_call did (λ events. AsksPools events (Err e)) (λ events. Stops true file events e) p q a (λ xs f. record { cause = inl f.0; only = asking-del true file xs f.1 })
+    so_call did (λ events. AsksPools events (Err e)) (λ events. Stops true file Never events e) p q a (λ xs f. record { cause = inl f.0; only = asking-del true file xs f.1; place = inl f.0 })
 
 pub takes-of : {S : Type 0} (did : S → List Event → S → Type 0) (p q : S) (pool file : ℕ) (lines : List CopyLine) (o : Option ℕ) (result : Result Removed Refusal) → o ≡ Some pool
     → Call did p q (λ events. TakesFrom pool file lines events result) → Call did p q (λ events. TakesOf o file lines events result)
@@ -209,7 +224,7 @@ listed-asks file xs lines h = answered-asks (query.OnVolume file) xs h.0 h.1
 
 cleared-or : (file : ℕ) (lines : List CopyLine) (result : Result Removed Refusal) (xs ys : List Event) → Listed file xs lines → TakesOf (pool_of lines) file lines ys result → Clears true file (xs ++ ys) result
 cleared-or file lines (Ok m) xs ys a b = (lines, (xs, ys, refl, a, b))
-cleared-or file lines (Err e) xs ys a b = stops-behind true file xs ys e (asking-del true file xs (listed-asks file xs lines a)) b
+cleared-or file lines (Err e) xs ys a b = stops-behind true file Never (HasNotListed file e) xs ys e (λ h. absurd h) (asking-del true file xs (listed-asks file xs lines a)) b
 
 pub clears-all : {S : Type 0} (did : S → List Event → S → Type 0) → GoesOn did → (p q r : S) (file : ℕ) (lines those : List CopyLine) (result : Result Removed Refusal) → those ≡ lines
     → Call did p q (λ events. Lists file events (Ok lines)) → Call did q r (λ events. TakesOf (pool_of those) file those events result) → Call did p r (λ events. Clears true file events result)
@@ -219,7 +234,8 @@ clears-all did goes p q r file lines those result same a b =
 
 pub clears-unlisted : {S : Type 0} (did : S → List Event → S → Type 0) (p q : S) (file : ℕ) (e : Refusal) → Call did p q (λ events. Lists file events (Err e))
     → Call did p q (λ events. Clears true file events (Err e))
-clears-unlisted did p q file e a = so_call did (λ events. Stops false file events e) (λ events. Stops true file events e) p q a (λ xs f. stops-more true file xs e f)
+clears-unlisted did p q file e a =
+    so_call did (λ events. Stops false file (HasNotListed file e) events e) (λ events. Stops true file (HasNotListed file e) events e) p q a (λ xs f. stops-more true file (HasNotListed file e) xs e f)
 
 pub clears-nothing : {S : Type 0} (did : S → List Event → S → Type 0) (p : S) (file : ℕ) (discard : Bool) → did p [] p → discard ≡ false → Call did p p (λ events. Clears discard file events (Ok nothing))
 clears-nothing did p file discard stays is = subst (λ (b : Bool). Call did p p (λ events. Clears b file events (Ok nothing))) (sym is) ([], stays, (refl, refl))
@@ -259,6 +275,7 @@ ends-or file number (Ok done) xs ys a b = (a.0, number, (xs, ys, refl, a.1, b))
 ends-or file number (Err e) xs ys a b = record {
   cause = inl (stopped-behind xs ys e b.0);
   only = del-append false file xs ys (subst (AreDeleting false file) (sym a.1) (inl (inr (Ok number, refl)), tt)) (asking-del false file ys b.1);
+  place = inl (stopped-behind xs ys e b.0);
 }
 
 pub ends-checked : {S : Type 0} (did : S → List Event → S → Type 0) → GoesOn did → (p q r : S) (file number : ℕ) (result : Result (Unit {0}) Refusal) → Does did p q (Force (Ok number))
@@ -270,13 +287,14 @@ ends-checked did goes p q r file number result d a =
 pub ends-unforced : {S : Type 0} (did : S → List Event → S → Type 0) (p q : S) (file : ℕ) (e other : Refusal) → other ≡ stopping e → Does did p q (Force (Err e))
     → Call did p q (λ events. Ends file events (Err other))
 ends-unforced did p q file e other same d =
-    subst (λ (x : Refusal). Call did p q (λ events. Stops false file events x)) (sym same)
-    (does_alone did (λ events. Stops false file events (stopping e)) p q (Force (Err e)) d
-    (λ m listed. record { cause = inl (stopped-by (event m (Force (Err e)) ∷ []) e (inl refl)); only = (inl (inr (Err e, refl)), tt) })
-    (λ m. wanting false file [] (stopping e) (ap stopping (some-memory e (Force (Err e)) refl m)) tt))
+    subst (λ (x : Refusal). Call did p q (λ events. Stops false file Never events x)) (sym same)
+    (does_alone did (λ events. Stops false file Never events (stopping e)) p q (Force (Err e)) d
+    (λ m listed. (let stops : IsStopped (event m (Force (Err e)) ∷ []) (stopping e) = stopped-by (event m (Force (Err e)) ∷ []) e (inl refl) in
+    record { cause = inl stops; only = (inl (inr (Err e, refl)), tt); place = inl stops }))
+    (λ m. wanting false file Never [] (stopping e) (ap stopping (some-memory e (Force (Err e)) refl m)) tt))
 
-row-kept-stops : (row : Row) (file : ℕ) (xs : List Event) (e : Refusal) → RowKept (deleting row file) xs e → Stops false file xs e
-row-kept-stops row file xs e h = record { cause = of h.cause; only = row-del false row file xs h.only } where
+row-kept-stops : (row : Row) (file : ℕ) (xs : List Event) (e : Refusal) → RowKept (deleting row file) xs e → Stops false file (IsRefusedLast (deleting row file) e) xs e
+row-kept-stops row file xs e h = record { cause = of h.cause; only = row-del false row file xs h.only; place = h.place } where
   of : IsStopped xs e ⊎ ((is_kept_by e ≡ true) × MetBy (λ d. d ≡ Commit (deleting row file) [] (Err e)) xs) → IsCaused file xs e
   of (inl s) = inl s
   of (inr s) = inr (inr (s.0, met-map (λ d. d ≡ Commit (deleting row file) [] (Err e)) (λ d. (r : Row) × (d ≡ Commit (deleting r file) [] (Err e))) xs (λ d is. (row, is)) s.1))
@@ -284,11 +302,11 @@ row-kept-stops row file xs e h = record { cause = of h.cause; only = row-del fal
 pub removes-kept : {S : Type 0} (did : S → List Event → S → Type 0) (p q : S) (row : Row) (file : ℕ) (e : Refusal) → Call did p q (λ events. RemovesRow (deleting row file) events (Err e))
     → Call did p q (λ events. Removes row file events (Err e))
 removes-kept did p q row file e a =
-    so_call did (λ events. RowKept (deleting row file) events e) (λ events. Stops false file events e) p q a (λ xs f. row-kept-stops row file xs e f)
+    so_call did (λ events. RowKept (deleting row file) events e) (λ events. Stops false file (IsRefusedLast (deleting row file) e) events e) p q a (λ xs f. row-kept-stops row file xs e f)
 
 removed-or : (row : Row) (file : ℕ) (result : Result (Unit {0}) Refusal) (xs ys : List Event) → RowGone (deleting row file) xs → Ends file ys result → Removes row file (xs ++ ys) result
 removed-or row file (Ok done) xs ys a b = (xs, ys, refl, a, b)
-removed-or row file (Err e) xs ys a b = stops-behind false file xs ys e (row-del false row file xs (row-gone-only (deleting row file) xs a)) b
+removed-or row file (Err e) xs ys a b = stops-behind false file Never (IsRefusedLast (deleting row file) e) xs ys e (λ h. absurd h) (row-del false row file xs (row-gone-only (deleting row file) xs a)) b
 
 pub removes-ended : {S : Type 0} (did : S → List Event → S → Type 0) → GoesOn did → (p q r : S) (row : Row) (file : ℕ) (result : Result (Unit {0}) Refusal)
     → Call did p q (λ events. RemovesRow (deleting row file) events (Ok tt)) → Call did q r (λ events. Ends file events result) → Call did p r (λ events. Removes row file events result)
@@ -487,6 +505,7 @@ deleted-whole discard file row m xs ys f g =
           (del-append discard file (first ++ p.ys) p.zs
           (del-append discard file first p.ys (plain-more discard file (Ask (query.Volumes None None) (Ok p.answer)) (inl (inl (query.Volumes None None, Ok p.answer, refl))), tt) (cleared-only discard file p.ys m p.cleared))
           (row-del discard row file p.zs (row-gone-only (deleting row file) p.zs p.gone))) (ended-only discard file p.n p.number p.k p.e));
+      place = tt;
     }
 
 -- a count, or the refusal that came after it
@@ -497,7 +516,16 @@ ended_as m (Err e) = Err e
 emptied-or : (discard : Bool) (row : Row) (file : ℕ) (m : Removed) (result : Result (Unit {0}) Refusal) (xs ys : List Event) → Cleared discard file xs m → Removes row file ys result
     → Empties discard row file (xs ++ ys) (ended_as m result)
 emptied-or discard row file m (Ok done) xs ys a b = (xs, ys, refl, a, b)
-emptied-or discard row file m (Err e) xs ys a b = stops-behind discard file xs ys e (cleared-only discard file xs m a) (stops-more discard file ys e b)
+emptied-or discard row file m (Err e) xs ys a b =
+    let Last : List Event → Type 0 = IsRefusedLast (deleting row file) e in
+    stops-behind discard file Last (HasNotGone discard row file e) xs ys e (λ last. inr (m, (xs, ys, refl, a, last))) (cleared-only discard file xs m a) (stops-more discard file Last ys e b)
+
+-- before its own transaction
+pub unemptied-row : {S : Type 0} (did : S → List Event → S → Type 0) (p q : S) (discard : Bool) (row : Row) (file : ℕ) (e : Refusal) → Call did p q (λ events. Clears discard file events (Err e))
+    → Call did p q (λ events. Empties discard row file events (Err e))
+unemptied-row did p q discard row file e a =
+    so_call did (λ events. Stops discard file (HasNotListed file e) events e) (λ events. Stops discard file (HasNotGone discard row file e) events e) p q a
+    (λ xs f. record { cause = f.cause; only = f.only; place = place-so (HasNotListed file e) (HasNotGone discard row file e) xs e (λ h. inl h) f.place })
 
 pub empties-row : {S : Type 0} (did : S → List Event → S → Type 0) → GoesOn did → (p q r : S) (discard : Bool) (row : Row) (file : ℕ) (m : Removed) (result : Result (Unit {0}) Refusal)
     → Call did p q (λ events. Clears discard file events (Ok m)) → Call did q r (λ events. Removes row file events result) → Call did p r (λ events. Empties discard row file events (ended_as m result))
@@ -508,8 +536,14 @@ empties-row did goes p q r discard row file m result a b =
 deleted-or : (discard : Bool) (file : ℕ) (row : Row) (result : Result Removed Refusal) (xs ys : List Event) → Found file xs row → Empties discard row file ys result → VolumeDeletion discard file (xs ++ ys) result
 deleted-or discard file row (Ok m) xs ys f g = deleted-whole discard file row m xs ys f g
 deleted-or discard file row (Err e) xs ys f g =
-    let r : Stops discard file (xs ++ ys) e = stops-behind discard file xs ys e (asking-del discard file xs (answered-asks (query.Volumes None None) xs f.0 f.2)) g in
-    record { came = r.cause; only = r.only }
+    record {
+      came = caused-behind file xs ys e g.cause;
+      only = del-append discard file xs ys (asking-del discard file xs (answered-asks (query.Volumes None None) xs f.0 f.2)) g.only;
+      place = elim g.place as (λ _. IsInPlace discard file (xs ++ ys) e) [
+        | inl stopped ↦ inl (stopped-behind xs ys e stopped)
+        | inr other ↦ inr (inr (row, (xs, ys, refl, f, other)))
+      ];
+    }
 
 pub deletes-volume : {S : Type 0} (did : S → List Event → S → Type 0) → GoesOn did → (p q r : S) (discard : Bool) (file : ℕ) (row : Row) (result : Result Removed Refusal)
     → Call did p q (λ events. Finds file events (Ok row)) → Call did q r (λ events. Empties discard row file events result) → Call did p r (λ events. VolumeDeletion discard file events result)
@@ -520,5 +554,12 @@ deletes-volume did goes p q r discard file row result a b =
 pub volume-not-found : {S : Type 0} (did : S → List Event → S → Type 0) (p q : S) (discard : Bool) (file : ℕ) (e : Refusal) → Call did p q (λ events. Finds file events (Err e))
     → Call did p q (λ events. VolumeDeletion discard file events (Err e))
 volume-not-found did p q discard file e a =
-    so_call did (λ events. Stops false file events e) (λ events. VolumeDeletion discard file events (Err e)) p q a
-    (λ xs f. record { came = f.cause; only = del-more discard file xs f.only })
+    so_call did (λ events. Stops false file (HasNotFound file e) events e) (λ events. VolumeDeletion discard file events (Err e)) p q a
+    (λ xs f. record {
+      came = f.cause;
+      only = del-more discard file xs f.only;
+      place = elim f.place as (λ _. IsInPlace discard file xs e) [
+        | inl stopped ↦ inl stopped
+        | inr missing ↦ inr (inl missing)
+      ];
+    })

@@ -1,5 +1,6 @@
 -- The transaction of a volume's row, which is tried until nobody holds the volume.
-use Rattle.std.proofs.Common.{◌≡◌, ◌⊎◌, inl, inr, ℕ, zero, suc, ◌+◌, true, false, List, [], ◌∷◌, ◌++◌, Some, None, Option, Result, Ok, Err, refl, sym, ap, subst, ◌∙◌, arith, if◌then◌else◌}
+use Rattle.std.proofs.Common.{◌≡◌, ◌⊎◌, inl, inr, ℕ, zero, suc, ◌+◌, true, false, List, [], ◌∷◌, ◌++◌, Some, None, Option, Result, Ok, Err, refl, sym, ap, subst, ◌∙◌, arith, if◌then◌else◌, append_assoc}
+use Rattle.std.proofs.lemmas.List.{append-nil}
 use Rattle.std.specs.List.{AllByRecursion}
 use Rattle.kinds.specs.declared.refusal.Holder.{Holder}
 use Rattle.kinds.specs.declared.refusal.Holder.TheVariants as holder
@@ -19,7 +20,7 @@ use Rattle.copy_runs.specs.Ends.{IsStopped}
 use Rattle.deletions.specs.declared.row.Went.{Went}
 use Rattle.deletions.specs.declared.row.Went.TheVariants as came
 use Rattle.deletions.specs.Filespaces.{is_kept_by, unremoved}
-use Rattle.deletions.specs.Volumes.{FoundHeld, IsRowStep, RemovesRow, RowGone, RowKept, TriesRow, Waited, held_or_kept, holder_of, outcome_of_row}
+use Rattle.deletions.specs.Volumes.{FoundHeld, IsRefusedLast, IsRowStep, RemovesRow, RowGone, RowKept, TriesRow, Waited, held_or_kept, holder_of, outcome_of_row}
 use Rattle.deletions.proofs.Trying.{tried}
 use Rattle.deletions.proofs.Working.{stopped-by}
 
@@ -104,15 +105,21 @@ kept-cause asked n e = elim (is_kept_by e) as (λ b. is_kept_by e ≡ b → Kept
   | false ↦ λ t. inl (stopped-by (tried n asked (Err e)) e (inl refl))
 ] refl
 
+kept-place : (asked : Asked) (n : ℕ) (e : Refusal) → IsStopped (tried n asked (Err e)) (unremoved e) ⊎ IsRefusedLast asked (unremoved e) (tried n asked (Err e))
+kept-place asked n e = elim (is_kept_by e) as (λ b. IsStopped (tried n asked (Err e)) (if b then e else stopping e) ⊎ IsRefusedLast asked (if b then e else stopping e) (tried n asked (Err e))) [
+  | true ↦ inr (0, ([], tried n asked (Err e), refl, refl, (n, refl)))
+  | false ↦ inl (stopped-by (tried n asked (Err e)) e (inl refl))
+]
+
 was-kept : (asked : Asked) (events : List Event) (f : Refusal) → TriesRow asked events (Err f) → RowKept asked events f
 was-kept asked events f (inl h) =
     let same : f ≡ refused.Memory = cc in
-    subst (λ (es : List Event). RowKept asked es f) (sym h.0) (record { cause = inl (inl same); only = tt })
+    subst (λ (es : List Event). RowKept asked es f) (sym h.0) (record { cause = inl (inl same); only = tt; place = inl (inl same) })
 was-kept asked events f (inr h) =
     let r = answer-kept h.1 f (sym h.3) in
     let is : events ≡ tried h.0 asked (Err r.0) = h.2 ∙ ap (λ (a : Result ℕ Refusal). tried h.0 asked a) r.1 in
     subst (λ (es : List Event). RowKept asked es f) (sym is)
-    (subst (λ (x : Refusal). RowKept asked (tried h.0 asked (Err r.0)) x) (sym r.2) (record { cause = kept-cause asked h.0 r.0; only = (inr (Err r.0, refl), tt) }))
+    (subst (λ (x : Refusal). RowKept asked (tried h.0 asked (Err r.0)) x) (sym r.2) (record { cause = kept-cause asked h.0 r.0; only = (inr (Err r.0, refl), tt); place = kept-place asked h.0 r.0 }))
 
 -- ---- waiting
 
@@ -198,8 +205,24 @@ row-gone-made asked events (number, (xs, ys, is, f, (n, joined, same))) = (
 
 -- ---- how it ends
 
-kept-behind : (asked : Asked) (xs ys : List Event) (e : Refusal) → AreRowSteps asked xs → RowKept asked ys e → RowKept asked (xs ++ ys) e
-kept-behind asked xs ys e only h = record { cause = behind h.cause; only = rows-append asked xs ys only h.only } where
+-- waits behind waits
+more-waits : (asked : Asked) (number more : ℕ) (xs ys : List Event) → Waited asked number xs → Waited asked more ys → (n : ℕ) × Waited asked n (xs ++ ys)
+more-waits asked number zero xs ys a none = (number, subst (λ (es : List Event). Waited asked number es) (sym (ap (λ (es : List Event). xs ++ es) none ∙ append-nil xs)) a)
+more-waits asked number (suc more) xs ys a (us, vs, is, b, rest) =
+    let r = more-waits asked number more xs us a b in
+    (suc r.0, (xs ++ us, vs, ap (λ (es : List Event). xs ++ es) is ∙ sym (append_assoc xs us vs), r.1, rest))
+
+last-behind : (asked : Asked) (number : ℕ) (xs ys : List Event) (e : Refusal) → Waited asked number xs → IsRefusedLast asked e ys → IsRefusedLast asked e (xs ++ ys)
+last-behind asked number xs ys e a (more, (us, vs, is, b, one)) =
+    let r = more-waits asked number more xs us a b in
+    (r.0, (xs ++ us, vs, ap (λ (es : List Event). xs ++ es) is ∙ sym (append_assoc xs us vs), r.1, one))
+
+kept-behind : (asked : Asked) (number : ℕ) (xs ys : List Event) (e : Refusal) → Waited asked number xs → RowKept asked ys e → RowKept asked (xs ++ ys) e
+kept-behind asked number xs ys e waited h = record { cause = behind h.cause; only = rows-append asked xs ys (waited-only asked number xs waited) h.only; place = there h.place } where
+  there : IsStopped ys e ⊎ IsRefusedLast asked e ys → IsStopped (xs ++ ys) e ⊎ IsRefusedLast asked e (xs ++ ys)
+  there (inl s) = inl (stopped-behind xs ys e s)
+  there (inr s) = inr (last-behind asked number xs ys e waited s)
+
   behind : KeptBy asked ys e → KeptBy asked (xs ++ ys) e
   behind (inl s) = inl (stopped-behind xs ys e s)
   behind (inr s) = inr (s.0, met-behind (λ d. d ≡ Commit asked [] (Err e)) xs ys s.1)
@@ -214,7 +237,7 @@ pub row-was-kept : {S : Type 0} (did : S → List Event → S → Type 0) → Go
     → Call did o p (λ events. Waited asked number events) → Call did p q (λ events. TriesRow asked events (Err e)) → Call did o q (λ events. RemovesRow asked events (Err e))
 row-was-kept did goes o p q asked number e a b =
     call_then did goes (λ events. Waited asked number events) (λ events. TriesRow asked events (Err e)) (λ events. RowKept asked events e) o p q a b
-    (λ xs ys f g. kept-behind asked xs ys e (waited-only asked number xs f) (was-kept asked ys e g))
+    (λ xs ys f g. kept-behind asked number xs ys e f (was-kept asked ys e g))
 
 made-met : (d : Deed) (e : Refusal) (events : List Event) → Made d events → refusal d ≡ Some e → (e ≡ refused.Memory) ⊎ Met e events
 made-met d e events (inl h) is = inr (subst (λ (es : List Event). Met e es) (sym h.1) (inl is))
@@ -253,11 +276,10 @@ memory-stops events e (inl h) = inl (ap stopping h)
 memory-stops events e (inr h) = stopped-by events e h
 
 unwaited : (asked : Asked) (h : Holder) (e : Refusal) (xs ys : List Event) → FoundHeld asked h xs → Awaits h ys (Err e) → RowKept asked (xs ++ ys) (stopping e)
-unwaited asked h e xs ys f w = record {
-  cause = inl (subst (λ (es : List Event). IsStopped (es ++ ys) (stopping e)) (sym f.1)
-      (memory-stops (event f.0 (Commit asked [] (Err (refused.Busy h))) ∷ ys) e (wait-met asked f.0 h ys e w)));
-  only = rows-append asked xs ys (found-only asked h xs f) (awaits-only asked h ys (Err e) w);
-}
+unwaited asked h e xs ys f w =
+    let stops : IsStopped (xs ++ ys) (stopping e) =
+    subst (λ (es : List Event). IsStopped (es ++ ys) (stopping e)) (sym f.1) (memory-stops (event f.0 (Commit asked [] (Err (refused.Busy h))) ∷ ys) e (wait-met asked f.0 h ys e w)) in
+    record { cause = inl stops; only = rows-append asked xs ys (found-only asked h xs f) (awaits-only asked h ys (Err e) w); place = inl stops }
 
 -- the wait was refused
 pub row-unwaited : {S : Type 0} (did : S → List Event → S → Type 0) → GoesOn did → (o p q r : S) (asked : Asked) (number : ℕ) (t : Went) (h : Holder) (e other : Refusal) → t ≡ came.Held h → other ≡ stopping e
@@ -268,21 +290,21 @@ row-unwaited did goes o p q r asked number t h e other is same a b w =
     (call_then did goes (λ events. Waited asked number events) (λ events. RowKept asked events (stopping e)) (λ events. RowKept asked events (stopping e)) o p r a
     (call_then did goes (λ events. TriesRow asked events (Ok t)) (λ events. Awaits h events (Err e)) (λ events. RowKept asked events (stopping e)) p q r b (awaited did q r h (Err e) w)
     (λ xs ys f g. unwaited asked h e xs ys (was-held asked xs t h is f) g))
-    (λ xs ys f g. kept-behind asked xs ys (stopping e) (waited-only asked number xs f) g))
+    (λ xs ys f g. kept-behind asked number xs ys (stopping e) f g))
 
 -- it was waited as often as a number counts
 pub row-given-up : {S : Type 0} (did : S → List Event → S → Type 0) (o p : S) (asked : Asked) (number : ℕ) → Call did o p (λ events. Waited asked number events)
     → Call did o p (λ events. RemovesRow asked events (Err refused.Memory))
 row-given-up did o p asked number a =
     so_call did (λ events. Waited asked number events) (λ events. RemovesRow asked events (Err refused.Memory)) o p a
-    (λ xs f. record { cause = inl (inl refl); only = waited-only asked number xs f })
+    (λ xs f. record { cause = inl (inl refl); only = waited-only asked number xs f; place = inl (inl refl) })
 
 pub row-begins : {S : Type 0} (did : S → List Event → S → Type 0) (p : S) (asked : Asked) → did p [] p → Call did p p (λ events. Waited asked 0 events)
 row-begins did p asked stays = ([], stays, refl)
 
 -- memory was wanted for the transaction
 pub row-wanting : {S : Type 0} (did : S → List Event → S → Type 0) (p : S) (asked : Asked) (e : Refusal) → did p [] p → e ≡ refused.Memory → Call did p p (λ events. RemovesRow asked events (Err e))
-row-wanting did p asked e stays is = ([], stays, record { cause = inl (inl is); only = tt })
+row-wanting did p asked e stays is = ([], stays, record { cause = inl (inl is); only = tt; place = inl (inl is) })
 
 pub row-asked : {S : Type 0} (did : S → List Event → S → Type 0) (p q : S) (asked other : Asked) (result : Result (Unit {0}) Refusal) → other ≡ asked → Call did p q (λ events. RemovesRow other events result)
     → Call did p q (λ events. RemovesRow asked events result)

@@ -1,5 +1,5 @@
 -- What the parts of the deletion of a filespace did, one after the other.
-use Rattle.std.proofs.Common.{◌≡◌, inl, inr, ℕ, ◌+◌, ◌==◌, true, false, List, [], ◌∷◌, ◌++◌, append_assoc, map, length, Option, None, Some, Result, Ok, Err, refl, sym, ap, subst, ◌∙◌, arith, if◌then◌else◌}
+use Rattle.std.proofs.Common.{◌≡◌, ◌⊎◌, inl, inr, ℕ, ◌+◌, ◌==◌, true, false, List, [], ◌∷◌, ◌++◌, append_assoc, map, length, Option, None, Some, Result, Ok, Err, refl, sym, ap, subst, ◌∙◌, arith, if◌then◌else◌}
 use Rattle.std.proofs.lemmas.Grind.{flat_map-append}
 use Rattle.std.proofs.lemmas.List.{length-append}
 use Rattle.std.specs.List.{find}
@@ -25,11 +25,11 @@ use Rattle.copy_attempts.proofs.Facts.{all-append, met-behind, some-memory}
 use Rattle.copy_attempts.specs.Attempts.{stopping}
 use Rattle.copy_attempts.specs.Outcomes.{MetBy}
 use Rattle.copy_runs.proofs.Ending.{stopped-behind, unlisted-by}
-use Rattle.copy_runs.specs.Ends.{AreAsking, IsUnlisted, unlisted}
+use Rattle.copy_runs.specs.Ends.{AreAsking, IsStopped, IsUnlisted as IsUnlistedIn, unlisted}
 use Rattle.deletions.specs.declared.filespace.Names.{Names}
 use Rattle.deletions.specs.declared.objects.Doomed.{Doomed}
 use Rattle.deletions.specs.Discarding.{AreDiscarding, Works, discards, items_by, items_in}
-use Rattle.deletions.specs.Filespaces.{Answered, AreDeleting, Asks, Cleared, Clears, Empties, FilespaceDeletion, Finds, Found, IsCaused, IsDeleting, IsGone, IsNotThere, IsRowKept, ListsHeld, ListsObjects, ListsVersions, Objects, Removed, Removes, RemovesRow, Stops, deleting, is_kept_by, names_found, names_in, of_held, of_version, reason_of, unremoved, with_node}
+use Rattle.deletions.specs.Filespaces.{Answered, AreBefore, AreDeleting, Asks, Cleared, Clears, Empties, Fails, FilespaceDeletion, Finds, Found, IsAnswer, IsBefore, IsCaused, IsDeleting, IsGone, IsInPlace, IsKept, IsMissing, IsNotThere, IsRowKept, IsUnfound, IsUnlisted, Keeps, ListsHeld, ListsObjects, ListsVersions, Objects, Removed, Removes, RemovesRow, Stops, deleting, is_kept_by, names_found, names_in, of_held, of_version, reason_of, unremoved, with_node}
 use Rattle.deletions.proofs.Gone.{goes}
 use Rattle.deletions.proofs.Working.{discards-append, handles-only, stopped-by}
 
@@ -45,6 +45,26 @@ asking-del filespace (x ∷ xs) h = (inl (inl h.0), asking-del filespace xs h.1)
 discarding-del : (filespace : ℕ) (xs : List Event) → AreDiscarding (reason_of filespace) xs → AreDeleting filespace xs
 discarding-del filespace [] h = tt
 discarding-del filespace (x ∷ xs) h = (inr (inl h.0), discarding-del filespace xs h.1)
+
+-- the same of those before its own transaction
+before-append : (filespace : ℕ) (xs ys : List Event) → AreBefore filespace xs → AreBefore filespace ys → AreBefore filespace (xs ++ ys)
+before-append filespace xs ys a b = all-append (λ e. IsBefore filespace e.deed) xs ys a b
+
+asking-before : (filespace : ℕ) (xs : List Event) → AreAsking xs → AreBefore filespace xs
+asking-before filespace [] h = tt
+asking-before filespace (x ∷ xs) h = (inl h.0, asking-before filespace xs h.1)
+
+discarding-before : (filespace : ℕ) (xs : List Event) → AreDiscarding (reason_of filespace) xs → AreBefore filespace xs
+discarding-before filespace [] h = tt
+discarding-before filespace (x ∷ xs) h = (inr h.0, discarding-before filespace xs h.1)
+
+one-del : (filespace : ℕ) (d : Deed) → IsBefore filespace d → IsDeleting filespace d
+one-del filespace d (inl h) = inl (inl h)
+one-del filespace d (inr h) = inr (inl h)
+
+before-del : (filespace : ℕ) (xs : List Event) → AreBefore filespace xs → AreDeleting filespace xs
+before-del filespace [] h = tt
+before-del filespace (x ∷ xs) h = (one-del filespace x.deed h.0, before-del filespace xs h.1)
 
 pub answered-asks : (q : Query) (xs : List Event) (answer : Answer) → Answered q xs answer → AreAsking xs
 answered-asks q xs answer h = subst AreAsking (sym h.1) ((q, Ok answer, refl), tt)
@@ -73,29 +93,49 @@ removed-del filespace name xs (n, number, m, told, same) = subst (AreDeleting fi
 
 -- ---- refusals
 
-caused-behind : (filespace : ℕ) (xs ys : List Event) (e : Refusal) → IsCaused filespace ys e → IsCaused filespace (xs ++ ys) e
-caused-behind filespace xs ys e (inl h) = inl (stopped-behind xs ys e h)
-caused-behind filespace xs ys e (inr (inl h)) = inr (inl (h.0, met-behind (IsNotThere filespace e) xs ys h.1))
-caused-behind filespace xs ys e (inr (inr h)) = inr (inr (h.0, met-behind (IsRowKept filespace e) xs ys h.1))
-
-stops-behind : (filespace : ℕ) (xs ys : List Event) (e : Refusal) → AreDeleting filespace xs → Stops filespace ys e → Stops filespace (xs ++ ys) e
-stops-behind filespace xs ys e a h = record { cause = caused-behind filespace xs ys e h.cause; only = del-append filespace xs ys a h.only }
-
-wanting : (filespace : ℕ) (xs : List Event) (e : Refusal) → e ≡ refused.Memory → AreDeleting filespace xs → Stops filespace xs e
-wanting filespace xs e is only = record { cause = inl (inl is); only = only }
-
 pub met-map : (P Q : Deed → Type 0) (xs : List Event) → ((d : Deed) → P d → Q d) → MetBy P xs → MetBy Q xs
 met-map P Q [] f h = absurd h
 met-map P Q (x ∷ xs) f (inl h) = inl (f x.deed h)
 met-map P Q (x ∷ xs) f (inr h) = inr (met-map P Q xs f h)
 
-unlisted-caused : (filespace : ℕ) (q : Query) (xs : List Event) (e : Refusal) → IsUnlisted q xs e → IsCaused filespace xs e
+caused-behind : (filespace : ℕ) (xs ys : List Event) (e : Refusal) → IsCaused filespace ys e → IsCaused filespace (xs ++ ys) e
+caused-behind filespace xs ys e (inl h) = inl (stopped-behind xs ys e h)
+caused-behind filespace xs ys e (inr (inl h)) = inr (inl (h.0, met-behind (IsNotThere filespace e) xs ys h.1))
+caused-behind filespace xs ys e (inr (inr h)) = inr (inr (h.0, met-behind (IsRowKept filespace e) xs ys h.1))
+
+-- questions were asked before
+met-later : (P Q : Deed → Type 0) (xs ys : List Event) (e : Refusal) → ((d : Deed) → P d → Q d) → AreAsking xs → IsStopped ys e ⊎ IsMissing P ys e → IsStopped (xs ++ ys) e ⊎ IsMissing Q (xs ++ ys) e
+met-later P Q xs ys e more a (inl stopped) = inl (stopped-behind xs ys e stopped)
+met-later P Q xs ys e more a (inr (ten, asks, met)) = inr (ten, asks-append xs ys a asks, met-behind Q xs ys (met-map P Q ys more met))
+
+stops-behind : (filespace : ℕ) (P Q : Deed → Type 0) (xs ys : List Event) (e : Refusal) → ((d : Deed) → P d → Q d) → AreAsking xs → Stops filespace P ys e → Stops filespace Q (xs ++ ys) e
+stops-behind filespace P Q xs ys e more a h = record {
+  cause = caused-behind filespace xs ys e h.cause;
+  only = before-append filespace xs ys (asking-before filespace xs a) h.only;
+  met = met-later P Q xs ys e more a h.met;
+}
+
+-- the same of another question
+stops-so : (filespace : ℕ) (P Q : Deed → Type 0) (xs : List Event) (e : Refusal) → ((d : Deed) → P d → Q d) → Stops filespace P xs e → Stops filespace Q xs e
+stops-so filespace P Q xs e more h = record { cause = h.cause; only = h.only; met = met-later P Q [] xs e more tt h.met }
+
+wanting : (filespace : ℕ) (So : Deed → Type 0) (xs : List Event) (e : Refusal) → e ≡ refused.Memory → AreBefore filespace xs → Stops filespace So xs e
+wanting filespace So xs e is only = record { cause = inl (inl is); only = only; met = inl (inl is) }
+
+-- the same of the row's own transaction
+keeping : (filespace : ℕ) (xs : List Event) (e : Refusal) → IsStopped xs e → AreDeleting filespace xs → Keeps filespace xs e
+keeping filespace xs e stopped only = record { cause = inl stopped; only = only; last = inl stopped }
+
+unlisted-caused : (filespace : ℕ) (q : Query) (xs : List Event) (e : Refusal) → IsUnlistedIn q xs e → IsCaused filespace xs e
 unlisted-caused filespace q xs e (inl h) = inl h
 unlisted-caused filespace q xs e (inr h) = inr (inl (h.0, met-map (λ d. d ≡ Ask q (Err e)) (IsNotThere filespace e) xs (λ d is. inl (q, is)) h.1))
 
 -- want of memory before the first step
-pub stops-none : {S : Type 0} (did : S → List Event → S → Type 0) (p : S) (filespace : ℕ) (e : Refusal) → did p [] p → e ≡ refused.Memory → Call did p p (λ events. Stops filespace events e)
-stops-none did p filespace e stays is = ([], stays, wanting filespace [] e is tt)
+pub stops-none : {S : Type 0} (did : S → List Event → S → Type 0) (p : S) (filespace : ℕ) (So : Deed → Type 0) (e : Refusal) → did p [] p → e ≡ refused.Memory → Call did p p (λ events. Stops filespace So events e)
+stops-none did p filespace So e stays is = ([], stays, wanting filespace So [] e is tt)
+
+pub keeps-none : {S : Type 0} (did : S → List Event → S → Type 0) (p : S) (filespace : ℕ) (e : Refusal) → did p [] p → e ≡ refused.Memory → Call did p p (λ events. Keeps filespace events e)
+keeps-none did p filespace e stays is = ([], stays, keeping filespace [] e (inl is) tt)
 
 -- ---- questions
 
@@ -103,21 +143,26 @@ pub asks-told : {S : Type 0} (did : S → List Event → S → Type 0) (p q : S)
     → Call did p q (λ events. Asks filespace asked events (Ok answer))
 asks-told did p q filespace asked answer d = does_alone did (λ events. Asks filespace asked events (Ok answer)) p q (Ask asked (Ok answer)) d (λ n listed. (n, refl)) (λ m. absurd cc)
 
+-- one that was refused, as what it names isn't there
+unlisted-met : (q : Query) (xs : List Event) (e : Refusal) → IsUnlistedIn q xs e → AreAsking xs → IsStopped xs e ⊎ IsMissing (IsAnswer q e) xs e
+unlisted-met q xs e (inl h) asks = inl h
+unlisted-met q xs e (inr h) asks = inr (h.0, asks, h.1)
+
 pub asks-refused : {S : Type 0} (did : S → List Event → S → Type 0) (p q : S) (filespace : ℕ) (asked : Query) (e : Refusal) → Does did p q (Ask asked (Err e))
     → Call did p q (λ events. Asks filespace asked events (Err (unlisted e)))
 asks-refused did p q filespace asked e d =
-    so_call did (λ events. IsUnlisted asked events (unlisted e) × AreAsking events) (λ events. Stops filespace events (unlisted e)) p q (unlisted-by did p q asked e d)
-    (λ xs f. record { cause = unlisted-caused filespace asked xs (unlisted e) f.0; only = asking-del filespace xs f.1 })
+    so_call did (λ events. IsUnlistedIn asked events (unlisted e) × AreAsking events) (λ events. Stops filespace (IsAnswer asked (unlisted e)) events (unlisted e)) p q (unlisted-by did p q asked e d)
+    (λ xs f. record { cause = unlisted-caused filespace asked xs (unlisted e) f.0; only = asking-before filespace xs f.1; met = unlisted-met asked xs (unlisted e) f.0 f.1 })
 
 -- an answer without the rows that were asked for
-pub asks-nothing : {S : Type 0} (did : S → List Event → S → Type 0) (p q : S) (filespace : ℕ) (asked : Query) (answer : Answer) (e : Refusal) → e ≡ refused.Memory
-    → Call did p q (λ events. Asks filespace asked events (Ok answer)) → Call did p q (λ events. Stops filespace events e)
-asks-nothing did p q filespace asked answer e is a =
-    so_call did (λ events. Answered asked events answer) (λ events. Stops filespace events e) p q a (λ xs f. wanting filespace xs e is (asking-del filespace xs (answered-asks asked xs answer f)))
+pub asks-nothing : {S : Type 0} (did : S → List Event → S → Type 0) (p q : S) (filespace : ℕ) (So : Deed → Type 0) (asked : Query) (answer : Answer) (e : Refusal) → e ≡ refused.Memory
+    → Call did p q (λ events. Asks filespace asked events (Ok answer)) → Call did p q (λ events. Stops filespace So events e)
+asks-nothing did p q filespace So asked answer e is a =
+    so_call did (λ events. Answered asked events answer) (λ events. Stops filespace So events e) p q a (λ xs f. wanting filespace So xs e is (asking-before filespace xs (answered-asks asked xs answer f)))
 
 pub asks-refused-by : {S : Type 0} (did : S → List Event → S → Type 0) (p q : S) (filespace : ℕ) (asked : Query) (e other : Refusal) → other ≡ unlisted e → Does did p q (Ask asked (Err e))
     → Call did p q (λ events. Asks filespace asked events (Err other))
-asks-refused-by did p q filespace asked e other same d = subst (λ (x : Refusal). Call did p q (λ events. Stops filespace events x)) (sym same) (asks-refused did p q filespace asked e d)
+asks-refused-by did p q filespace asked e other same d = subst (λ (x : Refusal). Call did p q (λ events. Stops filespace (IsAnswer asked x) events x)) (sym same) (asks-refused did p q filespace asked e d)
 
 node-err : (name : List ℕ) (o : Option (List ℕ)) (e : Refusal) → with_node name o ≡ Err e → e ≡ refused.NotFound
 node-err name None e h = let same : refused.NotFound ≡ e = cc in sym same
@@ -130,17 +175,31 @@ names-err (Some line) e h = node-err line.name line.node e h
 found-or : (filespace : ℕ) (answer : Answer) (lines those : List FilespaceLine) (result : Result Names Refusal) (xs : List Event) → those ≡ lines → answer.rows ≡ rows.Filespaces lines
     → Answers result (names_in filespace those) → Answered (query.Filespaces None) xs answer → Finds filespace xs result
 found-or filespace answer lines those (Ok names) xs same is said a = (answer, lines, a, is, sym (ap (names_in filespace) same) ∙ said)
-found-or filespace answer lines those (Err e) xs same is (inl memory) a = wanting filespace xs e memory (asking-del filespace xs (answered-asks (query.Filespaces None) xs answer a))
+found-or filespace answer lines those (Err e) xs same is (inl memory) a = wanting filespace (IsUnfound filespace e) xs e memory (asking-before filespace xs (answered-asks (query.Filespaces None) xs answer a))
 found-or filespace answer lines those (Err e) xs same is (inr said) a =
     let none : names_in filespace lines ≡ Err e = sym (ap (names_in filespace) same) ∙ said in
     let not_found : e ≡ refused.NotFound = names-err (find (λ l. l.number == filespace) lines) e none in
+    let ten : (number_of e == 10) ≡ true = ap (λ (x : Refusal). number_of x == 10) not_found in
+    let asks : AreAsking xs = answered-asks (query.Filespaces None) xs answer a in
     record {
-      cause = inr (inl (
-        ap (λ (x : Refusal). number_of x == 10) not_found,
-        subst (λ (es : List Event). MetBy (IsNotThere filespace e) es) (sym a.1) (inl (inr (answer, lines, refl, is, none))),
-      ));
-      only = asking-del filespace xs (answered-asks (query.Filespaces None) xs answer a);
+      cause = inr (inl (ten, subst (λ (es : List Event). MetBy (IsNotThere filespace e) es) (sym a.1) (inl (inr (answer, lines, refl, is, none)))));
+      only = asking-before filespace xs asks;
+      met = inr (ten, asks, subst (λ (es : List Event). MetBy (IsUnfound filespace e) es) (sym a.1) (inl (inr (answer, lines, refl, is, none))));
     }
+
+-- the question for the filespaces was refused
+pub finds-not : {S : Type 0} (did : S → List Event → S → Type 0) (p q : S) (filespace : ℕ) (asked : Query) (e : Refusal) → asked ≡ query.Filespaces None → Call did p q (λ events. Asks filespace asked events (Err e))
+    → Call did p q (λ events. Finds filespace events (Err e))
+finds-not did p q filespace asked e same a =
+    so_call did (λ events. Stops filespace (IsAnswer asked e) events e) (λ events. Stops filespace (IsUnfound filespace e) events e) p q a
+    (λ xs f. stops-so filespace (IsAnswer asked e) (IsUnfound filespace e) xs e (λ d is. inl (is ∙ ap (λ (x : Query). Ask x (Err e)) same)) f)
+
+-- the one for its versions was
+pub versions-not : {S : Type 0} (did : S → List Event → S → Type 0) (p q : S) (filespace : ℕ) (names : Names) (asked : Query) (e : Refusal) → asked ≡ query.Versions names.node names.name
+    → Call did p q (λ events. Asks filespace asked events (Err e)) → Call did p q (λ events. ListsVersions filespace names events (Err e))
+versions-not did p q filespace names asked e same a =
+    so_call did (λ events. Stops filespace (IsAnswer asked e) events e) (λ events. Stops filespace (IsUnlisted filespace names e) events e) p q a
+    (λ xs f. stops-so filespace (IsAnswer asked e) (IsUnlisted filespace names e) xs e (λ d is. inl (is ∙ ap (λ (x : Query). Ask x (Err e)) same)) f)
 
 pub finds : {S : Type 0} (did : S → List Event → S → Type 0) (p q : S) (filespace : ℕ) (answer : Answer) (lines those : List FilespaceLine) (result : Result Names Refusal) → those ≡ lines
     → answer.rows ≡ rows.Filespaces lines → Answers result (names_in filespace those) → Call did p q (λ events. Asks filespace (query.Filespaces None) events (Ok answer))
@@ -155,14 +214,14 @@ pub lists-versions : {S : Type 0} (did : S → List Event → S → Type 0) (p q
 lists-versions did p q filespace names asked answer (Ok lines) same good bad a =
     so_call did (λ events. Answered asked events answer) (λ events. ListsVersions filespace names events (Ok lines)) p q a
     (λ xs f. (answer, subst (λ (x : Query). Answered x xs answer) same f, good lines refl))
-lists-versions did p q filespace names asked answer (Err e) same good bad a = asks-nothing did p q filespace asked answer e (bad e refl) a
+lists-versions did p q filespace names asked answer (Err e) same good bad a = asks-nothing did p q filespace (IsUnlisted filespace names e) asked answer e (bad e refl) a
 
 pub lists-held : {S : Type 0} (did : S → List Event → S → Type 0) (p q : S) (filespace : ℕ) (answer : Answer) (result : Result (List HeldLine) Refusal)
     → ((lines : List HeldLine) → result ≡ Ok lines → answer.rows ≡ rows.Held lines) → ((e : Refusal) → result ≡ Err e → e ≡ refused.Memory)
     → Call did p q (λ events. Asks filespace (query.Held filespace) events (Ok answer)) → Call did p q (λ events. ListsHeld filespace events result)
 lists-held did p q filespace answer (Ok lines) good bad a =
     so_call did (λ events. Answered (query.Held filespace) events answer) (λ events. ListsHeld filespace events (Ok lines)) p q a (λ xs f. (answer, f, good lines refl))
-lists-held did p q filespace answer (Err e) good bad a = asks-nothing did p q filespace (query.Held filespace) answer e (bad e refl) a
+lists-held did p q filespace answer (Err e) good bad a = asks-nothing did p q filespace (IsAnswer (query.Held filespace) e) (query.Held filespace) answer e (bad e refl) a
 
 -- ---- the objects
 
@@ -175,15 +234,16 @@ held-asks filespace xs lines h = answered-asks (query.Held filespace) xs h.0 h.1
 pub held-refused : {S : Type 0} (did : S → List Event → S → Type 0) → GoesOn did → (p q r : S) (filespace : ℕ) (names : Names) (lines : List VersionLine) (e : Refusal)
     → Call did p q (λ events. ListsVersions filespace names events (Ok lines)) → Call did q r (λ events. ListsHeld filespace events (Err e)) → Call did p r (λ events. ListsObjects filespace names events (Err e))
 held-refused did goes_on p q r filespace names lines e a b =
-    call_then did goes_on (λ events. ListsVersions filespace names events (Ok lines)) (λ events. Stops filespace events e) (λ events. Stops filespace events e) p q r a b
-    (λ xs ys f g. stops-behind filespace xs ys e (asking-del filespace xs (versions-asks filespace names xs lines f)) g)
+    call_then did goes_on (λ events. ListsVersions filespace names events (Ok lines)) (λ events. Stops filespace (IsAnswer (query.Held filespace) e) events e)
+    (λ events. Stops filespace (IsUnlisted filespace names e) events e) p q r a b
+    (λ xs ys f g. stops-behind filespace (IsAnswer (query.Held filespace) e) (IsUnlisted filespace names e) xs ys e (λ d is. inr is) (versions-asks filespace names xs lines f) g)
 
 both-listed : (filespace : ℕ) (names : Names) (versions : List VersionLine) (held : List HeldLine) (result : Result (List Doomed) Refusal) (xs ys : List Event)
     → AnswersBy (λ all. all) result (map of_version versions ++ map of_held held) → ListsVersions filespace names xs (Ok versions) → ListsHeld filespace ys (Ok held)
     → ListsObjects filespace names (xs ++ ys) result
 both-listed filespace names versions held (Ok objects) xs ys said a b = (versions, held, said, (xs, ys, refl, a, b))
 both-listed filespace names versions held (Err e) xs ys said a b =
-    wanting filespace (xs ++ ys) e said (asking-del filespace (xs ++ ys) (asks-append xs ys (versions-asks filespace names xs versions a) (held-asks filespace ys held b)))
+    wanting filespace (IsUnlisted filespace names e) (xs ++ ys) e said (asking-before filespace (xs ++ ys) (asks-append xs ys (versions-asks filespace names xs versions a) (held-asks filespace ys held b)))
 
 pub lists-both : {S : Type 0} (did : S → List Event → S → Type 0) → GoesOn did → (p q r : S) (filespace : ℕ) (names : Names) (versions those : List VersionLine) (held these : List HeldLine)
     (result : Result (List Doomed) Refusal) → those ≡ versions → these ≡ held → AnswersBy (λ all. all) result (map of_version those ++ map of_held these)
@@ -198,7 +258,8 @@ cleared-or : (filespace : ℕ) (names : Names) (objects : List Doomed) (result :
     → Clears filespace names (xs ++ ys) result
 cleared-or filespace names objects (Ok count) xs ys a b = (objects, (xs, ys, refl, a, b))
 cleared-or filespace names objects (Err e) xs ys a b =
-    stops-behind filespace xs ys e (asking-del filespace xs (objects-asks filespace names xs objects a)) (record { cause = inl b.cause; only = discarding-del filespace ys b.only })
+    let So : Deed → Type 0 = IsUnlisted filespace names e in
+    stops-behind filespace So So xs ys e (λ d is. is) (objects-asks filespace names xs objects a) (record { cause = inl b.cause; only = discarding-before filespace ys b.only; met = inl b.cause })
 
 pub clears : {S : Type 0} (did : S → List Event → S → Type 0) → GoesOn did → (p q r : S) (filespace : ℕ) (names : Names) (objects those : List Doomed) (result : Result ℕ Refusal) → those ≡ objects
     → Call did p q (λ events. ListsObjects filespace names events (Ok objects)) → Call did q r (λ events. Works (reason_of filespace) those events result)
@@ -214,24 +275,26 @@ pub row-removed : {S : Type 0} (did : S → List Event → S → Type 0) (p q : 
 row-removed did p q filespace name number d =
     does_alone did (λ events. RemovesRow filespace name events (Ok tt)) p q (Commit (deleting name filespace) [] (Ok number)) d (λ n listed. (n, number, refl)) (λ m. absurd cc)
 
-row-caused : (filespace n : ℕ) (name : List ℕ) (e : Refusal) → IsCaused filespace (event n (Commit (deleting name filespace) [] (Err e)) ∷ []) (unremoved e)
-row-caused filespace n name e =
-    elim (is_kept_by e) as (λ b. is_kept_by e ≡ b → IsCaused filespace (event n (Commit (deleting name filespace) [] (Err e)) ∷ []) (if b then e else stopping e)) [
-      | true ↦ λ t. inr (inr (t, inl (name, refl)))
-      | false ↦ λ t. inl (stopped-by (event n (Commit (deleting name filespace) [] (Err e)) ∷ []) e (inl refl))
+-- what it came to that the row's own transaction was so refused
+row-kept : (filespace n : ℕ) (name : List ℕ) (e : Refusal) → Keeps filespace (event n (Commit (deleting name filespace) [] (Err e)) ∷ []) (unremoved e)
+row-kept filespace n name e =
+    let one : List Event = event n (Commit (deleting name filespace) [] (Err e)) ∷ [] in
+    elim (is_kept_by e) as (λ b. is_kept_by e ≡ b → Keeps filespace one (if b then e else stopping e)) [
+      | true ↦ λ t. record { cause = inr (inr (t, inl (name, refl))); only = row-del filespace n name (Err e); last = inr (n, name, refl) }
+      | false ↦ λ t. keeping filespace one (stopping e) (stopped-by one e (inl refl)) (row-del filespace n name (Err e))
     ] refl
 
 pub row-refused : {S : Type 0} (did : S → List Event → S → Type 0) (p q : S) (filespace : ℕ) (name : List ℕ) (e : Refusal) → Does did p q (Commit (deleting name filespace) [] (Err e))
     → Call did p q (λ events. RemovesRow filespace name events (Err (unremoved e)))
 row-refused did p q filespace name e d =
-    does_alone did (λ events. Stops filespace events (unremoved e)) p q (Commit (deleting name filespace) [] (Err e)) d
-    (λ n listed. record { cause = row-caused filespace n name e; only = row-del filespace n name (Err e) })
-    (λ m. wanting filespace [] (unremoved e) (ap unremoved (some-memory e (Commit (deleting name filespace) [] (Err e)) refl m)) tt)
+    does_alone did (λ events. Keeps filespace events (unremoved e)) p q (Commit (deleting name filespace) [] (Err e)) d
+    (λ n listed. row-kept filespace n name e)
+    (λ m. keeping filespace [] (unremoved e) (inl (ap unremoved (some-memory e (Commit (deleting name filespace) [] (Err e)) refl m))) tt)
 
 pub row-refused-by : {S : Type 0} (did : S → List Event → S → Type 0) (p q : S) (filespace : ℕ) (name : List ℕ) (asked : Asked) (e other : Refusal) → asked ≡ deleting name filespace → other ≡ unremoved e
     → Does did p q (Commit asked [] (Err e)) → Call did p q (λ events. RemovesRow filespace name events (Err other))
 row-refused-by did p q filespace name asked e other is same d =
-    subst (λ (x : Refusal). Call did p q (λ events. Stops filespace events x)) (sym same) (row-refused did p q filespace name e (subst (λ (a : Asked). Does did p q (Commit a [] (Err e))) is d))
+    subst (λ (x : Refusal). Call did p q (λ events. Keeps filespace events x)) (sym same) (row-refused did p q filespace name e (subst (λ (a : Asked). Does did p q (Commit a [] (Err e))) is d))
 
 pub removes : {S : Type 0} (did : S → List Event → S → Type 0) → GoesOn did → (p q r : S) (filespace : ℕ) (name : List ℕ) (number : ℕ)
     → Call did p q (λ events. RemovesRow filespace name events (Ok tt)) → Does did q r (Force (Ok number)) → Call did p r (λ events. Removes filespace name events (Ok tt))
@@ -240,19 +303,24 @@ removes did goes_on p q r filespace name number a d =
     (does_alone did (λ events. (m : ℕ) × (events ≡ event m (Force (Ok number)) ∷ [])) q r (Force (Ok number)) d (λ m listed. (m, refl)) (λ m. absurd cc))
     (λ xs ys f g. (f.0, f.1, g.0, number, ap (λ (es : List Event). es ++ ys) f.2 ∙ ap (λ (es : List Event). event f.0 (Commit (deleting name filespace) [] (Ok f.1)) ∷ es) g.1))
 
+-- these steps ended with a refusal that ends a process
+abbrev Unforced : (filespace : ℕ) → List Event → Refusal → Type 0
+Unforced filespace events e = IsStopped events e × AreDeleting filespace events
+
 pub unforced : {S : Type 0} (did : S → List Event → S → Type 0) → GoesOn did → (p q r : S) (filespace : ℕ) (name : List ℕ) (e : Refusal)
     → Call did p q (λ events. RemovesRow filespace name events (Ok tt)) → Does did q r (Force (Err e)) → Call did p r (λ events. Removes filespace name events (Err (stopping e)))
 unforced did goes_on p q r filespace name e a d =
-    call_then did goes_on (λ events. RemovesRow filespace name events (Ok tt)) (λ events. Stops filespace events (stopping e)) (λ events. Stops filespace events (stopping e)) p q r a
-    (does_alone did (λ events. Stops filespace events (stopping e)) q r (Force (Err e)) d
-    (λ m listed. record { cause = inl (stopped-by (event m (Force (Err e)) ∷ []) e (inl refl)); only = (inl (inr (Err e, refl)), tt) })
-    (λ m. wanting filespace [] (stopping e) (ap stopping (some-memory e (Force (Err e)) refl m)) tt))
-    (λ xs ys f g. stops-behind filespace xs ys (stopping e) (subst (AreDeleting filespace) (sym f.2) (row-del filespace f.0 name (Ok f.1))) g)
+    call_then did goes_on (λ events. RemovesRow filespace name events (Ok tt)) (λ events. Unforced filespace events (stopping e)) (λ events. Keeps filespace events (stopping e)) p q r a
+    (does_alone did (λ events. Unforced filespace events (stopping e)) q r (Force (Err e)) d
+    (λ m listed. (stopped-by (event m (Force (Err e)) ∷ []) e (inl refl), (inl (inr (Err e, refl)), tt)))
+    (λ m. (inl (ap stopping (some-memory e (Force (Err e)) refl m)), tt)))
+    (λ xs ys f g. keeping filespace (xs ++ ys) (stopping e) (stopped-behind xs ys (stopping e) g.0)
+    (del-append filespace xs ys (subst (AreDeleting filespace) (sym f.2) (row-del filespace f.0 name (Ok f.1))) g.1))
 
 pub unforced-by : {S : Type 0} (did : S → List Event → S → Type 0) → GoesOn did → (p q r : S) (filespace : ℕ) (name : List ℕ) (e other : Refusal) → other ≡ stopping e
     → Call did p q (λ events. RemovesRow filespace name events (Ok tt)) → Does did q r (Force (Err e)) → Call did p r (λ events. Removes filespace name events (Err other))
 unforced-by did goes_on p q r filespace name e other same a d =
-    subst (λ (x : Refusal). Call did p r (λ events. Stops filespace events x)) (sym same) (unforced did goes_on p q r filespace name e a d)
+    subst (λ (x : Refusal). Call did p r (λ events. Keeps filespace events x)) (sym same) (unforced did goes_on p q r filespace name e a d)
 
 -- ---- the whole
 
@@ -303,6 +371,7 @@ finished filespace names count xs ys ws f g (n, number, m, told, same) =
             (goes filespace names.name (event f.2.0 (Ask (query.Filespaces None) (Ok f.0))) ys n number m told);
       };
       only = del-append filespace (xs ++ ys) end (front-del filespace names count xs ys f g) (inr (inr (names.name, Ok number, refl)), (inl (inr (Ok told, refl)), tt));
+      place = tt;
     })
 
 -- a count, or the refusal that came after it
@@ -313,7 +382,29 @@ ended_by count (Err e) = Err e
 emptied-or : (filespace : ℕ) (names : Names) (count : ℕ) (result : Result (Unit {0}) Refusal) (ys ws : List Event) → Cleared filespace names ys count → Removes filespace names.name ws result
     → Empties filespace names (ys ++ ws) (ended_by count result)
 emptied-or filespace names count (Ok done) ys ws g h = (ys, ws, refl, g, h)
-emptied-or filespace names count (Err e) ys ws g h = stops-behind filespace ys ws e (cleared-del filespace names ys count g) h
+emptied-or filespace names count (Err e) ys ws g h = record {
+  cause = caused-behind filespace ys ws e h.cause;
+  only = del-append filespace ys ws (cleared-del filespace names ys count g) h.only;
+  order = elim h.last as (λ _. IsStopped (ys ++ ws) e ⊎ IsMissing (IsUnlisted filespace names e) (ys ++ ws) e ⊎ IsKept filespace names (ys ++ ws) e) [
+    | inl stopped ↦ inl (stopped-behind ys ws e stopped)
+    | inr refused ↦ inr (inr (count, (ys, ws, refl, g, refused)))
+  ];
+}
+
+-- before its own transaction
+pub unemptied : {S : Type 0} (did : S → List Event → S → Type 0) (p q : S) (filespace : ℕ) (names : Names) (e : Refusal) → Call did p q (λ events. Clears filespace names events (Err e))
+    → Call did p q (λ events. Empties filespace names events (Err e))
+unemptied did p q filespace names e a =
+    let So : Deed → Type 0 = IsUnlisted filespace names e in
+    so_call did (λ events. Stops filespace So events e) (λ events. Fails filespace names events e) p q a
+    (λ xs f. record {
+      cause = f.cause;
+      only = before-del filespace xs f.only;
+      order = elim f.met as (λ _. IsStopped xs e ⊎ IsMissing So xs e ⊎ IsKept filespace names xs e) [
+        | inl stopped ↦ inl stopped
+        | inr missing ↦ inr (inl missing)
+      ];
+    })
 
 pub empties : {S : Type 0} (did : S → List Event → S → Type 0) → GoesOn did → (p q r : S) (filespace : ℕ) (names : Names) (count : ℕ) (result : Result (Unit {0}) Refusal)
     → Call did p q (λ events. Clears filespace names events (Ok count)) → Call did q r (λ events. Removes filespace names.name events result)
@@ -326,8 +417,18 @@ deleted-or : (filespace : ℕ) (names : Names) (result : Result ℕ Refusal) (xs
 deleted-or filespace names (Ok count) xs ys f (us, ws, same, g, h) =
     subst (λ (es : List Event). FilespaceDeletion filespace es (Ok count)) (append_assoc xs us ws ∙ sym (ap (λ (es : List Event). xs ++ es) same)) (finished filespace names count xs us ws f g h)
 deleted-or filespace names (Err e) xs ys f h =
-    let r : Stops filespace (xs ++ ys) e = stops-behind filespace xs ys e (asking-del filespace xs (found-asks filespace xs names f)) h in
-    record { came = r.cause; only = r.only }
+    let asks : AreAsking xs = found-asks filespace xs names f in
+    record {
+      came = caused-behind filespace xs ys e h.cause;
+      only = del-append filespace xs ys (asking-del filespace xs asks) h.only;
+      place = elim h.order as (λ _. IsInPlace filespace (xs ++ ys) e) [
+        | inl stopped ↦ inl (stopped-behind xs ys e stopped)
+        | inr other ↦ (elim other as (λ _. IsInPlace filespace (xs ++ ys) e) [
+          | inl missing ↦ inr (inr (names, (xs, ys, refl, f, inl missing)))
+          | inr kept ↦ inr (inr (names, (xs, ys, refl, f, inr kept)))
+        ])
+      ];
+    }
 
 pub deletes : {S : Type 0} (did : S → List Event → S → Type 0) → GoesOn did → (p q r : S) (filespace : ℕ) (names : Names) (result : Result ℕ Refusal)
     → Call did p q (λ events. Finds filespace events (Ok names)) → Call did q r (λ events. Empties filespace names events result) → Call did p r (λ events. FilespaceDeletion filespace events result)
@@ -335,7 +436,16 @@ deletes did goes_on p q r filespace names result a b =
     call_then did goes_on (λ events. Found filespace events names) (λ events. Empties filespace names events result) (λ events. FilespaceDeletion filespace events result) p q r a b
     (λ xs ys f g. deleted-or filespace names result xs ys f g)
 
-pub delete-stopped : {S : Type 0} (did : S → List Event → S → Type 0) (p q : S) (filespace : ℕ) (e : Refusal) → Call did p q (λ events. Stops filespace events e)
+pub delete-stopped : {S : Type 0} (did : S → List Event → S → Type 0) (p q : S) (filespace : ℕ) (e : Refusal) → Call did p q (λ events. Finds filespace events (Err e))
     → Call did p q (λ events. FilespaceDeletion filespace events (Err e))
 delete-stopped did p q filespace e a =
-    so_call did (λ events. Stops filespace events e) (λ events. FilespaceDeletion filespace events (Err e)) p q a (λ xs f. record { came = f.cause; only = f.only })
+    let So : Deed → Type 0 = IsUnfound filespace e in
+    so_call did (λ events. Stops filespace So events e) (λ events. FilespaceDeletion filespace events (Err e)) p q a
+    (λ xs f. record {
+      came = f.cause;
+      only = before-del filespace xs f.only;
+      place = elim f.met as (λ _. IsInPlace filespace xs e) [
+        | inl stopped ↦ inl stopped
+        | inr missing ↦ inr (inl missing)
+      ];
+    })

@@ -28,7 +28,7 @@ use Rattle.steps.specs.Receipts.{receipts}
 use Rattle.machine.specs.Fits.{Fits, History, Own, inv, last}
 use Rattle.copy_attempts.specs.Attempts.{stopping}
 use Rattle.copy_attempts.specs.Outcomes.{MetBy}
-use Rattle.copy_runs.specs.Ends.{IsEnding, IsStopped, first_of, last_of}
+use Rattle.copy_runs.specs.Ends.{AreAsking, IsAsking, IsEnding, IsStopped, first_of, last_of}
 use Rattle.deletions.specs.declared.filespace.Names.{Names}
 use Rattle.deletions.specs.declared.objects.Doomed.{Doomed}
 use Rattle.deletions.specs.Discarding.{Handled, Handles, IsDiscarding, discards}
@@ -106,10 +106,46 @@ IsDeleting filespace d = IsEnding d ⊎ IsDiscarding (reason_of filespace) d ⊎
 abbrev pub AreDeleting : (filespace : ℕ) → List Event → Type 0
 AreDeleting filespace events = AllByRecursion (λ e. IsDeleting filespace e.deed) events
 
--- these steps ended with this refusal
-pub record Stops (filespace : ℕ) (events : List Event) (e : Refusal) : Type 0 where
+-- it asks, or discards objects of the filespace: so do the steps before its own transaction
+abbrev pub IsBefore : (filespace : ℕ) → Deed → Type 0
+IsBefore filespace d = IsAsking d ⊎ IsDiscarding (reason_of filespace) d
+
+abbrev pub AreBefore : (filespace : ℕ) → List Event → Type 0
+AreBefore filespace events = AllByRecursion (λ e. IsBefore filespace e.deed) events
+
+-- What is named isn't there: nothing was done but to ask, and one of the questions was answered so.
+abbrev pub IsMissing : (Deed → Type 0) → List Event → Refusal → Type 0
+IsMissing So events e = ((number_of e == 10) ≡ true) × AreAsking events × MetBy So events
+
+-- these steps ended with this refusal, before the filespace's own transaction: it ends a process, or a question was answered so
+pub record Stops (filespace : ℕ) (So : Deed → Type 0) (events : List Event) (e : Refusal) : Type 0 where
+  pub cause : IsCaused filespace events e
+  pub only : AreBefore filespace events
+  pub met : IsStopped events e ⊎ IsMissing So events e
+
+-- this question was so refused
+abbrev pub IsAnswer : Query → Refusal → Deed → Type 0
+IsAnswer q e d = d ≡ Ask q (Err e)
+
+-- the question for the filespaces was so refused; or this one isn't among those that were answered, or its node isn't there
+abbrev pub IsUnfound : (filespace : ℕ) → Refusal → Deed → Type 0
+IsUnfound filespace e d =
+    (d ≡ Ask (query.Filespaces None) (Err e))
+    ⊎ ((answer : Answer) × (lines : List FilespaceLine) × (d ≡ Ask (query.Filespaces None) (Ok answer)) × (answer.rows ≡ rows.Filespaces lines) × (names_in filespace lines ≡ Err e))
+
+-- the question for its versions was so refused, or the one for what is held in it
+abbrev pub IsUnlisted : (filespace : ℕ) → Names → Refusal → Deed → Type 0
+IsUnlisted filespace names e d = (d ≡ Ask (query.Versions names.node names.name) (Err e)) ⊎ (d ≡ Ask (query.Held filespace) (Err e))
+
+-- its own transaction was so refused, and is the only step
+abbrev pub IsRefused : (filespace : ℕ) → List Event → Refusal → Type 0
+IsRefused filespace events e = (n : ℕ) × (name : List ℕ) × (events ≡ event n (Commit (deleting name filespace) [] (Err e)) ∷ [])
+
+-- these steps ended with this refusal, which is that of its own transaction or ends a process
+pub record Keeps (filespace : ℕ) (events : List Event) (e : Refusal) : Type 0 where
   pub cause : IsCaused filespace events e
   pub only : AreDeleting filespace events
+  pub last : IsStopped events e ⊎ IsRefused filespace events e
 
 -- ---- parts
 
@@ -119,7 +155,7 @@ Answered q events answer = (n : ℕ) × (events ≡ event n (Ask q (Ok answer)) 
 
 abbrev pub Asks : (filespace : ℕ) → Query → List Event → Result Answer Refusal → Type 0
 Asks filespace q events (Ok answer) = Answered q events answer
-Asks filespace q events (Err e) = Stops filespace events e
+Asks filespace q events (Err e) = Stops filespace (IsAnswer q e) events e
 
 -- the filespaces were asked for, and the one with this number has these names
 abbrev pub Found : (filespace : ℕ) → List Event → Names → Type 0
@@ -128,17 +164,17 @@ Found filespace events names =
 
 abbrev pub Finds : (filespace : ℕ) → List Event → Result Names Refusal → Type 0
 Finds filespace events (Ok names) = Found filespace events names
-Finds filespace events (Err e) = Stops filespace events e
+Finds filespace events (Err e) = Stops filespace (IsUnfound filespace e) events e
 
 -- its versions were asked for
 abbrev pub ListsVersions : (filespace : ℕ) → Names → List Event → Result (List VersionLine) Refusal → Type 0
 ListsVersions filespace names events (Ok lines) = (answer : Answer) × Answered (query.Versions names.node names.name) events answer × (answer.rows ≡ rows.Versions lines)
-ListsVersions filespace names events (Err e) = Stops filespace events e
+ListsVersions filespace names events (Err e) = Stops filespace (IsUnlisted filespace names e) events e
 
 -- and what is held in it
 abbrev pub ListsHeld : (filespace : ℕ) → List Event → Result (List HeldLine) Refusal → Type 0
 ListsHeld filespace events (Ok lines) = (answer : Answer) × Answered (query.Held filespace) events answer × (answer.rows ≡ rows.Held lines)
-ListsHeld filespace events (Err e) = Stops filespace events e
+ListsHeld filespace events (Err e) = Stops filespace (IsAnswer (query.Held filespace) e) events e
 
 -- so these are its objects, the versions first
 abbrev pub Objects : (filespace : ℕ) → Names → List Event → List Doomed → Type 0
@@ -148,7 +184,7 @@ Objects filespace names events objects =
 
 abbrev pub ListsObjects : (filespace : ℕ) → Names → List Event → Result (List Doomed) Refusal → Type 0
 ListsObjects filespace names events (Ok objects) = Objects filespace names events objects
-ListsObjects filespace names events (Err e) = Stops filespace events e
+ListsObjects filespace names events (Err e) = Stops filespace (IsUnlisted filespace names e) events e
 
 -- they were discarded, as far as they were there
 abbrev pub Cleared : (filespace : ℕ) → Names → List Event → ℕ → Type 0
@@ -157,7 +193,7 @@ Cleared filespace names events count =
 
 abbrev pub Clears : (filespace : ℕ) → Names → List Event → Result ℕ Refusal → Type 0
 Clears filespace names events (Ok count) = Cleared filespace names events count
-Clears filespace names events (Err e) = Stops filespace events e
+Clears filespace names events (Err e) = Stops filespace (IsUnlisted filespace names e) events e
 
 -- its row went, and then all was made durable
 abbrev pub Removed : (filespace : ℕ) → (name : List ℕ) → List Event → Type 0
@@ -166,19 +202,29 @@ Removed filespace name events =
 
 abbrev pub RemovesRow : (filespace : ℕ) → (name : List ℕ) → List Event → Result (Unit {0}) Refusal → Type 0
 RemovesRow filespace name events (Ok done) = (n : ℕ) × (number : ℕ) × (events ≡ event n (Commit (deleting name filespace) [] (Ok number)) ∷ [])
-RemovesRow filespace name events (Err e) = Stops filespace events e
+RemovesRow filespace name events (Err e) = Keeps filespace events e
 
 abbrev pub Removes : (filespace : ℕ) → (name : List ℕ) → List Event → Result (Unit {0}) Refusal → Type 0
 Removes filespace name events (Ok done) = Removed filespace name events
-Removes filespace name events (Err e) = Stops filespace events e
+Removes filespace name events (Err e) = Keeps filespace events e
 
 -- both
 abbrev pub Emptied : (filespace : ℕ) → Names → List Event → ℕ → Type 0
 Emptied filespace names events count = Then (λ xs. Cleared filespace names xs count) (λ ws. Removed filespace names.name ws) events
 
+-- its objects were listed and discarded, and then its own transaction was so refused
+abbrev pub IsKept : (filespace : ℕ) → Names → List Event → Refusal → Type 0
+IsKept filespace names events e = (count : ℕ) × Then (λ xs. Cleared filespace names xs count) (λ ys. IsRefused filespace ys e) events
+
+-- these steps ended with this refusal: it ends a process; or one of the questions was so refused; or it is that of its own transaction, behind all that comes before it
+pub record Fails (filespace : ℕ) (names : Names) (events : List Event) (e : Refusal) : Type 0 where
+  pub cause : IsCaused filespace events e
+  pub only : AreDeleting filespace events
+  pub order : IsStopped events e ⊎ IsMissing (IsUnlisted filespace names e) events e ⊎ IsKept filespace names events e
+
 abbrev pub Empties : (filespace : ℕ) → Names → List Event → Result ℕ Refusal → Type 0
 Empties filespace names events (Ok count) = Emptied filespace names events count
-Empties filespace names events (Err e) = Stops filespace events e
+Empties filespace names events (Err e) = Fails filespace names events e
 
 -- ---- the row
 
@@ -208,7 +254,19 @@ abbrev pub Came : (filespace : ℕ) → List Event → Result ℕ Refusal → Ty
 Came filespace events (Ok count) = Deleted filespace events count
 Came filespace events (Err e) = IsCaused filespace events e
 
--- What it did, and that it asked, forced, discarded objects of the filespace and deleted its row, and no more.
+-- Where it was refused: the refusal ends a process; or the filespace wasn't found; or it was, and then a question for its objects was so refused, or, behind all that comes before it, its own transaction.
+abbrev pub IsInPlace : (filespace : ℕ) → List Event → Refusal → Type 0
+IsInPlace filespace events e =
+    IsStopped events e
+    ⊎ IsMissing (IsUnfound filespace e) events e
+    ⊎ ((names : Names) × Then (λ xs. Found filespace xs names) (λ ys. IsMissing (IsUnlisted filespace names e) ys e ⊎ IsKept filespace names ys e) events)
+
+abbrev pub HasPlace : (filespace : ℕ) → List Event → Result ℕ Refusal → Type 0
+HasPlace filespace events (Ok count) = Unit {0}
+HasPlace filespace events (Err e) = IsInPlace filespace events e
+
+-- What it did, that it asked, forced, discarded objects of the filespace and deleted its row, and no more, and where it was refused.
 pub record FilespaceDeletion (filespace : ℕ) (events : List Event) (result : Result ℕ Refusal) : Type 0 where
   pub came : Came filespace events result
   pub only : AreDeleting filespace events
+  pub place : HasPlace filespace events result

@@ -37,7 +37,7 @@ use Rattle.deletions.specs.declared.row.Went.{Went}
 use Rattle.deletions.specs.declared.row.Went.TheVariants as came
 use Rattle.deletions.specs.Discarding.{Handled, TriesBy, discards}
 use Rattle.deletions.specs.Dropping.{Emptied, IsTaking, doomed, drops, for_volume}
-use Rattle.deletions.specs.Filespaces.{Answered, is_kept_by, unremoved}
+use Rattle.deletions.specs.Filespaces.{Answered, IsAnswer, IsMissing, is_kept_by, unremoved}
 
 -- ---- what is asked
 
@@ -113,10 +113,29 @@ IsDeleting true file d = IsPlain file d ⊎ IsTaking file d
 abbrev pub AreDeleting : (discard : Bool) → ℕ → List Event → Type 0
 AreDeleting discard file events = AllByRecursion (λ e. IsDeleting discard file e.deed) events
 
--- these steps ended with this refusal
-pub record Stops (discard : Bool) (file : ℕ) (events : List Event) (e : Refusal) : Type 0 where
+-- these steps ended with this refusal: it ends a process, or this holds of them
+pub record Stops (discard : Bool) (file : ℕ) (Else : List Event → Type 0) (events : List Event) (e : Refusal) : Type 0 where
   pub cause : IsCaused file events e
   pub only : AreDeleting discard file events
+  pub place : IsStopped events e ⊎ Else events
+
+-- of none
+abbrev pub Never : List Event → Type 0
+Never events = ⊥
+
+-- the question for the volumes was so refused; or this one isn't among those that were answered
+abbrev pub IsUnfound : (file : ℕ) → Refusal → Deed → Type 0
+IsUnfound file e d =
+    (d ≡ Ask (query.Volumes None None) (Err e))
+    ⊎ ((answer : Answer) × (lines : List VolumeLine) × (d ≡ Ask (query.Volumes None None) (Ok answer)) × (answer.rows ≡ rows.Volumes lines) × (row_in file lines ≡ Err e))
+
+-- the volume wasn't found
+abbrev pub HasNotFound : (file : ℕ) → Refusal → List Event → Type 0
+HasNotFound file e events = IsMissing (IsUnfound file e) events e
+
+-- the question for what lies on it was so refused
+abbrev pub HasNotListed : (file : ℕ) → Refusal → List Event → Type 0
+HasNotListed file e events = IsMissing (IsAnswer (query.OnVolume file) e) events e
 
 -- ---- questions
 
@@ -131,7 +150,7 @@ Found file events row =
 
 abbrev pub Finds : ℕ → List Event → Result Row Refusal → Type 0
 Finds file events (Ok row) = Found file events row
-Finds file events (Err e) = Stops false file events e
+Finds file events (Err e) = Stops false file (HasNotFound file e) events e
 
 -- the copies on the volume were asked for
 abbrev pub Listed : ℕ → List Event → List CopyLine → Type 0
@@ -139,7 +158,7 @@ Listed file events lines = (answer : Answer) × Answered (query.OnVolume file) e
 
 abbrev pub Lists : ℕ → List Event → Result (List CopyLine) Refusal → Type 0
 Lists file events (Ok lines) = Listed file events lines
-Lists file events (Err e) = Stops false file events e
+Lists file events (Err e) = Stops false file (HasNotListed file e) events e
 
 -- ---- what lies on the volume
 
@@ -168,7 +187,7 @@ Taken false file lines events m = Handled (for_volume file) (map doomed lines) e
 
 abbrev pub Takes : (of_copy_pool : Bool) → ℕ → List CopyLine → List Event → Result Removed Refusal → Type 0
 Takes of_copy_pool file lines events (Ok m) = Taken of_copy_pool file lines events m
-Takes of_copy_pool file lines events (Err e) = Stops true file events e
+Takes of_copy_pool file lines events (Err e) = Stops true file Never events e
 
 -- by what the pool is for, as the question for the pools was answered
 abbrev pub TakenFrom : (pool file : ℕ) → List CopyLine → List Event → Removed → Type 0
@@ -177,7 +196,7 @@ TakenFrom pool file lines events m =
 
 abbrev pub TakesFrom : (pool file : ℕ) → List CopyLine → List Event → Result Removed Refusal → Type 0
 TakesFrom pool file lines events (Ok m) = TakenFrom pool file lines events m
-TakesFrom pool file lines events (Err e) = Stops true file events e
+TakesFrom pool file lines events (Err e) = Stops true file Never events e
 
 -- nothing went
 abbrev pub nothing : Removed
@@ -190,7 +209,7 @@ TakenOf (Some pool) file lines events m = TakenFrom pool file lines events m
 
 abbrev pub TakesOf : Option ℕ → ℕ → List CopyLine → List Event → Result Removed Refusal → Type 0
 TakesOf pool file lines events (Ok m) = TakenOf pool file lines events m
-TakesOf pool file lines events (Err e) = Stops true file events e
+TakesOf pool file lines events (Err e) = Stops true file Never events e
 
 -- with `discard` the copies were asked for and taken away
 abbrev pub Cleared : (discard : Bool) → ℕ → List Event → Removed → Type 0
@@ -199,7 +218,7 @@ Cleared true file events m = (lines : List CopyLine) × Then (λ xs. Listed file
 
 abbrev pub Clears : (discard : Bool) → ℕ → List Event → Result Removed Refusal → Type 0
 Clears discard file events (Ok m) = Cleared discard file events m
-Clears discard file events (Err e) = Stops discard file events e
+Clears discard file events (Err e) = Stops discard file (HasNotListed file e) events e
 
 -- ---- the row
 
@@ -224,10 +243,15 @@ RowGone asked events =
 abbrev pub IsRowStep : Asked → Deed → Type 0
 IsRowStep asked d = IsEnding d ⊎ ((answer : Result ℕ Refusal) × (d ≡ Commit asked [] answer))
 
+-- where it was tried last it was so refused
+abbrev pub IsRefusedLast : Asked → Refusal → List Event → Type 0
+IsRefusedLast asked e events = (number : ℕ) × Then (λ xs. Waited asked number xs) (λ ys. (n : ℕ) × (ys ≡ event n (Commit asked [] (Err e)) ∷ [])) events
+
 -- it was refused, or a wait was
 pub record RowKept (asked : Asked) (events : List Event) (e : Refusal) : Type 0 where
   pub cause : IsStopped events e ⊎ ((is_kept_by e ≡ true) × MetBy (λ d. d ≡ Commit asked [] (Err e)) events)
   pub only : AllByRecursion (λ x. IsRowStep asked x.deed) events
+  pub place : IsStopped events e ⊎ IsRefusedLast asked e events
 
 abbrev pub RemovesRow : Asked → List Event → Result (Unit {0}) Refusal → Type 0
 RemovesRow asked events (Ok done) = RowGone asked events
@@ -249,7 +273,7 @@ Ended file events = (n : ℕ) × (number : ℕ) × Then (λ xs. xs ≡ event n (
 
 abbrev pub Ends : ℕ → List Event → Result (Unit {0}) Refusal → Type 0
 Ends file events (Ok done) = Ended file events
-Ends file events (Err e) = Stops false file events e
+Ends file events (Err e) = Stops false file Never events e
 
 -- the row went, and then all was made durable and the volume was asked for
 abbrev pub RemovedRow : Row → ℕ → List Event → Type 0
@@ -257,15 +281,20 @@ RemovedRow row file events = Then (λ xs. RowGone (deleting row file) xs) (λ ys
 
 abbrev pub Removes : Row → ℕ → List Event → Result (Unit {0}) Refusal → Type 0
 Removes row file events (Ok done) = RemovedRow row file events
-Removes row file events (Err e) = Stops false file events e
+Removes row file events (Err e) = Stops false file (IsRefusedLast (deleting row file) e) events e
 
 -- both
 abbrev pub EmptiedRow : (discard : Bool) → Row → ℕ → List Event → Removed → Type 0
 EmptiedRow discard row file events m = Then (λ xs. Cleared discard file xs m) (λ ys. RemovedRow row file ys) events
 
+-- what lies on it couldn't be listed; or it was taken away, and then its own transaction was so refused
+abbrev pub HasNotGone : (discard : Bool) → Row → ℕ → Refusal → List Event → Type 0
+HasNotGone discard row file e events =
+    HasNotListed file e events ⊎ ((m : Removed) × Then (λ xs. Cleared discard file xs m) (λ ys. IsRefusedLast (deleting row file) e ys) events)
+
 abbrev pub Empties : (discard : Bool) → Row → ℕ → List Event → Result Removed Refusal → Type 0
 Empties discard row file events (Ok m) = EmptiedRow discard row file events m
-Empties discard row file events (Err e) = Stops discard file events e
+Empties discard row file events (Err e) = Stops discard file (HasNotGone discard row file e) events e
 
 -- ---- the table's row
 
@@ -298,7 +327,16 @@ abbrev pub Came : (discard : Bool) → ℕ → List Event → Result Removed Ref
 Came discard file events (Ok m) = Deleted discard file events m
 Came discard file events (Err e) = IsCaused file events e
 
--- What it did, and that it asked, forced and deleted the volume's row, and with `discard` discarded objects and dropped copies for it, and no more.
+-- Where it was refused: the refusal ends a process; or the volume wasn't found; or it was, and then what lies on it couldn't be listed, or, behind all that comes before it, its own transaction was so refused.
+abbrev pub IsInPlace : (discard : Bool) → (file : ℕ) → List Event → Refusal → Type 0
+IsInPlace discard file events e = IsStopped events e ⊎ HasNotFound file e events ⊎ ((row : Row) × Then (λ xs. Found file xs row) (λ ys. HasNotGone discard row file e ys) events)
+
+abbrev pub HasPlace : (discard : Bool) → (file : ℕ) → List Event → Result Removed Refusal → Type 0
+HasPlace discard file events (Ok m) = Unit {0}
+HasPlace discard file events (Err e) = IsInPlace discard file events e
+
+-- What it did, that it asked, forced and deleted the volume's row, and with `discard` discarded objects and dropped copies for it, and no more, and where it was refused.
 pub record VolumeDeletion (discard : Bool) (file : ℕ) (events : List Event) (result : Result Removed Refusal) : Type 0 where
   pub came : Came discard file events result
   pub only : AreDeleting discard file events
+  pub place : HasPlace discard file events result

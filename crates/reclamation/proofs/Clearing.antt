@@ -18,11 +18,12 @@ use Rattle.steps.proofs.Spending.{settled-append}
 use Rattle.steps.specs.Spent.{AreSettled}
 use Rattle.copy_runs.specs.declared.wanted.Moved.{Moved}
 use Rattle.copy_runs.specs.declared.wanted.Wanted.{Wanted}
-use Rattle.copy_runs.specs.Ends.{AreAsking, AreEnding, Finished, Finishes, IsStopped, Unanswered}
+use Rattle.copy_runs.specs.Ends.{AreAsking, AreEnding, Finished, Finishes, IsStopped, IsUnheld, Unanswered}
 use Rattle.copy_runs.specs.Runs.{AreOfThese, LeavesNone, Run}
 use Rattle.copy_runs.specs.Wanting.{IsIn}
 use Rattle.copy_runs.proofs.Ending.{stopped-behind}
 use Rattle.copy_runs.proofs.Outcomes.{in-before, in-behind, then-none}
+use Rattle.copy_runs.proofs.Unheld.{asking-unheld, ending-unheld, other-unheld, run-unheld, unheld-behind}
 use Rattle.copy_runs.proofs.Whole.{asks-begun, asks-unmade, ends-none, ends-settled, ends-unmade}
 use Rattle.reclamation.specs.Moving.{EntersOff, IsEnteredOff, into, moving}
 use Rattle.reclamation.specs.Reclaiming.{AreReclaiming, Breaks, Clears, ClearsAll, Emptied, IsReclaiming, IsUnopened, ListedThere, ListsThere, Turn, Turned, Turns, Works, both_moved, files_of, sum_of, tried_behind}
@@ -118,17 +119,21 @@ cause-behind pool xs ys e (inr h) = inr (unopened-behind pool xs ys e h)
 pub breaks-behind : (files : List ℕ) (pool : ℕ) (xs ys : List Event) (e : Refusal) → Clean files pool xs → Breaks files pool ys e → Breaks files pool (xs ++ ys) e
 breaks-behind files pool xs ys e a b = record {
   cause = cause-behind pool xs ys e b.cause;
+  unheld = unheld-behind xs ys e b.unheld;
   only = all-append (λ x. IsReclaiming files pool x.deed) xs ys a.only b.only;
   entries = off-append pool xs ys a.entries a.none_left b.entries;
   settled = λ leave. settled-append xs ys a.settled (b.settled leave);
   none_left = λ leave. then-none xs ys a.none_left (b.none_left leave);
 }
 
-breaks-clean : (files : List ℕ) (pool : ℕ) (xs : List Event) (e : Refusal) → IsStopped xs e → Clean files pool xs → Breaks files pool xs e
-breaks-clean files pool xs e h a = record { cause = inl h; only = a.only; entries = a.entries; settled = λ leave. a.settled; none_left = λ leave. a.none_left }
+memory-unheld : (xs : List Event) (e : Refusal) → e ≡ refused.Memory → IsUnheld xs e
+memory-unheld xs e is = other-unheld xs e (λ h busy. (let odd : refused.Memory ≡ refused.Busy h = sym is ∙ busy in cc))
+
+breaks-clean : (files : List ℕ) (pool : ℕ) (xs : List Event) (e : Refusal) → IsStopped xs e → IsUnheld xs e → Clean files pool xs → Breaks files pool xs e
+breaks-clean files pool xs e h unheld a = record { cause = inl h; unheld = unheld; only = a.only; entries = a.entries; settled = λ leave. a.settled; none_left = λ leave. a.none_left }
 
 breaks-wider : (some files : List ℕ) (pool : ℕ) (xs : List Event) (e : Refusal) → Within some files → Breaks some pool xs e → Breaks files pool xs e
-breaks-wider some files pool xs e within b = record { cause = b.cause; only = wider some files pool xs within b.only; entries = b.entries; settled = b.settled; none_left = b.none_left }
+breaks-wider some files pool xs e within b = record { cause = b.cause; unheld = b.unheld; only = wider some files pool xs within b.only; entries = b.entries; settled = b.settled; none_left = b.none_left }
 
 breaks-run : (files : List ℕ) (pool file : ℕ) (wanted : List Wanted) (xs : List Event) (e : Refusal) → IsIn file files → AreMoves pool wanted → Run wanted file xs (Err e) → Breaks files pool xs e
 breaks-run files pool file wanted xs e among all run = record {
@@ -136,6 +141,7 @@ breaks-run files pool file wanted xs e among all run = record {
     | inl stopped ↦ inl stopped
     | inr gone ↦ inr (gone.0, (file, gone.1.0, gone.1.1, gone.1.2, gone.1.3))
   ];
+  unheld = run-unheld wanted file xs e run;
   only = run-reclaims files pool file wanted xs among all run.only;
   entries = entries-off pool wanted xs all run.entries;
   settled = run.outcome.1;
@@ -167,12 +173,12 @@ pub clears-memory : {S : Type 0} (did : S → List Event → S → Type 0) (p q 
     → Call did p q (λ events. ListsThere file events (Ok lines)) → Call did p q (λ events. Clears pool old new file events (Err e))
 clears-memory did p q pool old new file lines e is a =
     so_call did (λ events. ListedThere file events lines) (λ events. Breaks (file ∷ []) pool events e) p q a
-    (λ xs h. breaks-clean (file ∷ []) pool xs e (inl is) (clean-asks (file ∷ []) pool xs (there-asks file xs lines h)))
+    (λ xs h. breaks-clean (file ∷ []) pool xs e (inl is) (memory-unheld xs e is) (clean-asks (file ∷ []) pool xs (there-asks file xs lines h)))
 
 pub clears-unlisted : {S : Type 0} (did : S → List Event → S → Type 0) (p q : S) (pool : ℕ) (old new : List Key) (file : ℕ) (e : Refusal) → Call did p q (λ events. ListsThere file events (Err e))
     → Call did p q (λ events. Clears pool old new file events (Err e))
 clears-unlisted did p q pool old new file e a =
-    so_call did (λ events. Unanswered events e) (λ events. Breaks (file ∷ []) pool events e) p q a (λ xs h. breaks-clean (file ∷ []) pool xs e h.0 (clean-asks (file ∷ []) pool xs h.1))
+    so_call did (λ events. Unanswered events e) (λ events. Breaks (file ∷ []) pool events e) p q a (λ xs h. breaks-clean (file ∷ []) pool xs e h.0 (asking-unheld xs e h.1 h.0) (clean-asks (file ∷ []) pool xs h.1))
 
 -- ---- several
 
@@ -281,7 +287,7 @@ pub clear-counted : {S : Type 0} (did : S → List Event → S → Type 0) → G
 clear-counted did on p q r pool files place file old mid new m k e memory l is a b =
     so_call did (λ events. Emptied pool (take (place + 1) files) old new events (both_moved m k)) (λ events. Breaks files pool events e) p r
     (emptied-next did on p q r pool files place file old mid new m k (both_moved m k) refl l is a b)
-    (λ xs f. breaks-clean files pool xs e (inl memory) (emptied-clean pool files (take (place + 1) files) old new xs (both_moved m k) (λ n i. in-taken files (place + 1) n i) f))
+    (λ xs f. breaks-clean files pool xs e (inl memory) (memory-unheld xs e memory) (emptied-clean pool files (take (place + 1) files) old new xs (both_moved m k) (λ n i. in-taken files (place + 1) n i) f))
 
 -- ---- and the end
 
@@ -294,7 +300,7 @@ pub works-unfinished : {S : Type 0} (did : S → List Event → S → Type 0) �
     → Call did p q (λ events. ClearsAll pool files [] events (Ok m)) → Call did q r (λ events. Finishes events (Err e)) → Call did p r (λ events. Works pool files events (Err e))
 works-unfinished did on p q r pool files m e a b =
     call_then did on (λ events. ClearsAll pool files [] events (Ok m)) (λ events. Finishes events (Err e)) (λ events. Breaks files pool events e) p q r a b
-    (λ xs ys f g. breaks-behind files pool xs ys e (emptied-clean pool files files [] f.0 xs m (λ n i. i) f.1) (breaks-clean files pool ys e g.0 (clean-ends files pool ys g.1)))
+    (λ xs ys f g. breaks-behind files pool xs ys e (emptied-clean pool files files [] f.0 xs m (λ n i. i) f.1) (breaks-clean files pool ys e g.0 (ending-unheld ys e g.1 g.0) (clean-ends files pool ys g.1)))
 
 pub works-broken : {S : Type 0} (did : S → List Event → S → Type 0) (p q : S) (pool : ℕ) (files : List ℕ) (e : Refusal) → Call did p q (λ events. ClearsAll pool files [] events (Err e))
     → Call did p q (λ events. Works pool files events (Err e))

@@ -47,7 +47,7 @@ pub asked-copies : (w : History) (actor : ℕ) (a b : Own) (n file : ℕ) (answe
 unfolding Says
 asked-copies w actor a b n file answer lines s is = told-on s.says.1.0 file (inv w n) answer lines s.says.1.1 is
 
-told-volumes : (log_length : ℕ) (v : Inv) (answer : Answer) (lines : List VolumeLine) → IsAnswer log_length (query.Volumes None None) v answer → answer.rows ≡ rows.Volumes lines
+pub told-volumes : (log_length : ℕ) (v : Inv) (answer : Answer) (lines : List VolumeLine) → IsAnswer log_length (query.Volumes None None) v answer → answer.rows ≡ rows.Volumes lines
     → lines ≡ volume_lines None None v.stores
 told-volumes log_length v answer lines h is =
     let told : rows.Volumes (volume_lines None None v.stores) ≡ h.0.rows = ap rows_told h.1 in

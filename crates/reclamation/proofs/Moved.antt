@@ -1,7 +1,12 @@
 -- What a move came to.
-use Rattle.std.proofs.Common.{◌≡◌, ◌⊎◌, inl, inr, ℕ, ◌+◌, ◌-◌, ◌^◌, ◌≤◌, ◌==◌, Bool, true, false, List, [], ◌∷◌, ◌++◌, map, None, Result, Ok, Err, IfOk, refl, sym, ap, ap₂, subst, ◌∙◌, arith}
+use Rattle.std.proofs.Common.{◌≡◌, ◌⊎◌, inl, inr, ℕ, ◌+◌, ◌-◌, ◌^◌, ◌≤◌, ◌==◌, Bool, true, false, List, [], ◌∷◌, ◌++◌, map, None, Result, Ok, Err, IfOk, refl, sym, ap, ap₂, subst, ◌∙◌, arith, Option, Some, if◌then◌else◌}
 use Rattle.std.proofs.lemmas.List.{append-nil}
+use Rattle.kinds.specs.Refusals.{number_of}
+use Rattle.kinds.specs.declared.pool.PoolKind.{PoolKind}
+use Rattle.kinds.specs.declared.pool.PoolKind.TheVariants as kind
+use Rattle.kinds.specs.declared.refusal.Holder.{Holder}
 use Rattle.kinds.specs.declared.refusal.Refusal.{Refusal}
+use Rattle.kinds.specs.declared.refusal.Refusal.TheVariants as refused
 use Rattle.inventory_answers.specs.declared.lines.PoolLine.{PoolLine}
 use Rattle.inventory_answers.specs.declared.lines.VolumeLine.{VolumeLine}
 use Rattle.inventory_answers.specs.declared.query.Query.TheVariants as query
@@ -13,14 +18,16 @@ use Rattle.inventory_work.specs.declared.lines.CopyLine.{CopyLine}
 use Rattle.space.specs.declared.aim.Aim.TheVariants as aim
 use Rattle.steps.proofs.Joining.{GoesOn, call_then}
 use Rattle.steps.specs.Calls.{Call, risen}
-use Rattle.steps.specs.Events.{Event, event}
+use Rattle.steps.specs.Events.{Event, event, Deed}
 use Rattle.steps.specs.Events.Deed.{Ask}
 use Rattle.machine.specs.Fits.{Step, inv, last}
 use Rattle.machine.proofs.Runs.{fits-first}
-use Rattle.copy_attempts.proofs.Facts.{all-append}
+use Rattle.copy_attempts.proofs.Facts.{all-append, met-before, met-behind}
+use Rattle.copy_attempts.specs.Outcomes.{MetBy}
+use Rattle.copy_pools.specs.Backups.{kind_of}
 use Rattle.copy_runs.specs.declared.wanted.Moved.{Moved}
 use Rattle.copy_runs.specs.declared.wanted.Wanted.{Wanted}
-use Rattle.copy_runs.specs.Ends.{AreAsking, IsStopped, last_of}
+use Rattle.copy_runs.specs.Ends.{AreAsking, IsStopped, last_of, IsUnheld}
 use Rattle.copy_runs.specs.Processes.{Completes, Ended, IsDoneAllAlong, Process}
 use Rattle.copy_runs.specs.Returning.{is_kept}
 use Rattle.copy_runs.specs.Runs.{IsCausedByOne, is_among}
@@ -30,9 +37,10 @@ use Rattle.copy_runs.proofs.Listing.{copy-listed}
 use Rattle.copy_runs.proofs.Returning.{held-all-along, held-wanted, placed-past}
 use Rattle.copy_runs.proofs.Risen.{call-rises}
 use Rattle.copy_runs.proofs.Told.{reaches}
+use Rattle.copy_runs.proofs.Unheld.{asking-unheld, other-unheld}
 use Rattle.copy_runs.proofs.Whole.{IsBegun, Told as ToldOfRun, asks-begun, asks-unmade, process-told}
 use Rattle.copy_pools.proofs.Missing.{asked-pools}
-use Rattle.reclamation.specs.Moving.{Allows, Begins, DataMove, GoesSo, IsAllowed, IsBarred, IsMovedOff, IsMoving, IsRefused, Listed, Told, goes, into, moving}
+use Rattle.reclamation.specs.Moving.{Allows, Begins, DataMove, GoesSo, IsAllowed, IsBarred, IsMovedOff, IsMoving, IsRefused, Listed, Told, goes, into, moving, TellsSo, both_primary, goes_from, home_of}
 use Rattle.reclamation.proofs.Beginning.{begins-asks}
 use Rattle.reclamation.proofs.Listing.{asked-copies, asked-volumes, copies_on}
 use Rattle.reclamation.proofs.Moves.{AreMoves, all-moves, asking-moving, caused, each-failed, entries-off, first-is, last-later, last-within, moving-in, only-moving}
@@ -101,13 +109,15 @@ allowed false file to x ys rest h = goes-so file to (Ok tt) x ys rest h
 -- ---- the whole
 
 came-of : (file to : ℕ) (x : Event) (xs zs : List Event) (lines : List CopyLine) (result : Result Moved Refusal) → Listed file (x ∷ []) lines → Allows (to == 0) file to xs (Ok tt) → AreAsking (x ∷ xs)
-    → ToldOfRun (map (moving to) lines) file (x ∷ xs) zs result → DataMove file to ((x ∷ xs) ++ zs) result
-came-of file to x xs zs lines (Ok m) h allows asks t =
+    → Completes (map (moving to) lines) file zs result → ToldOfRun (map (moving to) lines) file (x ∷ xs) zs result → DataMove file to ((x ∷ xs) ++ zs) result
+came-of file to x xs zs lines (Ok m) h allows asks g t =
     let p : Process (map (moving to) lines) file ((x ∷ xs) ++ zs) m = t.answers in
     let all : AreMoves to (map (moving to) lines) = all-moves to lines in
     record {
       came = record {
         failed = p.failed;
+        wanted = map (moving to) lines;
+        order = (x ∷ xs, zs, refl, (lines, refl, (x ∷ [], xs, refl, h, allows)), g);
         moved = p.moved;
         number = p.number;
         risen = p.risen;
@@ -121,11 +131,11 @@ came-of file to x xs zs lines (Ok m) h allows asks t =
       entries = entries-off to (map (moving to) lines) ((x ∷ xs) ++ zs) all
           (enters-append (map (moving to) lines) (x ∷ xs) zs (unmade-enters (map (moving to) lines) (x ∷ xs) (asks-unmade (x ∷ xs) asks)) (asks-begun (x ∷ xs) asks).none_left t.entries);
     }
-came-of file to x xs zs lines (Err e) h allows asks t =
+came-of file to x xs zs lines (Err e) h allows asks g t =
     let p : Ended (map (moving to) lines) file ((x ∷ xs) ++ zs) e = t.answers in
     let all : AreMoves to (map (moving to) lines) = all-moves to lines in
     record {
-      came = record { cause = cause-of file to (map (moving to) lines) ((x ∷ xs) ++ zs) e all p.cause; settled = p.settled; none_left = p.none_left };
+      came = record { cause = cause-of file to (map (moving to) lines) ((x ∷ xs) ++ zs) e all p.cause; unheld = p.unheld; settled = p.settled; none_left = p.none_left };
       only = all-append (λ e. IsMoving file to e.deed) (x ∷ xs) zs (asking-moving file to (x ∷ xs) asks) (only-moving file to (map (moving to) lines) zs all t.only);
       entries = entries-off to (map (moving to) lines) ((x ∷ xs) ++ zs) all
           (enters-append (map (moving to) lines) (x ∷ xs) zs (unmade-enters (map (moving to) lines) (x ∷ xs) (asks-unmade (x ∷ xs) asks)) (asks-begun (x ∷ xs) asks).none_left t.entries);
@@ -146,23 +156,65 @@ began file to wanted xs ys result asks (lines, is, (us, vs, same, a, t)) g =
     let x : Event = event a.0 (Ask (query.OnVolume file) (Ok a.1)) in
     let those : xs ≡ x ∷ vs = same ∙ ap (λ (es : List Event). es ++ vs) a.2 in
     let asking : AreAsking (x ∷ vs) = subst AreAsking those asks in
+    let done : Completes (map (moving to) lines) file ys result = subst (λ (ws : List Wanted). Completes ws file ys result) is g in
     subst (λ (es : List Event). DataMove file to (es ++ ys) result) (sym those)
-    (came-of file to x vs ys lines result (a.0, a.1, refl, a.3) t asking
-    (process-told (map (moving to) lines) file x vs ys result (asks-begun (x ∷ vs) asking) (subst (λ (ws : List Wanted). Completes ws file ys result) is g)))
+    (came-of file to x vs ys lines result (a.0, a.1, refl, a.3) t asking done (process-told (map (moving to) lines) file x vs ys result (asks-begun (x ∷ vs) asking) done))
 
-not-there : (file to : ℕ) (events : List Event) (e : Refusal) → IsRefused file to events e → IsStopped events e ⊎ IsBarred file to events e
-not-there file to events e (inl (inl h)) = inl h
-not-there file to events e (inl (inr h)) = inr (inl h)
-not-there file to events e (inr (other, lines, (us, vs, same, a, t))) =
+tells-so : (file to : ℕ) (e : Refusal) (events us vs : List Event) → AreAsking events → events ≡ us ++ vs → Told file to vs (Err e) → TellsSo file to events (Err e)
+tells-so file to e events us vs asks same (volumes, pools, so, (ps, qs, both, a, b)) =
+    let Volumes : Deed → Type 0 = (λ d. (answer : Answer) × (d ≡ Ask (query.Volumes None None) (Ok answer)) × (answer.rows ≡ rows.Volumes volumes)) in
+    let Pools : Deed → Type 0 = (λ d. (answer : Answer) × (d ≡ Ask (query.Pools None) (Ok answer)) × (answer.rows ≡ rows.Pools pools)) in
+    let one : MetBy Volumes ps = subst (λ (es : List Event). MetBy Volumes es) (sym a.2) (inl (a.1, refl, a.3)) in
+    let two : MetBy Pools qs = subst (λ (es : List Event). MetBy Pools es) (sym b.2) (inl (b.1, refl, b.3)) in (
+      asks,
+      volumes,
+      pools,
+      so,
+      subst (λ (es : List Event). MetBy Volumes es) (sym same) (met-behind Volumes us vs (subst (λ (es : List Event). MetBy Volumes es) (sym both) (met-before Volumes ps qs one))),
+      subst (λ (es : List Event). MetBy Pools es) (sym same) (met-behind Pools us vs (subst (λ (es : List Event). MetBy Pools es) (sym both) (met-behind Pools ps qs two))),
+    )
+
+not-there : (file to : ℕ) (events : List Event) (e : Refusal) → AreAsking events → IsRefused file to events e → IsStopped events e ⊎ IsBarred file to events e
+not-there file to events e asks (inl (inl h)) = inl h
+not-there file to events e asks (inl (inr h)) = inr (inl (h.0, h.1, asks))
+not-there file to events e asks (inr (other, lines, (us, vs, same, a, t))) =
     let x : Event = event a.0 (Ask (query.OnVolume file) (Ok a.1)) in
     let those : events ≡ x ∷ (vs ++ []) = same ∙ ap (λ (es : List Event). es ++ vs) a.2 ∙ ap (λ (es : List Event). x ∷ es) (sym (append-nil vs)) in
-    inr (inr (inl (other, subst (λ (es : List Event). GoesSo file to es (Err e)) (sym those) (goes-so file to (Err e) x vs [] t))))
+    inr (inr (inl (other, subst (λ (es : List Event). GoesSo file to es (Err e)) (sym those) (goes-so file to (Err e) x vs [] t), tells-so file to e events us vs asks same t)))
+
+-- what is named holds nothing
+abbrev IsFine : Result (Unit {0}) Refusal → Type 0
+IsFine (Ok done) = Unit {0}
+IsFine (Err e) = (h : Holder) → e ≡ refused.Busy h → ⊥
+
+both-fine : (from : PoolKind) (o : Option PoolKind) → IsFine (both_primary from o)
+both-fine from None = λ h is. absurd cc
+both-fine kind.Primary (Some kind.Primary) = tt
+both-fine kind.Copy (Some kind.Primary) = λ h is. absurd cc
+both-fine kind.Primary (Some kind.Copy) = λ h is. absurd cc
+both-fine kind.Copy (Some kind.Copy) = λ h is. absurd cc
+
+from-fine : (to : ℕ) (home : Option (ℕ × PoolKind)) (pools : List PoolLine) → IsFine (goes_from to home pools)
+from-fine to None pools = λ h is. absurd cc
+from-fine to (Some home) pools = elim (home.0 == to) as (λ b. IsFine (if b then Ok tt else both_primary home.1 (kind_of to pools))) [
+  | true ↦ tt
+  | false ↦ both-fine home.1 (kind_of to pools)
+]
+
+ten-fine : (e : Refusal) → (number_of e == 10) ≡ true → (h : Holder) → e ≡ refused.Busy h → ⊥
+ten-fine e ten h busy = (let odd : (number_of (refused.Busy h) == 10) ≡ true = subst (λ (x : Refusal). (number_of x == 10) ≡ true) busy ten in cc)
+
+begin-unheld : (file to : ℕ) (events : List Event) (e : Refusal) → AreAsking events → IsRefused file to events e → IsUnheld events e
+begin-unheld file to events e asks (inl (inl stopped)) = asking-unheld events e asks stopped
+begin-unheld file to events e asks (inl (inr h)) = other-unheld events e (ten-fine e h.0)
+begin-unheld file to events e asks (inr (other, lines, (us, vs, same, a, (volumes, pools, so, parts)))) =
+    other-unheld events e (subst (λ (r : Result (Unit {0}) Refusal). IsFine r) so (from-fine to (home_of file volumes pools) pools))
 
 refused-move : (file to : ℕ) (events : List Event) (e : Refusal) → Begins file to events (Err e) → DataMove file to events (Err e)
 refused-move file to events e h =
     let b : IsBegun events = asks-begun events h.1 in
     record {
-      came = record { cause = not-there file to events e h.0; settled = λ _. b.settled; none_left = λ _. b.none_left };
+      came = record { cause = not-there file to events e h.1 h.0; unheld = begin-unheld file to events e h.1 h.0; settled = λ _. b.settled; none_left = λ _. b.none_left };
       only = asking-moving file to events h.1;
       entries = entries-off to [] events (λ x i. absurd i) (unmade-enters [] events (asks-unmade events h.1));
     }

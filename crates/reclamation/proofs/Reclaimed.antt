@@ -1,8 +1,10 @@
 -- What a reclamation came to.
-use Rattle.std.proofs.Common.{◌≡◌, ◌⊎◌, inl, inr, ℕ, ◌+◌, ◌-◌, ◌^◌, ◌≤◌, Bool, true, false, List, [], ◌∷◌, ◌++◌, append_assoc, None, Result, Ok, Err, IfOk, refl, sym, ap, ap₂, subst, ◌∙◌, arith}
+use Rattle.std.proofs.Common.{◌≡◌, ◌⊎◌, inl, inr, ℕ, ◌+◌, ◌-◌, ◌^◌, ◌≤◌, Bool, true, false, List, [], ◌∷◌, ◌++◌, append_assoc, None, Result, Ok, Err, IfOk, refl, sym, ap, ap₂, subst, ◌∙◌, arith, ◌==◌}
 use Rattle.std.proofs.lemmas.Bool.{false≢true}
 use Rattle.std.proofs.lemmas.List.{append-nil}
+use Rattle.kinds.specs.Refusals.{number_of}
 use Rattle.kinds.specs.declared.refusal.Refusal.{Refusal}
+use Rattle.kinds.specs.declared.refusal.Refusal.TheVariants as refused
 use Rattle.inventory_answers.specs.declared.lines.PoolLine.{PoolLine}
 use Rattle.inventory_answers.specs.declared.query.Query.TheVariants as query
 use Rattle.inventory_answers.specs.declared.reply.Answer.{Answer}
@@ -18,8 +20,9 @@ use Rattle.steps.specs.Receipts.{made, receipts}
 use Rattle.machine.specs.Fits.{inv, last}
 use Rattle.machine.proofs.Runs.{fits-cut, fits-first, fits-rises}
 use Rattle.copy_attempts.proofs.Facts.{made-append}
+use Rattle.copy_attempts.specs.Outcomes.{MetBy}
 use Rattle.copy_runs.specs.declared.wanted.Moved.{Moved}
-use Rattle.copy_runs.specs.Ends.{AreAsking, Finished, IsStopped, last_of}
+use Rattle.copy_runs.specs.Ends.{AreAsking, Finished, IsStopped, last_of, IsUnheld}
 use Rattle.copy_runs.specs.Returning.{is_kept}
 use Rattle.copy_runs.specs.Runs.{copies_in, failing_in, is_among}
 use Rattle.copy_runs.specs.Wanting.{IsIn}
@@ -27,6 +30,7 @@ use Rattle.copy_runs.proofs.Outcomes.{copies-append, failing-append}
 use Rattle.copy_runs.proofs.Returning.{held-all-along, placed-past}
 use Rattle.copy_runs.proofs.Risen.{call-rises}
 use Rattle.copy_runs.proofs.Told.{reaches}
+use Rattle.copy_runs.proofs.Unheld.{asking-unheld, other-unheld}
 use Rattle.copy_runs.proofs.Whole.{IsFinish, asks-unmade, finish-is, reached-last}
 use Rattle.copy_pools.proofs.Missing.{asked-pools}
 use Rattle.reclamation.specs.Reclaiming.{Answered, AreMovedOff, BeginsPool, Begun, Breaks, Emptied, IsNotThere, IsRefusedPool, IsSequential, IsTold, IsUnopened, ListedFiles, Reclaimed, Reclamation, Turn, Turns, Works, files_of, is_sequential_in}
@@ -190,18 +194,31 @@ reclamation-of pool threshold files xs ys (Err e) begun broken =
     record {
       files = files;
       told = told-of pool threshold files xs ys begun;
-      came = record { cause = cause-of pool threshold (xs ++ ys) e b.cause; settled = b.settled; none_left = b.none_left };
+      came = record { cause = cause-of pool threshold (xs ++ ys) e b.cause; unheld = b.unheld; settled = b.settled; none_left = b.none_left };
       only = b.only;
       entries = b.entries;
     }
 
-not-there : (pool threshold : ℕ) (events : List Event) (e : Refusal) → IsRefusedPool pool threshold events e → IsStopped events e ⊎ IsNotThere pool threshold events e
-not-there pool threshold events e (inl (inl h)) = inl h
-not-there pool threshold events e (inl (inr h)) = inr (inl h)
-not-there pool threshold events e (inr (is, files, both)) =
+not-there : (pool threshold : ℕ) (events : List Event) (e : Refusal) → AreAsking events → IsRefusedPool pool threshold events e → IsStopped events e ⊎ IsNotThere pool threshold events e
+not-there pool threshold events e asks (inl (inl h)) = inl h
+not-there pool threshold events e asks (inl (inr h)) = inr (inl (h.0, h.1, asks))
+not-there pool threshold events e asks (inr (is, files, both)) =
     let o : Opening pool threshold files false events = opening-of pool threshold files false events both in
     let x : Event = event o.n (Ask (query.Eligible pool threshold) (Ok o.told)) in
-    inr (inr (inl (is, subst (λ (es : List Event). IsSequential pool es false) (sym o.both) (sequential-by pool false x o.m o.answer o.lines [] o.lines_are o.so))))
+    inr (inr (inl (
+      is,
+      subst (λ (es : List Event). IsSequential pool es false) (sym o.both) (sequential-by pool false x o.m o.answer o.lines [] o.lines_are o.so),
+      (
+        asks,
+        subst (λ (es : List Event). MetBy (λ d. (answer : Answer) × (lines : List PoolLine) × (d ≡ Ask (query.Pools None) (Ok answer)) × (answer.rows ≡ rows.Pools lines) × (is_sequential_in pool lines ≡ false)) es) (sym o.both)
+            (inr (inl (o.answer, o.lines, refl, o.lines_are, o.so))),
+      ),
+    )))
+
+begin-unheld : (pool threshold : ℕ) (events : List Event) (e : Refusal) → AreAsking events → IsRefusedPool pool threshold events e → IsUnheld events e
+begin-unheld pool threshold events e asks (inl (inl stopped)) = asking-unheld events e asks stopped
+begin-unheld pool threshold events e asks (inl (inr h)) = other-unheld events e (λ holder busy. (let odd : (number_of (refused.Busy holder) == 10) ≡ true = subst (λ (x : Refusal). (number_of x == 10) ≡ true) busy h.0 in cc))
+begin-unheld pool threshold events e asks (inr h) = other-unheld events e (λ holder busy. (let odd : refused.NotFound ≡ refused.Busy holder = sym h.0 ∙ busy in cc))
 
 refused-reclamation : (pool threshold : ℕ) (events : List Event) (e : Refusal) → BeginsPool pool threshold events (Err e) → Reclamation pool threshold events (Err e)
 refused-reclamation pool threshold events e h =
@@ -209,7 +226,7 @@ refused-reclamation pool threshold events e h =
     record {
       files = [];
       told = inl refl;
-      came = record { cause = not-there pool threshold events e h.0; settled = λ leave. clean.settled; none_left = λ leave. clean.none_left };
+      came = record { cause = not-there pool threshold events e h.1 h.0; unheld = begin-unheld pool threshold events e h.1 h.0; settled = λ leave. clean.settled; none_left = λ leave. clean.none_left };
       only = clean.only;
       entries = clean.entries;
     }

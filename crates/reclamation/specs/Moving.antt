@@ -29,8 +29,9 @@ use Rattle.steps.specs.Spent.{AreSettled}
 use Rattle.copy_pools.specs.Backups.{kind_of}
 use Rattle.copy_runs.specs.declared.wanted.Moved.{Moved}
 use Rattle.copy_runs.specs.declared.wanted.Wanted.{Wanted}
-use Rattle.copy_runs.specs.Ends.{AreAsking, AskedPools, IsEnding, IsStopped, IsUnlisted, Unanswered, first_of, last_of}
+use Rattle.copy_runs.specs.Ends.{AreAsking, AskedPools, IsEnding, IsStopped, IsUnheld, IsUnlisted, Unanswered, first_of, last_of}
 use Rattle.copy_runs.specs.Returning.{AreValid, Holds, is_kept}
+use Rattle.copy_runs.specs.Processes.{Completes}
 use Rattle.copy_runs.specs.Runs.{HasFailed, IsEntryFor, LeavesNone, copies_in, failing_in, is_among}
 
 -- ---- what is wanted
@@ -165,10 +166,12 @@ AreMoving file to events = AllByRecursion (λ e. IsMoving file to e.deed) events
 abbrev pub HasFailedOff : (file to : ℕ) → List Event → (object : ℕ) → Type 0
 HasFailedOff file to events object = (x : Wanted) × IsMove to x × HasFailed (x ∷ []) file events object
 
--- What it did where it answered counts: they are those of the copies in its receipts, and of objects that failed, which are no more than its steps that were so refused; the row; the pool
--- that was named is one to which that may move; and no ticket is left.
+-- What it did where it answered counts: what it asked for told it which moves are wanted, and one attempt for each of these came behind it; the counts are those of the copies in its receipts, and of
+-- objects that failed, which are no more than its steps that were so refused; the row; the pool that was named is one to which that may move; and no ticket is left.
 pub record MovedOff (file to : ℕ) (events : List Event) (m : Moved) : Type 0 where
   pub failed : List ℕ
+  pub wanted : List Wanted
+  pub order : Then (λ xs. Begins file to xs (Ok wanted)) (λ ys. Completes wanted file ys (Ok m)) events
   pub moved : m.moved ≡ copies_in (receipts events)
   pub number : length failed ≡ m.failed
   pub risen : m.failed ≤ failing_in events
@@ -178,17 +181,25 @@ pub record MovedOff (file to : ℕ) (events : List Event) (m : Moved) : Type 0 w
   pub settled : AreSettled events
   pub none_left : LeavesNone events
 
+-- Nothing but questions was asked, for the volumes and the pools among them, and so it is by the answers.
+abbrev pub TellsSo : (file to : ℕ) → List Event → Result (Unit {0}) Refusal → Type 0
+TellsSo file to events is =
+    AreAsking events × (volumes : List VolumeLine) × (pools : List PoolLine) × (goes file to volumes pools ≡ is)
+    × MetBy (λ d. (answer : Answer) × (d ≡ Ask (query.Volumes None None) (Ok answer)) × (answer.rows ≡ rows.Volumes volumes)) events
+    × MetBy (λ d. (answer : Answer) × (d ≡ Ask (query.Pools None) (Ok answer)) × (answer.rows ≡ rows.Pools pools)) events
+
 -- The volume isn't there; or the pool that was named isn't there, or is none to which that may move; or it wasn't there any more where a copy was to go there.
 abbrev pub IsBarred : (file to : ℕ) → List Event → Refusal → Type 0
 IsBarred file to events e =
-    (((number_of e == 10) ≡ true) × MetBy (λ d. d ≡ Ask (query.OnVolume file) (Err e)) events)
-    ⊎ (((to == 0) ≡ false) × GoesSo file to events (Err e))
+    (((number_of e == 10) ≡ true) × MetBy (λ d. d ≡ Ask (query.OnVolume file) (Err e)) events × AreAsking events)
+    ⊎ (((to == 0) ≡ false) × GoesSo file to events (Err e) × TellsSo file to events (Err e))
     ⊎ (((number_of e == 10) ≡ true) × ((object : ℕ) × (from : ℕ) × (placed : ℕ) × MetBy (λ d. d ≡ OpenCopy object (aim.Move from placed (into to from) false) file (Err e)) events))
 
--- What it did where it was refused: the refusal is want of memory, or one that ends a process and that one of its steps met, or what is named isn't there or doesn't go together; and no
--- ticket is left, unless none can be given back.
+-- What it did where it was refused: the refusal is want of memory, or one that ends a process and that one of its steps met, or what is named isn't there or doesn't go together; it waits for no
+-- transaction that a force would make durable; and no ticket is left, unless none can be given back.
 pub record Stopped (file to : ℕ) (events : List Event) (e : Refusal) : Type 0 where
   pub cause : IsStopped events e ⊎ IsBarred file to events e
+  pub unheld : IsUnheld events e
   pub settled : may_leave (Err e) ≡ false → AreSettled events
   pub none_left : may_leave (Err e) ≡ false → LeavesNone events
 

@@ -25,7 +25,7 @@ use Rattle.copy_attempts.specs.Attempts.{stopping}
 use Rattle.copy_attempts.specs.Outcomes.{MetBy, may_leave}
 use Rattle.steps.specs.Spent.{AreSettled}
 use Rattle.copy_runs.specs.declared.wanted.Moved.{Moved}
-use Rattle.copy_runs.specs.Ends.{AreAsking, AskedPools, Finished, IsEnding, IsStopped, IsUnlisted, Unanswered, first_of, last_of}
+use Rattle.copy_runs.specs.Ends.{AreAsking, AskedPools, Finished, IsEnding, IsStopped, IsUnheld, IsUnlisted, Unanswered, first_of, last_of}
 use Rattle.copy_runs.specs.Returning.{AreValid, Holds, is_kept}
 use Rattle.copy_runs.specs.Runs.{LeavesNone, Run, copies_in, failing_in, is_among}
 use Rattle.copy_runs.specs.Wanting.{IsIn}
@@ -151,9 +151,10 @@ IsUnopened pool events e =
     ((number_of e == 10) ≡ true)
     × ((file : ℕ) × (object : ℕ) × (from : ℕ) × (placed : ℕ) × MetBy (λ d. d ≡ OpenCopy object (aim.Move from placed (into pool from) false) file (Err e)) events)
 
--- These steps ended with this refusal: it has its cause, they were no others, and no ticket is left, unless none can be given back.
+-- These steps ended with this refusal: it has its cause, it waits for no transaction that a force would make durable, they were no others, and no ticket is left, unless none can be given back.
 pub record Breaks (files : List ℕ) (pool : ℕ) (events : List Event) (e : Refusal) : Type 0 where
   pub cause : IsStopped events e ⊎ IsUnopened pool events e
+  pub unheld : IsUnheld events e
   pub only : AreReclaiming files pool events
   pub entries : EntersOff pool events
   pub settled : may_leave (Err e) ≡ false → AreSettled events
@@ -216,17 +217,24 @@ pub record Reclaimed (pool threshold : ℕ) (files : List ℕ) (events : List Ev
   pub settled : AreSettled events
   pub none_left : LeavesNone events
 
+-- nothing but questions was asked, for the pools among them, and by the answer the pool isn't there or isn't sequential
+abbrev pub TellsOtherwise : (pool : ℕ) → List Event → Type 0
+TellsOtherwise pool events =
+    AreAsking events
+    × MetBy (λ d. (answer : Answer) × (lines : List PoolLine) × (d ≡ Ask (query.Pools None) (Ok answer)) × (answer.rows ≡ rows.Pools lines) × (is_sequential_in pool lines ≡ false)) events
+
 -- the pool isn't there or isn't sequential, or it wasn't there any more where a copy was to go there
 abbrev pub IsNotThere : (pool threshold : ℕ) → List Event → Refusal → Type 0
 IsNotThere pool threshold events e =
-    (((number_of e == 10) ≡ true) × MetBy (λ d. d ≡ Ask (query.Eligible pool threshold) (Err e)) events)
-    ⊎ ((e ≡ refused.NotFound) × IsSequential pool events false)
+    (((number_of e == 10) ≡ true) × MetBy (λ d. d ≡ Ask (query.Eligible pool threshold) (Err e)) events × AreAsking events)
+    ⊎ ((e ≡ refused.NotFound) × IsSequential pool events false × TellsOtherwise pool events)
     ⊎ IsUnopened pool events e
 
--- What it did where it was refused: the refusal is want of memory, or one that ends a process and that one of its steps met, or the pool isn't there or isn't sequential; and no ticket is
--- left, unless none can be given back.
+-- What it did where it was refused: the refusal is want of memory, or one that ends a process and that one of its steps met, or the pool isn't there or isn't sequential; it waits for no transaction
+-- that a force would make durable; and no ticket is left, unless none can be given back.
 pub record Halted (pool threshold : ℕ) (events : List Event) (e : Refusal) : Type 0 where
   pub cause : IsStopped events e ⊎ IsNotThere pool threshold events e
+  pub unheld : IsUnheld events e
   pub settled : may_leave (Err e) ≡ false → AreSettled events
   pub none_left : may_leave (Err e) ≡ false → LeavesNone events
 
