@@ -165,7 +165,7 @@ module _ (file : ℕ) (m : Machine) (held : Held) (h new : History) (goes : Goes
     left = λ files l. k.left files (λ n ours. subst (λ f. Leaves f (files n)) (goes_standing (λ x. x ≡ file) h new n (not_theirs n ours) goes) (l n ours));
     sure = λ none. held_beside meaning (λ n. n ≡ file) held.vault (durable m.core) h new not_theirs goes (k.sure none);
     firm = beside (λ n. n ≡ file) m.contents h new (flat_map versions (left_open m.core)) all_away goes k.firm;
-    tickets = all_taken_away (λ n. n ≡ file) h new goes m.core.tickets unused.tickets k.tickets;
+    tickets = all_taken_away (λ n. n ≡ file) h new goes held.seats m.core.tickets unused.tickets k.tickets;
     image = λ _. subst (λ (i : Option Image). AllInProgress m.core held i new) (sym none) tt;
     backups = backed;
   }

@@ -1,5 +1,5 @@
 -- Bytes more in a ticket, and a ticket that is sealed: what holds of each.
-use Rattle.std.proofs.Common.{◌≡◌, ℕ, ◌+◌, ◌≤◌, true, false, cond, List, [], ◌∷◌, ◌++◌, map, length, Some, Result, Ok, refl, sym, ap, subst, ◌∙◌, arith}
+use Rattle.std.proofs.Common.{◌≡◌, ℕ, ◌+◌, ◌≤◌, Bool, true, false, cond, List, [], ◌∷◌, ◌++◌, map, length, Some, Result, Ok, refl, sym, ap, subst, ◌∙◌, arith}
 use Rattle.std.specs.Prelude.{IfSome}
 use Rattle.std.specs.List.{AllByRecursion, sum_by}
 use Rattle.std.specs.BTreeMap.{is_at}
@@ -21,9 +21,9 @@ use Rattle.hall.specs.declared.seat.Hashed.{Hashed}
 use Rattle.hall.specs.declared.seat.Seat.{Seat}
 use Rattle.hall.specs.Covered.{IsFilled, SpaceIsClear}
 use Rattle.hall.specs.Frames.{SyncedAll, WroteBehind, segments_of}
-use Rattle.hall.specs.Good.{HasTaken, IsFront}
+use Rattle.hall.specs.Good.{HasTaken, IsFirm, IsFront}
 use Rattle.hall.specs.Held.{AreSeatsOf, IsHashed, IsSeatOf, purpose_of}
-use Rattle.hall.specs.Taken.{HasSpace, MoreHashed, WholeHashed}
+use Rattle.hall.specs.Taken.{HasSpace, MoreHashed, SyncedUnless, WholeHashed}
 use Rattle.hall.proofs.Edited.{IsLike, StandsAmong}
 use Rattle.hall.proofs.Flagged.{in_pool, own_clear}
 
@@ -87,11 +87,11 @@ filled_more t bytes unsealed room f = record {
   some = f.some;
 }
 
-pub becomes_more : {T E : Type 0} (actor number : ℕ) (c : Core) (t : Ticket) (bytes : List ℕ) (done : T) → StandsAmong actor number t c.tickets → SpaceIsClear c → IsFilled t → t.is_sealed ≡ false
-    → (h new : History) → (let result : Result T E = Ok done in WroteBehind (object_of t.purpose) (length t.bytes) t.place.segments bytes result h new) → HasTaken h t → HasTaken new (took bytes t)
-becomes_more actor number c t bytes done among space f unsealed h new w taken = record {
+pub becomes_more : {T E : Type 0} (actor number : ℕ) (c : Core) (t : Ticket) (bytes : List ℕ) (done : T) → StandsAmong actor number t c.tickets → SpaceIsClear c → IsFilled t → (seats : List (ℕ × Seat)) → (h new : History)
+    → (IsFirm seats t → ⊥) → (let result : Result T E = Ok done in WroteBehind (object_of t.purpose) (length t.bytes) t.place.segments bytes result h new) → HasTaken seats h t → HasTaken seats new (took bytes t)
+becomes_more actor number c t bytes done among space f seats h new loose w taken = record {
   stands = w.took (in_pool t.place.pool t.place.segments (inventory c)) t.bytes (own_clear actor number c t among space) f.some refl taken.stands;
-  firm = λ is. absurd (false≢true (sym unsealed ∙ is));
+  firm = λ is. absurd (loose is);
 }
 
 pub seat_more : (k : ℕ) (s : Seat) (t : Ticket) (bytes : List ℕ) (after : Hashed) → s.is_sealed ≡ false → MoreHashed bytes s.hashed after → IsSeatOf k s t
@@ -115,16 +115,16 @@ front_new contents v (copying object aim) size bytes new = absurd (false≢true 
 
 -- ---- sealed
 
-pub synced_of : {T E : Type 0} (k : ℕ) (s : Seat) (t : Ticket) (result : Result T E) (h new : History) → IsSeatOf k s t → SyncedAll (segments_of s.places) result h new
-    → SyncedAll t.place.segments result h new
-synced_of k s t result h new is w = subst (λ l. SyncedAll l result h new) (segments_are k s t is) w
+pub synced_of : {T E : Type 0} (b : Bool) (k : ℕ) (s : Seat) (t : Ticket) (result : Result T E) (h new : History) → IsSeatOf k s t → SyncedUnless b (segments_of s.places) result h new
+    → SyncedUnless b t.place.segments result h new
+synced_of b k s t result h new is w = subst (λ l. SyncedUnless b l result h new) (segments_are k s t is) w
 
 pub filled_sealed : (t : Ticket) → length t.bytes ≡ t.size → IsFilled t → IsFilled (sealed t)
 filled_sealed t whole f = record { small = f.small; few = f.few; within = f.within; whole = λ is. whole; room = f.room; some = f.some }
 
-pub becomes_sealed : {T E : Type 0} (t : Ticket) (done : T) → length t.bytes ≡ t.size → IsFilled t → (h new : History)
-    → (let result : Result T E = Ok done in SyncedAll t.place.segments result h new) → HasTaken h t → HasTaken new (sealed t)
-becomes_sealed t done whole f h new w taken =
+pub becomes_sealed : {T E : Type 0} (t : Ticket) (done : T) (seats : List (ℕ × Seat)) → length t.bytes ≡ t.size → IsFilled t → (h new : History)
+    → (let result : Result T E = Ok done in SyncedAll t.place.segments result h new) → HasTaken seats h t → HasTaken seats new (sealed t)
+becomes_sealed t done seats whole f h new w taken =
     let segments : List Segment = t.place.segments in
     let stands : TookHave (InImage (reads new)) (object_of t.purpose) 0 segments t.bytes =
     took_same h new (object_of t.purpose) 0 segments t.bytes (each_any (λ (s : Segment). reads new s.file ≡ reads h s.file) segments (λ s. w.same s.file)) taken.stands in

@@ -18,6 +18,7 @@ use Rattle.inventory_rows.specs.version_groups.declared.versions.Version.{Versio
 use Rattle.inventory_rules.specs.Valid.{is_valid}
 use Rattle.vault.specs.Files.{IsOurs}
 use Rattle.machine.specs.State.{Ticket, object_of}
+use Rattle.hall.specs.declared.seat.Seat.{Seat}
 use Rattle.hall.specs.Good.{HasTaken}
 use Rattle.hall.proofs.Covering.{all_each}
 use Rattle.hall.proofs.Databases.{each_covered}
@@ -41,17 +42,17 @@ module _ (theirs : ℕ → Type 0) (h new : History) (goes : GoesOn theirs h new
     took_away object (suc number) segments (drop s.len (byte ∷ bytes)) away.1 t.1,
   )
 
-  taken_away : (t : Ticket) → AllByRecursion (λ s. ¬ theirs s.file) t.place.segments → HasTaken h t → HasTaken new t
-  taken_away t away taken = record {
+  taken_away : (seats : List (ℕ × Seat)) (t : Ticket) → AllByRecursion (λ s. ¬ theirs s.file) t.place.segments → HasTaken seats h t → HasTaken seats new t
+  taken_away seats t away taken = record {
     stands = took_away (object_of t.purpose) 0 t.place.segments t.bytes away taken.stands;
     firm = λ is_sealed. frames_carried (InStore h) (InStore new) (object_of t.purpose) 0 t.place.segments t.bytes
         (each_also (λ s. ¬ theirs s.file) (Carries (InStore h) (InStore new)) t.place.segments (λ s one piece long f. firm_beside theirs h new s.file s.offset piece one goes f) away)
         (taken.firm is_sealed);
   }
 
-  pub all_taken_away : (tickets : List Ticket) → AreAway tickets → AllByRecursion (HasTaken h) tickets → AllByRecursion (HasTaken new) tickets
-  all_taken_away [] away taken = tt
-  all_taken_away (t ∷ tickets) away taken = (taken_away t away.0 taken.0, all_taken_away tickets away.1 taken.1)
+  pub all_taken_away : (seats : List (ℕ × Seat)) (tickets : List Ticket) → AreAway tickets → AllByRecursion (HasTaken seats h) tickets → AllByRecursion (HasTaken seats new) tickets
+  all_taken_away seats [] away taken = tt
+  all_taken_away seats (t ∷ tickets) away taken = (taken_away seats t away.0 taken.0, all_taken_away seats tickets away.1 taken.1)
 
 -- ---- a run on files of the vault
 
@@ -78,9 +79,9 @@ module _ (h new : History) (goes : GoesOn IsOurs h new) where
 
   -- ---- tickets
 
-  pub all_taken_beside : (tickets : List Ticket) → AllByRecursion (λ t. AllByRecursion (λ s. 4 ≤ s.file) t.place.segments) tickets → AllByRecursion (HasTaken h) tickets
-      → AllByRecursion (HasTaken new) tickets
-  all_taken_beside tickets from taken =
-      all_taken_away IsOurs h new goes tickets
+  pub all_taken_beside : (seats : List (ℕ × Seat)) (tickets : List Ticket) → AllByRecursion (λ t. AllByRecursion (λ s. 4 ≤ s.file) t.place.segments) tickets → AllByRecursion (HasTaken seats h) tickets
+      → AllByRecursion (HasTaken seats new) tickets
+  all_taken_beside seats tickets from taken =
+      all_taken_away IsOurs h new goes seats tickets
       (each_also (λ (t : Ticket). AllByRecursion (λ s. 4 ≤ s.file) t.place.segments) (λ (t : Ticket). AllByRecursion (λ s. ¬ IsOurs s.file) t.place.segments) tickets
       (λ t each. each_also (λ (s : Segment). 4 ≤ s.file) (λ (s : Segment). ¬ IsOurs s.file) t.place.segments (λ s one. not_ours s.file one) each) from) taken

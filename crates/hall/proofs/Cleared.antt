@@ -118,7 +118,7 @@ module _ (m : Machine) (held : Held) (h new : History) (theirs : ℕ → Type 0)
     took_over object (suc n) segments (drop s.len (byte ∷ bytes)) apart.1 t.1,
   )
 
-  taken_over : (t : Ticket) → AllByRecursion (λ s. ¬ theirs s.file) t.place.segments → HasTaken h t → HasTaken new t
+  taken_over : (t : Ticket) → AllByRecursion (λ s. ¬ theirs s.file) t.place.segments → HasTaken held.seats h t → HasTaken held.seats new t
   taken_over t apart taken = record {
     stands = took_over (object_of t.purpose) 0 t.place.segments t.bytes apart taken.stands;
     firm = λ is_sealed. frames_carried (InStore h) (InStore new) (object_of t.purpose) 0 t.place.segments t.bytes
@@ -126,7 +126,7 @@ module _ (m : Machine) (held : Held) (h new : History) (theirs : ℕ → Type 0)
         (taken.firm is_sealed);
   }
 
-  all_over : (ts : List Ticket) → AllByRecursion (λ t. AllByRecursion (λ s. ¬ theirs s.file) t.place.segments) ts → AllByRecursion (HasTaken h) ts → AllByRecursion (HasTaken new) ts
+  all_over : (ts : List Ticket) → AllByRecursion (λ t. AllByRecursion (λ s. ¬ theirs s.file) t.place.segments) ts → AllByRecursion (HasTaken held.seats h) ts → AllByRecursion (HasTaken held.seats new) ts
   all_over [] apart taken = tt
   all_over (t ∷ ts) apart taken = (taken_over t apart.0 taken.0, all_over ts apart.1 taken.1)
 

@@ -30,7 +30,7 @@ use Rattle.hall.specs.declared.copying.Copied.TheVariants.{Unread, Lost, Written
 use Rattle.hall.specs.Copying.{BecomesCopied, Copies, CopiesFor, EndsCopied, IsCopyOf, IsFailed, ReadAndWrote, copy_refused, copying_refused_at}
 use Rattle.hall.specs.Frames.{segments_of}
 use Rattle.hall.specs.Covered.{IsFilled, is_later}
-use Rattle.hall.specs.Good.{Is, IsFront}
+use Rattle.hall.specs.Good.{Is, IsFront, is_firm_at}
 use Rattle.hall.specs.Held.{AreSeatsOf, Hall, Held, IsCore, IsSeatOf, purpose_of}
 use Rattle.hall.specs.Seats.{ended_at, own_seat, without_seat}
 use Rattle.hall.specs.Reading.{AreLost}
@@ -43,6 +43,7 @@ use Rattle.hall.proofs.Having.{found_has}
 use Rattle.hall.proofs.CopyTakes.{front_is, front_more, seat_copied, with_more, with_same, without_it}
 use Rattle.hall.proofs.Dropping.{core_gone, no_later}
 use Rattle.hall.proofs.Replacing.{dropped_at, replaced_at}
+use Rattle.hall.proofs.FirmSeats.{firm_set}
 use Rattle.hall.proofs.Edited.{StandsAmong, edited, own_has, seats_edited, some_is}
 use Rattle.hall.proofs.Ended.{ended_is, none_halted}
 use Rattle.hall.proofs.Looking.{GoesOnPending, looked_at, still_is}
@@ -291,7 +292,7 @@ module _ {S : Type 0} (told : S → Option History) (moment : S → ℕ) (faults
               step = inr (open_machine m is, inl (t, it.1, refl, to_machine m next is t it.2 refl (length bytes) long gone, record { core = refl; contents = refl }));
             },
             with_same told moment faults clock pends writes lies actor number hall store known.running soon found_copies object s.count (segments_of s.places) bytes Lost r m is s t it.2 it.3 refl refl refl
-                known.kept known.found copies_are (part m t) (part_is m t it.2 bytes long) refl (it.2.is_sealed ∙ known.unsealed)
+                known.kept known.found copies_are (part m t) (part_is m t it.2 bytes long) refl (it.2.is_sealed ∙ known.unsealed) (ap is_storing it.2.purpose ∙ known.further)
                 (own_has actor number t m.core.tickets it.3 IsFilled is.good.space.filled),
           )
 
@@ -368,7 +369,10 @@ module _ {S : Type 0} (told : S → Option History) (moment : S → ℕ) (faults
               );
             },
             with_more told moment faults clock pends writes lies actor number hall store known.running soon found_copies object s.count (segments_of s.places) bytes Written r m is s t it.2 it.3 refl refl refl
-                known.kept known.found copies_are (part m t) (part_is m t it.2 bytes long) refl (it.2.is_sealed ∙ known.unsealed) (filled m is t it.2 it.3) held.seats
+                known.kept known.found copies_are (part m t) (part_is m t it.2 bytes long) refl (it.2.is_sealed ∙ known.unsealed) (ap is_storing it.2.purpose ∙ known.further) (filled m is t it.2 it.3)
+                held.seats
+                (λ n firm.
+                sym (firm_set number n more.0.0 (record more.0.0 { count = more.0.0.count + length bytes; hashed = more.0.1 }) hall.held.seats more.0.2 refl) ∙ ap (is_firm_at n) (sym more.0.5) ∙ firm)
                 (seats_are m is t it.2 it.3 bytes count held long more) (room m is t it.2 it.3) (more_front m is t it.2 it.3),
           ))
 

@@ -1,5 +1,5 @@
 -- What a copy's ticket holds behind a piece that was read and written: of one state of the machine.
-use Rattle.std.proofs.Common.{append_assoc, ◌≡◌, ℕ, ◌+◌, ◌-◌, ◌≤◌, ◌^◌, zero, suc, true, false, List, [], ◌∷◌, ◌++◌, length, take, drop, Option, Some, None, Ok, refl, sym, ap, subst, ◌∙◌, arith}
+use Rattle.std.proofs.Common.{append_assoc, ◌≡◌, inl, inr, ℕ, ◌+◌, ◌-◌, ◌≤◌, ◌^◌, zero, suc, true, false, List, [], ◌∷◌, ◌++◌, length, take, drop, Option, Some, None, Ok, refl, sym, ap, subst, ◌∙◌, arith}
 use Rattle.std.specs.Prelude.{IfSome}
 use Rattle.std.specs.List.{AllByRecursion}
 use Rattle.std.proofs.Math.Seq.{take-add}
@@ -33,7 +33,7 @@ use Rattle.hall.specs.declared.seat.Seat.{Seat}
 use Rattle.hall.specs.Copying.{ReadAndWrote, written}
 use Rattle.hall.specs.Covered.{IsFilled}
 use Rattle.hall.specs.Frames.{WroteBehind, WroteIn, segments_of}
-use Rattle.hall.specs.Good.{HasTaken, Is, IsFront, IsGood, IsKept}
+use Rattle.hall.specs.Good.{HasTaken, Is, IsFirm, IsFront, IsGood, IsKept, is_firm_at}
 use Rattle.hall.specs.Held.{AreSeatsOf, Hall, IsHashed, IsSeatOf, purpose_of}
 use Rattle.hall.specs.Reading.{ReadsAny}
 use Rattle.hall.specs.Seats.{without_seat}
@@ -198,29 +198,35 @@ module _ {S : Type 0} (told : S → Option History) (moment : S → ℕ) (faults
 
     -- with another one in its place
     with_other : (f : Ticket → Ticket) (like : IsLike f) (filled : IsFilled (f t)) (front : IsFront m.contents (inventory m.core) (f t).purpose (f t).size (f t).bytes)
-        (becomes : (x n : History) → Wrote x n → IsKept (at_middle m) hall.held x → HasTaken x t → HasTaken n (f t)) (seats : List (ℕ × Seat)) → AreSeatsOf seats (edited actor number f m.core.tickets)
+        (becomes : (x n : History) → Wrote x n → IsKept (at_middle m) hall.held x → HasTaken hall.held.seats x t → HasTaken hall.held.seats n (f t)) (seats : List (ℕ × Seat))
+        (less : (n : ℕ) → is_firm_at n seats ≡ true → is_firm_at n hall.held.seats ≡ true) → AreSeatsOf seats (edited actor number f m.core.tickets)
         → Is told moment faults (record { store = store; held = record hall.held { seats = seats } }) (replaced_at actor number f (moment store) (faults store) m)
-    with_other f like filled front becomes seats are =
-        replaces told moment faults clock writes lies actor number middle store running r.rose r.since soon_after (at_middle m) is_middle t among Wrote wrote_in wrote_at f like filled front becomes seats are
+    with_other f like filled front becomes seats less are =
+        replaces told moment faults clock writes lies actor number middle store running r.rose r.since soon_after (at_middle m) is_middle t among Wrote wrote_in wrote_at f like filled front becomes seats less are
 
-    module _ (whole : written copied ≡ Ok tt) (unsealed : t.is_sealed ≡ false) (filled : IsFilled t) where
-      has_more : (x n : History) → Wrote x n → HasTaken x t → HasTaken n (took bytes t)
+    module _ (whole : written copied ≡ Ok tt) (unsealed : t.is_sealed ≡ false) (further : is_storing t.purpose ≡ false) (filled : IsFilled t) where
+      -- it is no new object's
+      loose : IsFirm hall.held.seats t → ⊥
+      loose (inl sealed) = false≢true (sym unsealed ∙ sealed)
+      loose (inr (new, firm)) = false≢true (sym further ∙ new)
+
+      has_more : (x n : History) → Wrote x n → HasTaken hall.held.seats x t → HasTaken hall.held.seats n (took bytes t)
       has_more x n w has =
-          becomes_more {T = Unit {0}} {E = ℕ} actor number m.core t bytes tt among is.good.space filled unsealed x n
+          becomes_more {T = Unit {0}} {E = ℕ} actor number m.core t bytes tt among is.good.space filled hall.held.seats x n loose
           (subst (λ k. WroteBehind (object_of t.purpose) (length t.bytes) t.place.segments bytes k x n) whole w.0) has
 
       -- it took the bytes
-      pub with_more : (seats : List (ℕ × Seat)) → AreSeatsOf seats (edited actor number (took p) m.core.tickets) → length t.bytes + length p ≤ t.size
+      pub with_more : (seats : List (ℕ × Seat)) → ((n : ℕ) → is_firm_at n seats ≡ true → is_firm_at n hall.held.seats ≡ true) → AreSeatsOf seats (edited actor number (took p) m.core.tickets) → length t.bytes + length p ≤ t.size
           → IsFront m.contents (inventory m.core) t.purpose t.size (t.bytes ++ p)
           → Is told moment faults (record { store = store; held = record hall.held { seats = seats } }) (replaced_at actor number (took p) (moment store) (faults store) m)
-      with_more seats are room front =
-          with_other (took p) (took_like p) (filled_more t p unsealed room filled) front (λ x n w k has. subst (λ b. HasTaken n (took b t)) (w.1 k) (has_more x n w has)) seats are
+      with_more seats less are room front =
+          with_other (took p) (took_like p) (filled_more t p unsealed room filled) front (λ x n w k has. subst (λ b. HasTaken hall.held.seats n (took b t)) (w.1 k) (has_more x n w has)) seats less are
 
       -- they were written in vain
-      kept_front : (x n : History) → Wrote x n → HasTaken x t → HasTaken n t
+      kept_front : (x n : History) → Wrote x n → HasTaken hall.held.seats x t → HasTaken hall.held.seats n t
       kept_front x n w has = record {
         stands = took_prefix (reads n) (object_of t.purpose) 0 t.place.segments t.bytes bytes (has_more x n w has).stands;
-        firm = λ sealed. absurd (false≢true (sym unsealed ∙ sealed));
+        firm = λ is. absurd (loose is);
       }
 
       pub with_same : Is told moment faults (record { store = store; held = hall.held }) (record m { moment = moment store; counts = faults store })
@@ -228,4 +234,4 @@ module _ {S : Type 0} (told : S → Option History) (moment : S → ℕ) (faults
           subst (λ ts. Is told moment faults (record { store = store; held = hall.held }) (record m { core = with_tickets ts m.core; moment = moment store; counts = faults store }))
           (edited_same actor number m.core.tickets)
           (with_other (λ u. u) same_like filled (own_has actor number t m.core.tickets among (λ u. IsFront m.contents (inventory m.core) u.purpose u.size u.bytes) is.good.bytes.fronts)
-          (λ x n w k has. kept_front x n w has) hall.held.seats (subst (AreSeatsOf hall.held.seats) (sym (edited_same actor number m.core.tickets)) is.core.tickets))
+          (λ x n w k has. kept_front x n w has) hall.held.seats (λ n firm. firm) (subst (AreSeatsOf hall.held.seats) (sym (edited_same actor number m.core.tickets)) is.core.tickets))

@@ -19,6 +19,7 @@ use Rattle.hall.specs.Seats.{ended_at, own_seat, without_seat}
 use Rattle.machine.specs.Alone.{with_contents}
 use Rattle.hall.specs.Steps.{Steps}
 use Rattle.hall.proofs.Ended.{ended_first, ended_has, ended_is, next_answers, of_absent, of_there}
+use Rattle.hall.proofs.FirmSeats.{all_less, firm_gone}
 use Rattle.hall.proofs.Lists.{each_kept, later_kept, pairs_kept}
 use Rattle.hall.proofs.Seating.{good_seated}
 use Rattle.hall.proofs.Stepping.{still_good}
@@ -68,7 +69,8 @@ good_gone actor number told m held g =
     (space_gone actor number c g.space)
     (numbers_gone actor number c g.numbers)
     (each_kept (λ t. IsFront m.contents (inventory c) t.purpose t.size t.bytes) stays c.tickets g.bytes.fronts)
-    (λ h taken. each_kept (HasTaken h) stays c.tickets taken)
+    (λ h taken.
+    all_less held.seats (without_seat number held).seats h (without actor (number ∷ []) c.tickets) (λ n firm. firm_gone number n held.seats firm) (each_kept (HasTaken held.seats h) stays c.tickets taken))
 
 pub core_gone : (actor number : ℕ) (h : Held) (c : Core) → IsCore h c → all_later is_later c.tickets ≡ true → is_some (own_seat actor number h) ≡ true
     → IsCore (without_seat number h) (dropping actor number c)

@@ -143,8 +143,8 @@ module _ (m : Machine) (held : Held) (h new : History) (goes : GoesOn IsOurs h n
   covered_over : HaveAll (InStore new) m.contents (covered m.core)
   covered_over = covered_beside h new goes m.contents (left_open m.core) (left_lawful m.core lawful) k.firm
 
-  taken_over : AllByRecursion (HasTaken new) m.core.tickets
-  taken_over = all_taken_beside h new goes m.core.tickets (files_from m.core numbers) k.tickets
+  taken_over : AllByRecursion (HasTaken held.seats new) m.core.tickets
+  taken_over = all_taken_beside h new goes held.seats m.core.tickets (files_from m.core numbers) k.tickets
 
   -- at every moment of the run, and before it
   safe_over : (moment : ℕ) (image : ℕ → List ℕ) → held.opened ≤ moment → moment ≤ now new → ImageAt new moment image → IsSafe m.contents m.core (acknowledged moment m.core.stamps) image

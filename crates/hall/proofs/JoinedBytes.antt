@@ -21,6 +21,7 @@ use Rattle.inventory_laws.proofs.Origins.{contained_holds, each_contained}
 use Rattle.machine.specs.Machine.{storing_contents, stored_by}
 use Rattle.machine.specs.State.{Core, Purpose, Ticket, copying, inventory, is_among, is_storing, object_of, storing}
 use Rattle.hall.specs.Covered.{IsDrawn, IsFilled, IsObject, NumbersAreDrawn, SpaceIsClear, WasThere, bring_others, inv_at}
+use Rattle.hall.specs.declared.seat.Seat.{Seat}
 use Rattle.hall.specs.Good.{HasBytes, HasTaken, IsFront, IsLawful}
 use Rattle.hall.proofs.ComeFrom.{each_found, objects_behind}
 use Rattle.hall.proofs.Joining.{IsPlacedBy, IsStored, Joins, Spent, behind, inventory_last, last, spent, valid_now, whole_at}
@@ -204,8 +205,8 @@ module _ (actor : ℕ) (x : Change) (numbers : List ℕ) (c : Core) (contents : 
     go false old (inl new) = of_new new
     go false old (inr there) = copied_bytes t t.purpose refl old s (subst (λ o. is_some (version o now) ≡ true) (sym is.object) there) ∙ ap next_contents is.object
 
-  pub brings : (h : History) → AllByRecursion (HasTaken h) c.tickets → BringsHave (InStore h) next_contents x
-  brings h taken = record {
+  pub brings : (h : History) (seats : List (ℕ × Seat)) → AllByRecursion (HasTaken seats h) c.tickets → BringsHave (InStore h) next_contents x
+  brings h seats taken = record {
     objects =
         each_also (λ (o : Known). (t : Ticket) × Spent actor numbers c t × IsStored t o) (λ (o : Known). (length (next_contents o.object) ≡ o.size) × (o.digest.0 ≡ sha256 (next_contents o.object))) (new_objects x)
         (λ o from. (
@@ -216,7 +217,7 @@ module _ (actor : ℕ) (x : Change) (numbers : List ℕ) (c : Core) (contents : 
         each_also (λ (e : ℕ × List Segment). (t : Ticket) × Spent actor numbers c t × IsPlacedBy c t e) (λ (e : ℕ × List Segment). FramesHave (InStore h) e.0 0 e.1 (next_contents e.0)) (placed_segments x)
         (λ e from.
         let t = from.0 in
-        let firm : FramesHave (InStore h) (object_of t.purpose) 0 t.place.segments t.bytes = (contained_holds (HasTaken h) c.tickets t from.1.there taken).firm from.1.is_sealed in
+        let firm : FramesHave (InStore h) (object_of t.purpose) 0 t.place.segments t.bytes = (contained_holds (HasTaken seats h) c.tickets t from.1.there taken).firm (inl from.1.is_sealed) in
         subst (λ o. FramesHave (InStore h) o 0 e.1 (next_contents e.0)) from.2.object
         (subst (λ s. FramesHave (InStore h) (object_of t.purpose) 0 s (next_contents e.0)) from.2.segments
         (subst (λ b. FramesHave (InStore h) (object_of t.purpose) 0 t.place.segments b) (placed_bytes e t from.1 from.2) firm))) j.places;

@@ -21,6 +21,7 @@ use Rattle.hall.proofs.FreedFiles.{none_new}
 use Rattle.hall.proofs.JoinedBytes.{bytes_joined}
 use Rattle.hall.proofs.JoinedCore.{core_doubted, core_waiting, joined_form}
 use Rattle.hall.proofs.JoinedFreed.{TakesAway}
+use Rattle.hall.proofs.FirmSeats.{firm_joined}
 use Rattle.hall.proofs.JoinedKept.{doubted_kept, lawful_joined, listed_joined, stamped_joined, waiting_kept}
 use Rattle.hall.proofs.JoinedNumbers.{numbers_joined}
 use Rattle.hall.proofs.JoinedSpace.{space_joined}
@@ -73,7 +74,7 @@ module _ {S : Type 0} (told : S → Option History) (moment : S → ℕ) (faults
           let image : IsImage m.core.base.number hall.held.vault.generation hall.held.vault.pending hall.held.job m.core.image = is.core.is_image none in
           subst (λ hl. IsKept waiting_at hl new) (sym (joined_form actor x numbers hall.held m.core is.core is.good.lawful joins is.good.numbers is.good.stamped.few vault))
           (waiting_kept actor x numbers m hall.held h new goes is.core k is.good.lawful is.good.stamped.few is.good.numbers is.good.space is.good.bytes joins (r.since (durable m.core) held) (joined before)
-          vault (r.held (durable m.core) held) r.pends image waiting_held.seats waiting_held.claims (is.core.fault ∙ none) (faults store) (moment store) (r.left (durable m.core) held))
+          vault (r.held (durable m.core) held) r.pends image waiting_held.seats (firm_joined x numbers vault hall.held) waiting_held.claims (is.core.fault ∙ none) (faults store) (moment store) (r.left (durable m.core) held))
 
   pub waiting_is : Joined (told hall.store) → (number : ℕ) → (let result : Result ℕ Refusal = Ok number in Told (told hall.store) (told store) (Waits meaning hall.held.vault e result (with_waiting meaning hall.held.vault e)))
       → Is told moment faults (record { store = store; held = waiting_held }) waiting_at
@@ -130,7 +131,7 @@ module _ {S : Type 0} (told : S → Option History) (moment : S → ℕ) (faults
             let held = k.sure (is.core.fault ∙ none) in
             subst (λ hl. IsKept doubted_at hl new) (sym form_of)
             (doubted_kept actor x numbers m hall.held h new goes is.core k is.good.lawful is.good.stamped.few is.good.numbers is.good.space is.good.bytes joins (r.since (durable m.core) held) (joined before)
-            file count doubted_vault doubted_held.seats doubted_held.claims (faults store) (moment store) (r.left (durable m.core) held))
+            file count doubted_vault doubted_held.seats (firm_joined x numbers doubted_vault hall.held) doubted_held.claims (faults store) (moment store) (r.left (durable m.core) held))
 
     pub doubted_is : Joined (told hall.store) → (why : Refusal) → (let result : Result ℕ Refusal = Err why in Told (told hall.store) (told store) (Waits meaning hall.held.vault e result doubted_vault))
         → Is told moment faults (record { store = store; held = doubted_held }) doubted_at

@@ -35,11 +35,12 @@ use Rattle.machine.specs.Machine.{durable, halting, storing_contents}
 use Rattle.machine.specs.State.{Core, Image, Machine, after, inventory, is_among, unforced, without}
 use Rattle.hall.specs.declared.seat.Seat.{Seat}
 use Rattle.hall.specs.Covered.{NumbersAreDrawn, SpaceIsClear, covered, databases, inv_at, is_any_reuse, left_open}
-use Rattle.hall.specs.Good.{AllInProgress, HasBytes, HasTaken, IsKept, IsLawful, IsListed, IsPayload, IsSafe, IsSoundWith, IsStamped, RecoversToOne, StandsOn, between}
+use Rattle.hall.specs.Good.{AllInProgress, HasBytes, HasTaken, IsKept, IsLawful, IsListed, IsPayload, IsSafe, IsSoundWith, IsStamped, RecoversToOne, StandsOn, between, is_firm_at}
 use Rattle.hall.specs.Held.{Held, IsCore, IsImage}
 use Rattle.hall.specs.Protected.{HadBackups, KeepsAllBackups}
 use Rattle.hall.proofs.BackupsAlike.{halted_keeps}
 use Rattle.hall.proofs.BackupsSpared.{durable_there, had_before, open_of, vault_keeps}
+use Rattle.hall.proofs.FirmSeats.{all_less}
 use Rattle.hall.proofs.Beside.{all_taken_beside, covered_beside, covered_since}
 use Rattle.hall.proofs.ComeFrom.{each_found}
 use Rattle.hall.proofs.Covering.{all_each}
@@ -147,15 +148,15 @@ module _ (actor : ℕ) (x : Change) (numbers : List ℕ) (m : Machine) (held : H
   later : held.opened ≤ now new
   later = let after : now h ≤ now new = goes_later IsOurs h new goes in omega (arith, k.since, after)
 
-  taken_over : AllByRecursion (HasTaken new) c.tickets
-  taken_over = all_taken_beside h new goes c.tickets (files_from c n) k.tickets
+  taken_over : AllByRecursion (HasTaken held.seats new) c.tickets
+  taken_over = all_taken_beside h new goes held.seats c.tickets (files_from c n) k.tickets
 
   left_over : AllByRecursion (HasAll (InStore new) contents) (left_open c)
   left_over = others_left (InStore new) (all_each (InStore new) m.contents (left_open c) (covered_beside h new goes m.contents (left_open c) (left_lawful c l) k.firm))
 
   behind_over : HasAll (InStore new) contents (behind actor x numbers c)
   behind_over =
-      have_after (InStore new) contents x (inventory c) (brings actor x numbers c m.contents l j n space g new taken_over)
+      have_after (InStore new) contents x (inventory c) (brings actor x numbers c m.contents l j n space g new held.seats taken_over)
       (last_left (HasAll (InStore new) contents) c left_over)
 
   firm_over : HaveAll (InStore new) contents (covered next)
@@ -202,24 +203,29 @@ module _ (actor : ℕ) (x : Change) (numbers : List ℕ) (m : Machine) (held : H
       vault_keeps h new next held.opened (open_of next (durable c) (now h) new (subst (Contains (left_open next)) (durable_last actor x numbers c few) (durable_there next)) since) goes held.job
       (joined (had_before IsOurs held.base held.opened h new goes k.since had))
 
-  tickets_over : AllByRecursion (HasTaken new) (without actor numbers c.tickets)
-  tickets_over = each_kept (HasTaken new) (λ t. not (is_among actor numbers t)) c.tickets taken_over
+  -- no more of those that stay are firm
+  abbrev pub AreLess : List (ℕ × Seat) → Type 0
+  AreLess seats = (n : ℕ) → is_firm_at n seats ≡ true → is_firm_at n held.seats ≡ true
+
+  tickets_over : (seats : List (ℕ × Seat)) → AreLess seats → AllByRecursion (HasTaken seats new) (without actor numbers c.tickets)
+  tickets_over seats less =
+      all_less held.seats seats new (without actor numbers c.tickets) less (each_kept (HasTaken held.seats new) (λ t. not (is_among actor numbers t)) c.tickets taken_over)
 
   -- ---- the call on the log failed
 
   halted_safe : (file faults : ℕ) (count : ℕ) (image : ℕ → List ℕ) → IsSafe contents next count image → IsSafe contents (halting file faults next) count image
   halted_safe file faults count image s = record { last = s.last; durable = s.durable; made = s.made; recovers = s.recovers; holds = s.holds }
 
-  pub doubted_kept : (file count : ℕ) (vault : State Inv) (seats : List (ℕ × Seat)) (claims : Claims) (counts : ℕ → ℕ) (moment : ℕ) → IsLeft (λ files. RecoversWithin meaning files (durable c)) new
+  pub doubted_kept : (file count : ℕ) (vault : State Inv) (seats : List (ℕ × Seat)) (less : AreLess seats) (claims : Claims) (counts : ℕ → ℕ) (moment : ℕ) → IsLeft (λ files. RecoversWithin meaning files (durable c)) new
       → IsKept (record { core = halting file count next; contents = contents; moment = moment; counts = counts }) (record held { vault = vault; seats = seats; claims = claims }) new
-  doubted_kept file count vault seats claims counts moment left = record {
+  doubted_kept file count vault seats less claims counts moment left = record {
     since = later;
     first = first_over;
     always = λ at image a b it. halted_safe file count (acknowledged at c.stamps) image (always_over at image a b it);
     left = one_over left;
     sure = λ none. absurd (no_fault none);
     firm = firm_over;
-    tickets = tickets_over;
+    tickets = tickets_over seats less;
     image = λ none. absurd (no_fault none);
     backups = λ had. halted_keeps new next file count held.opened held.job (backups_over had);
   }
@@ -230,7 +236,7 @@ module _ (actor : ℕ) (x : Change) (numbers : List ℕ) (m : Machine) (held : H
   -- ---- it waits for a force
 
   module _ (vault : State Inv) (held_next : IsHeld meaning vault (durable c) new) (pends : (snapshot : Inv) → IsPending meaning held.vault snapshot h → IsPending meaning vault snapshot new)
-      (is_image : IsImage c.base.number held.vault.generation held.vault.pending held.job c.image) (seats : List (ℕ × Seat)) (claims : Claims) where
+      (is_image : IsImage c.base.number held.vault.generation held.vault.pending held.job c.image) (seats : List (ℕ × Seat)) (less : AreLess seats) (claims : Claims) where
     abbrev then_held : Held
     then_held = record held { vault = vault; seats = seats; claims = claims }
 
@@ -281,7 +287,7 @@ module _ (actor : ℕ) (x : Change) (numbers : List ℕ) (m : Machine) (held : H
       left = one_over left;
       sure = λ _. subst (λ v. IsHeld meaning vault v new) (sym (durable_last actor x numbers c few)) held_next;
       firm = firm_over;
-      tickets = tickets_over;
+      tickets = tickets_over seats less;
       image = λ _. progress_over c.image is_image j.image (k.image none);
       backups = backups_over;
     }

@@ -47,6 +47,7 @@ pub mod Ended
 pub mod Ending
 pub mod Exact
 pub mod Firm
+pub mod FirmSeats
 pub mod Flagged
 pub mod Following
 pub mod Forced
@@ -55,6 +56,7 @@ pub mod Found
 pub mod Frames
 pub mod FreedFiles
 pub mod Fresh
+pub mod Hashing
 pub mod Having
 pub mod Imaged
 pub mod Imaging
@@ -96,6 +98,8 @@ pub mod RowsLeave
 pub mod Runs
 pub mod SamePool
 pub mod SealSteps
+pub mod Settling
+pub mod SyncedSeats
 pub mod Seating
 pub mod Sighted
 pub mod Sound

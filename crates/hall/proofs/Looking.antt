@@ -19,6 +19,7 @@ use Rattle.vault.specs.Vaults.{IsPending, State}
 use Rattle.vault.proofs.Goodness.{held_beside}
 use Rattle.machine.specs.Machine.{durable}
 use Rattle.machine.specs.State.{Image, Machine, Ticket, object_of}
+use Rattle.hall.specs.declared.seat.Seat.{Seat}
 use Rattle.hall.specs.Covered.{covered, inv_at}
 use Rattle.hall.specs.Good.{AllInProgress, HasTaken, Is, IsKept, IsSafe, Rise, StandsOn, WasSound}
 use Rattle.hall.specs.Held.{Hall, Held}
@@ -49,8 +50,8 @@ module _ (h new : History) (goes : GoesOn (λ f. ⊥) h new) where
   same_standing : standing new ≡ standing h
   same_standing = fun_ext (λ file. goes_standing (λ f. ⊥) h new file (λ none. none) goes)
 
-  taken_still : (t : Ticket) → HasTaken h t → HasTaken new t
-  taken_still t taken = record {
+  taken_still : (seats : List (ℕ × Seat)) (t : Ticket) → HasTaken seats h t → HasTaken seats new t
+  taken_still seats t taken = record {
     stands = subst (λ (s : ℕ → Standing). TookHave (λ file at piece. Stands (s file).bytes at piece) (object_of t.purpose) 0 t.place.segments t.bytes) (sym same_standing) taken.stands;
     firm = λ is_sealed. subst (λ (s : ℕ → Standing). FramesHave (λ file at piece. Firm (s file) at piece) (object_of t.purpose) 0 t.place.segments t.bytes) (sym same_standing) (taken.firm is_sealed);
   }
@@ -86,7 +87,7 @@ module _ (h new : History) (goes : GoesOn (λ f. ⊥) h new) where
       left = λ files l. k.left files (λ file ours. subst (λ f. Leaves f (files file)) (goes_standing (λ f. ⊥) h new file (λ none. none) goes) (l file ours));
       sure = λ none. held_beside meaning (λ f. ⊥) held.vault (durable m.core) h new (λ file ours no. no) goes (k.sure none);
       firm = beside (λ f. ⊥) m.contents h new (covered m.core) (each_of (λ s. ¬ ⊥) (λ s none. none) (covered m.core)) goes k.firm;
-      tickets = each_also (HasTaken h) (HasTaken new) m.core.tickets taken_still k.tickets;
+      tickets = each_also (HasTaken held.seats h) (HasTaken held.seats new) m.core.tickets (taken_still held.seats) k.tickets;
       image = λ none. image_still m.core.image (k.image none);
       backups = λ had. still_keeps h new m.core held.opened goes k.since held.job (k.backups (had_before (λ f. ⊥) held.base held.opened h new goes k.since had));
     }

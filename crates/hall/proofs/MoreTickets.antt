@@ -27,9 +27,10 @@ use Rattle.machine.specs.State.{Core, Place, Purpose, Ticket, copying, inventory
 use Rattle.hall.specs.declared.seat.Seat.{Seat}
 use Rattle.hall.specs.Covered.{IsClear, IsFilled, IsObject, IsVolume, LiesIn, NumbersAreDrawn, SpaceIsClear, all_space, are_apart_in, bring_others, is_later, with_segments}
 use Rattle.hall.specs.Drawn.{AreBelow, last_file, with_seat}
-use Rattle.hall.specs.Good.{HasTaken}
+use Rattle.hall.specs.Good.{HasTaken, IsFirm, is_firm_at}
 use Rattle.hall.specs.Held.{AreSeatsOf, Held, IsSeatOf}
 use Rattle.hall.proofs.Apart.{both_joined}
+use Rattle.hall.proofs.FirmSeats.{all_less, firm_more, none_firm}
 use Rattle.hall.proofs.PlacesChosen.{IsApartFrom, IsLawfulIn}
 use Rattle.hall.proofs.Seating.{seated_core}
 
@@ -65,6 +66,14 @@ seats_below next [] [] are below = tt
 seats_below next [] (u ∷ ts) are below = absurd are
 seats_below next (e ∷ seats) [] are below = absurd are
 seats_below next (e ∷ seats) (u ∷ ts) are below = (omega (arith, are.0.number, below.0), seats_below next seats ts are.1 below.1)
+
+-- the new one isn't firm, and of the others no more are
+pub opened_firm : (k next : ℕ) (s : Seat) (seats : List (ℕ × Seat)) (ts : List Ticket) → AreSeatsOf seats ts → AllByRecursion (λ t. t.number < next) ts → next ≡ k → s.is_firm ≡ false
+    → ((n : ℕ) → is_firm_at n (with_row k s seats) ≡ true → is_firm_at n seats ≡ true) × (is_firm_at next (with_row k s seats) ≡ false)
+opened_firm k next s seats ts are below at loose =
+    let rows = seats_below k seats ts are (subst (λ n. AllByRecursion (λ t. t.number < n) ts) at below) in
+    let same : (n : ℕ) → is_firm_at n (with_row k s seats) ≡ is_firm_at n seats = λ n. ap (is_firm_at n) (row_last k s seats rows) ∙ firm_more k n s seats loose in
+    (λ n firm. sym (same n) ∙ firm, ap (λ n. is_firm_at n (with_row k s seats)) at ∙ same k ∙ none_firm k seats rows)
 
 -- ---- numbers of files
 
@@ -238,16 +247,21 @@ module _ (c : Core) (t : Ticket) (file object number : ℕ) (places : List Place
     apart = space_apart s;
   }
 
-  pub taken_joins : (h : History) → AllByRecursion (HasTaken h) c.tickets → AllByRecursion (HasTaken h) (c.tickets ++ (t ∷ []))
-  taken_joins h taken =
-      both_joined (HasTaken h) c.tickets (t ∷ []) taken (
+  pub taken_joins : (seats next : List (ℕ × Seat)) → ((n : ℕ) → is_firm_at n next ≡ true → is_firm_at n seats ≡ true) → is_firm_at t.number next ≡ false → (h : History)
+      → AllByRecursion (HasTaken seats h) c.tickets → AllByRecursion (HasTaken next h) (c.tickets ++ (t ∷ []))
+  taken_joins seats next less loose h taken =
+      both_joined (HasTaken next h) c.tickets (t ∷ []) (all_less seats next h c.tickets less taken) (
         record {
           stands = subst (λ bytes. TookHave (InImage (reads h)) (object_of t.purpose) 0 t.place.segments bytes) (sym nothing) (none_stands (InImage (reads h)) (object_of t.purpose) 0 t.place.segments);
-          firm = λ sealed. absurd (false≢true (sym open_ ∙ sealed));
+          firm = λ is. absurd (isnt is);
         },
         tt,
       )
     where
+      isnt : IsFirm next t → ⊥
+      isnt (inl sealed) = false≢true (sym open_ ∙ sealed)
+      isnt (inr (new, firm)) = false≢true (sym loose ∙ firm)
+
       none_stands : (P : ℕ → ℕ → List ℕ → Type 0) (x n : ℕ) (segments : List Segment) → TookHave P x n segments []
       none_stands P x n [] = refl
       none_stands P x n (s ∷ segments) = tt

@@ -50,7 +50,7 @@ use Rattle.machine.specs.Alone.{behind, with_contents, AreBytes}
 use Rattle.hall.specs.Steps.{IsTrusted, Steps}
 use Rattle.hall.proofs.Dropping.{no_later}
 use Rattle.hall.proofs.Ended.{ended_first, ended_has, ended_is, first_answers, next_answers, none_halted}
-use Rattle.hall.proofs.MoreTickets.{fresh_ticket}
+use Rattle.hall.proofs.MoreTickets.{fresh_ticket, opened_firm}
 use Rattle.hall.proofs.OpensNew.{core_joins, good_joins, least_file, no_unless, none_then, placed_ok, placing_all}
 use Rattle.hall.proofs.Spots.{choose_has, is_placed, place_by, place_if, spot_back}
 use Rattle.hall.proofs.Stepping.{still_good}
@@ -358,7 +358,8 @@ module _ {S : Type 0} (told : S → Option History) (moment : S → ℕ) (faults
                 (let least = least_file (told hall.store) m hall.held is.good fault is.core in omega (arith, least)) seat refl is.core.next_object;
             clock = is.clock;
             counts = is.counts;
-            good = good_joins (told hall.store) m hall.held is.good fault is.core actor (size_of object v) (copying object a) a 0 avoid o.spot held.seats held.claims c.next_object held.next_object held.next_ticket tied roomy at
+            good = good_joins (told hall.store) m hall.held is.good fault is.core actor (size_of object v) (copying object a) a 0 avoid o.spot held.seats
+                (opened_firm hall.held.next_ticket c.next_ticket (seated hall.held.vault.database) hall.held.seats c.tickets is.core.tickets is.good.numbers.below is.core.next_ticket refl) held.claims c.next_object held.next_object held.next_ticket tied roomy at
                 small o.few below_ticket (omega arith) (let low = is.good.numbers.bounds.1 in omega (arith, low)) there
                 (each_any (λ u. bring_others u (fresh_ticket c.next_ticket actor (size_of object v) (copying object a) place) ≡ true) c.tickets (λ u. copies_bring c.next_ticket actor (size_of object v) object a place u))
                 (version_front m.contents object a v);

@@ -37,7 +37,7 @@ use Rattle.hall.specs.declared.seat.Purpose.TheVariants.{Storing}
 use Rattle.hall.specs.declared.seat.Seat.{Seat}
 use Rattle.hall.specs.Covered.{IsNew, IsObject, NumbersAreDrawn, bring_others, inv_at}
 use Rattle.hall.specs.Drawn.{AreBelow, AreRoomy, IsOpenedNew, IsSpot, NotOpenedNew, WhyNoSeat, last_file, new_refused_in, new_request, new_seat, object_left, ticket_left, with_object, with_seat}
-use Rattle.hall.specs.Good.{Is, IsFront, IsGood, IsLawful}
+use Rattle.hall.specs.Good.{Is, IsFront, IsGood, IsLawful, is_firm_at}
 use Rattle.hall.specs.Held.{AreSeatsOf, Hall, Held, IsCore, IsSeatOf}
 use Rattle.hall.specs.Placed.{claim_of, hall_places, request}
 use Rattle.hall.specs.Seats.{ended_at}
@@ -48,7 +48,7 @@ use Rattle.hall.proofs.Apart.{both_joined}
 use Rattle.hall.proofs.Databases.{last_left, left_lawful}
 use Rattle.hall.proofs.Dropping.{no_later}
 use Rattle.hall.proofs.Ended.{ended_first, ended_has, ended_is, first_answers, next_answers, none_halted}
-use Rattle.hall.proofs.MoreTickets.{drawn_last, fresh_ticket, numbers_join, row_last, seats_below, seats_more, space_joins, taken_joins, to_mapped}
+use Rattle.hall.proofs.MoreTickets.{drawn_last, fresh_ticket, numbers_join, opened_firm, row_last, seats_below, seats_more, space_joins, taken_joins, to_mapped}
 use Rattle.hall.proofs.Seating.{good_seated, seated_core, seated_held, seated_machine}
 use Rattle.hall.proofs.Spots.{AreLawful, choose_has, files_below, is_placed, place_by, place_if, place_over, pool_there, spot_back, spot_lawful}
 use Rattle.hall.proofs.Stepping.{still_good}
@@ -139,7 +139,8 @@ module _ (told : Option History) (m : Machine) (held : Held) (good : IsGood told
       omega (arith, least, good.numbers.next_file.1)
 
   -- a ticket joins that took nothing, in places that placing chose
-  pub good_joins : (actor size : ℕ) (purpose : Purpose) (a : Aim) (prefer avoid : ℕ) (spot : ℕ × List Placed) (seats : List (ℕ × Seat)) (claims : Claims) (object o n : ℕ)
+  pub good_joins : (actor size : ℕ) (purpose : Purpose) (a : Aim) (prefer avoid : ℕ) (spot : ℕ × List Placed) (seats : List (ℕ × Seat))
+      (firm : ((k : ℕ) → is_firm_at k seats ≡ true → is_firm_at k held.seats ≡ true) × (is_firm_at m.core.next_ticket seats ≡ false)) (claims : Claims) (object o n : ℕ)
       → IsTied (inventory m.core) → AreRoomy spot.0 (inventory m.core).stores → IsSpot (request actor size a prefer avoid) (inventory m.core) held.claims spot
       → size < 2 ^ 44 → length spot.1 ≤ 2 ^ 23 → m.core.next_ticket + 1 < 2 ^ 62 → m.core.next_object ≤ object → object < 2 ^ 62
       → (let place : Place = record { pool = spot.0; segments = map (λ p. p.segment) spot.1 } in
@@ -147,7 +148,7 @@ module _ (told : Option History) (m : Machine) (held : Held) (good : IsGood told
       IsObject (seated_core (m.core.tickets ++ (t ∷ [])) (files_drawn (map (λ p. p.segment) spot.1) m.core.next_file) object (m.core.next_ticket + 1) m.core) purpose
       → AllByRecursion (λ u. bring_others u t ≡ true) m.core.tickets → IsFront m.contents (inventory m.core) purpose size []
       → IsGood told (seated_machine (m.core.tickets ++ (t ∷ [])) (files_drawn (map (λ p. p.segment) spot.1) m.core.next_file) object (m.core.next_ticket + 1) m) (seated_held seats claims o n held))
-  good_joins actor size purpose a prefer avoid spot seats claims object o n tied roomy at small few left more bound mine others front =
+  good_joins actor size purpose a prefer avoid spot seats firm claims object o n tied roomy at small few left more bound mine others front =
       let place : Place = record { pool = spot.0; segments = map (λ p. p.segment) spot.1 } in
       let t : Ticket = fresh_ticket m.core.next_ticket actor size purpose place in
       let file : ℕ = files_drawn (map (λ p. p.segment) spot.1) m.core.next_file in
@@ -160,7 +161,7 @@ module _ (told : Option History) (m : Machine) (held : Held) (good : IsGood told
       (space_joins m.core t file object (m.core.next_ticket + 1) spot.1 refl refl refl are.lawful are.apart are.some are.whole small fewer good.space)
       (numbers_join m.core t file object (m.core.next_ticket + 1) spot.1 refl refl refl are.lawful are.apart are.some are.whole small fewer good.numbers refl refl left refl files more bound mine (pool_there (request actor size a prefer avoid) (inventory m.core) held.claims spot at) others)
       (both_joined (λ u. IsFront m.contents (inventory m.core) u.purpose u.size u.bytes) m.core.tickets (t ∷ []) good.bytes.fronts (front, tt))
-      (taken_joins m.core t file object (m.core.next_ticket + 1) spot.1 refl refl refl are.lawful are.apart are.some are.whole small fewer)
+      (taken_joins m.core t file object (m.core.next_ticket + 1) spot.1 refl refl refl are.lawful are.apart are.some are.whole small fewer held.seats seats firm.0 firm.1)
 
 -- ---- the refusals
 
@@ -277,7 +278,9 @@ module _ {S : Type 0} (told : S → Option History) (moment : S → ℕ) (faults
                 (hall.held.next_object + 1) is.core is.good.numbers.below (let least = least_file (told hall.store) m hall.held is.good fault is.core in omega (arith, least)) seat refl (ap (λ (n : ℕ). n + 1) is.core.next_object);
             clock = is.clock;
             counts = is.counts;
-            good = good_joins (told hall.store) m hall.held is.good fault is.core actor size (storing c.next_object) (aim.New number) prefer 0 o.spot opened_held.seats opened_held.claims (c.next_object + 1)
+            good = good_joins (told hall.store) m hall.held is.good fault is.core actor size (storing c.next_object) (aim.New number) prefer 0 o.spot opened_held.seats
+                (opened_firm hall.held.next_ticket c.next_ticket (new_seat actor size (Storing hall.held.next_object) o.hashed o.spot) hall.held.seats c.tickets is.core.tickets is.good.numbers.below is.core.next_ticket refl)
+                opened_held.claims (c.next_object + 1)
                 opened_held.next_object opened_held.next_ticket tied roomy at (small_size number size v allowed) o.few below_ticket (omega arith) below_object
                 (omega (arith, is.good.numbers.next_object.0, is.good.numbers.next_object.1), omega arith, object_is_new c is.good.lawful is.good.numbers)
                 (each_also (λ u. IsObject c u.purpose) (λ u. bring_others u (fresh_ticket c.next_ticket actor size (storing c.next_object) place) ≡ true) c.tickets

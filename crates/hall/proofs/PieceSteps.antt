@@ -19,13 +19,15 @@ use Rattle.machine.specs.State.{Machine, Ticket, inventory, is_storing, object_o
 use Rattle.hall.specs.declared.seat.Seat.{Seat}
 use Rattle.hall.specs.Covered.{IsFilled}
 use Rattle.hall.specs.Frames.{WroteBehind, WroteIn}
-use Rattle.hall.specs.Good.{Is}
+use Rattle.hall.specs.Good.{Is, is_firm_at}
 use Rattle.hall.specs.Held.{AreSeatsOf, Hall, Held, IsSeatOf, purpose_of}
 use Rattle.hall.specs.Seats.{ended_at, own_seat}
 use Rattle.hall.specs.Steps.{Steps}
 use Rattle.hall.specs.Taken.{DroppedOne, HasRoom, TookMore, WroteFor, of_seat, piece_refused, write_refused_at}
 use Rattle.hall.proofs.Behind.{becomes_more, behind_of, filled_more, front_new, has_space, seat_more, segments_are, took_like}
 use Rattle.hall.proofs.Dropping.{no_later}
+use Rattle.hall.proofs.FirmSeats.{firm_set}
+use Rattle.hall.proofs.SyncedSeats.{takes_no_more}
 use Rattle.hall.proofs.Edited.{StandsAmong, edited, own_has, seats_edited, some_is}
 use Rattle.hall.proofs.Ended.{none_halted}
 use Rattle.hall.proofs.Replacing.{dropped_at, later_calls, loses, replaced_at, replaces}
@@ -170,7 +172,12 @@ module _ {S : Type 0} (told : S → Option History) (moment : S → ℕ) (faults
             replaces told moment faults clock writes lies actor number hall store known.running counts since soon m is t it.3 R wrote calls (took bytes) (took_like bytes)
                 (filled_more t bytes unsealed room filled)
                 (front_new m.contents (inventory m.core) t.purpose t.size (t.bytes ++ bytes) (subst (λ p. is_storing p ≡ true) (sym it.2.purpose) known.new))
-                (λ h after w kept has. becomes_more actor number m.core t bytes count it.3 is.good.space filled unsealed h after w has) new.seats are,
+                (λ h after w kept has.
+                becomes_more actor number m.core t bytes count it.3 is.good.space filled hall.held.seats h after (takes_no_more hall.held.seats h t filled (omega (arith, room, known.some)) has) w has)
+                new.seats
+                (λ n firm.
+                sym (firm_set number n more.0.0 (record more.0.0 { count = more.0.0.count + length bytes; hashed = more.0.1 }) hall.held.seats more.0.2 refl) ∙ ap (is_firm_at n) (sym more.0.5) ∙ firm)
+                are,
           ))
 
       lost_piece : (e : Refusal) (new : Held) → (let result : Result ℕ Refusal = Err e in Told (told hall.store) (told store) (WroteFor (row_at number hall.held.seats) bytes result))

@@ -1,5 +1,5 @@
 -- A step that makes calls within one ticket's frames: the ticket is dropped, or another one stands in its place.
-use Rattle.std.proofs.Common.{◌≡◌, ℕ, ◌+◌, ◌<◌, ◌≤◌, ◌^◌, Bool, true, not, ◌&&◌, ◌||◌, is_some, List, Option, Some, None, refl, sym, ap, subst, ◌∙◌, arith}
+use Rattle.std.proofs.Common.{◌≡◌, ◌≢◌, ℕ, ◌+◌, ◌<◌, ◌≤◌, ◌^◌, Bool, true, not, ◌&&◌, ◌||◌, is_some, List, [], ◌∷◌, Option, Some, None, refl, sym, ap, subst, ◌∙◌, arith}
 use Rattle.std.specs.Prelude.{◌==◌, nat_le, IfSome}
 use Rattle.std.specs.List.{AllByRecursion}
 use Rattle.kinds.specs.declared.segment.Segment.{Segment}
@@ -10,22 +10,24 @@ use Rattle.store_api.specs.Told.{Told}
 use Rattle.inventory_rows.specs.State.{Inv}
 use Rattle.inventory_rows.specs.pool_rows.PoolRows.{is_sequential}
 use Rattle.inventory_rows.specs.version_groups.Entries.{all_later}
+use Rattle.inventory_laws.proofs.Lists.{each_both}
 use Rattle.inventory_rules.specs.Segments.{are_clear}
 use Rattle.contents.specs.Reading.{lies_in_file}
 use Rattle.machine.specs.Machine.{DropsTicket, IsTicket, Later, dropping, with_tickets}
-use Rattle.machine.specs.State.{Core, Machine, Place, Purpose, Ticket, inventory, is_storing, object_of}
+use Rattle.machine.specs.State.{Core, Machine, Place, Purpose, Ticket, inventory, is_storing, object_of, without}
 use Rattle.hall.specs.declared.seat.Seat.{Seat}
 use Rattle.inventory_rows.specs.Search.{pool}
 use Rattle.hall.specs.Covered.{IsClear, IsFilled, IsObject, IsVolume, LiesIn, NumbersAreDrawn, SpaceIsClear, all_space, are_apart_in, bring_others, is_later}
 use Rattle.hall.specs.Frames.{WroteIn}
-use Rattle.hall.specs.Good.{HasTaken, Is, IsFront, IsGood, IsKept, WasSound}
+use Rattle.hall.specs.Good.{HasTaken, Is, IsFront, IsGood, IsKept, WasSound, is_firm_at}
 use Rattle.hall.specs.Held.{AreSeatsOf, Hall, Held, IsCore, IsSeatOf}
 use Rattle.hall.specs.Seats.{own_seat, without_seat}
 use Rattle.machine.specs.Alone.{with_contents}
 use Rattle.hall.specs.Taken.{DroppedOne}
 use Rattle.hall.proofs.Behind.{segments_are}
 use Rattle.hall.proofs.Dropping.{core_gone, good_gone}
-use Rattle.hall.proofs.Edited.{IsLike, StandsAmong, claims_edited, each_edited, each_put, each_replaced, edit, edit_actor, edit_number, edit_pair, edit_place, edit_purpose, edited, later_mapped, own_has, space_mapped}
+use Rattle.hall.proofs.Edited.{IsLike, StandsAmong, claims_edited, each_edited, each_put, each_replaced, edit, edit_actor, edit_number, edit_pair, edit_place, edit_purpose, edited, later_mapped, others_left, own_has, space_mapped}
+use Rattle.hall.proofs.FirmSeats.{all_less, firm_beside, has_less}
 use Rattle.hall.proofs.Seating.{kept_seated}
 use Rattle.hall.proofs.Stamping.{rise_later, rise_over}
 use Rattle.hall.proofs.Within.{LiesBeside, WritesBeside, files_of, goes_in, kept_at, kept_without, sound_back}
@@ -194,7 +196,8 @@ module _ {S : Type 0} (told : S → Option History) (moment : S → ℕ) (faults
   -- ---- another one stands in its place
 
   module _ (f : Ticket → Ticket) (like : IsLike f) (filled : IsFilled (f t)) (front : IsFront m.contents (inventory m.core) (f t).purpose (f t).size (f t).bytes)
-      (becomes : (h new : History) → R h new → IsKept m hall.held h → HasTaken h t → HasTaken new (f t)) (seats : List (ℕ × Seat)) where
+      (becomes : (h new : History) → R h new → IsKept m hall.held h → HasTaken hall.held.seats h t → HasTaken hall.held.seats new (f t)) (seats : List (ℕ × Seat))
+      (less : (n : ℕ) → is_firm_at n seats ≡ true → is_firm_at n hall.held.seats ≡ true) where
     kept_replaced : (o n : Option History) → Told o n R → IfSome o (λ h. now h ≡ moment hall.store) → IfSome o (λ h. WasSound hall.held.base hall.held.opened h → IsKept m hall.held h)
         → IfSome n (λ h. WasSound hall.held.base hall.held.opened h → IsKept (replaced_at actor number f (moment store) (faults store) m) (record hall.held { seats = seats }) h)
     kept_replaced None None r at kept = tt
@@ -204,10 +207,15 @@ module _ {S : Type 0} (told : S → Option History) (moment : S → ℕ) (faults
         let gone : Machine = record m { core = dropping actor number m.core } in
         let k : IsKept gone (without_seat number hall.held) new = still_kept h new at r kept sound in
         let was : IsKept m hall.held h = was_kept h new at r kept sound in
-        let own : HasTaken new (f t) = becomes h new r was (own_has actor number t m.core.tickets among (HasTaken h) was.tickets) in
+        let own : HasTaken hall.held.seats new (f t) = becomes h new r was (own_has actor number t m.core.tickets among (HasTaken hall.held.seats h) was.tickets) in
+        let others : AllByRecursion (HasTaken hall.held.seats new) (without actor (number ∷ []) m.core.tickets) =
+        each_both (λ u. u.number ≢ number) (HasTaken (without_seat number hall.held).seats new) (HasTaken hall.held.seats new) (without actor (number ∷ []) m.core.tickets)
+        (λ u other has. has_less (without_seat number hall.held).seats hall.held.seats new u (λ firm. firm_beside number u.number hall.held.seats other firm) has)
+        (others_left actor number t m.core.tickets among) k.tickets in
         kept_at (record m { core = edited_core actor number f m.core }) (record hall.held { seats = seats }) (moment store) (faults store) new
         (kept_seated (edited actor number f m.core.tickets) m.core.next_file m.core.next_object m.core.next_ticket gone (without_seat number hall.held) seats hall.held.claims hall.held.next_object
-        hall.held.next_ticket new k (each_put actor number t m.core.tickets among (HasTaken new) f k.tickets own))
+        hall.held.next_ticket new k
+        (all_less hall.held.seats seats new (edited actor number f m.core.tickets) less (each_put actor number t m.core.tickets among (HasTaken hall.held.seats new) f others own)))
 
     good_replaced : IsGood (told store) (replaced_at actor number f (moment store) (faults store) m) (record hall.held { seats = seats })
     good_replaced = record {

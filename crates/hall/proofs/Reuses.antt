@@ -184,7 +184,7 @@ module _ {S : Type 0} (told : S → Option History) (moment : S → ℕ) (faults
               let held = k.sure (is.core.fault ∙ none) in
               let image : IsImage m.core.base.number hall.held.vault.generation hall.held.vault.pending hall.held.job m.core.image = is.core.is_image none in
               waiting_kept actor x [] m hall.held h new goes is.core k is.good.lawful few is.good.numbers is.good.space is.good.bytes a.joins (r.since (durable m.core) held) (joined_backups actor x [] m hall.held is.core is.good.lawful few is.good.numbers a.joins none (λ file same. absurd cc) h k)
-              w (r.held (durable m.core) held) r.pends image waiting_held.seats waiting_held.claims (is.core.fault ∙ none) (faults mid) (moment mid) (r.left (durable m.core) held))
+              w (r.held (durable m.core) held) r.pends image waiting_held.seats (λ n firm. firm) waiting_held.claims (is.core.fault ∙ none) (faults mid) (moment mid) (r.left (durable m.core) held))
               is.good.kept;
         }
 
@@ -448,7 +448,7 @@ module _ {S : Type 0} (told : S → Option History) (moment : S → ℕ) (faults
                       (λ h new r to k.
                       let held = k.sure (is.core.fault ∙ none) in
                       doubted_kept actor x [] m hall.held h new (ours_alone hall.held.vault.generation h new r.goes) is.core k is.good.lawful few is.good.numbers is.good.space is.good.bytes a.joins (r.since (durable m.core) held) (joined_backups actor x [] m hall.held is.core is.good.lawful few is.good.numbers a.joins none (λ file same. absurd cc) h k)
-                      log count doubted_vault doubted_held.seats doubted_held.claims (faults mid) (moment mid) (r.left (durable m.core) held)) is.good.kept;
+                      log count doubted_vault doubted_held.seats (λ n firm. firm) doubted_held.claims (faults mid) (moment mid) (r.left (durable m.core) held)) is.good.kept;
                 };
               },
             )

@@ -1,7 +1,7 @@
 -- A ticket is sealed; or a call on one of its files fails, and it is dropped.
 use Rattle.std.proofs.Common.{◌≡◌, inl, inr, ℕ, ◌+◌, ◌<◌, ◌≤◌, ◌^◌, true, ◌++◌, length, Option, Some, None, Result, Ok, Err, refl, sym, ap, subst, ◌∙◌, arith}
 use Rattle.std.specs.Prelude.{◌==◌, IfErr, IfSome, OnOk}
-use Rattle.std.proofs.lemmas.Bool.{eqb-true}
+use Rattle.std.proofs.lemmas.Bool.{and_parts, eqb-true}
 use Rattle.kinds.specs.Refusals.{foremost}
 use Rattle.kinds.specs.declared.refusal.Refusal.{Refusal}
 use Rattle.kinds.specs.declared.refusal.Refusal.TheVariants as refusal
@@ -15,20 +15,23 @@ use Rattle.steps.specs.Events.{is_listed}
 use Rattle.steps.specs.Events.Deed.{Seal}
 use Rattle.machine.specs.Causes.{seal_refused}
 use Rattle.machine.specs.Machine.{IsTicket, ended, last_moment}
-use Rattle.machine.specs.State.{Machine, Ticket, sealed, sight}
+use Rattle.machine.specs.State.{Machine, Ticket, is_storing, sealed, sight}
 use Rattle.hall.specs.declared.seat.Seat.{Seat}
 use Rattle.hall.specs.Covered.{IsFilled}
-use Rattle.hall.specs.Frames.{SyncedAll, WroteIn}
-use Rattle.hall.specs.Good.{Is}
-use Rattle.hall.specs.Held.{AreSeatsOf, Hall, Held, IsSeatOf}
+use Rattle.hall.specs.Frames.{IsSettled}
+use Rattle.hall.specs.Good.{Is, IsFirm, is_firm_at}
+use Rattle.hall.specs.Held.{AreSeatsOf, Hall, Held, IsSeatOf, purpose_of}
 use Rattle.hall.specs.Seats.{ended_at, own_seat}
 use Rattle.hall.specs.Steps.{Steps}
-use Rattle.hall.specs.Taken.{DroppedOne, HasRoom, SealedOne, SyncedFor, seal_refused_at, unfilled}
-use Rattle.hall.proofs.Behind.{becomes_sealed, filled_sealed, has_space, seat_sealed, sealed_like, segments_are, synced_of}
+use Rattle.hall.specs.Taken.{DroppedOne, HasRoom, SealedOne, SyncedFor, SyncedUnless, is_settled, seal_refused_at, synced_file, unfilled}
+use Rattle.hall.proofs.Behind.{filled_sealed, has_space, seat_sealed, sealed_like, synced_of}
 use Rattle.hall.proofs.Dropping.{no_later}
 use Rattle.hall.proofs.Edited.{StandsAmong, edited, own_has, seats_edited, some_is}
 use Rattle.hall.proofs.Ended.{none_halted}
+use Rattle.hall.proofs.FirmSeats.{firm_set, firm_there}
 use Rattle.hall.proofs.Replacing.{dropped_at, later_calls, loses, replaced_at, replaces}
+use Rattle.hall.proofs.Settling.{settles, told_behind}
+use Rattle.hall.proofs.SyncedSeats.{becomes_settled, first_settled, wrote_unless}
 use Rattle.hall.proofs.TicketSteps.{begins_early, both_empty, none_refuses, own_there, seal_alike, seal_has, seat_there, ticket_is, unless_holds}
 use Rattle.hall.proofs.Within.{LiesBeside, WritesBeside, files_of, goes_in}
 
@@ -99,7 +102,7 @@ module _ {S : Type 0} (told : S → Option History) (moment : S → ℕ) (faults
         let it = its good.0 good.1 in
         told_map (told hall.store) (told store) (SyncedFor (Some known.seat) result) (GoesOn (λ file. 4 ≤ file))
         (λ h new w. goes_in it.0.place.segments h new (files_of actor number it.0 good.0.core it.3 good.1.good.numbers)
-        (subst (λ l. WroteIn l h new) (segments_are number known.seat it.0 it.2) w.wrote)) (did_for result store did)
+        (wrote_unless (is_settled known.seat) it.0 result h new (synced_of (is_settled known.seat) number known.seat it.0 result h new it.2 w))) (did_for result store did)
 
     -- ---- what came of them
 
@@ -113,31 +116,41 @@ module _ {S : Type 0} (told : S → Option History) (moment : S → ℕ) (faults
 
       -- the calls, as the ticket of the machine has them
       calls_for : {T E : Type 0} (result : Result T E) (t : Ticket) → IsSeatOf number known.seat t → Told (told hall.store) (told store) (SyncedFor (row_at number hall.held.seats) result)
-          → Told (told hall.store) (told store) (SyncedAll t.place.segments result)
+          → Told (told hall.store) (told store) (SyncedUnless (is_settled known.seat) t.place.segments result)
       calls_for result t seat did =
-          told_map (told hall.store) (told store) (SyncedFor (Some known.seat) result) (SyncedAll t.place.segments result)
-          (λ h new w. synced_of number known.seat t result h new seat w) (did_for result store did)
+          told_map (told hall.store) (told store) (SyncedFor (Some known.seat) result) (SyncedUnless (is_settled known.seat) t.place.segments result)
+          (λ h new w. synced_of (is_settled known.seat) number known.seat t result h new seat w) (did_for result store did)
+
+      -- it is firm where no call is made
+      is_firm : (t : Ticket) → IsSeatOf number known.seat t → is_settled known.seat ≡ true → IsFirm hall.held.seats t
+      is_firm t seat firm =
+          let parts = and_parts (is_storing (purpose_of known.seat.purpose)) known.seat.is_firm firm in
+          inr (ap is_storing seat.purpose ∙ parts.0, subst (λ n. is_firm_at n hall.held.seats ≡ true) (sym seat.number) (firm_there number known.seat hall.held.seats known.there parts.1))
 
       sealed_all : (new : Held) → (let result : Result (Unit {0}) Refusal = Ok tt in Told (told hall.store) (told store) (SyncedFor (row_at number hall.held.seats) result))
           → SealedOne number hall.held new → Steps told moment faults actor (Seal number (Ok tt)) hall (record { store = store; held = new })
       sealed_all new did more =
-          subst (λ h. Steps told moment faults actor (Seal number (Ok tt)) hall (record { store = store; held = h })) (sym more.1)
+          subst (λ h. Steps told moment faults actor (Seal number (Ok tt)) hall (record { store = store; held = h })) (sym more.2)
           (λ m is.
           let it = its m is in
           let t : Ticket = it.0 in
-          let same : known.seat ≡ more.0.0 = some_is known.seat more.0.0 (sym known.there ∙ more.0.2) in
+          let same : known.seat ≡ more.1.0 = some_is known.seat more.1.0 (sym known.there ∙ more.1.2) in
+          let last : Seat = record more.1.0 { hashed = more.1.1; is_sealed = true } in
           let filled = own_has actor number t m.core.tickets it.3 IsFilled is.good.space.filled in
           let full : length t.bytes ≡ t.size = it.2.count ∙ known.full ∙ sym it.2.size in
           let done : Result (Unit {0}) Refusal = Ok tt in
-          let R : History → History → Type 0 = SyncedAll t.place.segments done in
+          let R : History → History → Type 0 = SyncedUnless (is_settled known.seat) t.place.segments done in
           let calls : Told (told hall.store) (told store) R = calls_for done t it.2 did in
-          let wrote = λ (h : History) (after : History) (w : R h after). w.wrote in
+          let wrote = λ (h : History) (after : History) (w : R h after). wrote_unless (is_settled known.seat) t done h after w in
           let next : Machine = replaced_at actor number sealed (moment store) (faults store) m in
-          let are : AreSeatsOf new.seats (edited actor number sealed m.core.tickets) =
-          subst (λ l. AreSeatsOf l (edited actor number sealed m.core.tickets)) (sym more.0.4)
-          (seats_edited actor number sealed more.0.0 (record more.0.0 { hashed = more.0.1; is_sealed = true }) hall.held.seats m.core.tickets is.core.tickets
-          is.good.numbers.tickets more.0.2 (subst (λ (s : Seat). s.actor ≡ actor) same known.actor_is)
-          (λ u of_u. seat_sealed number more.0.0 u more.0.1 more.0.3 of_u)) in (
+          let are : AreSeatsOf more.0 (edited actor number sealed m.core.tickets) =
+          subst (λ l. AreSeatsOf l (edited actor number sealed m.core.tickets)) (sym more.1.4)
+          (seats_edited actor number sealed more.1.0 last hall.held.seats m.core.tickets is.core.tickets
+          is.good.numbers.tickets more.1.2 (subst (λ (s : Seat). s.actor ≡ actor) same known.actor_is)
+          (λ u of_u. seat_sealed number more.1.0 u more.1.1 more.1.3 of_u)) in
+          let settled : IfSome (told store) (λ h. IfSome (synced_file more.1.0) (IsSettled h)) =
+          told_behind (told hall.store) (told store) (SyncedFor (Some known.seat) done) (λ h. IfSome (synced_file more.1.0) (IsSettled h))
+          (λ h after w. subst (λ (s : Seat). IfSome (synced_file s) (IsSettled after)) same (first_settled Refusal (is_settled known.seat) known.seat.places tt h after w)) (did_for done store did) in (
             m.contents,
             next,
             refl,
@@ -146,9 +159,11 @@ module _ {S : Type 0} (told : S → Option History) (moment : S → ℕ) (faults
               later = later_calls told moment faults clock writes lies actor number hall store known.running counts since soon m is t it.3 R wrote calls next refl refl;
               step = (open_machine m is, record { core = refl; contents = refl });
             },
-            replaces told moment faults clock writes lies actor number hall store known.running counts since soon m is t it.3 R wrote calls sealed sealed_like
+            settles told moment faults (record { store = store; held = record hall.held { seats = more.0 } }) next (synced_file more.1.0)
+                (replaces told moment faults clock writes lies actor number hall store known.running counts since soon m is t it.3 R wrote calls sealed sealed_like
                 (filled_sealed t full filled) (own_has actor number t m.core.tickets it.3 _ is.good.bytes.fronts)
-                (λ h after w kept has. becomes_sealed {T = Unit {0}} {E = Refusal} t tt full filled h after w has) new.seats are,
+                (λ h after w kept has. becomes_settled Refusal (is_settled known.seat) hall.held.seats t tt full filled (is_firm t it.2) h after w has) more.0
+                (λ n firm. sym (firm_set number n more.1.0 last hall.held.seats more.1.2 refl) ∙ ap (is_firm_at n) (sym more.1.4) ∙ firm) are) settled,
           ))
 
       lost_seal : (e : Refusal) (new : Held) → (let result : Result (Unit {0}) Refusal = Err e in Told (told hall.store) (told store) (SyncedFor (row_at number hall.held.seats) result))
@@ -158,9 +173,9 @@ module _ {S : Type 0} (told : S → Option History) (moment : S → ℕ) (faults
           let it = its m is in
           let t : Ticket = it.0 in
           let failed : Result (Unit {0}) Refusal = Err e in
-          let R : History → History → Type 0 = SyncedAll t.place.segments failed in
+          let R : History → History → Type 0 = SyncedUnless (is_settled known.seat) t.place.segments failed in
           let calls : Told (told hall.store) (told store) R = calls_for failed t it.2 did in
-          let wrote = λ (h : History) (after : History) (w : R h after). w.wrote in
+          let wrote = λ (h : History) (after : History) (w : R h after). wrote_unless (is_settled known.seat) t failed h after w in
           let next : Machine = dropped_at actor number (moment store) (faults store) m in
           let drops = loses told moment faults clock writes lies actor number hall store known.running counts since soon m is t it.3 R wrote calls known.seat e new known.mine it.2 it.1
           (subst (λ o. DroppedOne number o (faults hall.store) (faults store) e hall.held new) known.there lost) in (
@@ -200,7 +215,7 @@ unsealed_listed moment actor number h e is =
 -- the hall is still the one that was opened
 pub seal_stays : (number : ℕ) (found : Option Seat) (before after : ℕ → ℕ) (old new : Held) (result : Result (Unit {0}) Refusal) → OnOk result (SealedOne number old new)
     → IfErr result (λ e. DroppedOne number found before after e old new) → (new.base ≡ old.base) × (new.opened ≡ old.opened)
-seal_stays number found before after old new (Ok done) ok err = (ap (λ (h : Held). h.base) ok.1, ap (λ (h : Held). h.opened) ok.1)
+seal_stays number found before after old new (Ok done) ok err = (ap (λ (h : Held). h.base) ok.2, ap (λ (h : Held). h.opened) ok.2)
 seal_stays number None before after old new (Err e) ok err = absurd err
 seal_stays number (Some s) before after old new (Err e) ok err = (ap (λ (h : Held). h.base) err.4, ap (λ (h : Held). h.opened) err.4)
 

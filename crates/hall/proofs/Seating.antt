@@ -34,7 +34,7 @@ module _ (tickets : List Ticket) (file object number : ℕ) where
   progress_seated c held seats claims o n None h p = tt
   progress_seated c held seats claims o n (Some i) h p = record { since = p.since; durable = p.durable; stands = p.stands }
 
-  pub kept_seated : (m : Machine) (held : Held) (seats : List (ℕ × Seat)) (claims : Claims) (o n : ℕ) (h : History) → IsKept m held h → AllByRecursion (HasTaken h) tickets
+  pub kept_seated : (m : Machine) (held : Held) (seats : List (ℕ × Seat)) (claims : Claims) (o n : ℕ) (h : History) → IsKept m held h → AllByRecursion (HasTaken seats h) tickets
       → IsKept (seated_machine tickets file object number m) (seated_held seats claims o n held) h
   kept_seated m held seats claims o n h k taken = record {
     since = k.since;
@@ -52,7 +52,7 @@ module _ (tickets : List Ticket) (file object number : ℕ) where
       → SpaceIsClear (seated_core tickets file object number m.core)
       → NumbersAreDrawn (seated_core tickets file object number m.core)
       → AllByRecursion (λ t. IsFront m.contents (inventory m.core) t.purpose t.size t.bytes) tickets
-      → ((h : History) → AllByRecursion (HasTaken h) m.core.tickets → AllByRecursion (HasTaken h) tickets)
+      → ((h : History) → AllByRecursion (HasTaken held.seats h) m.core.tickets → AllByRecursion (HasTaken seats h) tickets)
       → IsGood told (seated_machine tickets file object number m) (seated_held seats claims o n held)
   good_seated told m held seats claims o n g space numbers fronts taken = record {
     lawful = record { valid = g.lawful.valid; tied = g.lawful.tied; legal = g.lawful.legal; short = g.lawful.short };

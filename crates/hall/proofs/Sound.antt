@@ -50,7 +50,7 @@ recovered_valid files v r =
 
 -- ---- the vault's files of one image, and the others of another
 
-unfoldable mixed : (ours others : ℕ → List ℕ) → ℕ → List ℕ
+unfoldable pub mixed : (ours others : ℕ → List ℕ) → ℕ → List ℕ
 mixed ours others file = cond (ltb file 4) (ours file) (others file)
 
 module _ (ours others : ℕ → List ℕ) where
@@ -58,12 +58,12 @@ module _ (ours others : ℕ → List ℕ) where
   unfolding mixed
   mixed_ours file is = sym (cond-true _ (ours file) (others file) (lt-ltb file 4 is))
 
-  mixed_others : (file : ℕ) → 4 ≤ file → mixed ours others file ≡ others file
+  pub mixed_others : (file : ℕ) → 4 ≤ file → mixed ours others file ≡ others file
   unfolding mixed
   mixed_others file from = cond-false _ (ours file) (others file) (le-ltb file 4 from)
 
   -- they recover to what the vault's files do
-  mixed_recovers : (v : Inv) → RecoversWithin meaning ours v → RecoversWithin meaning (mixed ours others) v
+  pub mixed_recovers : (v : Inv) → RecoversWithin meaning ours v → RecoversWithin meaning (mixed ours others) v
   mixed_recovers v r = record {
     form = r.form;
     generation = r.generation;
@@ -86,7 +86,7 @@ module _ (ours others : ℕ → List ℕ) where
       (each_weaker (λ s. 4 ≤ s.file) (Carries (InImage (mixed ours others)) (InImage others))
       (λ s from piece long stands. subst (λ (b : List ℕ). Stands b s.offset piece) (mixed_others s.file from) stands) (versions v) (on_volumes v valid)) holds
 
-  mixed_left : (h : History) → ImageAt h (now h) ours → ((file : ℕ) → 4 ≤ file → Leaves (standing h file) (others file)) → ImageAt h (now h) (mixed ours others)
+  pub mixed_left : (h : History) → ImageAt h (now h) ours → ((file : ℕ) → 4 ≤ file → Leaves (standing h file) (others file)) → ImageAt h (now h) (mixed ours others)
   mixed_left h here left = image_now h (mixed ours others) (λ file. elim (cases_lt file 4) [
     | inl is ↦ subst (λ b. Leaves (standing h file) b) (mixed_ours file is) (now_image h ours here file)
     | inr from ↦ subst (λ b. Leaves (standing h file) b) (sym (mixed_others file from)) (left file from)

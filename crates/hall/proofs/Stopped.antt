@@ -34,7 +34,7 @@ module _ (h : History) (moment : ℕ) (after : History) (stops : StopsAs (back h
   pub own_image : ImageAt h moment (reads after)
   own_image = back_image h moment (reads after) (stop_image (back h moment) after stops)
 
-  image_again : (image : ℕ → List ℕ) → ImageAt after (now after) image → ImageAt h moment image
+  pub image_again : (image : ℕ → List ℕ) → ImageAt after (now after) image → ImageAt h moment image
   image_again image here file =
       leaves_again (standing (back h moment) file) (reads after file) (image file) (own_image file) (subst (λ (s : Standing). Leaves s (image file)) (on_disk file) (now_image after image here file))
 

@@ -15,6 +15,7 @@ use Rattle.hall.specs.Good.{HasTaken, IsKept, WasSound}
 use Rattle.hall.specs.Held.{Held}
 use Rattle.hall.specs.Seats.{without_seat}
 use Rattle.hall.proofs.Edited.{StandsAmong, others_left, own_has}
+use Rattle.hall.proofs.FirmSeats.{all_less, firm_gone}
 use Rattle.hall.proofs.Lists.{each_kept}
 use Rattle.hall.proofs.Seating.{kept_seated}
 use Rattle.inventory_laws.proofs.Origins.{each_contained}
@@ -77,7 +78,7 @@ module _ (writes : WritesBeside) (m : Machine) (held : Held) (pool number : ℕ)
     left = k.left;
     sure = k.sure;
     firm = k.firm;
-    tickets = each_both (λ t. t.number ≢ number) (λ t. t.number ≢ number → HasTaken h t) (HasTaken h) m.core.tickets (λ t other has. has other) others k.others;
+    tickets = each_both (λ t. t.number ≢ number) (λ t. t.number ≢ number → HasTaken held.seats h t) (HasTaken held.seats h) m.core.tickets (λ t other has. has other) others k.others;
     image = k.image;
     backups = backups;
   }
@@ -126,7 +127,9 @@ module _ (actor number : ℕ) where
   pub kept_gone : (m : Machine) (held : Held) (h : History) → IsKept m held h → IsKept (record m { core = dropping actor number m.core }) (without_seat number held) h
   kept_gone m held h k =
       kept_seated (without actor (number ∷ []) m.core.tickets) m.core.next_file m.core.next_object m.core.next_ticket m held (without_seat number held).seats (without_seat number held).claims
-      held.next_object held.next_ticket h k (each_kept (HasTaken h) (λ t. not (is_among actor (number ∷ []) t)) m.core.tickets k.tickets)
+      held.next_object held.next_ticket h k
+      (all_less held.seats (without_seat number held).seats h (without actor (number ∷ []) m.core.tickets) (λ n firm. firm_gone number n held.seats firm)
+      (each_kept (HasTaken held.seats h) (λ t. not (is_among actor (number ∷ []) t)) m.core.tickets k.tickets))
 
   -- its segments' files are volumes'
   pub files_of : (t : Ticket) (c : Core) → StandsAmong actor number t c.tickets → NumbersAreDrawn c → AllByRecursion (λ s. 4 ≤ s.file) t.place.segments

@@ -117,7 +117,7 @@ module _ (m : Machine) (held : Held) (h new : History) (pool number : ℕ) (s : 
       let all : length (header ++ part) ≡ length header + length part = length-append header part in
       (piece_stays r (header ++ part) (omega (arith, head, some, all)) clear.0 t.0, took_stays object (suc n) segments (drop r.len (byte ∷ bytes)) clear.1 t.1)
 
-  taken_stays : (t : Ticket) → AllByRecursion (IsApart (is_sequential pool (inventory m.core).stores) s) t.place.segments → HasTaken h t → HasTaken new t
+  taken_stays : (t : Ticket) → AllByRecursion (IsApart (is_sequential pool (inventory m.core).stores) s) t.place.segments → HasTaken held.seats h t → HasTaken held.seats new t
   taken_stays t clear taken = record {
     stands = took_stays (object_of t.purpose) 0 t.place.segments t.bytes clear taken.stands;
     firm = λ is_sealed. frames_carried (InStore h) (InStore new) (object_of t.purpose) 0 t.place.segments t.bytes
@@ -126,9 +126,9 @@ module _ (m : Machine) (held : Held) (h new : History) (pool number : ℕ) (s : 
         (taken.firm is_sealed);
   }
 
-  others_stay : AllByRecursion (λ t. t.number ≢ number → HasTaken new t) m.core.tickets
-  others_stay = each_both (HasTaken h) (λ t. t.number ≢ number → AllByRecursion (IsApart (is_sequential pool (inventory m.core).stores) s) t.place.segments)
-      (λ t. t.number ≢ number → HasTaken new t) m.core.tickets
+  others_stay : AllByRecursion (λ t. t.number ≢ number → HasTaken held.seats new t) m.core.tickets
+  others_stay = each_both (HasTaken held.seats h) (λ t. t.number ≢ number → AllByRecursion (IsApart (is_sequential pool (inventory m.core).stores) s) t.place.segments)
+      (λ t. t.number ≢ number → HasTaken held.seats new t) m.core.tickets
       (λ t taken clear other. taken_stays t (clear other) taken) k.tickets b.others
 
   -- ---- an image in progress

@@ -32,5 +32,5 @@ pub record IsKeptBut (number : ℕ) (m : Machine) (held : Held) (h : History) : 
   pub left : IsLeft (RecoversToOne m.core) h
   pub sure : m.core.fault ≡ None → IsHeld meaning held.vault (durable m.core) h
   pub firm : HaveAll (InStore h) m.contents (covered m.core)
-  pub others : AllByRecursion (λ t. t.number ≢ number → HasTaken h t) m.core.tickets
+  pub others : AllByRecursion (λ t. t.number ≢ number → HasTaken held.seats h t) m.core.tickets
   pub image : m.core.fault ≡ None → AllInProgress m.core held m.core.image h

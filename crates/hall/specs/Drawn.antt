@@ -59,6 +59,7 @@ new_seat actor size purpose hashed spot = record {
   count = 0;
   hashed = hashed;
   is_sealed = false;
+  is_firm = false;
 }
 
 -- each ticket that is held has a number below that which is drawn next

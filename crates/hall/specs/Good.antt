@@ -1,5 +1,5 @@
 -- What is kept of a hall at every moment.
-use Rattle.std.specs.Prelude.{◌≡◌, ◌⊎◌, ℕ, ◌+◌, ◌-◌, ◌≤◌, ◌^◌, is_some, true, false, List, [], ◌∷◌, length, take, drop, Option, None, Some, IfSome}
+use Rattle.std.specs.Prelude.{◌≡◌, ◌⊎◌, ℕ, ◌+◌, ◌-◌, ◌≤◌, ◌^◌, ◌==◌, ◌&&◌, ◌||◌, Bool, is_some, true, false, List, [], ◌∷◌, length, take, drop, Option, None, Some, IfSome}
 use Rattle.std.specs.List.{AllByRecursion, slice_get}
 use Rattle.store_api.specs.Disk.{History, reads, now, ImageAt}
 use Rattle.fields.specs.Editions.{second_form}
@@ -22,7 +22,8 @@ use Rattle.log_file.specs.Safety.{acknowledged}
 use Rattle.vault.specs.Recovery.{RecoversWithin}
 use Rattle.vault.specs.Vaults.{State, IsHeld, IsLeft, IsPending}
 use Rattle.machine.specs.Machine.{durable}
-use Rattle.machine.specs.State.{Core, Image, Machine, Purpose, Ticket, backup, copying, inventory, object_of, storing, unforced}
+use Rattle.machine.specs.State.{Core, Image, Machine, Purpose, Ticket, backup, copying, inventory, is_storing, object_of, storing, unforced}
+use Rattle.hall.specs.declared.seat.Seat.{Seat}
 use Rattle.hall.specs.Covered.{NumbersAreDrawn, SpaceIsClear, covered, inv_at, is_any_reuse, left_open}
 use Rattle.hall.specs.Held.{Hall, Held, IsCore}
 use Rattle.hall.specs.Protected.{HadBackups, KeepsAllBackups}
@@ -81,10 +82,19 @@ RecoversToOne c files = (last : ℕ) × (length c.stamps ≤ last) × (last ≤ 
 
 -- ---- tickets
 
--- What a ticket took stands in its space, and where it is sealed no stop takes it away.
-pub record HasTaken (h : History) (t : Ticket) : Type 0 where
+-- a ticket is held under this number as firm
+abbrev pub is_firm_at : (number : ℕ) → List (ℕ × Seat) → Bool
+is_firm_at number [] = false
+is_firm_at number (e ∷ seats) = e.0 == number && e.1.is_firm || is_firm_at number seats
+
+-- the ticket is sealed, or it is a new object's and held as firm
+abbrev pub IsFirm : List (ℕ × Seat) → Ticket → Type 0
+IsFirm seats t = (t.is_sealed ≡ true) ⊎ ((is_storing t.purpose ≡ true) × (is_firm_at t.number seats ≡ true))
+
+-- What a ticket took stands in its space; and where it is sealed, or firm, that is all that it is for, and no stop takes it away.
+pub record HasTaken (seats : List (ℕ × Seat)) (h : History) (t : Ticket) : Type 0 where
   pub stands : TookHave (InImage (reads h)) (object_of t.purpose) 0 t.place.segments t.bytes
-  pub firm : t.is_sealed ≡ true → FramesHave (InStore h) (object_of t.purpose) 0 t.place.segments t.bytes
+  pub firm : IsFirm seats t → FramesHave (InStore h) (object_of t.purpose) 0 t.place.segments t.bytes
 
 -- ---- images in progress
 
@@ -132,7 +142,7 @@ pub record IsKept (m : Machine) (held : Held) (h : History) : Type 0 where
   pub left : IsLeft (RecoversToOne m.core) h
   pub sure : m.core.fault ≡ None → IsHeld meaning held.vault (durable m.core) h
   pub firm : HaveAll (InStore h) m.contents (covered m.core)
-  pub tickets : AllByRecursion (HasTaken h) m.core.tickets
+  pub tickets : AllByRecursion (HasTaken held.seats h) m.core.tickets
   pub image : m.core.fault ≡ None → AllInProgress m.core held m.core.image h
   pub backups : HadBackups held.base held.opened h → KeepsAllBackups m.core held.opened h held.job
 

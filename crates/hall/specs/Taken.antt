@@ -1,16 +1,22 @@
 -- What a ticket takes and seals: what refuses that, and what becomes of what is held.
-use Rattle.std.specs.Prelude.{◌≡◌, ℕ, ◌+◌, ◌<◌, ◌≤◌, ◌^◌, ◌==◌, ◌&&◌, nat_le, Bool, true, false, not, List, [], ◌∷◌, ◌++◌, length, Option, None, Some, Result}
+use Rattle.std.specs.Prelude.{◌≡◌, ℕ, ◌+◌, ◌<◌, ◌≤◌, ◌^◌, ◌==◌, ◌&&◌, ◌||◌, nat_le, if◌then◌else◌, map, Bool, true, false, not, List, [], ◌∷◌, ◌++◌, length, Option, None, Some, Result}
+use Rattle.std.specs.List.{list_all}
 use Rattle.kinds.specs.Refusals.{bad_value, unless}
 use Rattle.kinds.specs.declared.refusal.Refusal.{Refusal}
 use Rattle.kinds.specs.declared.refusal.Refusal.TheVariants as refusal
+use Rattle.sha2.specs.Hashers.{Holds256}
+use Rattle.sha2.specs.declared.Sha256.{Sha256}
 use Rattle.store_api.specs.Cause.{Rose}
 use Rattle.store_api.specs.Disk.{History}
 use Rattle.inventory_rows.specs.pool_tables.Rows.{row_at, set_row}
 use Rattle.volume_frames.specs.Frames.{bytes_len}
 use Rattle.contents.specs.Reading.{lies_in_file}
+use Rattle.kinds.specs.declared.segment.Segment.{Segment}
+use Rattle.space.specs.declared.places.Placed.{Placed}
 use Rattle.machine.specs.Causes.{most_bytes, ticket_in_use}
 use Rattle.machine.specs.State.{is_storing, object_of}
 use Rattle.hall.specs.declared.seat.Hashed.{Hashed}
+use Rattle.hall.specs.declared.seat.Hashed.TheVariants.{Done, Taking, Unhashed}
 use Rattle.hall.specs.declared.seat.Purpose.{Purpose as Use}
 use Rattle.hall.specs.declared.seat.Seat.{Seat}
 use Rattle.hall.specs.Frames.{SyncedAll, WroteBehind, segments_of}
@@ -53,6 +59,17 @@ pub record HasSpace (s : Seat) : Type 0 where
 abbrev pub MoreHashed : List ℕ → Hashed → Hashed → Type 0
 MoreHashed bytes old new = (purpose : Use) (taken : List ℕ) → IsHashed purpose false old taken → IsHashed purpose false new (taken ++ bytes)
 
+-- a hasher holds whatever the one of a ticket holds, and these bytes behind it; where the ticket has none there is nothing to say
+abbrev pub HoldsBehind : List ℕ → Sha256 → Hashed → Type 0
+HoldsBehind bytes hasher (Taking old) = (taken : List ℕ) → Holds256 old taken → Holds256 hasher (taken ++ bytes)
+HoldsBehind bytes hasher (Done digest) = Unit {0}
+HoldsBehind bytes hasher Unhashed = Unit {0}
+
+-- Where the ticket is a new object's that takes more, some list is what its hasher holds, and this hasher holds that list with these bytes behind it.
+abbrev pub IsAhead : List ℕ → Sha256 → Seat → Type 0
+IsAhead bytes hasher s =
+    is_storing (purpose_of s.purpose) ≡ true → s.is_sealed ≡ false → (taken : List ℕ) × IsHashed s.purpose false s.hashed taken × Holds256 hasher (taken ++ bytes)
+
 -- the digest is whole
 abbrev pub WholeHashed : (is_sealed : Bool) → Hashed → Hashed → Type 0
 WholeHashed is_sealed old new = (purpose : Use) (taken : List ℕ) → IsHashed purpose is_sealed old taken → IsHashed purpose true new taken
@@ -76,14 +93,45 @@ TookAt number bytes count old new =
 abbrev pub TookMore : (number : ℕ) → List ℕ → (count : ℕ) → Held → Held → Type 0
 TookMore number bytes count old new = TookAt number bytes count old.seats new.seats × (new ≡ record old { seats = new.seats })
 
+-- ---- firm tickets
+
+-- a new object's ticket is sealed without a device call where it is firm
+abbrev pub is_settled : Seat → Bool
+is_settled s = is_storing (purpose_of s.purpose) && s.is_firm
+
+abbrev pub first_file : List Placed → Option ℕ
+first_file [] = None
+first_file (p ∷ places) = Some p.segment.file
+
+-- the first of the ticket's files, where these are synced when it is sealed
+abbrev pub synced_file : Seat → Option ℕ
+synced_file s = if is_settled s then None else first_file s.places
+
+-- the ticket took all that it is for, and lies on this file alone
+abbrev pub lies_on : (file : ℕ) → Seat → Bool
+lies_on file s = s.count == s.size && list_all (λ p. p.segment.file == file) s.places
+
+-- behind a sync of the file the ticket is firm where that holds
+abbrev pub made_firm : (file : ℕ) → Seat → Seat
+made_firm file s = record s { is_firm = s.is_firm || lies_on file s }
+
+-- so are all, where a file was synced
+abbrev pub firm_on : Option ℕ → List (ℕ × Seat) → List (ℕ × Seat)
+firm_on None seats = seats
+firm_on (Some file) seats = map (λ e. (e.0, made_firm file e.1)) seats
+
+-- ---- sealed
+
 -- the ticket under this number is sealed
 abbrev pub SealedAt : (number : ℕ) → (old new : List (ℕ × Seat)) → Type 0
 SealedAt number old new =
     (s : Seat) × (hashed : Hashed) × (row_at number old ≡ Some s) × WholeHashed s.is_sealed s.hashed hashed × (new ≡ set_row number (record s { hashed = hashed; is_sealed = true }) old)
 
--- nothing else changed
+-- and the others are firm that its syncs made so; nothing else changed
 abbrev pub SealedOne : (number : ℕ) → Held → Held → Type 0
-SealedOne number old new = SealedAt number old.seats new.seats × (new ≡ record old { seats = new.seats })
+SealedOne number old new = (seats : List (ℕ × Seat)) × (at : SealedAt number old.seats seats) × (new ≡ record old { seats = firm_on (synced_file at.0) seats })
+
+-- ---- dropped, and the calls
 
 -- a call on a file of the ticket failed, whose count rose, and the ticket is dropped
 abbrev pub DroppedOne : (number : ℕ) → Option Seat → (before after : ℕ → ℕ) → Refusal → Held → Held → Type 0
@@ -96,7 +144,12 @@ abbrev pub WroteFor : {T E : Type 0} → Option Seat → List ℕ → Result T E
 WroteFor None bytes result old new = ⊥
 WroteFor (Some s) bytes result old new = WroteBehind (object_of (purpose_of s.purpose)) s.count (segments_of s.places) bytes result old new
 
--- the ticket's files were synced
+-- the files of these segments were synced, unless what stands in them is settled: no call was made then
+abbrev pub SyncedUnless : {T E : Type 0} → (settled : Bool) → List Segment → Result T E → History → History → Type 0
+SyncedUnless true segments result old new = new ≡ old
+SyncedUnless false segments result old new = SyncedAll segments result old new
+
+-- so were the ticket's
 abbrev pub SyncedFor : {T E : Type 0} → Option Seat → Result T E → History → History → Type 0
 SyncedFor None result old new = ⊥
-SyncedFor (Some s) result old new = SyncedAll (segments_of s.places) result old new
+SyncedFor (Some s) result old new = SyncedUnless (is_settled s) (segments_of s.places) result old new

@@ -202,7 +202,7 @@ impl Parts {
         ensures { BecomesCopied number bytes.now copied result self.old self.new }
     {
         match copied {
-            Copied::Written => Ok(take_at(&mut self.seats, number, bytes)),
+            Copied::Written => Ok(take_at(&mut self.seats, number, bytes, None)),
             Copied::Unread => Err(Refusal::Unavailable),
             Copied::Lost => Err(Refusal::Unavailable),
             Copied::Failed(file) => {

@@ -241,6 +241,7 @@ impl Parts {
             count: 0,
             hashed: Hashed::Taking(Sha256::new()),
             is_sealed: false,
+            is_firm: false,
         })?;
         self.next_object = object + 1;
         Ok(number)
@@ -388,6 +389,7 @@ impl Parts {
             count: 0,
             hashed: Hashed::Unhashed,
             is_sealed: false,
+            is_firm: false,
         })
     }
 

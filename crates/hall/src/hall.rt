@@ -6,6 +6,8 @@ ghost use Rattle.store_api.specs.Told.{Told};
 ghost use Rattle.vault.specs.Files.{IsOurs};
 ghost use Rattle.steps.specs.Events.{is_listed};
 ghost use Rattle.steps.specs.Events.Deed.{Ask, Commit, DropTicket, Force};
+ghost use Rattle.machine.specs.State.{Machine};
+ghost use Rattle.hall.specs.Good.{Is};
 ghost use Rattle.hall.specs.Steps.{Goes, Looks, Steps};
 
 use crate::parts::Parts;
@@ -107,6 +109,13 @@ impl<S: Store> Hall<S> {
         ensures { result ≡ self.now.held.vault.database.number }
     {
         self.parts.vault.database().number()
+    }
+
+    /// There is a state of the machine in which the hall is.
+    pub fn is_good(&self)
+        ensures { (m : Machine) × Is S.told S.moment_of S.faults_of self.now m }
+    {
+        let _ = &self.store;
     }
 
     /// Gives the ticket's space back. Refused with `RunFull` where the store's moment is 2^62 - 2^24 or a later one, with `LogFault` where a fault of the log has halted the hall, and with

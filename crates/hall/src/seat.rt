@@ -43,4 +43,6 @@ pub struct Seat {
     pub hashed: Hashed,
     /// It takes no more, and what it took is durable.
     pub is_sealed: bool,
+    /// All that it is for was taken, and is durable: a new object's is sealed without a device call.
+    pub is_firm: bool,
 }

@@ -1,11 +1,16 @@
-use Rattle.std.proofs.Common.{◌+◌, ◌≤◌, ◌^◌, length, None, Some, Err, refl, subst}
+use Rattle.std.proofs.Common.{◌+◌, ◌≤◌, ◌^◌, length, None, Some, Err, refl, sym, subst}
 use Rattle.store_api.specs.Runs.{GoesOn}
 use Rattle.store_api.specs.Told.{Told}
 use Rattle.steps.specs.Events.Deed.{WritePiece}
+use Rattle.std.specs.Prelude.{IfSome}
+use Rattle.std.specs.Option.{option_copied}
+use Rattle.hall.specs.Seats.{own_seat}
+use Rattle.hall.specs.Taken.{IsAhead}
 use Rattle.hall.proofs.Behind.{seats_have_space}
+use Rattle.hall.proofs.Hashing.{piece_ahead}
 use Rattle.hall.proofs.PieceSteps.{piece_brief, piece_files, piece_listed, piece_refuses, piece_room, piece_stays, piece_steps, piece_time, refused_listed, said_of_piece}
 use Rattle.hall.proofs.Stepping.{goes_over, goes_seen, stays_seen, still_good}
-use Rattle.hall.proofs.hall.Hall.write_piece.Goals as goal
+use Rattle.hall.proofs.hall.Hall.write.Goals as goal
 
 pub write_refused-requires : goal.write_refused-requires
 write_refused-requires g c = let m = c.self.invariant in seats_have_space c.args.ticket c.self.inside.parts.seats m.0.core.tickets m.1.core.tickets m.1.good.space.filled
@@ -41,6 +46,13 @@ write_behind-requires-clause-time g c =
     let f = g.S.Store.faults_of in
     piece_time t m f c.args.actor c.args.ticket c.args.bytes.now (record { store = c.self.inside.store; held = c.self.inside.parts })
     (said_of_piece c.args.actor c.args.ticket c.moment-moment.result (m c.self.inside.store) (length c.args.bytes.now) c.self.inside.parts c.write_refused.result None c.moment-moment.ensures c.write_refused.ensures c.in_default.is)
+
+pub write_behind-requires-clause-ahead : goal.write_behind-requires-clause-ahead
+write_behind-requires-clause-ahead g c =
+    let m = g.S.Store.moment_of in
+    piece_ahead c.args.actor c.args.ticket (m c.self.inside.store) c.args.bytes.now c.self.inside.parts (option_copied c.args.ahead)
+    (said_of_piece c.args.actor c.args.ticket c.moment-moment.result (m c.self.inside.store) (length c.args.bytes.now) c.self.inside.parts c.write_refused.result None c.moment-moment.ensures c.write_refused.ensures c.in_default.is)
+    (subst (λ h. IfSome (option_copied c.args.ahead) (λ hasher. IfSome (own_seat c.args.actor c.args.ticket h.held) (IsAhead c.args.bytes.now hasher))) (sym c.self.view_is) c.requires)
 
 pub invariant_of-self : goal.invariant_of-self
 invariant_of-self g c =
