@@ -6,7 +6,7 @@ use Rattle.crossbeam_utils.specs.Register.{Turns, Forks, Merges}
 use Rattle.atomic_table.proofs.Lists.{at_set}
 use Rattle.steps.specs.Events.{Event}
 use Rattle.machine.specs.Turns.{Turn, events_of}
-use Rattle.crew.specs.Knowing.{Knows, keeping, acting, nobody, both, KeepsAll, ActsAs, Kept, Compared, told_all, told_own, turn}
+use Rattle.crew.specs.Knowing.{Knows, keeping, acting, nobody, both, KeepsAll, ActsAs, Kept, Compared, Looked, kept_all, kept_own, told_all, told_own, turn}
 
 off : false ≡ true → ⊥
 off e = true≢false (sym e)
@@ -219,3 +219,51 @@ compares by all next actor mine words views h at =
 
 pub compares_as : (by : ℕ) (v : Knows) (all : List Turn) (next actor : ℕ) (mine : List Event) → v ≡ both (keeping all next) (acting actor mine) → Turns Kept by v (λ x. x) Compared
 compares_as by v all next actor mine is = subst (λ (u : Knows). Turns Kept by u (λ x. x) Compared) (sym is) (compares by all next actor mine)
+
+-- it looks, and keeps that pass
+looks : (by : ℕ) (all : List Turn) (next actor : ℕ) (mine : List Event) → Turns Kept by (both (keeping all next) (acting actor mine)) (λ x. x) Looked
+looks by all next actor mine words views h at =
+    let v : Knows = both (keeping all next) (acting actor mine) in
+    let kept = (h.each by v at).0 refl in
+    let own = (h.each by v at).1 refl in (
+      v,
+      record {
+        seat = h.seat;
+        holder = h.holder;
+        next = h.next;
+        log = h.log;
+        unused = h.unused;
+        each = set_each (Fits h.seat h.holder h.next h.log) views by v (λ j u apart e. h.each j u e) (h.each by v at);
+      },
+      (refl, own.2 ∙ ap (λ (l : List Turn). events_of actor l) (sym kept.1)),
+    )
+
+pub looks_as : (by : ℕ) (v : Knows) (all : List Turn) (next actor : ℕ) (mine : List Event) → v ≡ both (keeping all next) (acting actor mine) → Turns Kept by v (λ x. x) Looked
+looks_as by v all next actor mine is = subst (λ (u : Knows). Turns Kept by u (λ x. x) Looked) (sym is) (looks by all next actor mine)
+
+-- and gives it back
+gives : (by : ℕ) (all : List Turn) (next actor : ℕ) (mine : List Event) → Forks Kept by (both (keeping all next) (acting actor mine)) (keeping all next) (acting actor mine)
+gives by all next actor mine words views h at =
+    let v : Knows = both (keeping all next) (acting actor mine) in
+    let kept = (h.each by v at).0 refl in
+    let own = (h.each by v at).1 refl in
+    let holder : ℕ → ℕ = moved actor (length views) h.holder in
+    record {
+      seat = h.seat;
+      holder = holder;
+      next = h.next;
+      log = h.log;
+      unused = h.unused;
+      each = fork_each (Fits h.seat holder h.next h.log) views by (keeping all next) (acting actor mine)
+          (λ j u apart it. (
+            (h.each j u it).0,
+            (λ acts.
+                let k = (h.each j u it).1 acts in
+                (k.0 ∙ sym (moved_else actor (length views) h.holder u.actor (λ same. apart (k.0 ∙ ap h.holder same ∙ sym own.0))), k.1, k.2)),
+          ))
+          ((λ k. kept), (λ k. absurd (off k)))
+          ((λ k. absurd (off k)), (λ k. (sym (moved_here actor (length views) h.holder), own.1, own.2)));
+    }
+
+pub gives_as : (by : ℕ) (v : Knows) (all : List Turn) (next actor : ℕ) (mine : List Event) → v ≡ both (keeping all next) (acting actor mine) → Forks Kept by v (kept_all v) (kept_own v)
+gives_as by v all next actor mine is = subst (λ (u : Knows). Forks Kept by u (kept_all u) (kept_own u)) (sym is) (gives by all next actor mine)

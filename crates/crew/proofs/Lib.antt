@@ -4,3 +4,4 @@ pub mod Keeping
 pub mod Runs
 pub mod Seating
 pub mod Turning
+pub mod Writing

@@ -65,6 +65,17 @@ told_own event v = acting v.actor (v.mine ++ event ∷ [])
 abbrev pub Compared : Knows → List ℕ → List ℕ → Knows → Type 0
 Compared v before after w = (w ≡ keeping v.all v.next) × (v.mine ≡ events_of v.actor v.all)
 
+-- the keeper compares what the actor knows with all turns, and both know it then
+abbrev pub Looked : Knows → List ℕ → List ℕ → Knows → Type 0
+Looked v before after w = (w ≡ v) × (v.mine ≡ events_of v.actor v.all)
+
+-- what the keeper knows who gives the actor's pass back, and what that actor knows
+abbrev pub kept_all : Knows → Knows
+kept_all v = keeping v.all v.next
+
+abbrev pub kept_own : Knows → Knows
+kept_own v = acting v.actor v.mine
+
 -- the name of no cell
 abbrev pub no_table : TableId
 no_table = record { words = 0; slots = 0; views_name = 0; atom = 0; block = 0; offset = 0; slot_names = [] }

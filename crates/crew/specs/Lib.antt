@@ -3,3 +3,4 @@ pub mod Doings
 pub mod Knowing
 pub mod Passes
 pub mod Ran
+pub mod Wrote

@@ -1,21 +1,24 @@
 //! What lies behind the lock of a block.
-ghost use Rattle.std.specs.Prelude.{◌≡◌, ◌≤◌, ◌++◌, ◌∷◌, [], ℕ, Some, true, length, IfOk};
+ghost use Rattle.std.specs.Prelude.{◌≡◌, ◌≤◌, ◌^◌, ◌++◌, ◌∷◌, [], ℕ, Some, true, length, IfOk};
 ghost use Rattle.std.specs.List.{AllByRecursion};
 ghost use Rattle.steps.specs.Calls.{piece_of};
 ghost use Rattle.steps.specs.Events.{event, is_listed};
-ghost use Rattle.steps.specs.Events.Deed.{ReadPiece};
+ghost use Rattle.steps.specs.Events.Deed.{ReadPiece, WritePiece};
 ghost use Rattle.crew.specs.Knowing.{IsWithin};
 ghost use Rattle.crew.specs.Ran.{RanFrom, began};
+ghost use Rattle.crew.specs.Wrote.{HoldsAhead};
 
 use crate::known::{Keeper, Named, Origin, Own};
-use crate::orders::Order;
+use crate::orders::{Order, Writes};
 use hall::Hall;
 use kinds::{Digest, Refusal};
+use sha2::Sha256;
 use std::marker::{Brand, Model, PhantomData};
+use std::sync::Wait;
 use store_api::Store;
 
 /// The hall of a block, with the keeper's pass, which knows each step that was made on it. Every value is one to which these steps led from the hall that the block began with, each of them a step of one of the
-/// block's actors.
+/// block's actors; and the hall is in a state of the machine whose tickets have the bytes that these steps tell of them.
 #[derive(Drop)]
 pub(crate) struct Board<S: Store, B: Origin> {
     hall: Hall<S>,
@@ -32,13 +35,14 @@ impl<S: Store, B: Origin> Model for Board<S, B> {
     ghost use Rattle.hall.specs.Held.{Hall as Whole};
     ghost use Rattle.crew.specs.Knowing.{IsWithin};
     ghost use Rattle.crew.specs.Ran.{RanFrom};
+    ghost use Rattle.crew.specs.Wrote.{IsAsTold};
     ghost use Rattle.machine.specs.Turns.{Turn};
 
     ghost Value = { Whole S × (List Turn × ℕ) };
 
     ghost view = { λ b. (b.hall, b.keeper) };
 
-    ghost invariant = { λ b. RanFrom S.told S.moment_of S.faults_of B.first b.keeper.0 b.hall × AllByRecursion (IsWithin B.least B.most) b.keeper.0 };
+    ghost invariant = { λ b. RanFrom S.told S.moment_of S.faults_of B.first b.keeper.0 b.hall × AllByRecursion (IsWithin B.least B.most) b.keeper.0 × IsAsTold S.told S.moment_of S.faults_of b.keeper.0 b.hall };
 }
 
 /// What is asked in a read.
@@ -76,6 +80,7 @@ impl<S: Store, B: Origin> Board<S, B> {
         requires first { B.first ≡ Some (began S.told S.moment_of S.faults_of hall) }
         requires none { keeper.0 ≡ [] }
     {
+        hall.is_good();
         Board {
             hall,
             keeper,
@@ -137,6 +142,31 @@ impl<S: Store, B: Origin> Board<S, B> {
         };
         self.keeper
             .tell::<Brand, Reading<'_>, Read<'_>>(named, own, n, &asked, &read);
+        self.note(false, is_memory(&answer));
+        answer
+    }
+
+    /// Makes the step that writes an actor's piece with this hasher, which holds what the actor's steps tell of the ticket and the piece, and tells it.
+    pub(crate) fn write_hashed<R: Wait>(
+        &mut self,
+        rt: &R,
+        named: &Named<B>,
+        own: &mut Own<B>,
+        order: &Writes<'_>,
+        hasher: &Sha256,
+    ) -> Result<u64, Refusal>
+        requires sized { (1 ≤ length order.now.bytes.now) × (length order.now.bytes.now ≤ 2 ^ 16) }
+        requires ahead { HoldsAhead order.now.ticket own.old.1 order.now.bytes.now hasher.now }
+        ensures told { (n : ℕ) × (own.new ≡ (own.old.0, own.old.1 ++ event n (WritePiece order.now.ticket order.now.bytes.now result) ∷ [])) }
+        ensures listed { is_listed (WritePiece order.now.ticket order.now.bytes.now result) ≡ true }
+    {
+        let n = self.hall.number();
+        self.keeper.compare(rt, named, own);
+        let answer = self
+            .hall
+            .write_hashed(own.actor(), order.ticket, order.bytes, hasher);
+        self.keeper
+            .tell::<Brand, Writes<'_>, Result<u64, Refusal>>(named, own, n, order, &answer);
         self.note(false, is_memory(&answer));
         answer
     }

@@ -1,12 +1,14 @@
 //! What the steps of a block are, as its passes know them: the keeper of a block's hall all of them, each actor its own. A pass has no bytes; the steps that it knows exist in proofs alone.
-ghost use Rattle.std.specs.Prelude.{◌≡◌, ◌+◌, ◌≤◌, ◌<◌, ◌++◌, ◌∷◌, [], true, IfOk};
+ghost use Rattle.std.specs.Prelude.{◌≡◌, ◌+◌, ◌≤◌, ◌<◌, ◌++◌, ◌∷◌, [], true, IfOk, IfSome};
 ghost use Rattle.crossbeam_utils.specs.Seq.{cell_view};
 ghost use Rattle.machine.specs.Turns.{events_of};
 ghost use Rattle.crew.specs.Knowing.{keeping, acting, turn};
+ghost use Rattle.crew.specs.Wrote.{HoldsAhead, HoldsTaken};
 
 use atomic_table::{Join, Split};
 use crossbeam_utils::atomic::seq_cell::{Pass, RuledSeqCell};
 use crossbeam_utils::rule::{Outcome, Protocol};
+use sha2::{Digest as _, Sha256};
 use std::alloc::{AllocError, Global};
 use std::marker::{Brand, Model, PhantomData};
 use std::sync::Wait;
@@ -66,6 +68,26 @@ impl Outcome<[u64; 1], Knowing> for Compares {
     ghost use Rattle.crew.specs.Knowing.{Compared};
 
     ghost then = { Compared };
+}
+
+/// The keeper looks at what the actor whose pass it has knows, and keeps that pass.
+struct Looks;
+
+impl Outcome<[u64; 1], Knowing> for Looks {
+    ghost use Rattle.crew.specs.Knowing.{Looked};
+
+    ghost then = { Looked };
+}
+
+/// The keeper gives an actor's pass back.
+struct GivesBack;
+
+impl Split<Knowing> for GivesBack {
+    ghost use Rattle.crew.specs.Knowing.{kept_all, kept_own};
+
+    ghost left = { kept_all };
+
+    ghost right = { kept_own };
 }
 
 /// The number of an actor that begins. Each call picks it.
@@ -200,25 +222,34 @@ impl<B: Origin> Model for Keeper<B> {
     ghost invariant = { λ k. (k.pass.table_id ≡ B.table) × (cell_view k.pass ≡ keeping (cell_view k.pass).all (cell_view k.pass).next) };
 }
 
-/// An actor's pass. Contracts see the actor's number, which is one of the block's, and its steps so far.
+/// The SHA-256 of what an actor's ticket took so far, as its steps tell it.
+#[derive(Drop)]
+struct Mirror {
+    ticket: u64,
+    hasher: Sha256,
+}
+
+/// An actor's pass, with the hasher of the ticket that the actor opened or wrote last, as long as it makes no other step. Contracts see the actor's number, which is one of the block's, and its steps so far.
 #[derive(Drop)]
 pub struct Own<B: Origin> {
     pass: Known,
     actor: u32,
+    mirror: Option<Mirror>,
     of: PhantomData<B>,
 }
 
 impl<B: Origin> Model for Own<B> {
-    ghost use Rattle.std.specs.Prelude.{◌≡◌, ◌≤◌, ◌<◌};
+    ghost use Rattle.std.specs.Prelude.{◌≡◌, ◌≤◌, ◌<◌, IfSome};
     ghost use Rattle.crossbeam_utils.specs.Seq.{cell_view};
     ghost use Rattle.crew.specs.Passes.{Diary};
     ghost use Rattle.crew.specs.Knowing.{acting};
+    ghost use Rattle.crew.specs.Wrote.{HoldsTaken};
 
     ghost Value = { Diary };
 
     ghost view = { λ o. (o.actor, (cell_view o.pass).mine) };
 
-    ghost invariant = { λ o. (o.pass.table_id ≡ B.table) × (cell_view o.pass ≡ acting o.actor (cell_view o.pass).mine) × (B.least ≤ o.actor) × (o.actor < B.most) };
+    ghost invariant = { λ o. (o.pass.table_id ≡ B.table) × (cell_view o.pass ≡ acting o.actor (cell_view o.pass).mine) × (B.least ≤ o.actor) × (o.actor < B.most) × IfSome o.mirror (λ it. HoldsTaken it.ticket (cell_view o.pass).mine it.hasher) };
 }
 
 fn begin_actor<A: Beginning>(cell: &Cell, keeper: &mut Known, actor: u32) -> Known
@@ -259,6 +290,22 @@ fn compare_own<R: Wait>(rt: &R, cell: &Cell, keeper: &mut Known, mut own: Known)
     cell.load_as::<Compares, R>(rt, keeper);
 }
 
+fn look_own<R: Wait>(rt: &R, cell: &Cell, keeper: &mut Known, own: &mut Known)
+    requires cell { keeper.old.table_id ≡ cell.now.table.shared.table_id }
+    requires own { own.old.table_id ≡ cell.now.table.shared.table_id }
+    requires keeps { cell_view keeper.old ≡ keeping (cell_view keeper.old).all (cell_view keeper.old).next }
+    requires acts { cell_view own.old ≡ acting (cell_view own.old).actor (cell_view own.old).mine }
+    ensures keeps { (keeper.new.table_id ≡ keeper.old.table_id) × (cell_view keeper.new ≡ cell_view keeper.old) }
+    ensures acts { (own.new.table_id ≡ own.old.table_id) × (cell_view own.new ≡ cell_view own.old) }
+    ensures same { (cell_view own.old).mine ≡ events_of (cell_view own.old).actor (cell_view keeper.old).all }
+{
+    let moved = cell.split_pass::<Whole>(own);
+    cell.join_pass::<Gives>(keeper, moved);
+    cell.load_as::<Looks, R>(rt, keeper);
+    let back = cell.split_pass::<GivesBack>(keeper);
+    *own = back;
+}
+
 impl<B: Origin> Keeper<B> {
     /// The keeper of a new cell.
     pub fn new(pass: Known) -> Keeper<B>
@@ -283,11 +330,12 @@ impl<B: Origin> Keeper<B> {
         Own {
             pass,
             actor,
+            mirror: None,
             of: PhantomData,
         }
     }
 
-    /// A step of the actor is told. `n`, `about` and `answer` say which: what is picked may speak of them.
+    /// A step of the actor is told, whose hasher goes. `n`, `about` and `answer` say which: what is picked may speak of them.
     pub fn tell<T: Telling, X, Y>(
         &mut self,
         named: &Named<B>,
@@ -302,7 +350,17 @@ impl<B: Origin> Keeper<B> {
         let _ = n;
         let _ = about;
         let _ = answer;
+        own.mirror = None;
         tell_turn::<T>(&named.cell, &mut self.pass, &mut own.pass);
+    }
+
+    /// The steps that an actor knows are all that were told of it.
+    pub fn compare<R: Wait>(&mut self, rt: &R, named: &Named<B>, own: &mut Own<B>)
+        ensures keeper { self.new ≡ self.old }
+        ensures own { own.new ≡ own.old }
+        ensures same { own.old.1 ≡ events_of own.old.0 self.old.0 }
+    {
+        look_own(rt, &named.cell, &mut self.pass, &mut own.pass);
     }
 
     /// An actor ends: its steps are all that were told of it.
@@ -313,6 +371,7 @@ impl<B: Origin> Keeper<B> {
         let Own {
             pass,
             actor: _,
+            mirror: _,
             of: _,
         } = own;
         compare_own(rt, &named.cell, &mut self.pass, pass);
@@ -326,5 +385,27 @@ impl<B: Origin> Own<B> {
         ensures within { (B.least ≤ result) × (result < B.most) }
     {
         self.actor
+    }
+
+    /// The hasher of what the ticket took and of these bytes behind it, where that of what it took is kept, which goes then.
+    pub fn hashed_ahead(&mut self, ticket: u64, bytes: &[u8]) -> Option<Sha256>
+        ensures same { self.new ≡ self.old }
+        ensures ahead { IfSome result (HoldsAhead ticket self.old.1 bytes.now) }
+    {
+        let mirror = self.mirror.take()?;
+        if mirror.ticket != ticket {
+            return None;
+        }
+        let mut hasher = mirror.hasher;
+        hasher.update(bytes);
+        Some(hasher)
+    }
+
+    /// Keeps the hasher of what the ticket took.
+    pub fn keep_hasher(&mut self, ticket: u64, hasher: Sha256)
+        requires { HoldsTaken ticket self.old.1 hasher }
+        ensures { self.new ≡ self.old }
+    {
+        self.mirror = Some(Mirror { ticket, hasher });
     }
 }

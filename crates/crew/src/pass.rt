@@ -3,9 +3,10 @@ ghost use Rattle.std.specs.Prelude.{◌≡◌, ◌≤◌, ◌^◌, ◌⊎◌, []
 ghost use Rattle.kinds.specs.declared.refusal.Refusal.TheVariants.{Busy, Memory};
 ghost use Rattle.steps.specs.Calls.{Does, MakesStep, piece_of};
 ghost use Rattle.steps.specs.Events.{refusal_in};
-ghost use Rattle.steps.specs.Events.Deed.{ReadPiece};
+ghost use Rattle.steps.specs.Events.Deed.{ReadPiece, WritePiece};
 ghost use Rattle.hall.specs.Alone.{raised};
 ghost use Rattle.crew.specs.Passes.{Did};
+ghost use Rattle.crew.specs.Wrote.{HoldsAhead, HoldsTaken};
 
 use crate::board::Board;
 use crate::known::{Named, Origin, Own};
@@ -15,6 +16,7 @@ use crate::orders::{
 use hall_turns::{counted, without_number};
 use inventory_answers::{Answer, Query};
 use kinds::{Digest, Holder, Refusal};
+use sha2::{Digest as _, Sha256};
 use space::Aim;
 use std::sync::{Condvar, Mutex, Wait};
 use steps::{Asked, ImageKind, ImageReply, Stepper};
@@ -129,6 +131,40 @@ impl<S: Store, B: Origin, R: Wait, G: Gate> Pass<'_, S, B, R, G> {
         answer
     }
 
+    /// Makes the step that writes a piece with this hasher, which holds what the ticket took and the piece, whatever else was answered in the block.
+    fn write_ahead(&mut self, order: &Writes<'_>, hasher: &Sha256) -> Result<u64, Refusal>
+        requires sized { (1 ≤ length order.now.bytes.now) × (length order.now.bytes.now ≤ 2 ^ 16) }
+        requires ahead { HoldsAhead order.now.ticket self.old.own.1 order.now.bytes.now hasher.now }
+        ensures made { MakesStep (λ p events q. Did p.own p.refused events q.own q.refused) self.old self.new (WritePiece order.now.ticket order.now.bytes.now result) }
+        ensures held { IfOk result (λ count. HoldsTaken order.now.ticket self.new.own.1 hasher.now) }
+    {
+        self.pass_gate();
+        let mut board = self.shared.board.lock(self.rt);
+        let answer = board.write_hashed(self.rt, &self.shared.named, &mut self.own, order, hasher);
+        let changes = board.changes();
+        drop(board);
+        self.note(changes, &answer);
+        answer
+    }
+
+    /// Writes a piece with this hasher, which holds what the ticket took and the piece, and is kept where it is written; or wants memory where another step of the block did.
+    fn write_hashed(&mut self, order: &Writes<'_>, hasher: Sha256) -> Result<u64, Refusal>
+        requires sized { (1 ≤ length order.now.bytes.now) × (length order.now.bytes.now ≤ 2 ^ 16) }
+        requires ahead { HoldsAhead order.now.ticket self.old.own.1 order.now.bytes.now hasher }
+        ensures { Does (λ p events q. Did p.own p.refused events q.own q.refused) self.old self.new (WritePiece order.now.ticket order.now.bytes.now result) }
+    {
+        if self.is_stopped() {
+            return Err(Refusal::Memory);
+        }
+        match self.write_ahead(order, &hasher) {
+            Ok(count) => {
+                self.own.keep_hasher(order.ticket, hasher);
+                Ok(count)
+            }
+            Err(refusal) => Err(refusal), // the hasher goes
+        }
+    }
+
     /// Whether a step of the block wanted memory.
     fn is_stopped(&self) -> bool {
         self.shared.board.lock(self.rt).is_stopped()
@@ -201,7 +237,13 @@ impl<S: Store, B: Origin, R: Wait, G: Gate> Stepper for Pass<'_, S, B, R, G> {
     }
 
     fn open_new(&mut self, pool: u32, size: u64, prefer: u32) -> Result<u64, Refusal> {
-        self.make(&OpensNew { pool, size, prefer })
+        match self.make(&OpensNew { pool, size, prefer }) {
+            Ok(ticket) => {
+                self.own.keep_hasher(ticket, Sha256::new());
+                Ok(ticket)
+            }
+            Err(refusal) => Err(refusal),
+        }
     }
 
     fn open_copy(&mut self, object: u64, aim: Aim, avoid: u32) -> Result<u64, Refusal> {
@@ -209,7 +251,11 @@ impl<S: Store, B: Origin, R: Wait, G: Gate> Stepper for Pass<'_, S, B, R, G> {
     }
 
     fn write_piece(&mut self, ticket: u64, bytes: &[u8]) -> Result<u64, Refusal> {
-        self.make(&Writes { ticket, bytes })
+        let order = Writes { ticket, bytes };
+        match self.own.hashed_ahead(ticket, bytes) {
+            Some(hasher) => self.write_hashed(&order, hasher),
+            None => self.make(&order),
+        }
     }
 
     fn copy_piece(&mut self, ticket: u64) -> Result<u64, Refusal> {
