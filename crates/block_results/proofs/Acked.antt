@@ -13,29 +13,29 @@ use Rattle.admin_words.specs.declared.command.Command.{Command}
 use Rattle.admin_words.specs.declared.files.FilePut.{FilePut}
 use Rattle.admin_commands.specs.declared.work.Work.{Work}
 use Rattle.admin_commands.specs.declared.work.Work.TheVariants.{Commit as CommitWork, Run, Show}
-use Rattle.restores.proofs.Caused.{restores-reading}
-use Rattle.restores.specs.Causes.{IsReading}
-use Rattle.sessions.proofs.Causes.{made-all, then-all}
-use Rattle.sessions.proofs.Changed.{awaits-none, made-none, two-none, waited-none}
-use Rattle.sessions.specs.Changing.{Changes, Changing, Joins}
-use Rattle.sessions.specs.Checkpoints.{IsOf as IsOfCheckpoint}
-use Rattle.sessions.specs.InTurn.{OrMemory}
-use Rattle.sessions.specs.Putting.{AsksFor, CommitsOne, Defines, FindsFilespace, FindsHome, FindsIn, ForcesOne, GivesBack, Names, Sends, Puts, PutsIn, PutsUnder, Stores, StoresAndNames, backed_up, defined, defined_by, is_unplaced}
-use Rattle.sessions.specs.declared.homes.Home.{Home}
-use Rattle.sessions.specs.declared.sending.Sealed.{Sealed}
+use Rattle.line_results.proofs.of_restores.Caused.{restores-reading}
+use Rattle.line_results.specs.restores.Causes.{IsReading}
+use Rattle.line_results.proofs.of_sessions.Causes.{made-all, then-all}
+use Rattle.line_results.proofs.of_sessions.Changed.{awaits-none, made-none, two-none, waited-none}
+use Rattle.line_results.specs.sessions.Changing.{Changes, Changing, Joins}
+use Rattle.line_results.specs.sessions.Checkpoints.{IsOf as IsOfCheckpoint}
+use Rattle.line_results.specs.sessions.InTurn.{OrMemory}
+use Rattle.line_results.specs.sessions.Putting.{AsksFor, CommitsOne, Defines, FindsFilespace, FindsHome, FindsIn, ForcesOne, GivesBack, Names, Sends, Puts, PutsIn, PutsUnder, Stores, StoresAndNames, backed_up, defined, defined_by, is_unplaced}
+use Rattle.line_results.specs.sessions.declared.homes.Home.{Home}
+use Rattle.line_results.specs.sessions.declared.sending.Sealed.{Sealed}
 use Rattle.steps.proofs.Spending.{any-before, any-behind}
 use Rattle.steps.specs.declared.asked.Asked.TheVariants.{Plain}
 use Rattle.steps.specs.Calls.{Made}
 use Rattle.steps.specs.Events.{Deed, Event}
 use Rattle.steps.specs.Events.Deed.{OpenNew, OpenCopy, WritePiece, CopyPiece, Seal, Commit, DropTicket, ReadPiece, Ask, Image, Reuse, Force}
 use Rattle.steps.specs.Receipts.{forces, is_forced, is_made, is_receipt, made, receipts}
-use Rattle.command_steps.specs.Answers.{halt_by}
-use Rattle.command_steps.specs.Behind as comes
-use Rattle.command_steps.specs.Behind.{Behind, behind, no_more, reuses}
-use Rattle.command_steps.specs.Clients.{Client}
-use Rattle.command_steps.specs.Doing.{Does, DoesOwn, EndsWork, Forcing, PutsText}
-use Rattle.command_steps.specs.Owns.{OnTree, Own, back_up, checkpoint, erase, file_put, get, none_yet, on_tree, own_of, put, restore, row_put, validate, write}
-use Rattle.command_steps.specs.Trees.{DoesThere}
+use Rattle.line_results.specs.command_steps.Answers.{halt_by}
+use Rattle.line_results.specs.command_steps.Behind as comes
+use Rattle.line_results.specs.command_steps.Behind.{Behind, behind, no_more, reuses}
+use Rattle.line_results.specs.command_steps.Clients.{Client}
+use Rattle.line_results.specs.command_steps.Doing.{Does, DoesOwn, EndsWork, Forcing, PutsText}
+use Rattle.line_results.specs.command_steps.Owns.{OnTree, Own, back_up, checkpoint, erase, file_put, get, none_yet, on_tree, own_of, put, restore, row_put, validate, write}
+use Rattle.line_results.specs.command_steps.Trees.{DoesThere}
 use Rattle.line_results.proofs.ForceEnds.{force-ends}
 use Rattle.line_results.proofs.Mild.{IsMild}
 use Rattle.line_results.proofs.Processing.{IsPlainOwn, IsPlainTree, kind}

@@ -4,9 +4,9 @@ use Rattle.kinds.specs.declared.refusal.Refusal.{Refusal}
 use Rattle.admin_commands.specs.declared.work.Work.{Work}
 use Rattle.machine.specs.Fits.{History, Own as Holding}
 use Rattle.steps.specs.Events.{Event}
-use Rattle.command_steps.specs.Clients.{Client}
-use Rattle.command_steps.specs.Owns.{Own}
-use Rattle.command_steps.specs.declared.outcome.Outcome.{Outcome}
+use Rattle.line_results.specs.command_steps.Clients.{Client}
+use Rattle.line_results.specs.command_steps.Owns.{Own}
+use Rattle.line_results.specs.command_steps.declared.outcome.Outcome.{Outcome}
 use Rattle.block_results.specs.Clauses.{CauseBy, DidBy, ShowsBy}
 
 abbrev pub Said : Type 0

@@ -11,12 +11,12 @@ use Rattle.machine.proofs.Legality.{joined-legal}
 use Rattle.machine.proofs.Runs.{fits-rises}
 use Rattle.machine.specs.Changes.{filled}
 use Rattle.machine.specs.Fits.{Fits, History, IsMadeOf, JoinsAt, Own, Step, entries_to, inv, number_after, sight_at}
-use Rattle.sessions.specs.Changing.{Changing, Joins}
-use Rattle.sessions.specs.Outcomes.{IsCaused}
+use Rattle.line_results.specs.sessions.Changing.{Changing, Joins}
+use Rattle.line_results.specs.sessions.Outcomes.{IsCaused}
 use Rattle.steps.specs.declared.asked.Asked.TheVariants.{Plain}
 use Rattle.steps.specs.Events.{Event, event}
 use Rattle.steps.specs.Events.Deed.{Commit}
-use Rattle.command_steps.specs.Answers.{halt_by}
+use Rattle.line_results.specs.command_steps.Answers.{halt_by}
 use Rattle.block_results.specs.Standing.{IsRefusedAt}
 use Rattle.block_results.specs.Works.{IsMadeAt}
 use Rattle.block_results.proofs.Fitting.{fits-parts, fits-step-of, refused-at}

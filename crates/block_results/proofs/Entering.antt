@@ -16,26 +16,26 @@ use Rattle.entries.specs.declared.change.Change.{Change}
 use Rattle.entries.specs.declared.change.Change.TheVariants as change
 use Rattle.inventory_rows.specs.State.{Inv}
 use Rattle.inventory_answers.specs.declared.lines.VolumeLine.{VolumeLine}
-use Rattle.copy_attempts.proofs.Facts.{all-append, made-append}
-use Rattle.copy_pools.specs.Backups.{IsEnteredIn as IsFurther}
-use Rattle.copy_runs.specs.Ends.{IsEnding}
-use Rattle.db_backup.specs.Backups.{IsFollowing}
-use Rattle.db_backup.specs.Deleting.{IsDeleting}
-use Rattle.db_backup.specs.Taking.{IsOf as IsOfImage, kind_of}
-use Rattle.deletions.specs.Discarding.{IsDiscarding, discarded}
-use Rattle.deletions.specs.Dropping.{IsTaking, dropped}
-use Rattle.deletions.specs.Filespaces as filespaces
-use Rattle.deletions.specs.Volumes as volumes
-use Rattle.expiration.specs.Expiring.{IsExpiring, named}
-use Rattle.migration.specs.Migrating.{IsEnteredIn as IsMigrated}
-use Rattle.migration.specs.Sweeping.{IsEnteredAny}
-use Rattle.pool_restores.specs.Listing.{destroying, destroying_found, volume_with}
-use Rattle.pool_restores.specs.Restoring.{IsEnteredSo}
-use Rattle.pool_restores.specs.Volumes.{IsEnteredOr}
-use Rattle.reclamation.specs.Moving.{IsEnteredOff}
-use Rattle.reuse_delay.specs.Reusing.{IsReusing}
-use Rattle.volume_audits.specs.Auditing.{IsAuditing}
-use Rattle.volume_audits.specs.Mending.{IsMending}
+use Rattle.line_results.proofs.of_copy_attempts.Facts.{all-append, made-append}
+use Rattle.line_results.specs.copy_pools.Backups.{IsEnteredIn as IsFurther}
+use Rattle.line_results.specs.copy_runs.Ends.{IsEnding}
+use Rattle.line_results.specs.db_backup.Backups.{IsFollowing}
+use Rattle.line_results.specs.db_backup.Deleting.{IsDeleting}
+use Rattle.line_results.specs.db_backup.Taking.{IsOf as IsOfImage, kind_of}
+use Rattle.line_results.specs.deletions.Discarding.{IsDiscarding, discarded}
+use Rattle.line_results.specs.deletions.Dropping.{IsTaking, dropped}
+use Rattle.line_results.specs.deletions.Filespaces as filespaces
+use Rattle.line_results.specs.deletions.Volumes as volumes
+use Rattle.line_results.specs.expiration.Expiring.{IsExpiring, named}
+use Rattle.line_results.specs.migration.Migrating.{IsEnteredIn as IsMigrated}
+use Rattle.line_results.specs.migration.Sweeping.{IsEnteredAny}
+use Rattle.line_results.specs.pool_restores.Listing.{destroying, destroying_found, volume_with}
+use Rattle.line_results.specs.pool_restores.Restoring.{IsEnteredSo}
+use Rattle.line_results.specs.pool_restores.Volumes.{IsEnteredOr}
+use Rattle.line_results.specs.reclamation.Moving.{IsEnteredOff}
+use Rattle.line_results.specs.reuse_delay.Reusing.{IsReusing}
+use Rattle.line_results.specs.volume_audits.Auditing.{IsAuditing}
+use Rattle.line_results.specs.volume_audits.Mending.{IsMending}
 use Rattle.steps.specs.declared.asked.Asked.{Asked}
 use Rattle.steps.specs.declared.asked.Asked.TheVariants.{Plain}
 use Rattle.steps.specs.declared.image.ImageKind.TheVariants as image
@@ -45,9 +45,9 @@ use Rattle.steps.specs.Receipts.{is_made, made}
 use Rattle.machine.specs.Changes.{change_of, filled}
 use Rattle.machine.specs.Fits.{Fits, History, IsMadeOf, JoinsAt, Own as Holding, Step, inv, sight_at}
 use Rattle.machine.specs.State.{Sight}
-use Rattle.command_steps.specs.Behind.{reuses}
-use Rattle.command_steps.specs.Doing.{the_number, the_second}
-use Rattle.command_steps.specs.Owns.{all_migrator, audit_volume, back_up_database, back_up_pool, back_up_since, data_mover, delete_history, empty_filespace, empty_volume, expire, migrator, moves, pool_restorer, reclaimer, volume_restorer}
+use Rattle.line_results.specs.command_steps.Behind.{reuses}
+use Rattle.line_results.specs.command_steps.Doing.{the_number, the_second}
+use Rattle.line_results.specs.command_steps.Owns.{all_migrator, audit_volume, back_up_database, back_up_pool, back_up_since, data_mover, delete_history, empty_filespace, empty_volume, expire, migrator, moves, pool_restorer, reclaimer, volume_restorer}
 use Rattle.line_results.specs.Commands.{IsLoss, IsReuse, MayMake}
 use Rattle.block_results.specs.Standing.{IsEntered}
 

@@ -2,10 +2,10 @@
 use Rattle.std.proofs.Common.{◌≡◌, inl, inr, ℕ, ◌≤◌, List, [], ◌∷◌, ◌++◌, Contains, Some, subst, arith}
 use Rattle.std.proofs.lemmas.List.Elements.{Contains-append_left, Contains-append_right, Contains-push}
 use Rattle.kinds.specs.declared.refusal.Refusal.{Refusal}
-use Rattle.copy_attempts.specs.Outcomes.{Met, MetBy}
+use Rattle.line_results.specs.copy_attempts.Outcomes.{Met, MetBy}
 use Rattle.machine.proofs.Runs.{fits-cut, fits-first, fits-one, fits-rises}
 use Rattle.machine.specs.Fits.{Fits, History, Own, Step}
-use Rattle.sessions.proofs.Got.{step-between}
+use Rattle.line_results.proofs.of_sessions.Got.{step-between}
 use Rattle.steps.specs.Events.{Deed, Event, event, refusal}
 use Rattle.block_results.specs.Standing.{At, IsRefusedAt}
 

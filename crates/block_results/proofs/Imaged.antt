@@ -2,14 +2,14 @@
 use Rattle.std.proofs.Common.{◌≡◌, inl, inr, ℕ, ◌≤◌, List, [], ◌∷◌, Some, Ok, Err, refl, sym, ap, subst, ◌∙◌, arith}
 use Rattle.std.proofs.lemmas.Option.{same_Some}
 use Rattle.kinds.specs.declared.refusal.Refusal.TheVariants as refused
-use Rattle.copy_attempts.specs.Outcomes.{MetBy}
+use Rattle.line_results.specs.copy_attempts.Outcomes.{MetBy}
 use Rattle.machine.proofs.Runs.{fits-rises}
 use Rattle.machine.specs.Fits.{Fits, History, Own, Step, inv}
 use Rattle.machine.specs.Says.{Says}
 use Rattle.machine.specs.State.{Image as Picture}
-use Rattle.sessions.proofs.Changed.{inv-number}
-use Rattle.sessions.proofs.Got.{step-between}
-use Rattle.sessions.specs.Checkpoints.{AreMore, Checkpoints, Opens}
+use Rattle.line_results.proofs.of_sessions.Changed.{inv-number}
+use Rattle.line_results.proofs.of_sessions.Got.{step-between}
+use Rattle.line_results.specs.sessions.Checkpoints.{AreMore, Checkpoints, Opens}
 use Rattle.steps.specs.declared.image.ImageKind.TheVariants as image
 use Rattle.steps.specs.declared.image.ImageReply.TheVariants as reply
 use Rattle.steps.specs.Calls.{Made}

@@ -12,8 +12,8 @@ use Rattle.steps.specs.Events.{Event}
 use Rattle.machine.specs.Fits.{Fits, History, Own as Holding}
 use Rattle.machine.specs.State.{Core, Image as Picture, Ticket, own_image, own_tickets}
 use Rattle.machine.specs.Turns.{Turn, events_of, own_in}
-use Rattle.command_steps.specs.Clients.{Client, Known}
-use Rattle.command_steps.specs.Lines.{line_in}
+use Rattle.line_results.specs.command_steps.Clients.{Client, Known}
+use Rattle.line_results.specs.command_steps.Lines.{line_in}
 use Rattle.line_jobs.specs.Jobs.{AnswersFate, AreAnswered, DoesLines, JobLine, between, lines_of}
 use Rattle.line_jobs.specs.Shares.{AreDone, Came}
 use Rattle.line_jobs.specs.declared.job.Said.{Said}

@@ -24,44 +24,44 @@ use Rattle.admin_words.specs.declared.files.IncrementalBackup.{IncrementalBackup
 use Rattle.admin_words.specs.declared.command.Command.{Command}
 use Rattle.admin_commands.specs.declared.work.Work.{Work}
 use Rattle.admin_commands.specs.declared.work.Work.TheVariants.{Commit as CommitWork, Run, Show}
-use Rattle.db_backup.specs.Backups.{IsFollowing}
-use Rattle.db_backup.specs.Deleting.{IsDeleting}
-use Rattle.db_backup.specs.Listing.{due_files}
-use Rattle.db_backup.specs.Taking.{IsOf as IsOfImage, kind_of}
-use Rattle.copy_pools.specs.Backups.{IsEnteredIn as IsFurther}
-use Rattle.deletions.specs.Filespaces as filespaces
-use Rattle.deletions.specs.Volumes as volumes
-use Rattle.expiration.specs.Expiring.{IsExpiring}
-use Rattle.incrementals.specs.Orders.{IsOfBackup, IsOfPlan as IsRowOfPlan, IsOrdered, IsQuestion, IsReadAs}
-use Rattle.incrementals.specs.Process.{Only}
-use Rattle.incrementals.specs.declared.planning.Begun.{Begun}
+use Rattle.line_results.specs.db_backup.Backups.{IsFollowing}
+use Rattle.line_results.specs.db_backup.Deleting.{IsDeleting}
+use Rattle.line_results.specs.db_backup.Listing.{due_files}
+use Rattle.line_results.specs.db_backup.Taking.{IsOf as IsOfImage, kind_of}
+use Rattle.line_results.specs.copy_pools.Backups.{IsEnteredIn as IsFurther}
+use Rattle.line_results.specs.deletions.Filespaces as filespaces
+use Rattle.line_results.specs.deletions.Volumes as volumes
+use Rattle.line_results.specs.expiration.Expiring.{IsExpiring}
+use Rattle.line_results.specs.incrementals.Orders.{IsOfBackup, IsOfPlan as IsRowOfPlan, IsOrdered, IsQuestion, IsReadAs}
+use Rattle.line_results.specs.incrementals.Process.{Only}
+use Rattle.line_results.specs.incrementals.declared.planning.Begun.{Begun}
 use Rattle.machine.proofs.Runs.{fits-rises}
 use Rattle.machine.specs.Changes.{all_tickets, are_so_many, change_of, filled, paired, scratch_of, version_from}
 use Rattle.machine.specs.Fits.{Fits, History, Own as Holding}
 use Rattle.machine.specs.State.{Sight, Ticket}
-use Rattle.migration.specs.Migrating.{IsEnteredIn as IsMigrated}
-use Rattle.migration.specs.Sweeping.{IsEnteredAny}
-use Rattle.pool_restores.specs.Restoring.{IsEnteredSo}
-use Rattle.pool_restores.specs.Volumes.{IsEnteredOr}
-use Rattle.reclamation.specs.Moving.{IsEnteredOff}
-use Rattle.reuse_delay.specs.Reusing.{IsReusing}
-use Rattle.volume_audits.specs.Auditing.{IsAuditing}
-use Rattle.restores.proofs.Caused.{restores-reading}
-use Rattle.restores.specs.Causes.{IsReading}
-use Rattle.sessions.proofs.Changed.{made-none}
-use Rattle.sessions.specs.Changing.{IsOf}
-use Rattle.sessions.specs.Checkpoints.{IsOf as IsOfCheckpoint}
-use Rattle.sessions.specs.Putting.{Puts}
-use Rattle.copy_runs.specs.declared.wanted.Moved.{Moved}
+use Rattle.line_results.specs.migration.Migrating.{IsEnteredIn as IsMigrated}
+use Rattle.line_results.specs.migration.Sweeping.{IsEnteredAny}
+use Rattle.line_results.specs.pool_restores.Restoring.{IsEnteredSo}
+use Rattle.line_results.specs.pool_restores.Volumes.{IsEnteredOr}
+use Rattle.line_results.specs.reclamation.Moving.{IsEnteredOff}
+use Rattle.line_results.specs.reuse_delay.Reusing.{IsReusing}
+use Rattle.line_results.specs.volume_audits.Auditing.{IsAuditing}
+use Rattle.line_results.proofs.of_restores.Caused.{restores-reading}
+use Rattle.line_results.specs.restores.Causes.{IsReading}
+use Rattle.line_results.proofs.of_sessions.Changed.{made-none}
+use Rattle.line_results.specs.sessions.Changing.{IsOf}
+use Rattle.line_results.specs.sessions.Checkpoints.{IsOf as IsOfCheckpoint}
+use Rattle.line_results.specs.sessions.Putting.{Puts}
+use Rattle.line_results.specs.copy_runs.declared.wanted.Moved.{Moved}
 use Rattle.steps.specs.declared.asked.Asked.{Asked}
 use Rattle.steps.specs.Events.{Deed, Event}
 use Rattle.steps.specs.Events.Deed.{Ask, Commit, DropTicket, Force, Image, OpenNew, ReadPiece, Seal, WritePiece}
 use Rattle.steps.specs.Receipts.{is_made, made}
-use Rattle.command_steps.specs.Behind.{Behind, behind, forces, no_more, reuses}
-use Rattle.command_steps.specs.Clients.{Client, Known, Turns}
-use Rattle.command_steps.specs.Doing.{Does, DoesAlone, DoesOwn, EndsWork, Forcing, MovesSo, PutsText, Reusing, the_number, the_second}
-use Rattle.command_steps.specs.Owns.{Mover, OnTree, Own, all_migrator, audit_volume, back_up, back_up_database, back_up_pool, back_up_since, checkpoint, data_mover, delete_history, empty_filespace, empty_volume, erase, expire, file_put, get, migrator, moves, none_but_reuse, none_yet, on_tree, own_of, pool_restorer, put, reclaimer, restore, row_put, validate, volume_restorer, write}
-use Rattle.command_steps.specs.Trees.{DoesThere, GivesWanted}
+use Rattle.line_results.specs.command_steps.Behind.{Behind, behind, forces, no_more, reuses}
+use Rattle.line_results.specs.command_steps.Clients.{Client, Known, Turns}
+use Rattle.line_results.specs.command_steps.Doing.{Does, DoesAlone, DoesOwn, EndsWork, Forcing, MovesSo, PutsText, Reusing, the_number, the_second}
+use Rattle.line_results.specs.command_steps.Owns.{Mover, OnTree, Own, all_migrator, audit_volume, back_up, back_up_database, back_up_pool, back_up_since, checkpoint, data_mover, delete_history, empty_filespace, empty_volume, erase, expire, file_put, get, migrator, moves, none_but_reuse, none_yet, on_tree, own_of, pool_restorer, put, reclaimer, restore, row_put, validate, volume_restorer, write}
+use Rattle.line_results.specs.command_steps.Trees.{DoesThere, GivesWanted}
 use Rattle.inventory_rows.specs.State.{Inv}
 use Rattle.line_results.specs.Commands.{IsReuse, MayMake}
 use Rattle.block_results.specs.Clauses.{OrderedBy, OrderedOwn, orders}

@@ -11,36 +11,36 @@ use Rattle.admin_words.specs.declared.files.FilePut.{FilePut}
 use Rattle.admin_words.specs.declared.files.FilesRestore.{FilesRestore}
 use Rattle.admin_commands.specs.declared.work.Work.{Work}
 use Rattle.admin_commands.specs.declared.work.Work.TheVariants.{Commit as CommitWork, Run, Show}
-use Rattle.copy_runs.specs.Ends.{IsEnding}
-use Rattle.copy_runs.specs.declared.wanted.Moved.{Moved}
-use Rattle.copy_pools.specs.Backups.{Came as BackupCame}
-use Rattle.deletions.specs.Discarding.{IsDiscarding}
-use Rattle.deletions.specs.Dropping.{IsTaking}
-use Rattle.deletions.specs.Filespaces as filespaces
-use Rattle.deletions.specs.Volumes as volumes
-use Rattle.expiration.specs.Expiring.{IsExpiring}
-use Rattle.incrementals.specs.Orders.{AreQuestions, IsQuestion}
-use Rattle.incrementals.specs.declared.answering.Sent.{Sent}
+use Rattle.line_results.specs.copy_runs.Ends.{IsEnding}
+use Rattle.line_results.specs.copy_runs.declared.wanted.Moved.{Moved}
+use Rattle.line_results.specs.copy_pools.Backups.{Came as BackupCame}
+use Rattle.line_results.specs.deletions.Discarding.{IsDiscarding}
+use Rattle.line_results.specs.deletions.Dropping.{IsTaking}
+use Rattle.line_results.specs.deletions.Filespaces as filespaces
+use Rattle.line_results.specs.deletions.Volumes as volumes
+use Rattle.line_results.specs.expiration.Expiring.{IsExpiring}
+use Rattle.line_results.specs.incrementals.Orders.{AreQuestions, IsQuestion}
+use Rattle.line_results.specs.incrementals.declared.answering.Sent.{Sent}
 use Rattle.machine.specs.Fits.{Fits, History, Own as Holding}
-use Rattle.restores.proofs.Caused.{restores-reading}
-use Rattle.restores.specs.Causes.{IsReading}
-use Rattle.reuse_delay.specs.Reusing.{IsReusing}
-use Rattle.sessions.proofs.BackedUp.{put-none}
-use Rattle.sessions.specs.Changing.{IsOf}
-use Rattle.sessions.specs.Checkpoints.{IsOf as IsOfCheckpoint}
-use Rattle.sessions.specs.Putting.{Puts}
+use Rattle.line_results.proofs.of_restores.Caused.{restores-reading}
+use Rattle.line_results.specs.restores.Causes.{IsReading}
+use Rattle.line_results.specs.reuse_delay.Reusing.{IsReusing}
+use Rattle.line_results.proofs.of_sessions.BackedUp.{put-none}
+use Rattle.line_results.specs.sessions.Changing.{IsOf}
+use Rattle.line_results.specs.sessions.Checkpoints.{IsOf as IsOfCheckpoint}
+use Rattle.line_results.specs.sessions.Putting.{Puts}
 use Rattle.steps.proofs.Spending.{settled-append}
 use Rattle.steps.specs.Calls.{Made}
 use Rattle.steps.specs.Events.{Deed, Event, has_number}
 use Rattle.steps.specs.Events.Deed.{Ask, Commit, Force, Image, ReadPiece, Reuse}
 use Rattle.steps.specs.Spent.{AreSettled, IsSettled}
-use Rattle.command_steps.specs.Answers.{halt_by}
-use Rattle.command_steps.specs.Behind.{Behind, forces, no_more, reuses}
-use Rattle.command_steps.specs.Clients.{Client, Known}
-use Rattle.command_steps.specs.Doing.{Does, DoesAlone, DoesOwn, EndsWork, Forcing, MovesSo, PutsText, Reusing, the_number, the_second}
-use Rattle.command_steps.specs.Owns.{Mover, OnTree, Own, all_migrator, audit_volume, back_up, back_up_database, back_up_pool, back_up_since, checkpoint, data_mover, delete_history, empty_filespace, empty_volume, erase, expire, file_put, get, migrator, moves, none_but_reuse, none_yet, on_tree, own_of, pool_restorer, put, reclaimer, restore, row_put, validate, volume_restorer, write}
-use Rattle.command_steps.specs.Trees.{DoesThere, GivesWanted, ShowsSent}
-use Rattle.command_steps.specs.declared.outcome.Outcome.{Outcome}
+use Rattle.line_results.specs.command_steps.Answers.{halt_by}
+use Rattle.line_results.specs.command_steps.Behind.{Behind, forces, no_more, reuses}
+use Rattle.line_results.specs.command_steps.Clients.{Client, Known}
+use Rattle.line_results.specs.command_steps.Doing.{Does, DoesAlone, DoesOwn, EndsWork, Forcing, MovesSo, PutsText, Reusing, the_number, the_second}
+use Rattle.line_results.specs.command_steps.Owns.{Mover, OnTree, Own, all_migrator, audit_volume, back_up, back_up_database, back_up_pool, back_up_since, checkpoint, data_mover, delete_history, empty_filespace, empty_volume, erase, expire, file_put, get, migrator, moves, none_but_reuse, none_yet, on_tree, own_of, pool_restorer, put, reclaimer, restore, row_put, validate, volume_restorer, write}
+use Rattle.line_results.specs.command_steps.Trees.{DoesThere, GivesWanted, ShowsSent}
+use Rattle.line_results.specs.command_steps.declared.outcome.Outcome.{Outcome}
 use Rattle.inventory_rows.specs.version_groups.Entries.{on_ok}
 use Rattle.line_results.proofs.Mild.{IsMild}
 use Rattle.block_results.proofs.Came.{Said}

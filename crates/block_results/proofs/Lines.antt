@@ -10,27 +10,27 @@ use Rattle.admin_words.specs.declared.command.Command.{Command}
 use Rattle.admin_commands.specs.Orders.{needs, work_of}
 use Rattle.admin_commands.specs.declared.work.Work.{Work}
 use Rattle.admin_commands.specs.declared.work.Work.TheVariants.{Commit, Run, Show}
-use Rattle.incrementals.specs.Orders.{AreQuestions, IsQuestion}
+use Rattle.line_results.specs.incrementals.Orders.{AreQuestions, IsQuestion}
 use Rattle.script_loop.specs.Reply.{Answer}
 use Rattle.machine.proofs.Runs.{fits-none, fits-rises}
 use Rattle.machine.specs.Fits.{Fits, History, Own as Holding}
-use Rattle.sessions.proofs.Causes.{made-all, then-all}
-use Rattle.sessions.proofs.Changed.{two-none}
-use Rattle.sessions.specs.InTurn.{OrMemory}
+use Rattle.line_results.proofs.of_sessions.Causes.{made-all, then-all}
+use Rattle.line_results.proofs.of_sessions.Changed.{two-none}
+use Rattle.line_results.specs.sessions.InTurn.{OrMemory}
 use Rattle.steps.specs.Events.{Deed, Event}
 use Rattle.steps.specs.Receipts.{is_made, made}
 use Rattle.steps.specs.Events.Deed.{Ask}
-use Rattle.command_steps.specs.Answering.{DoesLine}
-use Rattle.command_steps.specs.Answers.{Ends, nothing, refusal}
-use Rattle.command_steps.specs.Behind.{behind}
-use Rattle.command_steps.specs.Clients.{Client, IsKept}
-use Rattle.command_steps.specs.Doing.{Asked, AsksAll, Does, DoesOwn, DoesWork, Doing, WorksOrWants}
-use Rattle.command_steps.specs.Jobs.{AnswersInJob, DoesInJob, Withholds}
-use Rattle.command_steps.specs.Leaving.{ChangesOnly, named_by}
-use Rattle.command_steps.specs.Lines.{Line, asks, comment, refused as refused_line}
-use Rattle.command_steps.specs.Owns.{OnTree, Own, on_tree, own_of, tree_of}
-use Rattle.command_steps.specs.Trees.{DoesThere}
-use Rattle.command_steps.specs.declared.outcome.Outcome.{Outcome}
+use Rattle.line_results.specs.command_steps.Answering.{DoesLine}
+use Rattle.line_results.specs.command_steps.Answers.{Ends, nothing, refusal}
+use Rattle.line_results.specs.command_steps.Behind.{behind}
+use Rattle.line_results.specs.command_steps.Clients.{Client, IsKept}
+use Rattle.line_results.specs.command_steps.Doing.{Asked, AsksAll, Does, DoesOwn, DoesWork, Doing, WorksOrWants}
+use Rattle.line_results.specs.command_steps.Jobs.{AnswersInJob, DoesInJob, Withholds}
+use Rattle.line_results.specs.command_steps.Leaving.{ChangesOnly, named_by}
+use Rattle.line_results.specs.command_steps.Lines.{Line, asks, comment, refused as refused_line}
+use Rattle.line_results.specs.command_steps.Owns.{OnTree, Own, on_tree, own_of, tree_of}
+use Rattle.line_results.specs.command_steps.Trees.{DoesThere}
+use Rattle.line_results.specs.command_steps.declared.outcome.Outcome.{Outcome}
 use Rattle.line_results.proofs.Mild.{IsMild}
 use Rattle.line_results.proofs.Needs.{IsPlainWork, work-plain}
 use Rattle.block_results.specs.Clauses.{CommandHolds, Holds, IsWithheld, answer_by, orders}

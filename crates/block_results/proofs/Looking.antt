@@ -14,13 +14,13 @@ use Rattle.machine.proofs.Runs.{fits-rises}
 use Rattle.machine.specs.Fits.{Fits, History, Own, Step, inv}
 use Rattle.machine.specs.Machine.{IsAnswer, answer_with}
 use Rattle.machine.specs.Says.{Says, is_elsewhere}
-use Rattle.sessions.proofs.Got.{step-between}
-use Rattle.sessions.specs.InTurn.{OrMemory}
+use Rattle.line_results.proofs.of_sessions.Got.{step-between}
+use Rattle.line_results.specs.sessions.InTurn.{OrMemory}
 use Rattle.steps.specs.Calls.{Made}
 use Rattle.steps.specs.Events.{Event, event, has_number, is_listed}
 use Rattle.steps.specs.Events.Deed.{Ask}
-use Rattle.command_steps.specs.Answers.{halt_by}
-use Rattle.command_steps.specs.Doing.{Asked, AsksAll}
+use Rattle.line_results.specs.command_steps.Answers.{halt_by}
+use Rattle.line_results.specs.command_steps.Doing.{Asked, AsksAll}
 use Rattle.line_results.proofs.Asked.{AreUnlogged, is_log, refused-of}
 use Rattle.line_results.proofs.Mild.{IsMild}
 use Rattle.line_results.proofs.Needs.{needs-unlogged}
@@ -34,7 +34,7 @@ with-same : (n : ℕ) (q : Query) (x : Answer) → is_log q ≡ false → answer
 with-same n query.LogBytes x h = absurd cc
 with-same n q x h = refl
 
-told-as : (log_length : ℕ) (q : Query) (v : Inv) (x : Answer) → is_log q ≡ false → IsAnswer log_length q v x → answered q v ≡ Ok x
+pub told-as : (log_length : ℕ) (q : Query) (v : Inv) (x : Answer) → is_log q ≡ false → IsAnswer log_length q v x → answered q v ≡ Ok x
 told-as log_length q v x un (told, is, same) = is ∙ ap Ok (sym (same ∙ with-same log_length q told un))
 
 -- a refusal of a question by which no run ends is none of a cause elsewhere

@@ -4,11 +4,11 @@ use Rattle.kinds.specs.declared.refusal.Refusal.{Refusal}
 use Rattle.kinds.specs.declared.refusal.Refusal.TheVariants as refused
 use Rattle.admin_commands.specs.declared.work.Work.{Work}
 use Rattle.steps.specs.Events.{Event}
-use Rattle.command_steps.specs.Answers.{halt_by}
-use Rattle.command_steps.specs.Behind.{Behind, forces, no_more, reuses}
-use Rattle.command_steps.specs.Doing as steps
-use Rattle.command_steps.specs.Doing.{EndsWork, Forcing}
-use Rattle.command_steps.specs.declared.outcome.Outcome.{Outcome}
+use Rattle.line_results.specs.command_steps.Answers.{halt_by}
+use Rattle.line_results.specs.command_steps.Behind.{Behind, forces, no_more, reuses}
+use Rattle.line_results.specs.command_steps.Doing as steps
+use Rattle.line_results.specs.command_steps.Doing.{EndsWork, Forcing}
+use Rattle.line_results.specs.command_steps.declared.outcome.Outcome.{Outcome}
 use Rattle.line_results.proofs.ForceEnds.{force-ends}
 use Rattle.line_results.proofs.Mild.{IsMild}
 use Rattle.block_results.specs.Clauses.{EndsBy}

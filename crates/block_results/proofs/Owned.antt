@@ -5,14 +5,14 @@ use Rattle.kinds.specs.declared.refusal.Refusal.TheVariants.{UnknownWord}
 use Rattle.admin_words.specs.declared.command.Command.{Command}
 use Rattle.admin_commands.specs.declared.work.Work.{Work}
 use Rattle.admin_commands.specs.declared.work.Work.TheVariants.{Commit, Run, Show}
-use Rattle.db_backup.proofs.Following.{followed}
-use Rattle.db_backup.proofs.Journaled.{backed-up}
+use Rattle.line_results.proofs.of_db_backup.Following.{followed}
+use Rattle.line_results.proofs.of_db_backup.Journaled.{backed-up}
 use Rattle.machine.specs.Fits.{Fits, History, Own as Holding}
 use Rattle.steps.specs.Events.{Event}
-use Rattle.command_steps.specs.Clients.{Client}
-use Rattle.command_steps.specs.Doing.{Does, DoesAlone, DoesOwn, backed_up}
-use Rattle.command_steps.specs.Owns.{Own, audit_volume, back_up_database, back_up_pool, back_up_since, checkpoint, delete_history, empty_filespace, empty_volume, expire, get, moves, none_but_reuse, none_yet, on_tree, own_of, put, validate}
-use Rattle.command_steps.specs.declared.outcome.Outcome.{Outcome}
+use Rattle.line_results.specs.command_steps.Clients.{Client}
+use Rattle.line_results.specs.command_steps.Doing.{Does, DoesAlone, DoesOwn, backed_up}
+use Rattle.line_results.specs.command_steps.Owns.{Own, audit_volume, back_up_database, back_up_pool, back_up_since, checkpoint, delete_history, empty_filespace, empty_volume, expire, get, moves, none_but_reuse, none_yet, on_tree, own_of, put, validate}
+use Rattle.line_results.specs.command_steps.declared.outcome.Outcome.{Outcome}
 use Rattle.line_results.proofs.Mild.{IsMild}
 use Rattle.line_results.proofs.Needs.{IsPlainWork}
 use Rattle.block_results.specs.Clauses.{CauseOwn, DidOwn, ShowsOwn}

@@ -8,13 +8,13 @@ use Rattle.inventory_answers.specs.Answered.{answered, rows_of}
 use Rattle.inventory_answers.specs.declared.query.Query.{Query}
 use Rattle.inventory_answers.specs.declared.reply.Answer.{Answer}
 use Rattle.inventory_answers.specs.declared.reply.Rows.{Rows}
-use Rattle.copy_attempts.specs.Outcomes.{Met}
+use Rattle.line_results.specs.copy_attempts.Outcomes.{Met}
 use Rattle.machine.specs.Fits.{Fits, History, Own, inv}
-use Rattle.sessions.specs.Asking.{Asks}
+use Rattle.line_results.specs.sessions.Asking.{Asks}
 use Rattle.steps.specs.Calls.{Made}
 use Rattle.steps.specs.Events.{Deed, Event, has_number, refusal}
 use Rattle.steps.specs.Events.Deed.{Ask}
-use Rattle.command_steps.specs.Answers.{halt_by}
+use Rattle.line_results.specs.command_steps.Answers.{halt_by}
 use Rattle.line_results.proofs.Asked.{is_log}
 use Rattle.line_results.proofs.PutHomes.{err-of}
 use Rattle.block_results.specs.Standing.{At}
@@ -25,7 +25,7 @@ use Rattle.block_results.proofs.Mild.{not-memory}
 abbrev ok_rows : Answer → Result Rows Refusal
 ok_rows a = Ok a.rows
 
-rows-told : (r : Result Rows Refusal) (n today : ℕ) (answer : Answer) → on_ok (λ (x : Rows). record { n = n; today = today; rows = x }) r ≡ Ok answer → (r ≡ Ok answer.rows) × (answer.today ≡ today)
+pub rows-told : (r : Result Rows Refusal) (n today : ℕ) (answer : Answer) → on_ok (λ (x : Rows). record { n = n; today = today; rows = x }) r ≡ Ok answer → (r ≡ Ok answer.rows) × (answer.today ≡ today)
 rows-told (Ok x) n today answer h =
     let same : answer ≡ record { n = n; today = today; rows = x } = cc in
     (sym (ap ok_rows same), ap (λ (a : Answer). a.today) same)

@@ -24,32 +24,32 @@ use Rattle.admin_words.specs.declared.files.FileGet.{FileGet}
 use Rattle.admin_words.specs.declared.files.FilePut.{FilePut}
 use Rattle.admin_words.specs.declared.policy.NamedSet.{NamedSet}
 use Rattle.admin_commands.specs.declared.work.Work.TheVariants.{Commit as CommitWork, Run, Show}
-use Rattle.client_files.specs.Outcomes.{Stores as StoresFile}
-use Rattle.client_files.specs.declared.outcome.Came.{Came as FileCame}
-use Rattle.client_files.specs.declared.outcome.Came.TheVariants as file
-use Rattle.client_files.specs.declared.restoring.Stored.{Stored as StoredFile}
-use Rattle.copy_attempts.specs.Outcomes.{Met}
+use Rattle.line_results.specs.client_files.Outcomes.{Stores as StoresFile}
+use Rattle.line_results.specs.client_files.declared.outcome.Came.{Came as FileCame}
+use Rattle.line_results.specs.client_files.declared.outcome.Came.TheVariants as file
+use Rattle.line_results.specs.client_files.declared.restoring.Stored.{Stored as StoredFile}
+use Rattle.line_results.specs.copy_attempts.Outcomes.{Met}
 use Rattle.machine.proofs.Runs.{fits-rises}
 use Rattle.machine.specs.Fits.{Fits, History, Own as Holding, inv}
 use Rattle.reports.specs.declared.shown.Shown.TheVariants.{Done, Stored as IsStored}
-use Rattle.sessions.proofs.BackedUp.{put-has}
-use Rattle.sessions.proofs.Got.{read-active}
-use Rattle.sessions.proofs.Reasons.{putting-of}
-use Rattle.sessions.specs.Changing.{Changing, numbers as change_numbers}
-use Rattle.sessions.specs.Checkpoints.{Checkpointing, numbers as checkpoint_numbers}
-use Rattle.sessions.specs.Getting.{Chooses, Gets, Misses, ReadsWhole, active_line, unread}
-use Rattle.sessions.specs.InTurn.{InTurn, OrMemory}
-use Rattle.sessions.specs.Outcomes.{IsCausedOr}
-use Rattle.sessions.specs.Putting.{FindsFilespace, FindsHome, IsDecided, Names, Puts, PutsIn, PutsUnder, Sends, Stores, StoresAndNames, found_or, numbers as put_numbers, object_among, sealed_of}
-use Rattle.sessions.specs.declared.homes.Home.{Home}
-use Rattle.sessions.specs.declared.sending.Sealed.{Sealed}
+use Rattle.line_results.proofs.of_sessions.BackedUp.{put-has}
+use Rattle.line_results.proofs.of_sessions.Got.{read-active}
+use Rattle.line_results.proofs.of_sessions.Reasons.{putting-of}
+use Rattle.line_results.specs.sessions.Changing.{Changing, numbers as change_numbers}
+use Rattle.line_results.specs.sessions.Checkpoints.{Checkpointing, numbers as checkpoint_numbers}
+use Rattle.line_results.specs.sessions.Getting.{Chooses, Gets, Misses, ReadsWhole, active_line, unread}
+use Rattle.line_results.specs.sessions.InTurn.{InTurn, OrMemory}
+use Rattle.line_results.specs.sessions.Outcomes.{IsCausedOr}
+use Rattle.line_results.specs.sessions.Putting.{FindsFilespace, FindsHome, IsDecided, Names, Puts, PutsIn, PutsUnder, Sends, Stores, StoresAndNames, found_or, numbers as put_numbers, object_among, sealed_of}
+use Rattle.line_results.specs.sessions.declared.homes.Home.{Home}
+use Rattle.line_results.specs.sessions.declared.sending.Sealed.{Sealed}
 use Rattle.steps.specs.Events.{Event, has_number}
 use Rattle.steps.specs.Events.Deed.{ReadPiece}
-use Rattle.command_steps.specs.Answers.{halt_by}
-use Rattle.command_steps.specs.Clients.{Client}
-use Rattle.command_steps.specs.Doing.{Gives, PutsText, Told, Validates, validated_by, validity}
-use Rattle.command_steps.specs.Owns.{Own, checkpoint, file_put, get, last_of, put, row_put, validate}
-use Rattle.command_steps.specs.declared.outcome.Outcome.TheVariants.{Read, Rows, Said}
+use Rattle.line_results.specs.command_steps.Answers.{halt_by}
+use Rattle.line_results.specs.command_steps.Clients.{Client}
+use Rattle.line_results.specs.command_steps.Doing.{Gives, PutsText, Told, Validates, validated_by, validity}
+use Rattle.line_results.specs.command_steps.Owns.{Own, checkpoint, file_put, get, last_of, put, row_put, validate}
+use Rattle.line_results.specs.command_steps.declared.outcome.Outcome.TheVariants.{Read, Rows, Said}
 use Rattle.line_results.proofs.Asked.{is_log}
 use Rattle.line_results.proofs.Mild.{IsMild}
 use Rattle.line_results.proofs.Planned.{versions_in}
@@ -68,7 +68,7 @@ use Rattle.block_results.proofs.Rows.{asks-at, asks-met, limited-met, limited-sa
 pub mild-of : (r : SaidOf) (e : Refusal) → r ≡ Err e → IsMild r → halt_by e ≡ None
 mild-of r e is m = subst (λ (x : SaidOf). IsMild x) is m
 
-validity-is : {X : Type 0} (s : Result X Refusal) → validity (rows.Validated (result_err s)) ≡ on_ok (λ done. Said Done) (on_ok (λ (y : X). tt {0}) s)
+pub validity-is : {X : Type 0} (s : Result X Refusal) → validity (rows.Validated (result_err s)) ≡ on_ok (λ done. Said Done) (on_ok (λ (y : X). tt {0}) s)
 validity-is (Ok y) = refl
 validity-is (Err e) = refl
 

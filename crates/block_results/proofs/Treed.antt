@@ -20,23 +20,23 @@ use Rattle.inventory_answers.specs.declared.reply.Rows.TheVariants as rows
 use Rattle.admin_words.specs.declared.files.FilesRestore.{FilesRestore}
 use Rattle.admin_words.specs.declared.files.IncrementalBackup.{IncrementalBackup}
 use Rattle.admin_commands.specs.declared.work.Work.TheVariants.{Run}
-use Rattle.incrementals.specs.Asking.{AsksAll, AsksNode, AsksNodeRules, AsksRules, AsksVersions, number_found}
-use Rattle.incrementals.specs.Planning.{Begins}
-use Rattle.incrementals.specs.declared.asking.Basis.{Basis}
-use Rattle.incrementals.specs.declared.asking.Ruled.{Ruled}
-use Rattle.incrementals.specs.declared.planning.Begun.{Begun}
+use Rattle.line_results.specs.incrementals.Asking.{AsksAll, AsksNode, AsksNodeRules, AsksRules, AsksVersions, number_found}
+use Rattle.line_results.specs.incrementals.Planning.{Begins}
+use Rattle.line_results.specs.incrementals.declared.asking.Basis.{Basis}
+use Rattle.line_results.specs.incrementals.declared.asking.Ruled.{Ruled}
+use Rattle.line_results.specs.incrementals.declared.planning.Begun.{Begun}
 use Rattle.machine.proofs.Runs.{fits-rises}
 use Rattle.machine.specs.Fits.{Fits, History, Own as Holding, inv}
-use Rattle.restores.proofs.Standing.{each-stands}
-use Rattle.restores.specs.Given.{Gives as GivesEach}
-use Rattle.restores.specs.declared.process.Restored.{Restored}
+use Rattle.line_results.proofs.of_restores.Standing.{each-stands}
+use Rattle.line_results.specs.restores.Given.{Gives as GivesEach}
+use Rattle.line_results.specs.restores.declared.process.Restored.{Restored}
 use Rattle.steps.specs.Events.{Event}
-use Rattle.command_steps.specs.Answers.{halt_by}
-use Rattle.command_steps.specs.Clients.{Client, Known}
-use Rattle.command_steps.specs.Owns.{OnTree, back_up, erase, on_tree, restore, write}
-use Rattle.command_steps.specs.Trees.{BacksUp, DoesThere, GivesWanted, is_absent}
-use Rattle.command_steps.specs.declared.outcome.Outcome.{Outcome}
-use Rattle.command_steps.specs.declared.outcome.Outcome.TheVariants as came
+use Rattle.line_results.specs.command_steps.Answers.{halt_by}
+use Rattle.line_results.specs.command_steps.Clients.{Client, Known}
+use Rattle.line_results.specs.command_steps.Owns.{OnTree, back_up, erase, on_tree, restore, write}
+use Rattle.line_results.specs.command_steps.Trees.{BacksUp, DoesThere, GivesWanted, is_absent}
+use Rattle.line_results.specs.command_steps.declared.outcome.Outcome.{Outcome}
+use Rattle.line_results.specs.command_steps.declared.outcome.Outcome.TheVariants as came
 use Rattle.line_results.proofs.Planned.{versions_in}
 use Rattle.line_results.proofs.PutHomes.{err-of, node-of, ok-of, rules-told}
 use Rattle.line_results.specs.Trees.{HasVersions, IsChosen, Stand}

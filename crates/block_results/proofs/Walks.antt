@@ -6,10 +6,10 @@ use Rattle.kinds.specs.ValueForms.{digest_with}
 use Rattle.kinds.specs.declared.refusal.Refusal.{Refusal}
 use Rattle.kinds.specs.declared.segment.Digest.{Digest}
 use Rattle.choosers.specs.declared.rule.Rule.{Rule}
-use Rattle.client_files.specs.Sending as client
-use Rattle.client_files.specs.declared.outcome.Came.{Came}
-use Rattle.client_files.specs.declared.restoring.Stored.{Stored}
-use Rattle.client_files.specs.Restoring.{ReadOn, read_by}
+use Rattle.line_results.specs.client_files.Sending as client
+use Rattle.line_results.specs.client_files.declared.outcome.Came.{Came}
+use Rattle.line_results.specs.client_files.declared.restoring.Stored.{Stored}
+use Rattle.line_results.specs.client_files.Restoring.{ReadOn, read_by}
 use Rattle.client_trees.specs.Files.{ClientFile}
 use Rattle.client_trees.specs.declared.tree.FileRow.{FileRow}
 use Rattle.inventory_work.specs.declared.lines.Rules.{Rules}
@@ -20,17 +20,17 @@ use Rattle.inventory_answers.specs.declared.query.Query.{Query}
 use Rattle.inventory_answers.specs.declared.query.Query.TheVariants as query
 use Rattle.inventory_answers.specs.declared.reply.Answer.{Answer}
 use Rattle.inventory_answers.specs.declared.reply.Rows.TheVariants as rows
-use Rattle.sessions.proofs.Asked.{asks-all}
-use Rattle.sessions.proofs.Causes.{made-all, obtains-all, then-all}
-use Rattle.sessions.specs.Asking.{AsksFilespace, AsksNode, AsksPath, AsksRules}
-use Rattle.sessions.specs.Changing.{IsOf}
-use Rattle.sessions.specs.Getting.{Chooses, Gets, Misses, ReadsWhole}
-use Rattle.sessions.specs.Homes.{home_of}
-use Rattle.sessions.specs.InTurn.{Decides, InTurn, OrMemory}
-use Rattle.sessions.specs.Putting.{AsksFor, CommitsOne, Defines, FindsFilespace, FindsHome, FindsIn, ForcesOne, GivesBack, Looks, Names, OrGivesBack, Puts, PutsIn, PutsUnder, Sends, SendsOnce, Stores, StoresAndNames, backed_up, defined, object_stored}
-use Rattle.sessions.specs.declared.getting.FileRead.{FileRead}
-use Rattle.sessions.specs.declared.homes.Home.{Home}
-use Rattle.sessions.specs.declared.sending.Sealed.{Sealed}
+use Rattle.line_results.proofs.of_sessions.Asked.{asks-all}
+use Rattle.line_results.proofs.of_sessions.Causes.{made-all, obtains-all, then-all}
+use Rattle.line_results.specs.sessions.Asking.{AsksFilespace, AsksNode, AsksPath, AsksRules}
+use Rattle.line_results.specs.sessions.Changing.{IsOf}
+use Rattle.line_results.specs.sessions.Getting.{Chooses, Gets, Misses, ReadsWhole}
+use Rattle.line_results.specs.sessions.Homes.{home_of}
+use Rattle.line_results.specs.sessions.InTurn.{Decides, InTurn, OrMemory}
+use Rattle.line_results.specs.sessions.Putting.{AsksFor, CommitsOne, Defines, FindsFilespace, FindsHome, FindsIn, ForcesOne, GivesBack, Looks, Names, OrGivesBack, Puts, PutsIn, PutsUnder, Sends, SendsOnce, Stores, StoresAndNames, backed_up, defined, object_stored}
+use Rattle.line_results.specs.sessions.declared.getting.FileRead.{FileRead}
+use Rattle.line_results.specs.sessions.declared.homes.Home.{Home}
+use Rattle.line_results.specs.sessions.declared.sending.Sealed.{Sealed}
 use Rattle.steps.specs.declared.asked.Asked.{Asked}
 use Rattle.steps.specs.declared.asked.Asked.TheVariants.{Plain}
 use Rattle.steps.specs.Events.{Deed, Event, event}

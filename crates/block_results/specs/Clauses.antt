@@ -13,29 +13,29 @@ use Rattle.admin_commands.specs.declared.work.Work.{Work}
 use Rattle.admin_commands.specs.declared.work.Work.TheVariants.{Commit, Show, Run}
 use Rattle.reports.specs.declared.shown.Shown.TheVariants.{Done, Stored}
 use Rattle.script_loop.specs.Reply.{Answer}
-use Rattle.sessions.specs.BackedUp.{IsPut}
-use Rattle.sessions.specs.Getting.{IsActiveVersion}
-use Rattle.sessions.specs.declared.getting.FileRead.{FileRead}
-use Rattle.copy_runs.specs.Ends.{first_of}
-use Rattle.db_backup.specs.Rows.{FollowsAt, IsBackedUp}
-use Rattle.db_backup.specs.declared.taking.Taken.{Taken}
+use Rattle.line_results.specs.sessions.BackedUp.{IsPut}
+use Rattle.line_results.specs.sessions.Getting.{IsActiveVersion}
+use Rattle.line_results.specs.sessions.declared.getting.FileRead.{FileRead}
+use Rattle.line_results.specs.copy_runs.Ends.{first_of}
+use Rattle.line_results.specs.db_backup.Rows.{FollowsAt, IsBackedUp}
+use Rattle.line_results.specs.db_backup.declared.taking.Taken.{Taken}
 use Rattle.steps.specs.Events.{Event}
 use Rattle.steps.specs.Receipts.{made, receipts}
-use Rattle.incrementals.specs.Orders.{AreQuestions}
+use Rattle.line_results.specs.incrementals.Orders.{AreQuestions}
 use Rattle.machine.specs.Changes.{filled}
 use Rattle.machine.specs.Fits.{Fits, History, Own as Holding, inv}
-use Rattle.command_steps.specs.Answers.{answer_of, nothing, refusal}
-use Rattle.command_steps.specs.Behind.{Behind, behind}
-use Rattle.command_steps.specs.Clients.{Client, IsKept, Known, Turns}
-use Rattle.command_steps.specs.Doing as steps
-use Rattle.command_steps.specs.Doing.{EndsWork}
-use Rattle.command_steps.specs.Jobs.{refused_for}
-use Rattle.command_steps.specs.Leaving.{ChangesOnly, tree_named}
-use Rattle.command_steps.specs.Lines.{Line, asks, comment, refused}
-use Rattle.command_steps.specs.Owns.{OnTree, Own, back_up, back_up_database, back_up_since, checkpoint, file_put, get, last_of, none_yet, on_tree, own_of, put, restore, row_put, validate}
-use Rattle.command_steps.specs.Trees.{DoesThere}
-use Rattle.command_steps.specs.declared.outcome.Outcome.{Outcome}
-use Rattle.command_steps.specs.declared.outcome.Outcome.TheVariants.{Read, Rows, Said}
+use Rattle.line_results.specs.command_steps.Answers.{answer_of, nothing, refusal}
+use Rattle.line_results.specs.command_steps.Behind.{Behind, behind}
+use Rattle.line_results.specs.command_steps.Clients.{Client, IsKept, Known, Turns}
+use Rattle.line_results.specs.command_steps.Doing as steps
+use Rattle.line_results.specs.command_steps.Doing.{EndsWork}
+use Rattle.line_results.specs.command_steps.Jobs.{refused_for}
+use Rattle.line_results.specs.command_steps.Leaving.{ChangesOnly, tree_named}
+use Rattle.line_results.specs.command_steps.Lines.{Line, asks, comment, refused}
+use Rattle.line_results.specs.command_steps.Owns.{OnTree, Own, back_up, back_up_database, back_up_since, checkpoint, file_put, get, last_of, none_yet, on_tree, own_of, put, restore, row_put, validate}
+use Rattle.line_results.specs.command_steps.Trees.{DoesThere}
+use Rattle.line_results.specs.command_steps.declared.outcome.Outcome.{Outcome}
+use Rattle.line_results.specs.command_steps.declared.outcome.Outcome.TheVariants.{Read, Rows, Said}
 use Rattle.line_results.specs.Commands.{IsReuse, MayMake, validated}
 use Rattle.block_results.specs.Standing.{At, IsEntered, IsRefusedAt, WorkAt}
 use Rattle.block_results.specs.Works.{HasGiven, HasSent, IsImagedAt, IsMadeAt, IsNamedAt, IsOfFile, IsOfTree, IsUnputAt, IsUnreadAt}

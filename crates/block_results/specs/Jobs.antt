@@ -9,9 +9,9 @@ use Rattle.script_loop.specs.Reply.{Answer}
 use Rattle.steps.specs.Events.{Event}
 use Rattle.machine.specs.Fits.{History, Own as Holding}
 use Rattle.machine.specs.Turns.{Turn, events_of}
-use Rattle.command_steps.specs.Answers.{refusal}
-use Rattle.command_steps.specs.Clients.{Client, IsKept, Known}
-use Rattle.command_steps.specs.Lines.{line_in}
+use Rattle.line_results.specs.command_steps.Answers.{refusal}
+use Rattle.line_results.specs.command_steps.Clients.{Client, IsKept, Known}
+use Rattle.line_results.specs.command_steps.Lines.{line_in}
 use Rattle.line_jobs.specs.Jobs.{JobLine, between, lines_of}
 use Rattle.line_jobs.specs.Shares.{Came}
 use Rattle.line_jobs.specs.declared.job.Said.{Said}

@@ -29,27 +29,27 @@ use Rattle.client_plan.specs.declared.lines.RebindLine.{RebindLine}
 use Rattle.client_plan.specs.declared.lines.SendLine.{SendLine}
 use Rattle.client_batches.specs.Listings.{named, rebound}
 use Rattle.client_trees.specs.declared.tree.FileRow.{FileRow}
-use Rattle.copy_attempts.specs.Outcomes.{MetBy}
-use Rattle.incrementals.specs.Orders.{IsReadAs}
-use Rattle.incrementals.specs.Planning.{IsListing, IsPlanned}
-use Rattle.incrementals.specs.Process.{Done}
-use Rattle.incrementals.specs.declared.answering.Sent.{Sent}
-use Rattle.incrementals.specs.declared.asking.Basis.{Basis}
-use Rattle.incrementals.specs.declared.planning.Begun.{Begun}
-use Rattle.restores.specs.declared.process.Restored.{Restored}
-use Rattle.sessions.specs.Getting.{active_line}
-use Rattle.sessions.specs.Putting.{IsDecided, object_among}
+use Rattle.line_results.specs.copy_attempts.Outcomes.{MetBy}
+use Rattle.line_results.specs.incrementals.Orders.{IsReadAs}
+use Rattle.line_results.specs.incrementals.Planning.{IsListing, IsPlanned}
+use Rattle.line_results.specs.incrementals.Process.{Done}
+use Rattle.line_results.specs.incrementals.declared.answering.Sent.{Sent}
+use Rattle.line_results.specs.incrementals.declared.asking.Basis.{Basis}
+use Rattle.line_results.specs.incrementals.declared.planning.Begun.{Begun}
+use Rattle.line_results.specs.restores.declared.process.Restored.{Restored}
+use Rattle.line_results.specs.sessions.Getting.{active_line}
+use Rattle.line_results.specs.sessions.Putting.{IsDecided, object_among}
 use Rattle.steps.specs.declared.image.ImageKind.TheVariants as image
 use Rattle.steps.specs.declared.image.ImageReply.TheVariants as reply
 use Rattle.steps.specs.Events.{Event}
 use Rattle.steps.specs.Events.Deed.{Image}
 use Rattle.machine.specs.Changes.{filled}
 use Rattle.machine.specs.Fits.{History, entries_to, inv}
-use Rattle.command_steps.specs.Clients.{Client, Known, Turns}
-use Rattle.command_steps.specs.Owns.{file_put, row_put}
-use Rattle.command_steps.specs.Trees.{ShowsSent}
-use Rattle.command_steps.specs.declared.outcome.Outcome.{Outcome}
-use Rattle.command_steps.specs.declared.outcome.Outcome.TheVariants as came
+use Rattle.line_results.specs.command_steps.Clients.{Client, Known, Turns}
+use Rattle.line_results.specs.command_steps.Owns.{file_put, row_put}
+use Rattle.line_results.specs.command_steps.Trees.{ShowsSent}
+use Rattle.line_results.specs.command_steps.declared.outcome.Outcome.{Outcome}
+use Rattle.line_results.specs.command_steps.declared.outcome.Outcome.TheVariants as came
 use Rattle.line_results.specs.Trees.{HasVersions, IsChosen, Stand}
 use Rattle.block_results.specs.Standing.{At, IsRefusedAt}
 

@@ -5,19 +5,27 @@ ghost use Rattle.choosers.specs.declared.rule.Rule.{Rule};
 ghost use Rattle.script_loop.specs.Reply.{Answer};
 ghost use Rattle.script_loop.specs.declared.ends.Halt.{Halt};
 ghost use Rattle.blocks.specs.Shapes.{Placed};
+ghost use Rattle.entries.specs.declared.entry.Entry.{Entry};
 ghost use Rattle.machine.specs.Fits.{Fits, History, Own};
+ghost use Rattle.machine.specs.State.{Machine, inventory};
 ghost use Rattle.machine.specs.Turns.{Turn, events_of};
+ghost use Rattle.hall.specs.Placed.{hall_places};
+ghost use Rattle.crew.specs.Ran.{Turned};
 ghost use Rattle.steps.specs.Events.{Event};
-ghost use Rattle.command_steps.specs.Clients.{Client, Known};
-ghost use Rattle.command_steps.specs.Jobs.{AnswersInJob};
-ghost use Rattle.command_steps.specs.Lines.{Line};
+ghost use Rattle.line_results.specs.command_steps.Clients.{Client, Known};
+ghost use Rattle.line_results.specs.command_steps.Jobs.{AnswersInJob};
+ghost use Rattle.line_results.specs.command_steps.Lines.{Line};
 ghost use Rattle.line_jobs.specs.Jobs.{DoesLines, JobLine};
 ghost use Rattle.line_jobs.specs.Shares.{AreDone, Came};
 ghost use Rattle.line_jobs.specs.declared.job.Said.{Said};
-ghost use Rattle.copy_attempts.specs.Outcomes.{Met};
+ghost use Rattle.line_results.specs.copy_attempts.Outcomes.{Met};
+ghost use Rattle.line_results.specs.Resting.{Adds};
 ghost use Rattle.block_results.specs.Clauses.{Holds};
 ghost use Rattle.block_results.specs.Standing.{IsRefusedAt};
 ghost use Rattle.block_results.specs.Jobs.{AreHeld, JobsHold, nothing_at};
+ghost use Rattle.block_results.specs.Joining.{AreBySteps};
+ghost use Rattle.block_results.specs.Legal.{JobsComplete};
+ghost use Rattle.block_results.specs.Refusing.{HaveCauses};
 
 /// A line of a job that was answered holds, clause by clause, in every history that its steps fit, where its actor had no ticket before it; and it has none behind it.
 pub fn job_lines_hold()
@@ -40,4 +48,26 @@ pub fn blocks_hold()
 /// A step that was refused holds at its number, in every history that the steps fit: so it is with a refusal that work on a tree, or a process, says that one of its steps met.
 pub fn refused_steps_hold()
     ensures { (w : History) (actor : ℕ) (old new : Own) (events : List Event) (why : Refusal) → Fits w actor old events new → Met why events → IsRefusedAt w actor old.reached new.reached events why }
+{}
+
+/// Each step of a run of several actors' turns that was refused has its cause at the state that it met, over whatever store.
+pub fn turns_have_causes()
+    ensures trusted { (turns : List Turn) (old new : Machine) → Turned (Unit {0}) hall_places turns old new → HaveCauses (Unit {0}) hall_places turns old new }
+    ensures unknown { (turns : List Turn) (old new : Machine) → Turned ⊥ hall_places turns old new → HaveCauses ⊥ hall_places turns old new }
+{}
+
+/// No actor has a transaction among those of such a run but by a step of its own.
+pub fn transactions_are_by_steps()
+    ensures trusted { (turns : List Turn) (old new : Machine) (added : List Entry) → Turned (Unit {0}) hall_places turns old new → Adds added old new
+        → AreBySteps (Unit {0}) hall_places turns old new (inventory old.core).number added }
+    ensures unknown { (turns : List Turn) (old new : Machine) (added : List Entry) → Turned ⊥ hall_places turns old new → Adds added old new
+        → AreBySteps ⊥ hall_places turns old new (inventory old.core).number added }
+{}
+
+/// A line of a job of a block that is legal, and in which no count of faults rose, isn't refused, unless the reuse of volumes behind its work is.
+pub fn blocks_are_complete()
+    ensures trusted { (choice : List Rule) (all : List Placed) (job first : ℕ) (turns : List Turn) (old new : Machine) (trees : List (List Known)) (came : List Came) → Turned (Unit {0}) hall_places turns old new
+        → AreDone choice all job first turns trees came → JobsComplete (Unit {0}) hall_places choice all job first turns old new trees came }
+    ensures unknown { (choice : List Rule) (all : List Placed) (job first : ℕ) (turns : List Turn) (old new : Machine) (trees : List (List Known)) (came : List Came) → Turned ⊥ hall_places turns old new
+        → AreDone choice all job first turns trees came → JobsComplete ⊥ hall_places choice all job first turns old new trees came }
 {}

@@ -2,3 +2,7 @@
 #![tactic(auto)]
 
 pub mod laws;
+
+pub use line_jobs;
+pub use line_results;
+pub use line_results::command_steps;

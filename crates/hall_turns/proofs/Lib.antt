@@ -1,6 +1,7 @@
 pub mod Alones
 pub mod Backups
 pub mod Lefts
+pub mod Openings
 pub mod Playing
 pub mod Stepped
 pub mod Stops

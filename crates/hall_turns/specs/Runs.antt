@@ -12,7 +12,7 @@ use Rattle.hall.specs.Alone.{Ran}
 use Rattle.hall.specs.Good.{Is, IsKept}
 use Rattle.hall.specs.Held.{Hall}
 use Rattle.hall.specs.Plays.{Plays, Reopens, RunsTurns}
-use Rattle.hall.specs.Protected.{HadBackups}
+use Rattle.hall.specs.Protected.{AlwaysBacked, HadBackups}
 
 -- a hall was opened over this store, and these turns with these replies led from it to this one
 abbrev pub PlaysFrom : {S : Type 0} → (told : S → Option History) → (moment : S → ℕ) → (faults : S → ℕ → ℕ) → (store : S) → List Turn → List Reply → Hall S → Type 0
@@ -27,6 +27,10 @@ RunsFrom {S} told moment faults store contents turns replies hall =
 -- the store has the backups of the database to which its files recover
 abbrev pub HasOwnBackups : History → Type 0
 HasOwnBackups h = (v : Inv) → Recovers meaning (reads h) v → HadBackups v (now h) h
+
+-- each image that a stop may leave now backs the database to which it recovers
+abbrev pub IsBacked : History → Type 0
+IsBacked h = AlwaysBacked (now h) h
 
 -- it had those of the hall's base when that was opened
 abbrev pub HadOwnBackups : {S : Type 0} → (told : S → Option History) → Hall S → Type 0

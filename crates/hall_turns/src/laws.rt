@@ -18,9 +18,10 @@ ghost use Rattle.hall.specs.Good.{AlwaysSafe, Is, WasSound};
 ghost use Rattle.hall.specs.Held.{Hall};
 ghost use Rattle.hall.specs.Opening.{IsSound};
 ghost use Rattle.hall.specs.Placed.{hall_places};
-ghost use Rattle.hall.specs.Protected.{HadBackups};
+ghost use Rattle.hall.specs.Protected.{AlwaysBacked, HadBackups};
 ghost use Rattle.hall.specs.Steps.{IsTrusted};
 ghost use Rattle.hall_turns.specs.Left.{GivesState, HasFirst, IsOnDisk, LeavesSound};
+ghost use Rattle.hall_turns.specs.Runs.{HasOwnBackups, IsBacked};
 
 use store_api::Store;
 
@@ -64,6 +65,18 @@ pub fn stopped_stores_are_sound()
 pub fn stops_while_opening()
     ensures { (m : Machine) (count : ℕ) (start mid : History) (second : ℕ) (after : History) → IsOnDisk start → HasFirst m count start → Spared meaning start mid → now start ≤ second → second ≤ now mid
         → StopsAs (back mid second) after → IsOnDisk after × HasFirst m count after }
+{}
+
+/// While a store is opened no stop takes a database backup from it. Where it is sound, and each image that a stop may leave at the start backs the database to which it recovers, so does each image of each moment since (`within`).
+/// That is so at the start where it was so at every moment since a hall was opened (`left`); where a stop left the store at a moment at which it was so, of a run or of an opening (`stopped`); and where each image recovers to a
+/// new server's database (`fresh`). What a stop leaves also has the backups of the database to which it recovers, and what one leaves within an opening is sound (`sound`): so a store may be stopped while it is opened, and
+/// stopped again while it is opened behind that, however often that may be.
+pub fn openings_keep_backups()
+    ensures within { (contents : ℕ → List ℕ) (start mid : History) → IsSound contents start → Spared meaning start mid → IsBacked start → AlwaysBacked (now start) mid }
+    ensures left { (opened : ℕ) (h : History) → AlwaysBacked opened h → opened ≤ now h → IsBacked h }
+    ensures stopped { (opened : ℕ) (h : History) (moment : ℕ) (after : History) → AlwaysBacked opened h → opened ≤ moment → moment ≤ now h → StopsAs (back h moment) after → IsBacked after × HasOwnBackups after }
+    ensures sound { (contents : ℕ → List ℕ) (start mid : History) (moment : ℕ) (after : History) → IsSound contents start → Spared meaning start mid → now start ≤ moment → moment ≤ now mid → StopsAs (back mid moment) after → IsSound contents after }
+    ensures fresh { (h : History) → EachImage (now h) h (λ files. RecoversWithin meaning files fresh) → IsBacked h × HasOwnBackups h }
 {}
 
 /// A hall may be opened over a store each of whose images recovers to a new server's database, as after formatting, whatever bytes the objects are to have: there is no version yet.

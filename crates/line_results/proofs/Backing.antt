@@ -11,22 +11,22 @@ use Rattle.entries.specs.declared.change.Change.TheVariants as change
 use Rattle.entries.specs.declared.entry.Entry.{Entry}
 use Rattle.inventory_answers.specs.declared.query.Query.{Query}
 use Rattle.inventory_answers.specs.declared.reply.Answer.{Answer}
-use Rattle.copy_attempts.proofs.Facts.{some-memory}
-use Rattle.copy_runs.specs.Ends.{AreAsking, IsAsking}
-use Rattle.reuse_delay.proofs.Causes.{not-both}
-use Rattle.sessions.proofs.Causes.{awaits-all, made-all, then-all}
-use Rattle.sessions.specs.Changing.{IsOf as IsChanging}
-use Rattle.sessions.specs.Waiting.{Held, Waited}
+use Rattle.command_steps.proofs.of_copy_attempts.Facts.{some-memory}
+use Rattle.command_steps.specs.copy_runs.Ends.{AreAsking, IsAsking}
+use Rattle.command_steps.proofs.of_reuse_delay.Causes.{not-both}
+use Rattle.command_steps.proofs.of_sessions.Causes.{awaits-all, made-all, then-all}
+use Rattle.command_steps.specs.sessions.Changing.{IsOf as IsChanging}
+use Rattle.command_steps.specs.sessions.Waiting.{Held, Waited}
 use Rattle.steps.specs.declared.asked.Asked.{Asked}
 use Rattle.steps.specs.declared.image.ImageKind.TheVariants as image
 use Rattle.steps.specs.declared.image.ImageReply.{ImageReply}
 use Rattle.steps.specs.declared.image.ImageReply.TheVariants as reply
 use Rattle.steps.specs.Events.{Deed, Event, event, has_number}
 use Rattle.steps.specs.Events.Deed.{Ask, Commit, Force, Image}
-use Rattle.db_backup.specs.declared.taking.Taken.{Taken}
-use Rattle.db_backup.specs.Backups.{Follows, FollowsNewest}
-use Rattle.db_backup.specs.Listing.{newest_file}
-use Rattle.db_backup.specs.Taking.{Backs, Begins, Completes, Continues, GivesUp, Opens, Starts, TakesOff, begun_file, failed_file, kind_of, may_leave, unwritten}
+use Rattle.command_steps.specs.db_backup.declared.taking.Taken.{Taken}
+use Rattle.command_steps.specs.db_backup.Backups.{Follows, FollowsNewest}
+use Rattle.command_steps.specs.db_backup.Listing.{newest_file}
+use Rattle.command_steps.specs.db_backup.Taking.{Backs, Begins, Completes, Continues, GivesUp, Opens, Starts, TakesOff, begun_file, failed_file, kind_of, may_leave, unwritten}
 use Rattle.machine.proofs.Elsewhere.{append-all, ended-all, foremost-all, unless-all}
 use Rattle.machine.specs.Alone.{Alone, AreBytes, behind}
 use Rattle.machine.specs.Causes.{image_refused}

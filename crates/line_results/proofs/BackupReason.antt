@@ -18,13 +18,13 @@ use Rattle.inventory_rules.specs.Journal.{Journal}
 use Rattle.inventory_rules.specs.Run.{journal_of}
 use Rattle.inventory_rules.specs.Transactions.{causes, effect, refused as refused_by, sizes_refused}
 use Rattle.inventory_answers.specs.Stores.{backup_lines}
-use Rattle.copy_attempts.specs.Attempts.{is_stopping, stopping}
-use Rattle.copy_runs.specs.Ends.{Unanswered}
-use Rattle.db_backup.specs.declared.taking.Taken.{Taken}
-use Rattle.db_backup.specs.Backups.{Follows, FollowsNewest}
-use Rattle.db_backup.specs.Listing.{newest_file}
-use Rattle.db_backup.specs.Taking.{Backs, Begins, BreaksOff, Completes, Continues, GivesUp, Opens, Starts, failed_file, kind_of, numbers, unwritten}
-use Rattle.sessions.specs.Waiting.{Held, Waited}
+use Rattle.command_steps.specs.copy_attempts.Attempts.{is_stopping, stopping}
+use Rattle.command_steps.specs.copy_runs.Ends.{Unanswered}
+use Rattle.command_steps.specs.db_backup.declared.taking.Taken.{Taken}
+use Rattle.command_steps.specs.db_backup.Backups.{Follows, FollowsNewest}
+use Rattle.command_steps.specs.db_backup.Listing.{newest_file}
+use Rattle.command_steps.specs.db_backup.Taking.{Backs, Begins, BreaksOff, Completes, Continues, GivesUp, Opens, Starts, failed_file, kind_of, numbers, unwritten}
+use Rattle.command_steps.specs.sessions.Waiting.{Held, Waited}
 use Rattle.steps.specs.declared.image.ImageKind.TheVariants as image
 use Rattle.steps.specs.declared.image.ImageReply.{ImageReply}
 use Rattle.steps.specs.Calls.{Made}

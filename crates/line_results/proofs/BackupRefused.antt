@@ -18,7 +18,7 @@ use Rattle.kinds.specs.declared.refusal.Refusal.{Refusal}
 use Rattle.kinds.specs.declared.refusal.Refusal.TheVariants as refused
 use Rattle.kinds.specs.declared.rule.BackupRule.{BackupRule}
 use Rattle.choosers.specs.declared.rule.Rule.{Rule}
-use Rattle.client_files.specs.Sending.{stopping}
+use Rattle.command_steps.specs.client_files.Sending.{stopping}
 use Rattle.client_plan.specs.Classes.{bound_to, is_left_out, own_group}
 use Rattle.client_plan.specs.Plans.{AreActive, Lists, Scheme, actives, file_task, plan_of, rebinds, scheme, task_bound, task_grouped, task_left, task_listed}
 use Rattle.client_plan.specs.declared.lines.RebindLine.{RebindLine}
@@ -54,14 +54,14 @@ use Rattle.inventory_answers.specs.declared.reply.Rows.{Rows}
 use Rattle.inventory_answers.specs.declared.reply.Rows.TheVariants as rows
 use Rattle.inventory_work.specs.Lists.{only}
 use Rattle.admin_words.specs.declared.files.IncrementalBackup.{IncrementalBackup}
-use Rattle.incrementals.specs.Asking.{AsksAll, AsksNodeRules, Unanswered}
-use Rattle.incrementals.specs.Filespaces.{DefinesAndFinds, DefinesOne, FindsOne, HasFilespace, number_in, there, undefined}
-use Rattle.incrementals.specs.Planning.{Begins}
-use Rattle.incrementals.specs.Process.{Finishes, Increments, Works, is_idle, is_sending}
-use Rattle.incrementals.specs.declared.answering.Outs.{Outs}
-use Rattle.incrementals.specs.declared.asking.Basis.{Basis}
-use Rattle.incrementals.specs.declared.answering.Sent.{Sent}
-use Rattle.incrementals.specs.declared.planning.Begun.{Begun}
+use Rattle.command_steps.specs.incrementals.Asking.{AsksAll, AsksNodeRules, Unanswered}
+use Rattle.command_steps.specs.incrementals.Filespaces.{DefinesAndFinds, DefinesOne, FindsOne, HasFilespace, number_in, there, undefined}
+use Rattle.command_steps.specs.incrementals.Planning.{Begins}
+use Rattle.command_steps.specs.incrementals.Process.{Finishes, Increments, Works, is_idle, is_sending}
+use Rattle.command_steps.specs.incrementals.declared.answering.Outs.{Outs}
+use Rattle.command_steps.specs.incrementals.declared.asking.Basis.{Basis}
+use Rattle.command_steps.specs.incrementals.declared.answering.Sent.{Sent}
+use Rattle.command_steps.specs.incrementals.declared.planning.Begun.{Begun}
 use Rattle.steps.specs.Events.{Event, has_number}
 use Rattle.machine.specs.Alone.{Alone}
 use Rattle.machine.specs.Causes.{change_illegal, change_refused, listed}
@@ -127,7 +127,7 @@ names-same : (name other : List ℕ) → at_name name other ≡ bytes_eq other n
 names-same name other = is_eq-slice_cmp name other ∙ nat_list_eq_equiv.symm name other
 
 -- the number that the rows show of a node's filespace is that which it has
-number-shown : (node : ℕ) (name : List ℕ) (clients : Clients) (es : List (ℕ × Filespace)) → number_in name (flat_map (filespace_lines_of clients (Some node)) es) ≡ filespace_named node name es
+pub number-shown : (node : ℕ) (name : List ℕ) (clients : Clients) (es : List (ℕ × Filespace)) → number_in name (flat_map (filespace_lines_of clients (Some node)) es) ≡ filespace_named node name es
 number-shown node name clients [] = refl
 number-shown node name clients (e ∷ es) =
     elim (e.1.node == node) as (λ b. number_in name (only b (filespace_line clients e) ++ flat_map (filespace_lines_of clients (Some node)) es)
@@ -142,7 +142,7 @@ number-shown node name clients (e ∷ es) =
     ]
 
 -- the filespaces of a node that is there are shown
-shown-there : (name : List ℕ) (k : ℕ) (v : Inv) → node_named name v.clients.nodes ≡ Some k → rows_of (query.Filespaces (Some name)) v ≡ Ok (rows.Filespaces (filespace_lines v.clients (Some k)))
+pub shown-there : (name : List ℕ) (k : ℕ) (v : Inv) → node_named name v.clients.nodes ≡ Some k → rows_of (query.Filespaces (Some name)) v ≡ Ok (rows.Filespaces (filespace_lines v.clients (Some k)))
 shown-there name k v known = rw known refl
 
 abbrev lines-in : Rows → List FilespaceLine

@@ -3,9 +3,16 @@ use Rattle.std.proofs.Common.{◌≡◌, ◌⊎◌, inl, inr, ℕ, ◌+◌, ◌-
 use Rattle.std.proofs.lemmas.Bool.{leb-false, leb-true, ltb-false}
 use Rattle.std.proofs.lemmas.Option.{same_Some}
 use Rattle.std.specs.List.{AllByRecursion, find, flat_map}
+use Rattle.std.specs.Map.{remove_entry}
 use Rattle.std.specs.Option.{option_map_or}
+use Rattle.kinds.specs.Least.{lesser}
 use Rattle.kinds.specs.Names.{is_same_name}
 use Rattle.kinds.specs.Refusals.{bad_value, foremost, refusal_of, unless}
+use Rattle.kinds.specs.declared.change.DefineOrDelete.TheVariants as two
+use Rattle.kinds.specs.declared.change.ObjectChange.TheVariants as client
+use Rattle.kinds.specs.declared.change.PoolChange.TheVariants as store
+use Rattle.kinds.specs.declared.change.Verb.TheVariants as verb
+use Rattle.kinds.specs.declared.pool.Access.{Access}
 use Rattle.kinds.specs.declared.refusal.By.{By}
 use Rattle.kinds.specs.declared.refusal.By.TheVariants as by
 use Rattle.kinds.specs.declared.refusal.Holder.{Holder}
@@ -27,10 +34,17 @@ use Rattle.entries.specs.declared.change.Change.{Change}
 use Rattle.entries.specs.declared.change.Change.TheVariants as change
 use Rattle.inventory_rows.specs.Items.{count_items, most_items}
 use Rattle.inventory_rows.specs.State.{Inv}
-use Rattle.inventory_rows.specs.pool_rows.PoolRows.{PoolRows}
+use Rattle.inventory_rows.specs.object_rows.Changes as spaces
+use Rattle.inventory_rows.specs.object_rows.Changes.{by_object, filespaces_without, least_in, rows_changed, unless_used}
+use Rattle.inventory_rows.specs.object_rows.Filespaces.{at_number, filespace_at}
+use Rattle.inventory_rows.specs.object_rows.Rows.{Rows, with_filespaces}
+use Rattle.inventory_rows.specs.pool_rows.Changes.{delete_filed, delete_volume, object_on, unless_held}
+use Rattle.inventory_rows.specs.pool_rows.PoolRows.{PoolRows, volume_named}
 use Rattle.inventory_rows.specs.pool_rows.Segments.{delay_of, reuse_row}
 use Rattle.inventory_rows.specs.pool_rows.PoolRows.{is_sequential_at}
 use Rattle.inventory_rows.specs.pool_tables.Rows.{row_at}
+use Rattle.inventory_rows.specs.version_groups.Entries.{if_found}
+use Rattle.inventory_rows.specs.version_groups.declared.groups.Filespace.{Filespace}
 use Rattle.inventory_rows.specs.version_groups.declared.copies.CopyRow.{CopyRow}
 use Rattle.inventory_rows.specs.version_groups.declared.versions.Version.{Version}
 use Rattle.inventory_rows.specs.volume_rows.Holdings.{least_object}
@@ -84,7 +98,7 @@ if-all : (P : Refusal → Type 0) (b : Bool) (xs ys : List Refusal) → AllByRec
 if-all P true xs ys h k = h
 if-all P false xs ys h k = k
 
-flat-all : {X : Type 0} (P : Refusal → Type 0) (f : X → List Refusal) → ((x : X) → AllByRecursion P (f x)) → (xs : List X) → AllByRecursion P (flat_map f xs)
+pub flat-all : {X : Type 0} (P : Refusal → Type 0) (f : X → List Refusal) → ((x : X) → AllByRecursion P (f x)) → (xs : List X) → AllByRecursion P (flat_map f xs)
 flat-all P f h [] = tt
 flat-all P f h (x ∷ xs) = append-all P (f x) (flat_map f xs) (h x) (flat-all P f h xs)
 
@@ -93,12 +107,12 @@ module _ (P : Refusal → Type 0) (named : Named P) where
   gone-or None = named.missing
   gone-or (Some n) = named.gone n
 
-  stale-or : (o : Option ℕ) (c : Option CopyRow) → P (stale_copy o c)
+  pub stale-or : (o : Option ℕ) (c : Option CopyRow) → P (stale_copy o c)
   stale-or (Some n) c = named.stale n
   stale-or None (Some copy) = named.stale copy.placed
   stale-or None None = named.missing
 
-  version-all : (j : Journal) (object : ℕ) (rule : Version → List Refusal) → ((w : Version) → AllByRecursion P (rule w)) → (found : Option Version) → AllByRecursion P (of_version j object rule found)
+  pub version-all : (j : Journal) (object : ℕ) (rule : Version → List Refusal) → ((w : Version) → AllByRecursion P (rule w)) → (found : Option Version) → AllByRecursion P (of_version j object rule found)
   version-all j object rule h None = (gone-or (j.removed object), tt)
   version-all j object rule h (Some w) = h w
 
@@ -188,7 +202,7 @@ refused-all P j w v e bad own sizes h =
     valid-all P (foremost (causes j w v ++ sizes_refused w v)) (is_valid (effect w v)) e bad
     (λ f is. foremost-all P (causes j w v ++ sizes_refused w v) (append-all P (causes j w v) (sizes_refused w v) own sizes) f is) h
 
-listed-all : (P : Refusal → Type 0) (o : Option Refusal) → ((e : Refusal) → o ≡ Some e → P e) → AllByRecursion P (listed o)
+pub listed-all : (P : Refusal → Type 0) (o : Option Refusal) → ((e : Refusal) → o ≡ Some e → P e) → AllByRecursion P (listed o)
 listed-all P None h = tt
 listed-all P (Some e) h = (h e refl, tt)
 
@@ -334,23 +348,79 @@ pub record Takes (w : Change) : Type 1 where
   pub own : (P : Refusal → Type 0) → Named P → (j : Journal) (v : Inv) → AllByRecursion P (causes j w v)
   pub fills : (next_file : ℕ) (v : Inv) → filled next_file v w ≡ w
   pub held : (c : Core) → AllByRecursion IsOther (held_refused w c)
-  pub free : (c : Core) → c.image ≡ None → held_refused w c ≡ []
+  pub free : (c : Core) → c.image ≡ None → c.tickets ≡ [] → held_refused w c ≡ []
 
 pub expire-takes : (c : NamedVersions) → Takes (change.Expire c)
-expire-takes c = record { own = λ P named j v. expire-all P named j c.filespace c.items v; fills = λ next_file v. refl; held = λ k. tt; free = λ k idle. refl }
+expire-takes c = record { own = λ P named j v. expire-all P named j c.filespace c.items v; fills = λ next_file v. refl; held = λ k. tt; free = λ k idle none. refl }
 
 pub discard-takes : (c : DiscardedVersions) → Takes (change.Discard c)
-discard-takes c = record { own = λ P named j v. discard-all P named j c.reason c.items v; fills = λ next_file v. refl; held = λ k. tt; free = λ k idle. refl }
+discard-takes c = record { own = λ P named j v. discard-all P named j c.reason c.items v; fills = λ next_file v. refl; held = λ k. tt; free = λ k idle none. refl }
 
 pub drop-takes : (c : DroppedCopies) → Takes (change.DropCopies c)
-drop-takes c = record { own = λ P named j v. drop-all P named j c.reason c.items v; fills = λ next_file v. refl; held = λ k. tt; free = λ k idle. refl }
+drop-takes c = record { own = λ P named j v. drop-all P named j c.reason c.items v; fills = λ next_file v. refl; held = λ k. tt; free = λ k idle none. refl }
 
 pub delete-takes : (file : ℕ) → Takes (change.DbDelete file)
 delete-takes file = record {
   own = λ P named j v. unless-all P (is_some (backup_at file v)) refused.NotFound named.missing;
   fills = λ next_file v. refl;
   held = λ k. written-other file k.image;
-  free = λ k idle. ap (λ (o : Option Image). written_by file o) idle;
+  free = λ k idle none. ap (λ (o : Option Image). written_by file o) idle;
+}
+
+-- a filespace's row
+found-of : {X A : Type 0} (P : Refusal → Type 0) (o : Option X) (g : X → Result A Refusal) → P refused.NotFound → ((x : X) → IsOf P (g x)) → IsOf P (if_found o g)
+found-of P None g missing h = missing
+found-of P (Some x) g missing h = h x
+
+rows-of : (P : Refusal → Type 0) (rows : Rows) (r : Result (List (ℕ × Filespace)) Refusal) → IsOf P r → IsOf P (with_filespaces rows r)
+rows-of P rows (Ok x) h = tt
+rows-of P rows (Err e) h = h
+
+used-of : {A : Type 0} (P : Refusal → Type 0) (o : Option By) (x : A) → ((user : By) → P (refused.InUse user)) → IsOf P (unless_used o x)
+used-of P None x h = tt
+used-of P (Some user) x h = h user
+
+space-of : (P : Refusal → Type 0) (named : Named P) (filespace : ℕ) (rows : Rows) → IsOf P (with_filespaces rows (filespaces_without filespace rows.held rows.filespaces))
+space-of P named filespace rows =
+    rows-of P rows (filespaces_without filespace rows.held rows.filespaces)
+    (found-of P (filespace_at filespace rows.filespaces)
+    (λ (f : Filespace). unless_used (by_object (lesser (spaces.least_object f.groups) (least_in filespace rows.held))) (remove_entry (at_number filespace) rows.filespaces)) named.missing
+    (λ f. used-of P (by_object (lesser (spaces.least_object f.groups) (least_in filespace rows.held))) (remove_entry (at_number filespace) rows.filespaces) named.used))
+
+pub filespace-takes : (name : List ℕ) (filespace : ℕ) → Takes (change.Object (client.Filespace two.Delete 0 name filespace))
+filespace-takes name filespace = record {
+  own = λ P named j v.
+      append-all P (refusal_of (rows_changed (client.Filespace two.Delete 0 name filespace) v.next_node v.clients)) []
+      (all-of P (rows_changed (client.Filespace two.Delete 0 name filespace) v.next_node v.clients) (space-of P named filespace v.clients)) tt;
+  fills = λ next_file v. refl;
+  held = λ k. tt;
+  free = λ k idle none. refl;
+}
+
+-- a volume's row
+object-of : (P : Refusal → Type 0) (file : ℕ) (s : PoolRows) (o : Option ℕ) → ((user : By) → P (refused.InUse user)) → IsOf P (unless_held file s o)
+object-of P file s None h = tt
+object-of P file s (Some object) h = h (by.Object object)
+
+filed-of : (P : Refusal → Type 0) (s : PoolRows) (o : Option ℕ) → Named P → IsOf P (delete_filed s o)
+filed-of P s None named = named.missing
+filed-of P s (Some file) named = object-of P file s (object_on (row_at file s.volumes)) named.used
+
+by-tickets : (tickets : List Ticket) (o : Option ℕ) → AllByRecursion IsOther (option_map_or (λ (it : ℕ). held_by (has_file it) tickets) o [])
+by-tickets tickets None = tt
+by-tickets tickets (Some file) = held-other (has_file file) tickets
+
+no-tickets : (tickets : List Ticket) (o : Option ℕ) → tickets ≡ [] → option_map_or (λ (it : ℕ). held_by (has_file it) tickets) o [] ≡ []
+no-tickets tickets None none = refl
+no-tickets tickets (Some file) none = ap (λ (ts : List Ticket). held_by (has_file file) ts) none
+
+pub volume-takes : (name : List ℕ) (file capacity : ℕ) (access : Access) → Takes (change.Pool (store.Volume verb.Delete name 0 file capacity access))
+volume-takes name file capacity access = record {
+  own = λ P named j v.
+      append-all P (refusal_of (delete_volume name v.stores)) [] (all-of P (delete_volume name v.stores) (filed-of P v.stores (volume_named name v.stores) named)) tt;
+  fills = λ next_file v. refl;
+  held = λ k. by-tickets k.tickets (volume_named name (inventory k).stores);
+  free = λ k idle none. no-tickets k.tickets (volume_named name (inventory k).stores) none;
 }
 
 -- a commit of one is refused as the database is full for a bound of numbers alone
@@ -362,11 +432,11 @@ commit-full w m next e t less few h is =
     (commit-all (OnFull w v) (common-on w v) m next e w (t.fills m.core.next_file v) (others-on w v (causes (sight 0 m.core).journal w v) (t.own IsOther named-other (sight 0 m.core).journal v)) (sizes-on w v)
     (others-on w v (held_refused w m.core) (t.held m.core)) h is)
 
--- and where no image is in progress nothing has to be waited for
-pub commit-unheld : (w : Change) (m next : Machine) (e : Refusal) → Takes w → m.core.image ≡ None → Commits 0 (Plain w) [] m next (Err e) → IsNoHolder e
-commit-unheld w m next e t idle h =
+-- and where no image is in progress, and there is no ticket, nothing has to be waited for
+pub commit-unheld : (w : Change) (m next : Machine) (e : Refusal) → Takes w → m.core.image ≡ None → m.core.tickets ≡ [] → Commits 0 (Plain w) [] m next (Err e) → IsNoHolder e
+commit-unheld w m next e t idle none h =
     commit-all IsNoHolder common-free m next e w (t.fills m.core.next_file (inventory m.core)) (t.own IsNoHolder named-free (sight 0 m.core).journal (inventory m.core)) (sizes-free w (inventory m.core))
-    (subst (λ (l : List Refusal). AllByRecursion IsNoHolder l) (sym (t.free m.core idle)) tt) h
+    (subst (λ (l : List Refusal). AllByRecursion IsNoHolder l) (sym (t.free m.core idle none)) tt) h
 
 pub reuse-full : (file : ℕ) (m next : Machine) (e : Refusal) → IsFew (inventory m.core) → Reuses 0 file m next (Err e) → e ≡ refused.InventoryFull → 2 ^ 62 ≤ (inventory m.core).number + 1
 reuse-full file m next e few h is =

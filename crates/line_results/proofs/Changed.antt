@@ -23,8 +23,8 @@ use Rattle.machine.specs.Alone.{Alone}
 use Rattle.machine.specs.Causes.{change_refused, commit_refused, is_plain}
 use Rattle.machine.specs.Machine.{Commits as CommitsOne, IsLogFault, Joins as JoinsOne, Later, Places, asked_change, committed, halting, has_file, held_by, held_refused, made, record_length, records_length, stamped, with_tickets, written_by}
 use Rattle.machine.specs.State.{Core, Image, Machine, Ticket, inventory, sight, without}
-use Rattle.sessions.specs.Changing.{Changes, Commits as Tries, Joins}
-use Rattle.sessions.specs.Waiting.{Held, Waited}
+use Rattle.command_steps.specs.sessions.Changing.{Changes, Commits as Tries, Joins}
+use Rattle.command_steps.specs.sessions.Waiting.{Held, Waited}
 use Rattle.line_results.specs.Commands.{IsStopped, drawn}
 use Rattle.line_results.specs.Resting.{Commits, IsAtRest, IsLate, IsNearlyDurable, Leaves, Makes, Onward, SameBytes, SameImage, entry, has_broken, has_ended, why_not}
 use Rattle.line_results.proofs.Asked.{stopped-err}

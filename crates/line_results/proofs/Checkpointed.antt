@@ -7,8 +7,8 @@ use Rattle.kinds.specs.Refusals.{foremost, unless}
 use Rattle.kinds.specs.declared.refusal.Holder.{Holder}
 use Rattle.kinds.specs.declared.refusal.Refusal.{Refusal}
 use Rattle.kinds.specs.declared.refusal.Refusal.TheVariants as refused
-use Rattle.client_files.specs.Sending.{stopping as broken_off}
-use Rattle.copy_attempts.specs.Attempts.{stopping}
+use Rattle.command_steps.specs.client_files.Sending.{stopping as broken_off}
+use Rattle.command_steps.specs.copy_attempts.Attempts.{stopping}
 use Rattle.steps.specs.declared.image.ImageKind.TheVariants as image
 use Rattle.steps.specs.declared.image.ImageReply.{ImageReply}
 use Rattle.steps.specs.declared.image.ImageReply.TheVariants as reply
@@ -20,8 +20,8 @@ use Rattle.machine.specs.Alone.{Alone, Moves}
 use Rattle.machine.specs.Causes.{image_refused}
 use Rattle.machine.specs.Machine.{BeginsCheckpoint, CheckpointBegun, CheckpointFails, Continues as GoesOnWith, Finishes, GoesOn, Later, Places, StopsShort, WroteMore, checkpointed, ending, halting, in_progress, records_length, stamped, with_image}
 use Rattle.machine.specs.State.{Core, Image as Written, Machine, backup, checkpoint, inventory, own_image, sight}
-use Rattle.sessions.specs.Checkpoints.{AreMore, Begins, BreaksOff, Checkpoints as CheckpointsBy, Continues, Opens}
-use Rattle.sessions.specs.Waiting.{Held, Waited}
+use Rattle.command_steps.specs.sessions.Checkpoints.{AreMore, Begins, BreaksOff, Checkpoints as CheckpointsBy, Continues, Opens}
+use Rattle.command_steps.specs.sessions.Waiting.{Held, Waited}
 use Rattle.line_results.specs.Commands.{IsStopped}
 use Rattle.line_results.specs.Files.{Checkpoints}
 use Rattle.line_results.specs.Resting.{IsAtRest, IsLate, Leaves, SameBytes, SameImage}

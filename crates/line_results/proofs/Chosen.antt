@@ -16,7 +16,7 @@ use Rattle.inventory_rows.specs.Search.{versions}
 use Rattle.inventory_rows.specs.State.{Inv}
 use Rattle.inventory_answers.specs.Clients.{lines_from, version_line_at, versions_of_group, versions_under}
 use Rattle.inventory_answers.specs.declared.lines.VersionLine.{VersionLine}
-use Rattle.sessions.specs.Getting.{active_line}
+use Rattle.command_steps.specs.sessions.Getting.{active_line}
 use Rattle.line_results.specs.Files.{active_at}
 
 -- ---- among the versions of a path

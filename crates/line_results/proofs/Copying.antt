@@ -59,10 +59,10 @@ MayJoin moves P c = IsCopy moves c ⊎ P c
 -- ---- tickets
 
 -- the script's, for a copy that moves, or for a further one
-abbrev IsFor : (moves : Bool) → Ticket → Type 0
+abbrev pub IsFor : (moves : Bool) → Ticket → Type 0
 IsFor moves t = (t.actor ≡ 0) × (object : ℕ) × (a : Aim) × (is_moving a ≡ moves) × (t.purpose ≡ copying object a)
 
-abbrev AreFor : (moves : Bool) → List Ticket → Type 0
+abbrev pub AreFor : (moves : Bool) → List Ticket → Type 0
 AreFor moves tickets = AllByRecursion (IsFor moves) tickets
 
 for-took : (moves : Bool) (number : ℕ) (bytes : List ℕ) (t : Ticket) → IsFor moves t → IsFor moves (if is_ticket 0 number t then took bytes t else t)
@@ -77,14 +77,14 @@ for-sealed moves number t h = elim (is_ticket 0 number t) as (λ b. IsFor moves 
   | false ↦ h
 ]
 
-for-own : (moves : Bool) (tickets : List Ticket) → AreFor moves tickets → AreFor moves (own_tickets 0 tickets)
+pub for-own : (moves : Bool) (tickets : List Ticket) → AreFor moves tickets → AreFor moves (own_tickets 0 tickets)
 for-own moves [] h = tt
 for-own moves (t ∷ tickets) h = elim (t.actor == 0) as (λ b. AreFor moves (if b then t ∷ own_tickets 0 tickets else own_tickets 0 tickets)) [
   | true ↦ (h.0, for-own moves tickets h.1)
   | false ↦ for-own moves tickets h.1
 ]
 
-for-found : (moves : Bool) (number : ℕ) (tickets : List Ticket) (t : Ticket) → AreFor moves tickets → ticket number tickets ≡ Some t → IsFor moves t
+pub for-found : (moves : Bool) (number : ℕ) (tickets : List Ticket) (t : Ticket) → AreFor moves tickets → ticket number tickets ≡ Some t → IsFor moves t
 for-found moves number [] t h is = absurd cc
 for-found moves number (x ∷ tickets) t h is =
     elim (x.number == number) as (λ b. (if b then Some x else ticket number tickets) ≡ Some t → IsFor moves t) [
@@ -114,7 +114,7 @@ copy-of moves v t c so is =
     (sym (ap (λ (b : Bool). if b && true then change.Move (record { scratch = scratch_of v (t ∷ []); items = flat_map (λ x. move_from x x.purpose) (t ∷ []) }) else change.Copy (record { scratch = scratch_of v (t ∷ []); items = map copy_from (t ∷ []) })) (moved-as moves t so)) ∙ is)
     (copy-as v t moves)
 
-found-copy : (moves : Bool) (v : Inv) (found : Option Ticket) (c : Change) → ((t : Ticket) → found ≡ Some t → IsFor moves t) → change_with v found ≡ Some c → IsCopy moves c
+pub found-copy : (moves : Bool) (v : Inv) (found : Option Ticket) (c : Change) → ((t : Ticket) → found ≡ Some t → IsFor moves t) → change_with v found ≡ Some c → IsCopy moves c
 found-copy moves v None c so is = absurd cc
 found-copy moves v (Some t) c so is = copy-of moves v t c (so t refl) (same_Some (placed_change v (t ∷ [])) c is)
 
@@ -249,7 +249,7 @@ module _ (moves : Bool) (P : Change → Type 0) (first later : List Entry) (old 
 -- ---- all steps
 
 -- it asks or forces, or has to do with tickets alone
-has-tickets : (moves : Bool) (P : Change → Type 0) (d : Deed) → Copies moves P d → HasTickets d
+pub has-tickets : (moves : Bool) (P : Change → Type 0) (d : Deed) → Copies moves P d → HasTickets d
 has-tickets moves P (Ask query answer) so = tt
 has-tickets moves P (Force answer) so = tt
 has-tickets moves P (OpenCopy object a avoid answer) so = tt

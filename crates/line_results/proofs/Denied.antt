@@ -12,15 +12,15 @@ use Rattle.inventory_answers.specs.Stores.{backup_lines}
 use Rattle.admin_words.specs.declared.command.Command.{Command}
 use Rattle.admin_commands.specs.declared.work.Work.{Work}
 use Rattle.admin_commands.specs.declared.work.Work.TheVariants.{Commit, Run, Show}
-use Rattle.copy_attempts.specs.Attempts.{is_stopping}
+use Rattle.command_steps.specs.copy_attempts.Attempts.{is_stopping}
 use Rattle.steps.specs.declared.image.ImageKind.TheVariants as image
 use Rattle.steps.specs.Calls.{Made}
 use Rattle.steps.specs.Events.{Deed, Event, event, is_listed}
 use Rattle.steps.specs.Events.Deed.{Force, Image}
-use Rattle.db_backup.specs.declared.taking.Taken.{Taken}
-use Rattle.db_backup.specs.Backups.{Follows, FollowsNewest}
-use Rattle.db_backup.specs.Listing.{newest_file}
-use Rattle.db_backup.proofs.Following.{backs-so, not-followed}
+use Rattle.command_steps.specs.db_backup.declared.taking.Taken.{Taken}
+use Rattle.command_steps.specs.db_backup.Backups.{Follows, FollowsNewest}
+use Rattle.command_steps.specs.db_backup.Listing.{newest_file}
+use Rattle.command_steps.proofs.of_db_backup.Following.{backs-so, not-followed}
 use Rattle.machine.specs.Alone.{Alone}
 use Rattle.machine.specs.Causes.{image_refused}
 use Rattle.machine.specs.Machine.{BeginsBackup, Places, ended, in_progress}

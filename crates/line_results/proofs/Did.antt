@@ -23,12 +23,13 @@ use Rattle.admin_commands.specs.Orders.{needs, work_of}
 use Rattle.admin_commands.specs.declared.work.Work.{Work}
 use Rattle.admin_commands.specs.declared.work.Work.TheVariants.{Commit, Show, Run}
 use Rattle.reports.specs.declared.shown.Shown.TheVariants.{Done, Stored}
-use Rattle.sessions.specs.Getting.{Gets as GetsBy}
-use Rattle.sessions.specs.InTurn.{OrMemory}
-use Rattle.sessions.specs.declared.getting.FileRead.{FileRead}
+use Rattle.command_steps.specs.sessions.Getting.{Gets as GetsBy}
+use Rattle.command_steps.specs.sessions.InTurn.{OrMemory}
+use Rattle.command_steps.specs.sessions.declared.getting.FileRead.{FileRead}
 use Rattle.steps.specs.Events.{Event}
 use Rattle.machine.specs.Alone.{Alone}
 use Rattle.machine.specs.Causes.{is_plain}
+use Rattle.machine.specs.Laws.{RefusesElsewhere}
 use Rattle.machine.specs.Machine.{Places}
 use Rattle.machine.specs.State.{Core, Machine}
 use Rattle.command_steps.specs.Behind.{Behind, behind, forces, no_more, reuses}
@@ -284,7 +285,7 @@ ends-so no_more said result events is h = h
 ends-so forces said result events is h = absurd cc
 ends-so reuses said result events is h = absurd cc
 
-module _ (trusted : Type 0) (places : Places) (nobody : NobodyHolds places) (k : Client) (puts : PutsAs trusted places k.choice) (gets : GetsAs trusted places) where
+module _ (trusted : Type 0) (places : Places) (nobody : NobodyHolds places) (lawful : RefusesElsewhere places) (k : Client) (puts : PutsAs trusted places k.choice) (gets : GetsAs trusted places) where
   done-work : (c : Command) (w : Work) (events : List Event) (result : Result Outcome Refusal) (old new : Machine) → IsPlainWork (Ok w) → behind c ≡ no_more → IsPlainOwn (own_of c) → IsAtRest old.core → HasSizes old
       → DoesWork k c (Ok w) events result → Alone trusted places 0 events old new → WorkDid trusted places k c (Ok w) (behind c) old new result
   done-work c w events result old new plain is so rest sizes (said, (xs, ys, cut, does, ends)) f =
@@ -302,7 +303,7 @@ module _ (trusted : Type 0) (places : Places) (nobody : NobodyHolds places) (k :
       refused-did trusted places k c why (behind c) old old new result kept rest is (became-same old new (alone-none trusted places 0 events old new none f))
   work-did c (Ok w) events result old new plain rowless rest sizes h f = elim (kind c) as (λ _. WorkDid trusted places k c (Ok w) (behind c) old new result) [
     | inl it ↦ done-work c w events result old new plain it.0 it.1 rest sizes h f
-    | inr it ↦ process-work trusted places k c w (behind c) old new result it.some (processed trusted places nobody k c w result events old new it (rowless it) plain rest h f)
+    | inr it ↦ process-work trusted places k c w (behind c) old new result it.some (processed trusted places nobody lawful k c w result events old new it (rowless it) plain rest h f)
   ]
 
 -- ---- a command
@@ -392,7 +393,7 @@ was-done trusted places k c answers old mid new result h w =
       doubt = w.doubt;
     }
 
-module _ (trusted : Type 0) (places : Places) (nobody : NobodyHolds places) (k : Client) (puts : PutsAs trusted places k.choice) (gets : GetsAs trusted places) where
+module _ (trusted : Type 0) (places : Places) (nobody : NobodyHolds places) (lawful : RefusesElsewhere places) (k : Client) (puts : PutsAs trusted places k.choice) (gets : GetsAs trusted places) where
   pub command-did : (c : Command) (events : List Event) (result : Result Outcome Refusal) (old new : Machine) → IsAtRest old.core → HasSizes old → Doing k c events result → Alone trusted places 0 events old new
       → CommandDid trusted places k c old new result
   command-did c events result old new rest sizes (inl (e, kept, inl asked, is)) f =
@@ -405,7 +406,7 @@ module _ (trusted : Type 0) (places : Places) (nobody : NobodyHolds places) (k :
       let parts = alone-parts trusted places 0 events xs ys old new cut f in
       let h = looked trusted places (needs c) xs (Ok answers) old parts.0 (needs-unlogged c) rest asked parts.1 in
       was-done trusted places k c answers old parts.0 new result h
-      (work-did trusted places nobody k puts gets c (work_of c answers) ys result parts.0 new (work-plain c answers) (λ it. it.rowless answers) (rest-as parts.0.core old.core h.still.core rest) (sizes-as old parts.0 h.still sizes) work parts.2)
+      (work-did trusted places nobody lawful k puts gets c (work_of c answers) ys result parts.0 new (work-plain c answers) (λ it. it.rowless answers) (rest-as parts.0.core old.core h.still.core rest) (sizes-as old parts.0 h.still sizes) work parts.2)
   command-did c events result old new rest sizes (inr (answers, (xs, ys, cut, inl asked, inr (kept, none, wanted)))) f =
       let parts = alone-parts trusted places 0 events xs ys old new cut f in
       let h = looked trusted places (needs c) xs (Ok answers) old parts.0 (needs-unlogged c) rest asked parts.1 in

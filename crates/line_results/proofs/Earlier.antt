@@ -1,5 +1,5 @@
 -- What a command's work comes to from a later state, which differs in its counts and its moment alone, it comes to from the earlier one.
-use Rattle.std.proofs.Common.{◌≡◌, ◌⊎◌, inl, inr, ℕ, List, [], ◌∷◌, length, Option, None, Some, Result, Ok, Err, subst}
+use Rattle.std.proofs.Common.{◌≡◌, ◌⊎◌, inl, inr, ℕ, min, List, [], ◌∷◌, length, Option, None, Some, Result, Ok, Err, subst}
 use Rattle.std.specs.List.{AllByRecursion}
 use Rattle.kinds.specs.declared.refusal.Refusal.{Refusal}
 use Rattle.kinds.specs.declared.refusal.Refusal.TheVariants as refused
@@ -22,17 +22,19 @@ use Rattle.steps.specs.Events.{Event}
 use Rattle.machine.specs.Machine.{Places}
 use Rattle.machine.specs.Pieces.{IsCopyLost, IsLost, IsUnavailable, asked_copies}
 use Rattle.machine.specs.State.{Machine, Place}
-use Rattle.sessions.specs.Homes.{home_of}
-use Rattle.sessions.specs.declared.getting.FileRead.{FileRead}
-use Rattle.sessions.specs.declared.homes.Home.{Home}
+use Rattle.command_steps.specs.sessions.Homes.{home_of}
+use Rattle.command_steps.specs.sessions.declared.getting.FileRead.{FileRead}
+use Rattle.command_steps.specs.sessions.declared.homes.Home.{Home}
 use Rattle.command_steps.specs.Behind.{Behind, forces, no_more, reuses}
 use Rattle.command_steps.specs.Clients.{Client, Known}
-use Rattle.command_steps.specs.Owns.{OnTree, Own, audit_volume, back_up, back_up_database, back_up_pool, back_up_since, checkpoint, delete_history, empty_filespace, empty_volume, erase, expire, get, moves, none_but_reuse, none_yet, on_tree, own_of, put, restore, validate, write}
+use Rattle.command_steps.specs.Doing.{the_number, the_second}
+use Rattle.command_steps.specs.Owns.{Mover, OnTree, Own, audit_volume, back_up, back_up_database, back_up_pool, back_up_since, checkpoint, data_mover, delete_history, empty_filespace, empty_volume, erase, expire, get, moves, none_but_reuse, none_yet, on_tree, own_of, put, reclaimer, restore, validate, write}
 use Rattle.command_steps.specs.Trees.{BacksUp, GivesWanted}
 use Rattle.command_steps.specs.declared.outcome.Outcome.{Outcome}
 use Rattle.line_results.specs.Bounds.{HasReason, IsReasoned, IsUnfollowed, IsUnmade}
 use Rattle.line_results.specs.Commands.{Does, DoesOn, DoesOwn, DoesThere, EndsSo, IsStill, Processes, Ran, Tells, Works, WorksWith, drawn}
 use Rattle.line_results.specs.Files.{Gets, GetsNot, GetsOf, GetsUnder, Puts, PutsBy, PutsHome, PutsOf, PutsUnder, Shows, ShowsFound, Stores, StoresAt, StoresBy, active_at, why_no_place}
+use Rattle.line_results.specs.Moving.{ComesToBound, ComesToMissing, HasCopyReason, HasMoveReason, IsBackup, IsCopyReasoned, IsDataMove, IsReclamation, IsStuck, IsUncopied}
 use Rattle.line_results.specs.Resting.{Breaks, EndsRun, RoseFrom, database}
 use Rattle.line_results.specs.Trees.{IsRefusedSo}
 use Rattle.line_results.proofs.Runs.{Became, is-as, onward-then, rose-from}
@@ -152,6 +154,8 @@ module _ (trusted : Type 0) (places : Places) (k : Client) (result : Result Outc
 
   reason-as : (numbers : List ℕ) (own : Own) (e : Refusal) → HasReason numbers own (later_of old mid) new e → HasReason numbers own old new e
   reason-as numbers expire e h = h
+  reason-as numbers empty_filespace e h = h
+  reason-as numbers empty_volume e h = h
   reason-as numbers back_up_database e h = unmade-as None e h
   reason-as numbers back_up_since e h = unfollowed-as e h
   reason-as numbers (delete_history to) e h = h
@@ -163,13 +167,55 @@ module _ (trusted : Type 0) (places : Places) (k : Client) (result : Result Outc
   reasoned-as numbers own (Err e) (inl h) = inl (reason-as numbers own e h)
   reasoned-as numbers own (Err e) (inr h) = inr h
 
+  bound-as : (Did : List Event → Type 0) → ComesToBound places Did (later_of old mid) → ComesToBound places Did old
+  bound-as Did (e, m, comes, full) = (
+    e,
+    m,
+    record { start = comes.start; first = comes.first; later = comes.later; did = comes.did; core = comes.core; onward = onward-then old (later_of old mid) comes.start (on-later old mid b) comes.onward; made = comes.made },
+    full,
+  )
+
+  uncopied-as : (primary copy : ℕ) (e : Refusal) → IsUncopied places primary copy (later_of old mid) e → IsUncopied places primary copy old e
+  uncopied-as primary copy e (inl kinds) = inl kinds
+  uncopied-as primary copy e (inr (full, bound)) = inr (full, bound-as (IsBackup primary copy) bound)
+
+  missing-as : (Did : List Event → Type 0) → ComesToMissing places Did (later_of old mid) → ComesToMissing places Did old
+  missing-as Did (e, m, comes, missing) = (
+    e,
+    m,
+    record { start = comes.start; first = comes.first; later = comes.later; did = comes.did; core = comes.core; onward = onward-then old (later_of old mid) comes.start (on-later old mid b) comes.onward; made = comes.made },
+    missing,
+  )
+
+  stuck-as : (Did : List Event → Type 0) (e : Refusal) → IsStuck places Did (later_of old mid) e → IsStuck places Did old e
+  stuck-as Did e (inl (is, missing)) = inl (is, missing-as Did missing)
+  stuck-as Did e (inr (full, bound)) = inr (full, bound-as Did bound)
+
+  move-reason-as : (numbers : List ℕ) (mover : Mover) (e : Refusal) → HasMoveReason places numbers mover (later_of old mid) e → HasMoveReason places numbers mover old e
+  move-reason-as numbers data_mover e (inl none) = inl none
+  move-reason-as numbers data_mover e (inr (inl barred)) = inr (inl barred)
+  move-reason-as numbers data_mover e (inr (inr stuck)) = inr (inr (stuck-as (IsDataMove (the_number numbers) (the_second numbers)) e stuck))
+  move-reason-as numbers reclaimer e (inl none) = inl none
+  move-reason-as numbers reclaimer e (inr stuck) = inr (stuck-as (IsReclamation (the_number numbers) (min (the_second numbers) 100)) e stuck)
+  move-reason-as numbers mover e h = tt
+
+  copy-reason-as : (numbers : List ℕ) (own : Own) (e : Refusal) → HasCopyReason places numbers own (later_of old mid) e → HasCopyReason places numbers own old e
+  copy-reason-as numbers back_up_pool e h = uncopied-as (the_number numbers) (the_second numbers) e h
+  copy-reason-as numbers (moves mover) e h = move-reason-as numbers mover e h
+  copy-reason-as numbers own e h = tt
+
+  copy-reasoned-as : (numbers : List ℕ) (own : Own) (r : Result Outcome Refusal) → IsCopyReasoned places numbers own (later_of old mid) r → IsCopyReasoned places numbers own old r
+  copy-reasoned-as numbers own (Ok it) h = tt
+  copy-reasoned-as numbers own (Err e) (inl h) = inl (copy-reason-as numbers own e h)
+  copy-reasoned-as numbers own (Err e) (inr h) = inr h
+
   processes-as : (numbers : List ℕ) (own : Own) → Processes trusted places k.choice numbers own (later_of old mid) new result added → Processes trusted places k.choice numbers own old new result added
   processes-as numbers own ((start, events, still, alone, did), are, image, bytes, why) = (
     (start, events, still-as start still, alone, did),
     are,
     image,
     bytes,
-    reasoned-as numbers own result why,
+    record { at_all = reasoned-as numbers own result why.at_all; copying = copy-reasoned-as numbers own result why.copying },
   )
 
   ran-as : (Did : List Event → Type 0) → Ran trusted places Did (later_of old mid) new → Ran trusted places Did old new

@@ -44,9 +44,9 @@ use Rattle.machine.specs.Causes.{change_illegal, change_refused, is_plain, liste
 use Rattle.machine.specs.Changes.{filled}
 use Rattle.machine.specs.Machine.{IsPlaced, Places, can_place_new, placing_refused}
 use Rattle.machine.specs.State.{Core, Machine, Place, inventory, sight}
-use Rattle.sessions.specs.Homes.{home_at, home_in, home_of, home_under}
-use Rattle.sessions.specs.declared.getting.FileRead.{FileRead}
-use Rattle.sessions.specs.declared.homes.Home.{Home}
+use Rattle.command_steps.specs.sessions.Homes.{home_at, home_in, home_of, home_under}
+use Rattle.command_steps.specs.sessions.declared.getting.FileRead.{FileRead}
+use Rattle.command_steps.specs.sessions.declared.homes.Home.{Home}
 use Rattle.command_steps.specs.Answers.{halt_by}
 use Rattle.command_steps.specs.Behind.{Behind, behind, forces, no_more, reuses}
 use Rattle.command_steps.specs.Clients.{Client, Known}

@@ -13,7 +13,7 @@ use Rattle.script_loop.specs.declared.ends.Halt.TheVariants as halt
 use Rattle.steps.specs.Calls.{Made}
 use Rattle.steps.specs.Events.{Event, refusal}
 use Rattle.steps.specs.Events.Deed.{Ask}
-use Rattle.sessions.specs.Asking.{unasked}
+use Rattle.command_steps.specs.sessions.Asking.{unasked}
 use Rattle.machine.specs.Alone.{Alone}
 use Rattle.machine.specs.Causes.{ask_refused}
 use Rattle.machine.specs.Machine.{Asks, IsAnswer, Later, Never, Places, Stays}

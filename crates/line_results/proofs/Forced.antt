@@ -7,7 +7,7 @@ use Rattle.kinds.specs.declared.refusal.Holder.TheVariants as holder
 use Rattle.kinds.specs.declared.refusal.Refusal.{Refusal}
 use Rattle.kinds.specs.declared.refusal.Refusal.TheVariants as refused
 use Rattle.entries.specs.declared.entry.Entry.{Entry}
-use Rattle.copy_attempts.specs.Attempts.{Awaits}
+use Rattle.command_steps.specs.copy_attempts.Attempts.{Awaits}
 use Rattle.steps.specs.Calls.{Made, forced}
 use Rattle.steps.specs.Events.{Event, refusal}
 use Rattle.steps.specs.Events.Deed.{Force}

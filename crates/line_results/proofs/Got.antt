@@ -2,7 +2,7 @@
 use Rattle.std.proofs.Common.{◌≡◌, ◌⊎◌, inl, inr, ℕ, List, length, Option, None, Some, Result, Ok, Err, refl, sym, ap, subst, ◌∙◌}
 use Rattle.kinds.specs.declared.refusal.Refusal.{Refusal}
 use Rattle.kinds.specs.declared.refusal.Refusal.TheVariants as refused
-use Rattle.client_files.specs.declared.restoring.Stored.{Stored}
+use Rattle.command_steps.specs.client_files.declared.restoring.Stored.{Stored}
 use Rattle.inventory_rows.specs.object_rows.Names.{filespace_named, node_named}
 use Rattle.inventory_rows.specs.version_groups.Entries.{on_ok}
 use Rattle.inventory_rows.specs.version_groups.declared.versions.Version.{Version}
@@ -20,10 +20,10 @@ use Rattle.steps.specs.Events.{Event}
 use Rattle.machine.specs.Alone.{Alone}
 use Rattle.machine.specs.Machine.{Places}
 use Rattle.machine.specs.State.{Machine}
-use Rattle.sessions.specs.Asking.{AsksPath, unasked}
-use Rattle.sessions.specs.Getting.{Gets as GetsBy, active_line, stored_of}
-use Rattle.sessions.specs.InTurn.{OrMemory}
-use Rattle.sessions.specs.declared.getting.FileRead.{FileRead}
+use Rattle.command_steps.specs.sessions.Asking.{AsksPath, unasked}
+use Rattle.command_steps.specs.sessions.Getting.{Gets as GetsBy, active_line, stored_of}
+use Rattle.command_steps.specs.sessions.InTurn.{OrMemory}
+use Rattle.command_steps.specs.sessions.declared.getting.FileRead.{FileRead}
 use Rattle.line_results.specs.Commands.{IsStopped}
 use Rattle.line_results.specs.Files.{Gets, GetsOf, GetsUnder, Shows, ShowsFound, active_at}
 use Rattle.line_results.specs.Resting.{EndsRun, HasSizes, IsAtRest, IsLate, database}

@@ -259,6 +259,17 @@ legal-commit asked numbers others m w is none =
     let both = append-none own others (none-held (own ++ others) (none-first (ended m) (own ++ others) none)) in
     commit-legal 0 asked numbers (sight 0 m.core) w is (ap foremost both.0)
 
+-- one that was answered was made
+pub commit-made : (P : Change → Type 0) (asked : Asked) (numbers : List ℕ) (old new : Machine) (number : ℕ) → ((c : Change) (core : Core) → asked_change 0 asked numbers core ≡ Some c → P c) → Commits 0 asked numbers old new (Ok number)
+    → (w : Change) × P w × (refused (sight 0 old.core).journal w (inventory old.core) ≡ None) × (inventory new.core ≡ effect w (inventory old.core))
+commit-made P asked numbers old new number so h = (
+  h.1.0,
+  so h.1.0 old.core h.1.1,
+  legal-commit asked numbers _ old h.1.0 h.1.1 h.0,
+  ap (λ (v : Inv). after v new.core.journal) (ap (λ (c : Core). c.base) h.1.3.0) ∙ ap (λ (l : List Entry). after old.core.base l) (ap (λ (c : Core). c.journal) h.1.3.0)
+      ∙ after-append old.core.base old.core.journal (record { actor = 0; change = h.1.0 } ∷ []),
+)
+
 commit-goes : (P : Change → Type 0) (asked : Asked) (numbers : List ℕ) (old new : Machine) (answer : Result ℕ Refusal) → ((c : Change) (core : Core) → asked_change 0 asked numbers core ≡ Some c → P c)
     → Commits 0 asked numbers old new answer → Goes P old.core new.core
 commit-goes P asked numbers old new (Ok it) so h =

@@ -1,5 +1,5 @@
 -- What holds of a line that was answered.
-use Rattle.std.proofs.Common.{◌≡◌, ◌⊎◌, inl, inr, ℕ, zero, suc, ◌+◌, ◌^◌, ◌<◌, ◌≤◌, ◌&&◌, nat_lt, Bool, true, false, if◌then◌else◌, Contains, slice_index_or, is_none, find, option_and_then, List, [], ◌∷◌, ◌++◌, length, Option, None, Some, Result, Ok, Err, refl, sym, ap, subst, ◌∙◌, true≢false, arith}
+use Rattle.std.proofs.Common.{◌≡◌, ◌⊎◌, inl, inr, ℕ, zero, suc, ◌+◌, ◌^◌, ◌<◌, ◌≤◌, ◌&&◌, nat_lt, min, Bool, true, false, if◌then◌else◌, Contains, slice_index_or, is_none, find, option_and_then, List, [], ◌∷◌, ◌++◌, length, Option, None, Some, Result, Ok, Err, refl, sym, ap, subst, ◌∙◌, true≢false, arith}
 use Rattle.std.proofs.lemmas.Bool.{and_parts, false≢true}
 use Rattle.std.proofs.lemmas.Option.{same_Some}
 use Rattle.std.specs.List.{AllByRecursion}
@@ -17,6 +17,7 @@ use Rattle.inventory_rows.specs.version_groups.declared.copies.CopyRow.{CopyRow}
 use Rattle.inventory_rows.specs.version_groups.declared.group.Group.{Group}
 use Rattle.inventory_rows.specs.version_groups.declared.versions.Version.{Version}
 use Rattle.inventory_rows.specs.State.{Inv}
+use Rattle.inventory_rules.specs.Valid.{is_valid}
 use Rattle.inventory_work.specs.Rules.{rules_of}
 use Rattle.inventory_work.specs.declared.lines.Rules.{Rules}
 use Rattle.inventory_answers.specs.Answered.{answered}
@@ -38,16 +39,16 @@ use Rattle.steps.specs.Events.{Event}
 use Rattle.machine.specs.Machine.{Places}
 use Rattle.machine.specs.Pieces.{IsCopyLost, IsUnavailable}
 use Rattle.machine.specs.State.{Machine}
-use Rattle.sessions.specs.declared.getting.FileRead.{FileRead}
-use Rattle.db_backup.specs.Listing.{newest_file}
+use Rattle.command_steps.specs.sessions.declared.getting.FileRead.{FileRead}
+use Rattle.command_steps.specs.db_backup.Listing.{newest_file}
 use Rattle.command_steps.specs.Answers.{Ends, answer_of, counting, done, halt_by, outcome_lines, refusal, row_lines}
 use Rattle.tree_api.specs.Cause.{Rose}
 use Rattle.command_steps.specs.Clients.{Client, IsKept, Known, Turns}
 use Rattle.command_steps.specs.Lines.{Line, asks, comment, refused as refused_line}
 use Rattle.command_steps.specs.Behind.{Behind, behind, forces, no_more, reuses}
-use Rattle.command_steps.specs.Doing.{Forcing, Reusing, the_number}
+use Rattle.command_steps.specs.Doing.{Forcing, Reusing, the_number, the_second}
 use Rattle.command_steps.specs.Writing.{Erases, Writes, bytes_of}
-use Rattle.command_steps.specs.Owns.{OnTree, Own, audit_volume, back_up, back_up_database, back_up_pool, back_up_since, checkpoint, delete_history, empty_filespace, empty_volume, erase, expire, get, last_of, moves, none_but_reuse, none_yet, on_tree, own_of, put, restore, validate, write}
+use Rattle.command_steps.specs.Owns.{Mover, OnTree, Own, audit_volume, back_up, back_up_database, back_up_pool, back_up_since, checkpoint, data_mover, delete_history, empty_filespace, empty_volume, erase, expire, get, last_of, moves, none_but_reuse, none_yet, on_tree, own_of, put, reclaimer, restore, validate, write}
 use Rattle.command_steps.specs.declared.outcome.Outcome.{Outcome}
 use Rattle.command_steps.specs.declared.outcome.Outcome.TheVariants.{Read, Rows, Said}
 use Rattle.line_results.specs.Bounds.{IsBounded, IsUnaudited, IsUnfollowed, IsUnmade, IsUnmadeBehind, ReachesBound, begins, end_refused, illegal, is_near, is_of_run}
@@ -55,14 +56,16 @@ use Rattle.line_results.specs.Clauses.{BytesBy, BytesOwn, CauseBy, CauseOwn, Cau
 use Rattle.line_results.specs.Commands.{Comes, Does, DoesOwn, DoesThere, EndsWith, IsReuse, Tells, Works, WorksWith, drawn, validated, work_over}
 use Rattle.line_results.specs.Files.{Checkpoints, Gets, GetsOf, GetsUnder, Puts, ShowsFound, active_at, filespace_defined}
 use Rattle.line_results.specs.Lines.{Replies, Says}
+use Rattle.line_results.specs.Moving.{HasMoveReason, IsDataMove, IsOpen, IsReclamation, IsStuck, IsUncopied, MayCopy, MayMove}
+use Rattle.line_results.specs.Removing.{CanEmpty, CanRemove, IsBarred}
 use Rattle.line_results.specs.Resting.{Commits, EndsRun, Onward, RoseFrom, SameBytes, database, why_not}
 use Rattle.admin_words.specs.declared.files.FilesRestore.{FilesRestore}
 use Rattle.command_steps.specs.Trees.{is_absent, which_of}
 use Rattle.inventory_answers.specs.Clients.{versions_of}
 use Rattle.inventory_answers.specs.declared.lines.VersionLine.{VersionLine}
-use Rattle.restores.specs.Chosen.{chosen}
-use Rattle.restores.specs.declared.choosing.RestoreLine.{RestoreLine}
-use Rattle.restores.specs.declared.choosing.Which.{Which}
+use Rattle.command_steps.specs.restores.Chosen.{chosen}
+use Rattle.command_steps.specs.restores.declared.choosing.RestoreLine.{RestoreLine}
+use Rattle.command_steps.specs.restores.declared.choosing.Which.{Which}
 use Rattle.script_loop.specs.declared.ends.Halt.{Halt}
 use Rattle.line_results.specs.Trees.{GivesNothing, HasBytes, IsChosen, IsOfBackup, IsOfTree, IsRefusedSo, IsUndefinable, StoresNothing}
 use Rattle.line_results.proofs.ForceEnds.{forced-done, forced-same, no_said, said-same}
@@ -653,6 +656,35 @@ module _ (old between mid : Machine) (on : IsBehind between mid) (rose : NoneRos
   audited-so fix file (inl (inr (fixes, bounded))) may = (let m = may.1 fixes in m.1 (reaches-on old between mid on (bounded m.0).1))
   audited-so fix file (inr halts) may = some-not f halts.0 mild halts.1
 
+  copied-so : (places : Places) (primary copy : ℕ) → IsUncopied places primary copy old f ⊎ ((how : Halt) × (halt_by f ≡ Some how)) → MayCopy places primary copy old → ⊥
+  copied-so places primary copy (inl (inl (is, kinds))) may = true≢false (sym may.0 ∙ kinds)
+  copied-so places primary copy (inl (inr (full, bound))) may = may.1 bound
+  copied-so places primary copy (inr halts) may = some-not f halts.0 mild halts.1
+
+  stuck-so : (places : Places) (Did : List Event → Type 0) → IsStuck places Did old f → IsOpen places Did old → ⊥
+  stuck-so places Did (inl (is, missing)) may = may.0 missing
+  stuck-so places Did (inr (full, bound)) may = may.1 bound
+
+  moved-so : (places : Places) (mover : Mover) (numbers : List ℕ) → HasMoveReason places numbers mover old f ⊎ ((how : Halt) × (halt_by f ≡ Some how)) → MayMove places numbers mover old → ⊥
+  moved-so places data_mover numbers (inl (inl (is, none))) may = true≢false (sym may.0 ∙ none)
+  moved-so places data_mover numbers (inl (inr (inl (named, barred)))) may = (let odd : ◌≡◌ {A = Result (Unit {0}) Refusal} (Ok tt) (Err f) = sym (may.1 named) ∙ barred in cc)
+  moved-so places data_mover numbers (inl (inr (inr stuck))) may = stuck-so places (IsDataMove (the_number numbers) (the_second numbers)) stuck may.2
+  moved-so places reclaimer numbers (inl (inl (is, none))) may = true≢false (sym may.0 ∙ none)
+  moved-so places reclaimer numbers (inl (inr stuck)) may = stuck-so places (IsReclamation (the_number numbers) (min (the_second numbers) 100)) stuck may.1
+  moved-so places mover numbers (inl why) may = may
+  moved-so places mover numbers (inr halts) may = some-not f halts.0 mild halts.1
+
+  emptied-so : (filespace : ℕ) → (IsBarred (CanEmpty filespace (database old)) f ⊎ IsBounded old between f) ⊎ ((how : Halt) × (halt_by f ≡ Some how)) → CanEmpty filespace (database old) × StaysWithin old mid → ⊥
+  emptied-so filespace (inl (inl barred)) may = barred.1 may.0
+  emptied-so filespace (inl (inr bounded)) may = may.1 (reaches-on old between mid on bounded.1)
+  emptied-so filespace (inr halts) may = some-not f halts.0 mild halts.1
+
+  volume-so : (file : ℕ) → (IsBarred (CanRemove file (database old)) f ⊎ (is_valid (database old) ≡ true → IsBounded old between f)) ⊎ ((how : Halt) × (halt_by f ≡ Some how))
+      → CanRemove file (database old) × (is_valid (database old) ≡ true) × StaysWithin old mid → ⊥
+  volume-so file (inl (inl barred)) may = barred.1 may.0
+  volume-so file (inl (inr bounded)) may = may.2 (reaches-on old between mid on (bounded may.1).1)
+  volume-so file (inr halts) may = some-not f halts.0 mild halts.1
+
   never-own : (trusted : Type 0) (places : Places) (k : Client) (own : Own) (numbers : List ℕ) (first : List Entry) → IsProcessOwn own → MayOwn places k numbers own old mid
       → DoesOwn trusted places k numbers own old between (Err f) first → ⊥
   never-own trusted places k (validate set) numbers first so may h = so
@@ -660,11 +692,15 @@ module _ (old between mid : Machine) (on : IsBehind between mid) (rose : NoneRos
   never-own trusted places k (get g) numbers first so may h = so
   never-own trusted places k checkpoint numbers first so may h = so
   never-own trusted places k (on_tree work) numbers first so may h = never-there trusted places k work f old between first so may mild h
-  never-own trusted places k expire numbers first so may (kept, (ran, are, image, bytes, why)) = within-bounds why may
-  never-own trusted places k back_up_database numbers first so may (kept, (ran, are, image, bytes, why)) = database-backed why may
-  never-own trusted places k back_up_since numbers first so may (kept, (ran, are, image, bytes, why)) = followed-so why may
-  never-own trusted places k (delete_history to) numbers first so may (kept, (ran, are, image, bytes, why)) = within-bounds why may
-  never-own trusted places k (audit_volume fix) numbers first so may (kept, (ran, are, image, bytes, why)) = audited-so fix (the_number numbers) why may
+  never-own trusted places k expire numbers first so may (kept, (ran, are, image, bytes, why)) = within-bounds why.at_all may
+  never-own trusted places k empty_filespace numbers first so may (kept, (ran, are, image, bytes, why)) = emptied-so (the_number numbers) why.at_all may
+  never-own trusted places k empty_volume numbers first so may (kept, (ran, are, image, bytes, why)) = volume-so (the_number numbers) why.at_all may
+  never-own trusted places k back_up_database numbers first so may (kept, (ran, are, image, bytes, why)) = database-backed why.at_all may
+  never-own trusted places k back_up_since numbers first so may (kept, (ran, are, image, bytes, why)) = followed-so why.at_all may
+  never-own trusted places k (delete_history to) numbers first so may (kept, (ran, are, image, bytes, why)) = within-bounds why.at_all may
+  never-own trusted places k (audit_volume fix) numbers first so may (kept, (ran, are, image, bytes, why)) = audited-so fix (the_number numbers) why.at_all may
+  never-own trusted places k back_up_pool numbers first so may (kept, (ran, are, image, bytes, why)) = copied-so places (the_number numbers) (the_second numbers) why.copying may
+  never-own trusted places k (moves mover) numbers first so may (kept, (ran, are, image, bytes, why)) = moved-so places mover numbers why.copying may
   never-own trusted places k none_but_reuse numbers first so may (kept, (inl is, none, image, bytes)) = (let odd : ◌≡◌ {A = Result Outcome Refusal} (Err f) (Ok (Said (Reused 0))) = is in cc)
   never-own trusted places k none_but_reuse numbers first so may (kept, (inr (e, is, ends), none, image, bytes)) = no-end e old between ends (subst (λ (x : Refusal). halt_by x ≡ None) (said-same f e is) mild)
   never-own trusted places k own numbers first so may h = may

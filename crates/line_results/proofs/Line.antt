@@ -11,6 +11,7 @@ use Rattle.script_loop.specs.declared.ends.Halt.TheVariants as halt
 use Rattle.steps.specs.Events.{Event, has_number}
 use Rattle.admin_words.specs.declared.command.Command.{Command}
 use Rattle.machine.specs.Alone.{Alone}
+use Rattle.machine.specs.Laws.{RefusesElsewhere}
 use Rattle.machine.specs.Machine.{Places}
 use Rattle.machine.specs.State.{Core, Machine}
 use Rattle.command_steps.specs.Answering.{AnswersLine, DoesOrWants}
@@ -86,7 +87,7 @@ halt_in (Err how) = how
 same-halt : (a b : Halt) → as_halt a ≡ as_halt b → a ≡ b
 same-halt a b h = ap halt_in h
 
-module _ (trusted : Type 0) (places : Places) (nobody : NobodyHolds places) (k : Client) (puts : PutsAs trusted places k.choice) (gets : GetsAs trusted places) where
+module _ (trusted : Type 0) (places : Places) (nobody : NobodyHolds places) (lawful : RefusesElsewhere places) (k : Client) (puts : PutsAs trusted places k.choice) (gets : GetsAs trusted places) where
   line-did : (n : ℕ) (line : Line) (events : List Event) (answer : Answer) (why : Option Refusal) (old mid : Machine) → IsAtRest old.core → HasSizes old → DoesOrWants k n line events (Ok (answer, why))
       → Alone trusted places 0 events old mid → LineDid trusted places k n line old answer why mid
   line-did n comment events answer why old mid rest sizes (inl (kept, none, is)) f =
@@ -97,7 +98,7 @@ module _ (trusted : Type 0) (places : Places) (nobody : NobodyHolds places) (k :
       let same : mid ≡ old = alone-none trusted places 0 events old mid none f in
       still-did trusted places k n (refused_line given) old mid answer why rest same (kept, ap (λ (p : Answer × Option Refusal). p.0) is, ap (λ (p : Answer × Option Refusal). p.1) is, refl, same)
   line-did n (asks c) events answer why old mid rest sizes (inl (said, doing, ends)) f =
-      let d = command-did trusted places nobody k puts gets c events said old mid rest sizes doing f in
+      let d = command-did trusted places nobody lawful k puts gets c events said old mid rest sizes doing f in
       record {
         added = d.added;
         says = (said, d.comes, ends);
@@ -195,7 +196,7 @@ command-behind trusted places goes_on k n c (Ok it) how old new added comes is =
 command-behind trusted places goes_on k n c (Err e) how old new added comes (inl is) = run-behind e how old new (comes-end trusted places goes_on k e how is old new added c comes) is
 command-behind trusted places goes_on k n c (Err e) how old new added comes (inr is) = wanted-behind how old new is
 
-module _ (trusted : Type 0) (places : Places) (nobody : NobodyHolds places) (k : Client) (puts : PutsAs trusted places k.choice) (gets : GetsAs trusted places) (goes_on : EndsNoRun places) where
+module _ (trusted : Type 0) (places : Places) (nobody : NobodyHolds places) (lawful : RefusesElsewhere places) (k : Client) (puts : PutsAs trusted places k.choice) (gets : GetsAs trusted places) (goes_on : EndsNoRun places) where
   still-halts : (n : ℕ) (line : Line) (how : Halt) (old new : Machine) → IsAtRest old.core → new ≡ old → EndsAt trusted places k n line old how [] new → EndsBehind old new how
       → Halts trusted places k n line old how new
   still-halts n line how old new rest same ends why =
@@ -218,7 +219,7 @@ module _ (trusted : Type 0) (places : Places) (nobody : NobodyHolds places) (k :
       let same : new ≡ old = alone-none trusted places 0 events old new none f in
       still-halts n (refused_line given) how old new rest same (kept, refl, wanted-following how old new is same) (wanted-behind how old new is)
   ends-line n (asks c) events how old new rest sizes (inl (said, doing, ends)) f =
-      let d = command-did trusted places nobody k puts gets c events said old new rest sizes doing f in
+      let d = command-did trusted places nobody lawful k puts gets c events said old new rest sizes doing f in
       record {
         added = d.added;
         ends = inr (said, new, d.comes, inl (refl, ends));
@@ -238,7 +239,7 @@ module _ (trusted : Type 0) (places : Places) (nobody : NobodyHolds places) (k :
   ended n line events how old new rest sizes (inl h) f = ends-line n line events how old new rest sizes h f
   ended n line events how old new rest sizes (inr ((answer, why), (xs, ys, cut, does, (made, follows, halts)))) f =
       let parts = alone-parts trusted places 0 events xs ys old new cut f in
-      let d = line-did trusted places nobody k puts gets n line xs answer why old parts.0 rest sizes does parts.1 in
+      let d = line-did trusted places nobody lawful k puts gets n line xs answer why old parts.0 rest sizes does parts.1 in
       let b = followed trusted places ys made parts.0 new d.rests follows parts.2 in
       record {
         added = d.added;

@@ -3,7 +3,7 @@ use Rattle.std.proofs.Common.{◌≡◌, inl, inr, ℕ, List, [], ◌∷◌, ref
 use Rattle.std.specs.List.{AllByRecursion}
 use Rattle.steps.specs.Events.{Deed, Event}
 use Rattle.steps.specs.Events.Deed.{Ask, Commit, CopyPiece, DropTicket, Force, Image, OpenCopy, OpenNew, ReadPiece, Reuse, Seal, WritePiece}
-use Rattle.copy_attempts.specs.Outcomes.{MetBy}
+use Rattle.command_steps.specs.copy_attempts.Outcomes.{MetBy}
 use Rattle.machine.specs.Alone.{Alone, Moves, behind, with_contents}
 use Rattle.machine.specs.Machine.{Case, Later, Places}
 use Rattle.machine.specs.State.{Core, Machine}

@@ -8,11 +8,11 @@ use Rattle.kinds.specs.declared.segment.Digest.{Digest}
 use Rattle.choosers.specs.declared.rule.Rule.{Rule}
 use Rattle.inventory_work.specs.declared.lines.Rules.{Rules}
 use Rattle.client_trees.specs.Files.{ClientFile, Files}
-use Rattle.client_files.specs.declared.outcome.Came.{Came}
-use Rattle.client_files.specs.declared.outcome.Came.TheVariants as came
-use Rattle.client_files.specs.Reading.{file_of}
-use Rattle.client_files.specs.Sending.{GivesUp, behind_drop, failing, is_unfilled, is_unopened, stopping, unopened}
-use Rattle.client_files.specs.Writing.{Puts}
+use Rattle.command_steps.specs.client_files.declared.outcome.Came.{Came}
+use Rattle.command_steps.specs.client_files.declared.outcome.Came.TheVariants as came
+use Rattle.command_steps.specs.client_files.Reading.{file_of}
+use Rattle.command_steps.specs.client_files.Sending.{GivesUp, behind_drop, failing, is_unfilled, is_unopened, stopping, unopened}
+use Rattle.command_steps.specs.client_files.Writing.{Puts}
 use Rattle.client_plan.specs.Plans.{Lists}
 use Rattle.client_plan.specs.declared.lines.GoneLine.{GoneLine}
 use Rattle.client_plan.specs.declared.lines.RebindLine.{RebindLine}
@@ -29,15 +29,15 @@ use Rattle.client_batches.specs.Sends.{SendsEach, SendsOne, Sent, Stops, tickets
 use Rattle.client_batches.proofs.Ordering.{Each, each-both, each-given, each-made, each-none, each-runs, each-waits}
 use Rattle.client_batches.proofs.Quiet.{each_quiet, one_quiet, seals_quiet, unsealed_quiet}
 use Rattle.client_batches.proofs.Sealed.{AreBehind, IsBehind, behind-each}
-use Rattle.incrementals.specs.declared.answering.Outs.{Outs}
-use Rattle.incrementals.specs.declared.answering.Sent.{Sent as Said}
-use Rattle.incrementals.specs.declared.planning.Begun.{Begun}
-use Rattle.incrementals.specs.Filespaces.{HasFilespace, defining}
-use Rattle.incrementals.specs.Orders.{AreQuestions, IsQuestion, IsReadAs}
-use Rattle.incrementals.specs.Planning.{Begins}
-use Rattle.incrementals.specs.Process.{CarriesOut, CommitsLists, Finishes, Forces, Increments, Works, is_sending}
-use Rattle.incrementals.proofs.Ordering.{each-begins, each-filespace}
-use Rattle.incrementals.proofs.Sized.{AreRead, seals-read, sends-read}
+use Rattle.command_steps.specs.incrementals.declared.answering.Outs.{Outs}
+use Rattle.command_steps.specs.incrementals.declared.answering.Sent.{Sent as Said}
+use Rattle.command_steps.specs.incrementals.declared.planning.Begun.{Begun}
+use Rattle.command_steps.specs.incrementals.Filespaces.{HasFilespace, defining}
+use Rattle.command_steps.specs.incrementals.Orders.{AreQuestions, IsQuestion, IsReadAs}
+use Rattle.command_steps.specs.incrementals.Planning.{Begins}
+use Rattle.command_steps.specs.incrementals.Process.{CarriesOut, CommitsLists, Finishes, Forces, Increments, Works, is_sending}
+use Rattle.command_steps.proofs.of_incrementals.Ordering.{each-begins, each-filespace}
+use Rattle.command_steps.proofs.of_incrementals.Sized.{AreRead, seals-read, sends-read}
 use Rattle.steps.specs.declared.asked.Asked.{Asked}
 use Rattle.steps.specs.Calls.{Made, Then}
 use Rattle.steps.specs.Events.{Deed, Event}

@@ -32,12 +32,12 @@ use Rattle.client_trees.specs.Files.{Files}
 use Rattle.client_plan.specs.Plans.{Lists, actives, plan_of, scheme}
 use Rattle.client_batches.specs.Listings.{named, rebound, stored, storing}
 use Rattle.client_batches.specs.declared.listing.SealedLine.{SealedLine}
-use Rattle.incrementals.specs.Asking.{AsksNode, AsksNodeRules, AsksRules, AsksVersions, number_found}
+use Rattle.command_steps.specs.incrementals.Asking.{AsksNode, AsksNodeRules, AsksRules, AsksVersions, number_found}
 use Rattle.client_batches.proofs.Ordering.{Each}
-use Rattle.incrementals.specs.Orders.{AreQuestions, IsQuestion, IsReadAs}
-use Rattle.incrementals.specs.Planning.{Begins}
-use Rattle.incrementals.specs.declared.asking.Ruled.{Ruled}
-use Rattle.incrementals.specs.declared.planning.Begun.{Begun}
+use Rattle.command_steps.specs.incrementals.Orders.{AreQuestions, IsQuestion, IsReadAs}
+use Rattle.command_steps.specs.incrementals.Planning.{Begins}
+use Rattle.command_steps.specs.incrementals.declared.asking.Ruled.{Ruled}
+use Rattle.command_steps.specs.incrementals.declared.planning.Begun.{Begun}
 use Rattle.steps.specs.declared.asked.Asked.{Asked}
 use Rattle.steps.specs.declared.asked.Asked.TheVariants as asked
 use Rattle.steps.specs.Events.{Deed, Event}

@@ -1,5 +1,5 @@
 -- What comes of a process, and of what comes behind it.
-use Rattle.std.proofs.Common.{◌≡◌, ◌⊎◌, inl, inr, ℕ, ◌≤◌, ◌+◌, ◌==◌, Bool, true, false, if◌then◌else◌, Option, None, List, [], ◌∷◌, ◌++◌, length, map, Some, Result, Ok, Err, refl, sym, ap, subst, ◌∙◌}
+use Rattle.std.proofs.Common.{◌≡◌, ◌⊎◌, inl, inr, ℕ, ◌≤◌, ◌+◌, ◌==◌, Bool, true, false, if◌then◌else◌, min, Option, None, List, [], ◌∷◌, ◌++◌, length, map, Some, Result, Ok, Err, refl, sym, ap, subst, ◌∙◌}
 use Rattle.std.proofs.lemmas.Bool.{and_parts, eqb-true}
 use Rattle.std.proofs.lemmas.List.{append-nil, append_cancel_left}
 use Rattle.std.proofs.lemmas.Option.{same_Some}
@@ -24,36 +24,39 @@ use Rattle.admin_words.specs.declared.files.IncrementalBackup.{IncrementalBackup
 use Rattle.admin_commands.specs.declared.work.Work.{Work}
 use Rattle.admin_commands.specs.declared.work.Work.TheVariants.{Commit as CommitWork, Run, Show}
 use Rattle.steps.specs.Spent.{AreSettled}
-use Rattle.copy_pools.specs.Backups.{IsBackup, Came as BackupCame}
-use Rattle.copy_runs.specs.Ends.{IsEnding}
-use Rattle.copy_runs.specs.declared.wanted.Moved.{Moved}
-use Rattle.db_backup.specs.Backups.{FollowsNewest, IsFollowing}
-use Rattle.db_backup.specs.Deleting.{HistoryDeletion, IsDeleting}
-use Rattle.db_backup.specs.Listing.{due_files}
-use Rattle.db_backup.specs.Taking.{Backs, IsOf as IsOfImage, kind_of, may_leave as may_leave_image}
-use Rattle.db_backup.specs.declared.taking.Taken.{Taken}
-use Rattle.deletions.specs.Discarding.{IsDiscarding, discarded}
-use Rattle.deletions.specs.Dropping.{IsTaking, dropped}
-use Rattle.deletions.specs.Filespaces as filespaces
-use Rattle.deletions.specs.Volumes as volumes
-use Rattle.expiration.specs.Expiring.{Expiration, IsExpiring, named}
-use Rattle.copy_attempts.specs.Outcomes.{IsOf as IsOfAttempt}
-use Rattle.incrementals.specs.Process.{may_leave}
-use Rattle.incrementals.specs.declared.answering.Sent.{Sent}
+use Rattle.command_steps.specs.copy_pools.Backups.{Backup, IsBackup, Came as BackupCame}
+use Rattle.command_steps.specs.copy_runs.Ends.{IsEnding}
+use Rattle.command_steps.specs.copy_runs.declared.wanted.Moved.{Moved}
+use Rattle.command_steps.specs.db_backup.Backups.{FollowsNewest, IsFollowing}
+use Rattle.command_steps.specs.db_backup.Deleting.{HistoryDeletion, IsDeleting}
+use Rattle.command_steps.specs.db_backup.Listing.{due_files}
+use Rattle.command_steps.specs.db_backup.Taking.{Backs, IsOf as IsOfImage, kind_of, may_leave as may_leave_image}
+use Rattle.command_steps.specs.db_backup.declared.taking.Taken.{Taken}
+use Rattle.command_steps.specs.deletions.declared.copies.Removed.{Removed}
+use Rattle.command_steps.specs.deletions.Discarding.{IsDiscarding, discarded}
+use Rattle.command_steps.specs.deletions.Dropping.{IsTaking, dropped}
+use Rattle.command_steps.specs.deletions.Filespaces as filespaces
+use Rattle.command_steps.specs.deletions.Filespaces.{FilespaceDeletion}
+use Rattle.command_steps.specs.deletions.Volumes as volumes
+use Rattle.command_steps.specs.deletions.Volumes.{VolumeDeletion}
+use Rattle.command_steps.specs.expiration.Expiring.{Expiration, IsExpiring, named}
+use Rattle.command_steps.specs.copy_attempts.Outcomes.{IsOf as IsOfAttempt}
+use Rattle.command_steps.specs.incrementals.Process.{may_leave}
+use Rattle.command_steps.specs.incrementals.declared.answering.Sent.{Sent}
 use Rattle.inventory_answers.specs.declared.lines.VolumeLine.{VolumeLine}
 use Rattle.kinds.specs.declared.pool.Access.TheVariants.{Destroyed}
-use Rattle.migration.specs.Migrating.{IsMigration}
-use Rattle.migration.specs.Sweeping.{IsSweep}
-use Rattle.pool_restores.specs.Listing.{aim_of, destroying, destroying_found, volume_with}
-use Rattle.pool_restores.specs.Restoring.{IsRestore}
-use Rattle.pool_restores.specs.Volumes.{IsVolumeRestore}
-use Rattle.reclamation.specs.Moving.{IsMoving, into}
-use Rattle.reclamation.specs.Reclaiming.{IsReclaiming}
-use Rattle.reuse_delay.specs.Reusing.{IsReusing, VolumeReuse}
+use Rattle.command_steps.specs.migration.Migrating.{IsMigration}
+use Rattle.command_steps.specs.migration.Sweeping.{IsSweep}
+use Rattle.command_steps.specs.pool_restores.Listing.{aim_of, destroying, destroying_found, volume_with}
+use Rattle.command_steps.specs.pool_restores.Restoring.{IsRestore}
+use Rattle.command_steps.specs.pool_restores.Volumes.{IsVolumeRestore}
+use Rattle.command_steps.specs.reclamation.Moving.{DataMove, IsMoving, into}
+use Rattle.command_steps.specs.reclamation.Reclaiming.{IsReclaiming, Reclamation}
+use Rattle.command_steps.specs.reuse_delay.Reusing.{IsReusing, VolumeReuse}
 use Rattle.space.specs.declared.aim.Aim.{Aim}
 use Rattle.space.specs.declared.aim.Aim.TheVariants as aim
 use Rattle.script_loop.specs.declared.ends.Halt.{Halt}
-use Rattle.sessions.specs.Changing.{Changing, IsOf}
+use Rattle.command_steps.specs.sessions.Changing.{Changing, IsOf}
 use Rattle.steps.specs.declared.asked.Asked.{Asked}
 use Rattle.steps.specs.declared.image.ImageKind.{ImageKind}
 use Rattle.steps.specs.declared.image.ImageKind.TheVariants as image
@@ -63,6 +66,7 @@ use Rattle.steps.specs.Events.Deed.{Ask, Commit, CopyPiece, DropTicket, Force, I
 use Rattle.machine.specs.Alone.{Alone, with_contents}
 use Rattle.machine.specs.Causes.{is_plain}
 use Rattle.machine.specs.Changes.{filled, is_moving}
+use Rattle.machine.specs.Laws.{RefusesElsewhere}
 use Rattle.machine.specs.Machine.{Places, asked_change}
 use Rattle.machine.specs.State.{Core, Machine, inventory}
 use Rattle.command_steps.specs.Answers.{halt_by}
@@ -71,17 +75,18 @@ use Rattle.command_steps.specs.Clients.{Client, IsKept}
 use Rattle.command_steps.specs.Doing.{Does as DoesBy, DoesAlone as DoesAloneBy, DoesOwn as DoesOwnBy, DoesWork, EndsWork, Forcing, MovesSo, Reusing, backed_up, moved_line, the_number, the_second}
 use Rattle.command_steps.specs.Owns.{Mover, OnTree, Own, all_migrator, audit_volume, back_up, back_up_database, back_up_pool, back_up_since, checkpoint, data_mover, delete_history, empty_filespace, empty_volume, expire, get, last_of, migrator, moves, none_but_reuse, none_yet, on_tree, own_of, pool_restorer, put, reclaimer, validate, volume_restorer}
 use Rattle.command_steps.specs.Trees.{DoesThere as DoesThereBy, ShowsSent}
-use Rattle.volume_audits.specs.Auditing.{IsAuditing, VolumeAudit}
-use Rattle.volume_audits.specs.declared.audit.Audit.{Audit}
-use Rattle.volume_audits.specs.Mending.{IsMending}
+use Rattle.command_steps.specs.volume_audits.Auditing.{IsAuditing, VolumeAudit}
+use Rattle.command_steps.specs.volume_audits.declared.audit.Audit.{Audit}
+use Rattle.command_steps.specs.volume_audits.Mending.{IsMending}
 use Rattle.command_steps.specs.declared.outcome.Outcome.{Outcome}
 use Rattle.command_steps.specs.declared.outcome.Outcome.TheVariants as came
 use Rattle.command_steps.specs.declared.outcome.Outcome.TheVariants.{Said}
 use Rattle.line_results.specs.Bounds.{IsReasoned}
 use Rattle.line_results.specs.Commands.{Does, DoesAlone, DoesOwn, DoesThere, EndsWith, IsLoss, IsReuse, IsStill, IsStopped, MayMake, Processes, Ran, Tells, Works, WorksWith}
+use Rattle.line_results.specs.Moving.{IsCopyReasoned}
 use Rattle.line_results.specs.Resting.{Adds, EndsRun, IsAtRest, IsLate, NobodyHolds, SameBytes, SameImage, database, has_ended}
 use Rattle.line_results.specs.Trees.{HasBytes, IsOfBackup}
-use Rattle.reports.specs.declared.shown.Shown.TheVariants.{Copied, DeletedHistory, Expired, Reused}
+use Rattle.reports.specs.declared.shown.Shown.TheVariants.{Copied, DeletedHistory, DeletedVolume, DiscardedFilespace, Expired, Reused}
 use Rattle.line_results.proofs.Backing.{AllBack, MayBack, back-walk, backed-none, backs-none, left_by, newest-none}
 use Rattle.line_results.proofs.Changed.{changes}
 use Rattle.line_results.proofs.BackupReason.{backup-reason, follow-reason}
@@ -96,7 +101,9 @@ use Rattle.line_results.proofs.Needs.{IsPlainWork}
 use Rattle.line_results.proofs.Keeping.{IsStored, each-same}
 use Rattle.line_results.proofs.Opened.{orders-of}
 use Rattle.line_results.proofs.Planned.{backup-sends}
-use Rattle.line_results.proofs.Reasons.{audit-reason, expire-reason, history-reason, reasoned, reuses-reason, unreasoned}
+use Rattle.line_results.proofs.CopyReason.{copy-reason}
+use Rattle.line_results.proofs.MoveReason.{move-reason, moves-try, reclaim-reason, reclaims-try}
+use Rattle.line_results.proofs.Reasons.{audit-reason, copy-reasoned, copy-unreasoned, expire-reason, filespace-reason, history-reason, reasoned, reuses-reason, unreasoned, volume-reason}
 use Rattle.line_results.proofs.Runs.{alone-none, alone-parts, onward-none}
 use Rattle.line_results.proofs.Sending.{Sends, Stored, has-tickets, sends-walk, stored-none}
 use Rattle.line_results.proofs.Settling.{Settled, may_stay, settles}
@@ -199,7 +206,7 @@ leaves-none (Ok t) said is h = refl
 leaves-none (Err e) said is h = ap (λ (r : Result Outcome Refusal). has_ended r) (sym is) ∙ h
 
 -- P holds of nothing
-abbrev NoOther : Change → Type 0
+abbrev pub NoOther : Change → Type 0
 NoOther c = ⊥
 
 ending-copies : (moving : Bool) (P : Change → Type 0) (d : Deed) → IsEnding d → Copies moving P d
@@ -216,15 +223,15 @@ attempt-moves P object a avoid (Force answer) so h = tt
 attempt-moves P object a avoid (Commit asked tickets answer) so (number, is, one) = inl (number, is, one)
 attempt-moves P object a avoid d so h = absurd h
 
-data-moves : (file to : ℕ) (d : Deed) → IsMoving file to d → Copies true NoOther d
+pub data-moves : (file to : ℕ) (d : Deed) → IsMoving file to d → Copies true NoOther d
 data-moves file to d (inl h) = ending-copies true NoOther d h
 data-moves file to d (inr (object, from, placed, is)) = attempt-moves NoOther object (aim.Move from placed (into to from) false) file d refl is
 
-reclaim-moves : (files : List ℕ) (pool : ℕ) (d : Deed) → IsReclaiming files pool d → Copies true NoOther d
+pub reclaim-moves : (files : List ℕ) (pool : ℕ) (d : Deed) → IsReclaiming files pool d → Copies true NoOther d
 reclaim-moves files pool d (inl h) = ending-copies true NoOther d h
 reclaim-moves files pool d (inr (file, among, is)) = data-moves file pool d is
 
-restore-moves : (P : Change → Type 0) (d : Deed) → IsRestore d → Copies true P d
+pub restore-moves : (P : Change → Type 0) (d : Deed) → IsRestore d → Copies true P d
 restore-moves P d (inl h) = ending-copies true P d h
 restore-moves P d (inr (object, pool, placed, is)) = attempt-moves P object (aim_of pool placed) 0 d refl is
 
@@ -243,21 +250,21 @@ loss-found file (Some l) c so is next_file v =
     let same : destroying l ≡ c = cc in
     subst (λ (x : Change). IsLoss file (filled next_file v x)) same (l.name, l.capacity, ap (λ (k : ℕ). change.Pool (store.Volume verb.Update l.name 0 k l.capacity Destroyed)) (so l refl))
 
-migration-moves : (pool : ℕ) (d : Deed) → IsMigration pool d → Copies true NoOther d
+pub migration-moves : (pool : ℕ) (d : Deed) → IsMigration pool d → Copies true NoOther d
 migration-moves pool d (inl h) = ending-copies true NoOther d h
 migration-moves pool d (inr (object, placed, to, is)) = attempt-moves NoOther object (aim.Move pool placed to true) 0 d refl is
 
-sweep-moves : (d : Deed) → IsSweep d → Copies true NoOther d
+pub sweep-moves : (d : Deed) → IsSweep d → Copies true NoOther d
 sweep-moves d (inl h) = ending-copies true NoOther d h
 sweep-moves d (inr (object, pool, placed, to, is)) = attempt-moves NoOther object (aim.Move pool placed to true) 0 d refl is
 
-volume-moves : (file : ℕ) (d : Deed) → IsVolumeRestore file d → Copies true (IsLoss file) d
+pub volume-moves : (file : ℕ) (d : Deed) → IsVolumeRestore file d → Copies true (IsLoss file) d
 volume-moves file d (inl h) = restore-moves (IsLoss file) d h
 volume-moves file d (inr (lines, c, answer, of, is)) =
     subst (λ (x : Deed). Copies true (IsLoss file) x) (sym is)
     (inr (refl, λ w core joins. joined-plain (IsLoss file) c w core (loss-found file (volume_with file lines) c (λ l found. has-file file lines l found) of core.next_file (inventory core)) joins))
 
-all-copies : (moving : Bool) (P : Change → Type 0) (Is : Deed → Type 0) → ((d : Deed) → Is d → Copies moving P d) → (events : List Event) → AllByRecursion (λ e. Is e.deed) events → AllCopy moving P events
+pub all-copies : (moving : Bool) (P : Change → Type 0) (Is : Deed → Type 0) → ((d : Deed) → Is d → Copies moving P d) → (events : List Event) → AllByRecursion (λ e. Is e.deed) events → AllCopy moving P events
 all-copies moving P Is so [] h = tt
 all-copies moving P Is so (e ∷ events) h = (so e.deed h.0, all-copies moving P Is so events h.1)
 
@@ -287,7 +294,7 @@ backup-copies-one copy (Force answer) (inr h) = tt
 backup-copies-one copy (Commit asked tickets answer) (inr (object, (number, is, one))) = inl (number, is, one)
 backup-copies-one copy d (inr (object, h)) = absurd h
 
-backup-copies : (copy : ℕ) (events : List Event) → AllByRecursion (λ e. IsBackup copy e.deed) events → AllCopy false NoOther events
+pub backup-copies : (copy : ℕ) (events : List Event) → AllByRecursion (λ e. IsBackup copy e.deed) events → AllCopy false NoOther events
 backup-copies copy [] h = tt
 backup-copies copy (e ∷ events) h = (backup-copies-one copy e.deed h.0, backup-copies copy events h.1)
 
@@ -336,12 +343,12 @@ began-grew P Q first old mid w = grew-since Q first old mid w.core w.onward w.fa
 module _ (trusted : Type 0) (places : Places) (choice : List Rule) (b : Behind) where
   -- steps of a process without tickets, each of which is one of these
   process-began : (numbers : List ℕ) (own : Own) (said : Result Outcome Refusal) (events : List Event) (old mid : Machine) → IsAtRest old.core → DoesAloneBy choice own numbers events said → AllWalk (MayMake numbers own) events
-      → IsReasoned numbers own old mid said → Alone trusted places 0 events old mid → OwnBegan trusted places (λ added. Processes trusted places choice numbers own old mid said added) b old mid said
+      → IsReasoned numbers own old mid said × IsCopyReasoned places numbers own old said → Alone trusted places 0 events old mid → OwnBegan trusted places (λ added. Processes trusted places choice numbers own old mid said added) b old mid said
   process-began numbers own said events old mid rest did all why f =
       let r = walk trusted places (MayMake numbers own) [] events [] old old mid all (walked-none (MayMake numbers own) old rest) f in
       record {
         first = r.0;
-        does = ((old, events, still-none old, f, did), r.1.grew.are, r.1.grew.core.generation, r.1.grew.contents, why);
+        does = ((old, events, still-none old, f, did), r.1.grew.are, r.1.grew.core.generation, r.1.grew.contents, record { at_all = why.0; copying = why.1 });
         grew = began-grew (MayMake numbers own) (IsReuse b) r.0 old mid r.1.grew;
         free = λ h. r.1.free;
         idle = λ h. r.1.idle;
@@ -349,13 +356,13 @@ module _ (trusted : Type 0) (places : Places) (choice : List Rule) (b : Behind) 
 
   -- steps that begin images of database backups, and leave none where the run goes on
   images-began : (numbers : List ℕ) (own : Own) (said : Result Outcome Refusal) (events : List Event) (old mid : Machine) → IsAtRest old.core → DoesAloneBy choice own numbers events said → AllBack (MayMake numbers own) events
-      → (has_ended said ≡ false → left_by false events ≡ false) → IsReasoned numbers own old mid said → Alone trusted places 0 events old mid
+      → (has_ended said ≡ false → left_by false events ≡ false) → IsReasoned numbers own old mid said × IsCopyReasoned places numbers own old said → Alone trusted places 0 events old mid
       → OwnBegan trusted places (λ added. Processes trusted places choice numbers own old mid said added) b old mid said
   images-began numbers own said events old mid rest did all none why f =
       let r = back-walk trusted places (MayMake numbers own) [] events false [] old old mid all (backed-none (MayMake numbers own) old rest) f in
       record {
         first = r.0;
-        does = ((old, events, still-none old, f, did), r.1.grew.are, r.1.grew.core.generation, r.1.grew.contents, why);
+        does = ((old, events, still-none old, f, did), r.1.grew.are, r.1.grew.core.generation, r.1.grew.contents, record { at_all = why.0; copying = why.1 });
         grew = began-grew (MayMake numbers own) (IsReuse b) r.0 old mid r.1.grew;
         free = λ h. r.1.free;
         idle = λ h. r.1.idle (none h);
@@ -363,13 +370,13 @@ module _ (trusted : Type 0) (places : Places) (choice : List Rule) (b : Behind) 
 
   -- steps that make further copies, or move some
   copies-began : (moving : Bool) (P : Change → Type 0) (numbers : List ℕ) (own : Own) (said : Result Outcome Refusal) (events : List Event) (old mid : Machine) → ((c : Change) → MayJoin moving P c → MayMake numbers own c) → IsAtRest old.core
-      → DoesAloneBy choice own numbers events said → AllCopy moving P events → (may_stay said ≡ false → AreSettled events) → IsReasoned numbers own old mid said → Alone trusted places 0 events old mid
+      → DoesAloneBy choice own numbers events said → AllCopy moving P events → (may_stay said ≡ false → AreSettled events) → IsReasoned numbers own old mid said × IsCopyReasoned places numbers own old said → Alone trusted places 0 events old mid
       → OwnBegan trusted places (λ added. Processes trusted places choice numbers own old mid said added) b old mid said
   copies-began moving P numbers own said events old mid may rest did all settled why f =
       let r = copies-walk moving P trusted places [] events [] old old mid all (copied-none moving P old rest) f in
       record {
         first = r.0;
-        does = ((old, events, still-none old, f, did), are-as (MayJoin moving P) (MayMake numbers own) may r.0 r.1.grew.are, r.1.grew.core.generation, r.1.grew.contents, why);
+        does = ((old, events, still-none old, f, did), are-as (MayJoin moving P) (MayMake numbers own) may r.0 r.1.grew.are, r.1.grew.core.generation, r.1.grew.contents, record { at_all = why.0; copying = why.1 });
         grew = began-grew (MayJoin moving P) (IsReuse b) r.0 old mid r.1.grew;
         free = λ h. settled-free moving P trusted places events old mid rest.tickets all (settled h) f;
         idle = λ h. copies-idle moving P trusted places events old mid all f ∙ rest.image;
@@ -392,63 +399,88 @@ module _ (trusted : Type 0) (places : Places) (choice : List Rule) (b : Behind) 
   no-other c moving (inl h) = h
   no-other c moving (inr h) = absurd h
 
-  moves-began : (mover : Mover) (numbers : List ℕ) (said : Result Outcome Refusal) (events : List Event) (old mid : Machine) → IsAtRest old.core → DoesAloneBy choice (moves mover) numbers events said
+  moves-began : NobodyHolds places → RefusesElsewhere places → (mover : Mover) (numbers : List ℕ) (said : Result Outcome Refusal) (events : List Event) (old mid : Machine) → IsAtRest old.core → DoesAloneBy choice (moves mover) numbers events said
       → Alone trusted places 0 events old mid → OwnBegan trusted places (λ added. DoesAlone trusted places choice numbers (moves mover) old mid said added) b old mid said
-  moves-began data_mover numbers said events old mid rest h f =
+  moves-began nobody lawful data_mover numbers said events old mid rest h f =
       copies-began true NoOther numbers (moves data_mover) said events old mid (λ c is. no-other c true is) rest h
       (all-copies true NoOther (IsMoving (the_number numbers) (the_second numbers)) (data-moves (the_number numbers) (the_second numbers)) events h.1.only)
-      (λ leave. moves-settled events said leave data_mover (the_number numbers) (the_second numbers) h.0 h.1 h.2) (unreasoned numbers (moves data_mover) old mid said (λ e. tt)) f
-  moves-began reclaimer numbers said events old mid rest h f =
+      (λ leave. moves-settled events said leave data_mover (the_number numbers) (the_second numbers) h.0 h.1 h.2) (
+        unreasoned numbers (moves data_mover) old mid said (λ e. tt),
+        copy-reasoned places numbers (moves data_mover) old (λ (m : Moved). Said (moved_line data_mover m)) h.0 said h.2
+            (λ e is mild. move-reason trusted places nobody lawful events e old mid mild rest (moves-try (the_number numbers) (the_second numbers) events h.1.only) f (the_number numbers) (the_second numbers)
+            (subst (λ (r : Result Moved Refusal). DataMove (the_number numbers) (the_second numbers) events r) is h.1)),
+      ) f
+  moves-began nobody lawful reclaimer numbers said events old mid rest h f =
       copies-began true NoOther numbers (moves reclaimer) said events old mid (λ c is. no-other c true is) rest h
       (all-copies true NoOther (IsReclaiming h.1.files (the_number numbers)) (reclaim-moves h.1.files (the_number numbers)) events h.1.only)
-      (λ leave. moves-settled events said leave reclaimer (the_number numbers) (the_second numbers) h.0 h.1 h.2) (unreasoned numbers (moves reclaimer) old mid said (λ e. tt)) f
-  moves-began pool_restorer numbers said events old mid rest h f =
+      (λ leave. moves-settled events said leave reclaimer (the_number numbers) (the_second numbers) h.0 h.1 h.2) (
+        unreasoned numbers (moves reclaimer) old mid said (λ e. tt),
+        copy-reasoned places numbers (moves reclaimer) old (λ (m : Moved). Said (moved_line reclaimer m)) h.0 said h.2
+            (λ e is mild. reclaim-reason trusted places nobody lawful events e old mid mild rest (reclaims-try h.1.files (the_number numbers) events h.1.only) f (the_number numbers) (min (the_second numbers) 100)
+            (subst (λ (r : Result Moved Refusal). Reclamation (the_number numbers) (min (the_second numbers) 100) events r) is h.1)),
+      ) f
+  moves-began nobody lawful pool_restorer numbers said events old mid rest h f =
       copies-began true NoOther numbers (moves pool_restorer) said events old mid (λ c is. no-other c true is) rest h (all-copies true NoOther IsRestore (restore-moves NoOther) events h.1.only)
-      (λ leave. moves-settled events said leave pool_restorer (the_number numbers) (the_second numbers) h.0 h.1 h.2) (unreasoned numbers (moves pool_restorer) old mid said (λ e. tt)) f
-  moves-began volume_restorer numbers said events old mid rest h f =
+      (λ leave. moves-settled events said leave pool_restorer (the_number numbers) (the_second numbers) h.0 h.1 h.2) (unreasoned numbers (moves pool_restorer) old mid said (λ e. tt), copy-unreasoned places numbers (moves pool_restorer) old said (λ e. tt)) f
+  moves-began nobody lawful volume_restorer numbers said events old mid rest h f =
       copies-began true (IsLoss (the_number numbers)) numbers (moves volume_restorer) said events old mid (λ c is. is) rest h
       (all-copies true (IsLoss (the_number numbers)) (IsVolumeRestore (the_number numbers)) (volume-moves (the_number numbers)) events h.1.only)
-      (λ leave. moves-settled events said leave volume_restorer (the_number numbers) (the_second numbers) h.0 h.1 h.2) (unreasoned numbers (moves volume_restorer) old mid said (λ e. tt)) f
-  moves-began migrator numbers said events old mid rest h f =
+      (λ leave. moves-settled events said leave volume_restorer (the_number numbers) (the_second numbers) h.0 h.1 h.2) (unreasoned numbers (moves volume_restorer) old mid said (λ e. tt), copy-unreasoned places numbers (moves volume_restorer) old said (λ e. tt)) f
+  moves-began nobody lawful migrator numbers said events old mid rest h f =
       copies-began true NoOther numbers (moves migrator) said events old mid (λ c is. no-other c true is) rest h (all-copies true NoOther (IsMigration (the_number numbers)) (migration-moves (the_number numbers)) events h.1.only)
-      (λ leave. moves-settled events said leave migrator (the_number numbers) (the_second numbers) h.0 h.1 h.2) (unreasoned numbers (moves migrator) old mid said (λ e. tt)) f
-  moves-began all_migrator numbers said events old mid rest h f =
+      (λ leave. moves-settled events said leave migrator (the_number numbers) (the_second numbers) h.0 h.1 h.2) (unreasoned numbers (moves migrator) old mid said (λ e. tt), copy-unreasoned places numbers (moves migrator) old said (λ e. tt)) f
+  moves-began nobody lawful all_migrator numbers said events old mid rest h f =
       copies-began true NoOther numbers (moves all_migrator) said events old mid (λ c is. no-other c true is) rest h (all-copies true NoOther IsSweep sweep-moves events h.1.only)
-      (λ leave. moves-settled events said leave all_migrator (the_number numbers) (the_second numbers) h.0 h.1 h.2) (unreasoned numbers (moves all_migrator) old mid said (λ e. tt)) f
+      (λ leave. moves-settled events said leave all_migrator (the_number numbers) (the_second numbers) h.0 h.1 h.2) (unreasoned numbers (moves all_migrator) old mid said (λ e. tt), copy-unreasoned places numbers (moves all_migrator) old said (λ e. tt)) f
 
-  alone-began : (own : Own) (numbers : List ℕ) (said : Result Outcome Refusal) (events : List Event) (old mid : Machine) → IsProcessOwn own → IsAtRest old.core → DoesAloneBy choice own numbers events said
+  alone-began : NobodyHolds places → RefusesElsewhere places → (own : Own) (numbers : List ℕ) (said : Result Outcome Refusal) (events : List Event) (old mid : Machine) → IsProcessOwn own → IsAtRest old.core → DoesAloneBy choice own numbers events said
       → Alone trusted places 0 events old mid → OwnBegan trusted places (λ added. DoesAlone trusted places choice numbers own old mid said added) b old mid said
-  alone-began expire numbers said events old mid so rest h f = process-began numbers expire said events old mid rest h (all-walk IsExpiring (MayMake numbers expire) (expiring-walks numbers) events h.1.only)
-      (reasoned numbers expire old mid (λ expired. Said (Expired expired 0)) h.0 said h.2 (λ e is mild. expire-reason trusted places old mid e mild events (subst (λ (r : Result ℕ Refusal). Expiration events r) is h.1) f)) f
-  alone-began empty_filespace numbers said events old mid so rest h f =
-      process-began numbers empty_filespace said events old mid rest h (all-walk (filespaces.IsDeleting (the_number numbers)) (MayMake numbers empty_filespace) (filespace-walks numbers) events h.1.only) (unreasoned numbers empty_filespace old mid said (λ e. tt)) f
-  alone-began empty_volume numbers said events old mid so rest h f =
-      process-began numbers empty_volume said events old mid rest h (all-walk (volumes.IsDeleting true (the_number numbers)) (MayMake numbers empty_volume) (volume-walks numbers) events h.1.only) (unreasoned numbers empty_volume old mid said (λ e. tt)) f
-  alone-began back_up_pool numbers said events old mid so rest h f =
-      copies-began false NoOther numbers back_up_pool said events old mid (λ c is. no-other c false is) rest h (backup-copies (the_second numbers) events h.1.only) (backup-settled (the_number numbers) (the_second numbers) events h.0 said h.1.came h.2)
-      (unreasoned numbers back_up_pool old mid said (λ e. tt)) f
-  alone-began (moves mover) numbers said events old mid so rest h f = moves-began mover numbers said events old mid rest h f
-  alone-began back_up_database numbers said events old mid so rest (answer, made, is) f =
+  alone-began nobody lawful expire numbers said events old mid so rest h f = process-began numbers expire said events old mid rest h (all-walk IsExpiring (MayMake numbers expire) (expiring-walks numbers) events h.1.only)
+      (reasoned numbers expire old mid (λ expired. Said (Expired expired 0)) h.0 said h.2 (λ e is mild. expire-reason trusted places old mid e mild events (subst (λ (r : Result ℕ Refusal). Expiration events r) is h.1) f), copy-unreasoned places numbers expire old said (λ e. tt)) f
+  alone-began nobody lawful empty_filespace numbers said events old mid so rest h f =
+      process-began numbers empty_filespace said events old mid rest h (all-walk (filespaces.IsDeleting (the_number numbers)) (MayMake numbers empty_filespace) (filespace-walks numbers) events h.1.only) (
+        reasoned numbers empty_filespace old mid (λ discarded. Said (DiscardedFilespace discarded 0)) h.0 said h.2
+            (λ e is mild. filespace-reason trusted places (the_number numbers) events e old mid mild (rest.tickets, rest.image) (subst (λ (r : Result ℕ Refusal). FilespaceDeletion (the_number numbers) events r) is h.1) f),
+        copy-unreasoned places numbers empty_filespace old said (λ e. tt),
+      ) f
+  alone-began nobody lawful empty_volume numbers said events old mid so rest h f =
+      process-began numbers empty_volume said events old mid rest h (all-walk (volumes.IsDeleting true (the_number numbers)) (MayMake numbers empty_volume) (volume-walks numbers) events h.1.only) (
+        reasoned numbers empty_volume old mid (λ (went : Removed). Said (DeletedVolume went.discarded went.dropped)) h.0 said h.2
+            (λ e is mild. volume-reason trusted places (the_number numbers) events e old mid mild (rest.tickets, rest.image) (subst (λ (r : Result Removed Refusal). VolumeDeletion true (the_number numbers) events r) is h.1) f),
+        copy-unreasoned places numbers empty_volume old said (λ e. tt),
+      ) f
+  alone-began nobody lawful back_up_pool numbers said events old mid so rest h f =
+      copies-began false NoOther numbers back_up_pool said events old mid (λ c is. no-other c false is) rest h (backup-copies (the_second numbers) events h.1.only) (backup-settled (the_number numbers) (the_second numbers) events h.0 said h.1.came h.2) (
+        unreasoned numbers back_up_pool old mid said (λ e. tt),
+        copy-reasoned places numbers back_up_pool old (λ (copies : Moved). Said (Copied copies.moved copies.failed)) h.0 said h.2
+            (λ e is mild. copy-reason trusted places nobody lawful (the_number numbers) (the_second numbers) events e old mid mild rest (subst (λ (r : Result Moved Refusal). Backup (the_number numbers) (the_second numbers) events r) is h.1) f),
+      ) f
+  alone-began nobody lawful (moves mover) numbers said events old mid so rest h f = moves-began nobody lawful mover numbers said events old mid rest h f
+  alone-began nobody lawful back_up_database numbers said events old mid so rest (answer, made, is) f =
       images-began numbers back_up_database said events old mid rest (answer, made, is) (all-back (MayMake numbers back_up_database) (IsOfImage (kind_of None)) (backup-backs numbers) events made.only)
       (λ h. backs-none None events answer made.order (leaves-none answer said is h))
-      (reasoned numbers back_up_database old mid backed_up answer said is (λ e same mild. backup-reason trusted places None e events old mid mild rest.image (subst (λ (r : Result Taken Refusal). Backs image.Backup events r) same made.order) f)) f
-  alone-began back_up_since numbers said events old mid so rest (answer, made, is) f =
+      (reasoned numbers back_up_database old mid backed_up answer said is (λ e same mild. backup-reason trusted places None e events old mid mild rest.image (subst (λ (r : Result Taken Refusal). Backs image.Backup events r) same made.order) f), copy-unreasoned places numbers back_up_database old said (λ e. tt)) f
+  alone-began nobody lawful back_up_since numbers said events old mid so rest (answer, made, is) f =
       images-began numbers back_up_since said events old mid rest (answer, made, is) (all-back (MayMake numbers back_up_since) IsFollowing (following-backs numbers) events made.only)
       (λ h. newest-none events answer made.order (leaves-none answer said is h))
-      (reasoned numbers back_up_since old mid backed_up answer said is (λ e same mild. follow-reason trusted places e mild events old mid rest.image (subst (λ (r : Result Taken Refusal). FollowsNewest events r) same made.order) f)) f
-  alone-began (delete_history to) numbers said events old mid so rest h f =
-      process-began numbers (delete_history to) said events old mid rest h (all-walk (IsDeleting (due_files to h.1.lines)) (MayMake numbers (delete_history to)) (history-walks to numbers (due_files to h.1.lines)) events h.1.only)
-      (reasoned numbers (delete_history to) old mid (λ deleted. Said (DeletedHistory deleted)) h.0 said h.2
-      (λ e is mild. history-reason trusted places to events e old mid mild (rest.tickets, rest.image) (subst (λ (r : Result ℕ Refusal). HistoryDeletion to events r) is h.1) f)) f
-  alone-began (audit_volume fix) numbers said events old mid so rest h f =
+      (reasoned numbers back_up_since old mid backed_up answer said is (λ e same mild. follow-reason trusted places e mild events old mid rest.image (subst (λ (r : Result Taken Refusal). FollowsNewest events r) same made.order) f), copy-unreasoned places numbers back_up_since old said (λ e. tt)) f
+  alone-began nobody lawful (delete_history to) numbers said events old mid so rest h f =
+      process-began numbers (delete_history to) said events old mid rest h (all-walk (IsDeleting (due_files to h.1.lines)) (MayMake numbers (delete_history to)) (history-walks to numbers (due_files to h.1.lines)) events h.1.only) (
+        reasoned numbers (delete_history to) old mid (λ deleted. Said (DeletedHistory deleted)) h.0 said h.2
+            (λ e is mild. history-reason trusted places to events e old mid mild (rest.tickets, rest.image) (subst (λ (r : Result ℕ Refusal). HistoryDeletion to events r) is h.1) f),
+        copy-unreasoned places numbers (delete_history to) old said (λ e. tt),
+      ) f
+  alone-began nobody lawful (audit_volume fix) numbers said events old mid so rest h f =
       process-began numbers (audit_volume fix) said events old mid rest h
-      (all-may-walk (IsAuditing fix (the_number numbers)) (MayMake numbers (audit_volume fix)) (auditing-walks fix numbers) events h.1.only)
-      (reasoned numbers (audit_volume fix) old mid came.Audited h.0 said h.2
-      (λ e is mild. audit-reason trusted places fix (the_number numbers) events e old mid mild (rest.tickets, rest.image) (subst (λ (r : Result Audit Refusal). VolumeAudit fix (the_number numbers) events r) is h.1) f)) f
-  alone-began none_but_reuse numbers said events old mid so rest h f = none-began (Ok (Said (Reused 0))) said events old mid rest h.0 h.1 f
-  alone-began none_yet numbers said events old mid so rest h f = none-began (Err (refused.UnknownWord 1)) said events old mid rest h.0 h.1 f
-  alone-began (on_tree work) numbers said events old mid so rest h f = absurd h
-  alone-began own numbers said events old mid so rest h f = absurd so
+      (all-may-walk (IsAuditing fix (the_number numbers)) (MayMake numbers (audit_volume fix)) (auditing-walks fix numbers) events h.1.only) (
+        reasoned numbers (audit_volume fix) old mid came.Audited h.0 said h.2
+            (λ e is mild. audit-reason trusted places fix (the_number numbers) events e old mid mild (rest.tickets, rest.image) (subst (λ (r : Result Audit Refusal). VolumeAudit fix (the_number numbers) events r) is h.1) f),
+        copy-unreasoned places numbers (audit_volume fix) old said (λ e. tt),
+      ) f
+  alone-began nobody lawful none_but_reuse numbers said events old mid so rest h f = none-began (Ok (Said (Reused 0))) said events old mid rest h.0 h.1 f
+  alone-began nobody lawful none_yet numbers said events old mid so rest h f = none-began (Err (refused.UnknownWord 1)) said events old mid rest h.0 h.1 f
+  alone-began nobody lawful (on_tree work) numbers said events old mid so rest h f = absurd h
+  alone-began nobody lawful own numbers said events old mid so rest h f = absurd so
 
 -- all trees are as they were
 kept-began : (trusted : Type 0) (places : Places) (k : Client) (Did : List Entry → Type 0) (b : Behind) (old mid : Machine) (said : Result Outcome Refusal) → IsKept k → OwnBegan trusted places Did b old mid said
@@ -465,7 +497,7 @@ sent-leaves : (answer : Result Sent Refusal) (said : Result Outcome Refusal) →
 sent-leaves (Ok s) said h stays = refl
 sent-leaves (Err e) said h stays = ap may_stay (sym h) ∙ stays
 
-module _ (trusted : Type 0) (places : Places) (nobody : NobodyHolds places) (k : Client) (b : Behind) where
+module _ (trusted : Type 0) (places : Places) (nobody : NobodyHolds places) (lawful : RefusesElsewhere places) (k : Client) (b : Behind) where
   -- the backup of a tree; or there is no such tree
   back-up-began : (i : IncrementalBackup) (said : Result Outcome Refusal) (events : List Event) (old mid : Machine) → IsAtRest old.core → DoesThereBy k (back_up i) events said → Alone trusted places 0 events old mid
       → OwnBegan trusted places (λ added. DoesThere trusted places k (back_up i) old mid said added) b old mid said
@@ -499,7 +531,7 @@ module _ (trusted : Type 0) (places : Places) (nobody : NobodyHolds places) (k :
   alone : (own : Own) (numbers : List ℕ) (said : Result Outcome Refusal) (events : List Event) (old mid : Machine) → IsProcessOwn own → IsAtRest old.core → IsKept k × DoesAloneBy k.choice own numbers events said
       → Alone trusted places 0 events old mid → OwnBegan trusted places (λ added. IsKept k × DoesAlone trusted places k.choice numbers own old mid said added) b old mid said
   alone own numbers said events old mid so rest (kept, h) f =
-      kept-began trusted places k (λ added. DoesAlone trusted places k.choice numbers own old mid said added) b old mid said kept (alone-began trusted places k.choice b own numbers said events old mid so rest h f)
+      kept-began trusted places k (λ added. DoesAlone trusted places k.choice numbers own old mid said added) b old mid said kept (alone-began trusted places k.choice b nobody lawful own numbers said events old mid so rest h f)
 
   own-began : (own : Own) (numbers : List ℕ) (said : Result Outcome Refusal) (events : List Event) (old mid : Machine) → IsProcessOwn own → IsAtRest old.core → DoesOwnBy k own numbers events said
       → Alone trusted places 0 events old mid → OwnBegan trusted places (λ added. DoesOwn trusted places k numbers own old mid said added) b old mid said
@@ -579,7 +611,7 @@ reused-grew trusted places first (Err e) came events old mid new g free idle (no
       λ h. subst (λ (m : Machine). m.core.image ≡ None) (sym same) (idle (ap (λ (r : Result Outcome Refusal). has_ended r) (sym is) ∙ h)),
     )
 
-module _ (trusted : Type 0) (places : Places) (nobody : NobodyHolds places) (k : Client) (c : Command) (w : Work) where
+module _ (trusted : Type 0) (places : Places) (nobody : NobodyHolds places) (lawful : RefusesElsewhere places) (k : Client) (c : Command) (w : Work) where
   ended : (b : Behind) (said result : Result Outcome Refusal) (events : List Event) (old mid new : Machine) (g : Began trusted places k c w b old mid said) (later : List Entry) → AreOf (IsReuse b) later
       → EndsWith trusted places b said mid new result → Settled (g.first ++ later) (since_of old mid) new result → Processed trusted places k c w b old new result
   ended b said result events old mid new g later are ends s = record {
@@ -633,5 +665,5 @@ module _ (trusted : Type 0) (places : Places) (nobody : NobodyHolds places) (k :
       → Alone trusted places 0 events old new → Processed trusted places k c w (behind c) old new result
   processed result events old new p rowless plain rest (said, (xs, ys, cut, does, ends)) f =
       let parts = alone-parts trusted places 0 events xs ys old new cut f in
-      let g = began trusted places nobody k (behind c) c w said xs old parts.0 p.own rowless plain rest does parts.1 in
+      let g = began trusted places nobody lawful k (behind c) c w said xs old parts.0 p.own rowless plain rest does parts.1 in
       behind-did (behind c) said result ys old parts.0 new p.some rest g ends parts.2

@@ -13,8 +13,8 @@ use Rattle.inventory_work.specs.declared.lines.Rules.{Rules}
 use Rattle.admin_words.specs.declared.files.FilePut.{FilePut}
 use Rattle.machine.specs.Machine.{Places}
 use Rattle.machine.specs.State.{Core, Machine, Place, Ticket}
-use Rattle.sessions.specs.Homes.{home_of}
-use Rattle.sessions.specs.declared.homes.Home.{Home}
+use Rattle.command_steps.specs.sessions.Homes.{home_of}
+use Rattle.command_steps.specs.sessions.declared.homes.Home.{Home}
 use Rattle.command_steps.specs.Answers.{halt_by}
 use Rattle.command_steps.specs.Owns.{put}
 use Rattle.line_results.specs.Clauses.{HasRoom, HasRoomUnder, HasText, IsOfFile, ItemsOwn, MayPut}

@@ -40,9 +40,9 @@ use Rattle.inventory_answers.specs.declared.reply.Answer.{Answer}
 use Rattle.inventory_answers.specs.declared.reply.Rows.{Rows}
 use Rattle.inventory_answers.specs.declared.reply.Rows.TheVariants as rows
 use Rattle.steps.specs.Events.{Event, has_number}
-use Rattle.sessions.specs.Asking.{Asks, unasked}
-use Rattle.sessions.specs.Homes.{home_at, home_in, home_of, home_under}
-use Rattle.sessions.specs.declared.homes.Home.{Home}
+use Rattle.command_steps.specs.sessions.Asking.{Asks, unasked}
+use Rattle.command_steps.specs.sessions.Homes.{home_at, home_in, home_of, home_under}
+use Rattle.command_steps.specs.sessions.declared.homes.Home.{Home}
 use Rattle.machine.specs.Alone.{Alone}
 use Rattle.machine.specs.Causes.{change_illegal, change_refused, listed}
 use Rattle.machine.specs.Machine.{Places}
@@ -62,7 +62,7 @@ ends-unasked old new refused.RunFull h = h
 ends-unasked old new refused.Memory h = tt
 ends-unasked old new e h = absurd h
 
-rows-told : (r : Result Rows Refusal) (n today : ℕ) (answer : Answer) (k : Rows) → on_ok (λ (x : Rows). record { n = n; today = today; rows = x }) r ≡ Ok answer → answer.rows ≡ k → r ≡ Ok k
+pub rows-told : (r : Result Rows Refusal) (n today : ℕ) (answer : Answer) (k : Rows) → on_ok (λ (x : Rows). record { n = n; today = today; rows = x }) r ≡ Ok answer → answer.rows ≡ k → r ≡ Ok k
 rows-told (Ok x) n today answer k h is = (let same : record { n = n; today = today; rows = x } ≡ answer = cc in ap Ok (ap (λ (a : Answer). a.rows) same ∙ is))
 rows-told (Err e) n today answer k h is = absurd cc
 

@@ -17,10 +17,10 @@ use Rattle.inventory_answers.specs.declared.reply.Rows.TheVariants as rows
 use Rattle.steps.specs.Events.{Event}
 use Rattle.admin_words.specs.declared.files.FilePut.{FilePut}
 use Rattle.command_steps.specs.Owns.{file_put, row_put}
-use Rattle.sessions.specs.Putting as putting
-use Rattle.sessions.specs.Putting.{object_stored}
-use Rattle.sessions.specs.declared.homes.Home.{Home}
-use Rattle.sessions.specs.declared.sending.Sealed.{Sealed}
+use Rattle.command_steps.specs.sessions.Putting as putting
+use Rattle.command_steps.specs.sessions.Putting.{object_stored}
+use Rattle.command_steps.specs.sessions.declared.homes.Home.{Home}
+use Rattle.command_steps.specs.sessions.declared.sending.Sealed.{Sealed}
 use Rattle.machine.specs.Alone.{Alone}
 use Rattle.machine.specs.Machine.{Places, stamped}
 use Rattle.machine.specs.State.{Core, Machine, Place, inventory}

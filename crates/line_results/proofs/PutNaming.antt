@@ -38,7 +38,7 @@ use Rattle.inventory_answers.specs.Clients.{group_versions, path_versions_of, ve
 use Rattle.inventory_answers.specs.declared.lines.VersionLine.{VersionLine}
 use Rattle.admin_words.specs.declared.files.FilePut.{FilePut}
 use Rattle.command_steps.specs.Owns.{row_put}
-use Rattle.sessions.specs.Putting.{found_or, object_among, object_stored}
+use Rattle.command_steps.specs.sessions.Putting.{found_or, object_among, object_stored}
 use Rattle.machine.specs.Changes.{scratch_of}
 use Rattle.machine.specs.State.{Core, Place, inventory}
 use Rattle.line_results.specs.Files.{backed_up, item_of, ticket_of}

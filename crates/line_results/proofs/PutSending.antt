@@ -11,17 +11,17 @@ use Rattle.kinds.specs.declared.refusal.Refusal.TheVariants as refused
 use Rattle.kinds.specs.declared.segment.Digest.{Digest}
 use Rattle.entries.specs.declared.entry.Entry.{Entry}
 use Rattle.client_trees.specs.Files.{ClientFile}
-use Rattle.client_files.specs.Reading.{EndsEarly, GoesOn, TreeFails}
-use Rattle.client_files.specs.Sending.{Breaks, Fills, GivesUp, Sends, Spends, Writes, Wrote, behind_drop, bytes_by, failing, stopping, unopened, unwritten, written}
-use Rattle.client_files.specs.declared.outcome.Came.{Came}
+use Rattle.command_steps.specs.client_files.Reading.{EndsEarly, GoesOn, TreeFails}
+use Rattle.command_steps.specs.client_files.Sending.{Breaks, Fills, GivesUp, Sends, Spends, Writes, Wrote, behind_drop, bytes_by, failing, stopping, unopened, unwritten, written}
+use Rattle.command_steps.specs.client_files.declared.outcome.Came.{Came}
 use Rattle.space.specs.declared.aim.Aim.TheVariants as aim
 use Rattle.steps.specs.Calls.{IsStep, Made}
 use Rattle.steps.specs.Events.{Deed, Event, event, has_number, is_listed, refusal}
 use Rattle.steps.specs.Events.Deed.{OpenNew, WritePiece, Seal, DropTicket}
-use Rattle.sessions.specs.Putting.{SendsOnce, sealed_of}
-use Rattle.sessions.specs.Putting as putting
-use Rattle.sessions.specs.Waiting.{Held, Waited}
-use Rattle.sessions.specs.declared.sending.Sealed.{Sealed}
+use Rattle.command_steps.specs.sessions.Putting.{SendsOnce, sealed_of}
+use Rattle.command_steps.specs.sessions.Putting as putting
+use Rattle.command_steps.specs.sessions.Waiting.{Held, Waited}
+use Rattle.command_steps.specs.sessions.declared.sending.Sealed.{Sealed}
 use Rattle.machine.specs.Alone.{Alone}
 use Rattle.machine.specs.Causes.{new_refused}
 use Rattle.machine.specs.Machine.{Becomes, Case, IsPlaced, Later, OpensNew, Places, can_place_new, durable, ended, freed, has_file, opened_new, placing_refused, space, with_tickets}

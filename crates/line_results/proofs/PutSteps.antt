@@ -5,7 +5,7 @@ use Rattle.std.specs.List.{AllByRecursion}
 use Rattle.kinds.specs.Refusals.{bad_value, foremost, unless}
 use Rattle.kinds.specs.declared.refusal.Refusal.{Refusal}
 use Rattle.kinds.specs.declared.refusal.Refusal.TheVariants as refused
-use Rattle.client_files.specs.Sending.{stopping, unwritten}
+use Rattle.command_steps.specs.client_files.Sending.{stopping, unwritten}
 use Rattle.machine.specs.Causes.{drop_refused, most_bytes, of_ticket, seal_refused, ticket_in_use, write_refused}
 use Rattle.machine.specs.Machine.{Becomes, DropsTicket, Drops, Later, Seals, Stays, WritesPiece, dropping, ended, has_file, opened_new, with_tickets}
 use Rattle.machine.specs.State.{Core, Machine, Place, Sight, Ticket, is_storing, sealing, sight, storing, taking, ticket, without}

@@ -11,10 +11,10 @@ use Rattle.entries.specs.declared.entry.Entry.{Entry}
 use Rattle.steps.specs.Events.{Event, has_number}
 use Rattle.admin_words.specs.declared.files.FilePut.{FilePut}
 use Rattle.command_steps.specs.Owns.{row_put}
-use Rattle.sessions.specs.Putting as putting
-use Rattle.sessions.specs.Putting.{ForcesOne, is_lasting, is_unplaced, unplaced}
-use Rattle.sessions.specs.declared.homes.Home.{Home}
-use Rattle.sessions.specs.declared.sending.Sealed.{Sealed}
+use Rattle.command_steps.specs.sessions.Putting as putting
+use Rattle.command_steps.specs.sessions.Putting.{ForcesOne, is_lasting, is_unplaced, unplaced}
+use Rattle.command_steps.specs.sessions.declared.homes.Home.{Home}
+use Rattle.command_steps.specs.sessions.declared.sending.Sealed.{Sealed}
 use Rattle.machine.specs.Alone.{Alone}
 use Rattle.machine.specs.Machine.{Places, halting, record_length, stamped}
 use Rattle.machine.specs.State.{Core, Machine, Place, unforced}

@@ -16,9 +16,9 @@ use Rattle.steps.specs.Events.{Event}
 use Rattle.steps.specs.Events.Deed.{Commit, DropTicket, Force}
 use Rattle.admin_words.specs.declared.files.FilePut.{FilePut}
 use Rattle.command_steps.specs.Owns.{row_put}
-use Rattle.sessions.specs.InTurn.{OrMemory}
-use Rattle.sessions.specs.Putting as putting
-use Rattle.sessions.specs.Putting.{GivesBack, behind_drop, is_lasting, unplaced}
+use Rattle.command_steps.specs.sessions.InTurn.{OrMemory}
+use Rattle.command_steps.specs.sessions.Putting as putting
+use Rattle.command_steps.specs.sessions.Putting.{GivesBack, behind_drop, is_lasting, unplaced}
 use Rattle.machine.specs.Alone.{Alone, with_contents}
 use Rattle.machine.specs.Causes.{are_there, change_refused, commit_refused, digest_refused, digests_refused, of_tickets, storing_refused, ticket_in_use}
 use Rattle.machine.specs.Changes.{all_tickets}

@@ -37,13 +37,13 @@ use Rattle.steps.specs.Events.{Event, has_number}
 use Rattle.admin_words.specs.declared.files.FilePut.{FilePut}
 use Rattle.command_steps.specs.Doing.{PutsText}
 use Rattle.command_steps.specs.Owns.{file_put, row_put}
-use Rattle.sessions.specs.Asking.{AsksRules}
-use Rattle.sessions.specs.Changing.{Changing}
-use Rattle.sessions.specs.Homes.{home_at, home_in, home_of, home_under}
-use Rattle.sessions.specs.InTurn.{Decides, InTurn, OrMemory}
-use Rattle.sessions.specs.Putting as putting
-use Rattle.sessions.specs.Putting.{AsksFor, defined, defined_by, is_unplaced, there_or_not, unplaced}
-use Rattle.sessions.specs.declared.homes.Home.{Home}
+use Rattle.command_steps.specs.sessions.Asking.{AsksRules}
+use Rattle.command_steps.specs.sessions.Changing.{Changing}
+use Rattle.command_steps.specs.sessions.Homes.{home_at, home_in, home_of, home_under}
+use Rattle.command_steps.specs.sessions.InTurn.{Decides, InTurn, OrMemory}
+use Rattle.command_steps.specs.sessions.Putting as putting
+use Rattle.command_steps.specs.sessions.Putting.{AsksFor, defined, defined_by, is_unplaced, there_or_not, unplaced}
+use Rattle.command_steps.specs.sessions.declared.homes.Home.{Home}
 use Rattle.machine.specs.Alone.{Alone}
 use Rattle.machine.specs.Causes.{change_illegal, change_refused, listed}
 use Rattle.machine.specs.Machine.{Places, made, record_length, records_length, stamped}

@@ -9,8 +9,8 @@ use Rattle.kinds.specs.declared.refusal.Refusal.{Refusal}
 use Rattle.kinds.specs.declared.refusal.Refusal.TheVariants as refused
 use Rattle.kinds.specs.declared.segment.Digest.{Digest}
 use Rattle.kinds.specs.declared.segment.Segment.{Segment}
-use Rattle.client_files.specs.declared.restoring.Stored.{Stored}
-use Rattle.client_files.specs.Restoring.{ReadOn, read_by, read_in}
+use Rattle.command_steps.specs.client_files.declared.restoring.Stored.{Stored}
+use Rattle.command_steps.specs.client_files.Restoring.{ReadOn, read_by, read_in}
 use Rattle.inventory_rows.specs.Search.{version}
 use Rattle.inventory_rows.specs.version_groups.declared.copies.CopyRow.{CopyRow}
 use Rattle.inventory_rows.specs.version_groups.declared.versions.Version.{Version}
@@ -28,7 +28,7 @@ use Rattle.machine.specs.Machine.{CantRead, IsLostFor, Later, Places, Reads, Sta
 use Rattle.machine.specs.Pieces.{IsCopyLost, IsLost, IsUnavailable, RoseAt, asked_copies, piece}
 use Rattle.machine.specs.State.{Core, Machine, inventory, sight}
 use Rattle.command_steps.specs.Answers.{halt_by}
-use Rattle.sessions.specs.Getting.{Misses, ReadsWhole, unread}
+use Rattle.command_steps.specs.sessions.Getting.{Misses, ReadsWhole, unread}
 use Rattle.line_results.specs.Resting.{EndsRun, IsLate, RoseFrom, database}
 use Rattle.line_results.proofs.Runs.{AreLast, Became, Refuses, Stops, alone-none, alone-parts, became-same, became-still, ends-err, ends-ok, ends-since, late-ends, late-on, rose-from}
 

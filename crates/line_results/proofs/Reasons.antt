@@ -5,10 +5,15 @@ use Rattle.std.proofs.lemmas.Option.{same_Some}
 use Rattle.std.specs.List.{AllByRecursion}
 use Rattle.kinds.specs.Names.{is_same_name}
 use Rattle.kinds.specs.Refusals.{bad_value, foremost, number_of, refusal_of, unless}
+use Rattle.kinds.specs.declared.change.DefineOrDelete.TheVariants as two
+use Rattle.kinds.specs.declared.change.ObjectChange.TheVariants as client
+use Rattle.kinds.specs.declared.change.PoolChange.TheVariants as store
+use Rattle.kinds.specs.declared.change.Verb.TheVariants as verb
 use Rattle.kinds.specs.declared.refusal.Holder.{Holder}
 use Rattle.kinds.specs.declared.refusal.Refusal.{Refusal}
 use Rattle.kinds.specs.declared.refusal.Refusal.TheVariants as refused
 use Rattle.kinds.specs.declared.segment.Digest.{Digest}
+use Rattle.entries.specs.change_items.declared.reasons.DiscardReason.{DiscardReason}
 use Rattle.entries.specs.change_items.declared.lists.DiscardedVersions.{DiscardedVersions}
 use Rattle.entries.specs.change_items.declared.lists.DroppedCopies.{DroppedCopies}
 use Rattle.entries.specs.change_items.declared.lists.NamedVersions.{NamedVersions}
@@ -24,8 +29,10 @@ use Rattle.inventory_rules.specs.Valid.{is_valid}
 use Rattle.inventory_rules.specs.Versions.{gone_or_unknown, of_version}
 use Rattle.inventory_work.specs.Copies.{has_volume}
 use Rattle.inventory_laws.proofs.BackupCounts.{delete_takes}
+use Rattle.inventory_laws.proofs.ClientCounts.{clients_take}
 use Rattle.inventory_laws.proofs.CopyCounts.{drops_take}
 use Rattle.inventory_laws.proofs.Facts.{facts_of}
+use Rattle.inventory_laws.proofs.StoreCounts.{stores_take}
 use Rattle.inventory_laws.proofs.Removals.{discard_all_takes, expire_takes}
 use Rattle.inventory_answers.specs.declared.query.Query.{Query}
 use Rattle.inventory_answers.specs.declared.query.Query.TheVariants as query
@@ -36,19 +43,25 @@ use Rattle.steps.specs.declared.asked.Asked.{Asked}
 use Rattle.steps.specs.declared.asked.Asked.TheVariants.{Plain}
 use Rattle.steps.specs.Events.{Deed, Event, has_number, refusal}
 use Rattle.steps.specs.Events.Deed.{Ask, Commit, Force, ReadPiece, Reuse}
-use Rattle.copy_attempts.specs.Attempts.{is_stopping}
-use Rattle.copy_attempts.specs.Outcomes.{Met, MetBy}
-use Rattle.copy_runs.specs.Ends.{IsAsking, IsEnding, IsStopped, Unanswered}
-use Rattle.db_backup.specs.Deleting.{HistoryDeletion, IsDeleting}
-use Rattle.db_backup.specs.Listing.{due_files}
-use Rattle.expiration.specs.Expiring.{Expiration, IsExpiring, named}
-use Rattle.expiration.specs.Expiring as expiring
-use Rattle.reuse_delay.specs.Reusing.{IsReusing, VolumeReuse}
-use Rattle.volume_audits.specs.Auditing.{IsAuditing, VolumeAudit}
-use Rattle.volume_audits.specs.Mending.{discarding, dropping}
+use Rattle.command_steps.specs.copy_attempts.Attempts.{is_stopping}
+use Rattle.command_steps.specs.copy_attempts.Outcomes.{MetBy}
+use Rattle.command_steps.specs.copy_runs.Ends.{IsAsking, IsEnding, IsStopped, Unanswered}
+use Rattle.command_steps.specs.db_backup.Deleting.{HistoryDeletion, IsDeleting}
+use Rattle.command_steps.specs.db_backup.Listing.{due_files}
+use Rattle.command_steps.specs.deletions.Discarding.{IsDiscarding, discarding as removing}
+use Rattle.command_steps.specs.deletions.Dropping.{dropping as dropping_for, for_volume}
+use Rattle.command_steps.specs.deletions.Filespaces as filespaces
+use Rattle.command_steps.specs.deletions.Filespaces.{FilespaceDeletion, is_kept_by}
+use Rattle.command_steps.specs.deletions.Volumes as volumes
+use Rattle.command_steps.specs.deletions.Volumes.{VolumeDeletion}
+use Rattle.command_steps.specs.expiration.Expiring.{Expiration, IsExpiring, named}
+use Rattle.command_steps.specs.expiration.Expiring as expiring
+use Rattle.command_steps.specs.reuse_delay.Reusing.{IsReusing, VolumeReuse}
+use Rattle.command_steps.specs.volume_audits.Auditing.{IsAuditing, VolumeAudit}
+use Rattle.command_steps.specs.volume_audits.Mending.{discarding, dropping}
 use Rattle.machine.specs.Alone.{Alone}
 use Rattle.machine.specs.Causes.{has_copy_in, most_bytes, read_refused}
-use Rattle.machine.specs.Machine.{Asks, Case, Commits, Forces, Places, Reads, Reuses, ended, halting, made, stamped}
+use Rattle.machine.specs.Machine.{Asks, Case, Forces, Places, Reads, Reuses, ended, halting, made, stamped}
 use Rattle.machine.specs.State.{Core, Machine, inventory, sight}
 use Rattle.machine.proofs.Elsewhere.{append-all, ended-all, foremost-all, unless-all}
 use Rattle.command_steps.specs.Answers.{halt_by}
@@ -57,14 +70,19 @@ use Rattle.command_steps.specs.Doing.{Forcing, Reusing}
 use Rattle.command_steps.specs.Owns.{Own}
 use Rattle.command_steps.specs.declared.outcome.Outcome.{Outcome}
 use Rattle.line_results.specs.Bounds.{HasReason, IsBounded, IsReasoned, IsReused, IsUnaudited}
+use Rattle.line_results.specs.Moving.{HasCopyReason, IsCopyReasoned}
+use Rattle.line_results.specs.Removing.{CanEmpty, CanRemove, IsBarred, IsUnremoved}
 use Rattle.line_results.specs.Resting.{database}
-use Rattle.line_results.proofs.Bounds.{Common, IsFew, IsNoHolder, Takes, ask-all, ask-other, ask-unheld, commit-full, commit-unheld, delete-takes, discard-takes, drop-takes, expire-takes, force-other, force-unheld, legal-few, legal-valid, reuse-full, reuse-unheld}
+use Rattle.line_results.proofs.Bounds.{filespace-takes, volume-takes, Common, IsFew, IsNoHolder, Takes, ask-all, ask-other, ask-unheld, commit-full, commit-unheld, delete-takes, discard-takes, drop-takes, expire-takes, force-other, force-unheld, legal-few, legal-valid, reuse-full, reuse-unheld}
+use Rattle.line_results.proofs.Emptying.{unbarred}
 use Rattle.line_results.proofs.ForceEnds.{forced-done, forced-same}
 use Rattle.line_results.proofs.Growing.{Goes, Grows, Makes, grown-number, step-goes}
+use Rattle.line_results.proofs.Handling.{IsFree, commit-free, same-free}
 use Rattle.line_results.proofs.Meeting.{MetAt, alone-grows, met-at}
+use Rattle.line_results.proofs.Removable.{unbarred-volume}
 use Rattle.line_results.proofs.Stopping.{Ends, ends-halt}
 use Rattle.line_results.proofs.VolumesThere.{discarded-stays, dropped-stays}
-use Rattle.line_results.proofs.Walking.{force-free, force-image, spent-same}
+use Rattle.line_results.proofs.Walking.{force-free, force-image}
 
 -- ---- refusals
 
@@ -79,7 +97,7 @@ full-mild refused.RunFull h none = absurd cc
 full-mild refused.Memory h none = absurd cc
 full-mild e h none = absurd cc
 
-stopping-mild : (e : Refusal) → is_stopping e ≡ true → halt_by e ≡ None → (e ≡ refused.InventoryFull) ⊎ ((h : Holder) × (e ≡ refused.Busy h))
+pub stopping-mild : (e : Refusal) → is_stopping e ≡ true → halt_by e ≡ None → (e ≡ refused.InventoryFull) ⊎ ((h : Holder) × (e ≡ refused.Busy h))
 stopping-mild refused.InventoryFull h none = inl refl
 stopping-mild (refused.Busy holder) h none = inr (holder, refl)
 stopping-mild (refused.LogFault file count) h none = absurd cc
@@ -121,10 +139,10 @@ module _ (places : Places) (m next : Machine) (e : Refusal) where
       let same : x ≡ e = same_Some x e (subst (Refuses e) is why) in
       commit-full w m next x t less few (subst (λ (y : Deed). Case places 0 y m next) is step) (same ∙ full)
 
-  plain-unheld : (w : Change) (answer : Result ℕ Refusal) (d : Deed) → Takes w → m.core.image ≡ None → d ≡ Commit (Plain w) [] answer → Refuses e d → Case places 0 d m next → IsNoHolder e
-  plain-unheld w (Ok number) d t idle is why step = (let odd : Refuses e (Commit (Plain w) [] (Ok number)) = subst (Refuses e) is why in absurd cc)
-  plain-unheld w (Err x) d t idle is why step =
-      subst IsNoHolder (same_Some x e (subst (Refuses e) is why)) (commit-unheld w m next x t idle (subst (λ (y : Deed). Case places 0 y m next) is step))
+  plain-unheld : (w : Change) (answer : Result ℕ Refusal) (d : Deed) → Takes w → (m.core.tickets ≡ []) × (m.core.image ≡ None) → d ≡ Commit (Plain w) [] answer → Refuses e d → Case places 0 d m next → IsNoHolder e
+  plain-unheld w (Ok number) d t free is why step = (let odd : Refuses e (Commit (Plain w) [] (Ok number)) = subst (Refuses e) is why in absurd cc)
+  plain-unheld w (Err x) d t free is why step =
+      subst IsNoHolder (same_Some x e (subst (Refuses e) is why)) (commit-unheld w m next x t free.1 free.0 (subst (λ (y : Deed). Case places 0 y m next) is step))
 
 -- a question is refused only where the run ends
 pub asking-answered : (trusted : Type 0) (places : Places) (events : List Event) (e : Refusal) (old new : Machine) → halt_by e ≡ None → Unanswered events e → Alone trusted places 0 events old new → ⊥
@@ -150,16 +168,6 @@ valid-goes : (P : Change → Type 0) (c d : Core) → Goes P c d → is_valid (i
 valid-goes P c d (inl same) valid = ap is_valid same ∙ valid
 valid-goes P c d (inr (w, so, legal, is)) valid = ap is_valid is ∙ legal-valid (sight 0 c).journal w (inventory c) legal
 
--- nothing is held
-abbrev IsFree : Core → Type 0
-IsFree c = (c.tickets ≡ []) × (c.image ≡ None)
-
-free-as : (c d : Core) → d.tickets ≡ c.tickets → d.image ≡ c.image → IsFree c → IsFree d
-free-as c d tickets image h = (tickets ∙ h.0, image ∙ h.1)
-
-same-free : (c d e : Core) → e ≡ d → d.tickets ≡ c.tickets → d.image ≡ c.image → IsFree c → IsFree e
-same-free c d e is tickets image h = subst IsFree (sym is) (free-as c d tickets image h)
-
 ask-free : (q : Query) (answer : Result Answer Refusal) (m next : Machine) → Asks 0 q m next answer → IsFree m.core → IsFree next.core
 ask-free q (Ok a) m next h free = same-free m.core m.core next.core h.1.1.core refl refl free
 ask-free q (Err x) m next (inl h) free = same-free m.core m.core next.core h.1.core refl refl free
@@ -167,12 +175,6 @@ ask-free q (Err x) m next (inr h) free = absurd h.1
 
 forced-free : (answer : Result ℕ Refusal) (m next : Machine) → Forces 0 m next answer → IsFree m.core → IsFree next.core
 forced-free answer m next h free = (force-free m next answer h ∙ free.0, force-image m next answer h ∙ free.1)
-
-commit-free : (asked : Asked) (answer : Result ℕ Refusal) (m next : Machine) → Commits 0 asked [] m next answer → IsFree m.core → IsFree next.core
-commit-free asked (Ok number) m next (none, (c, is, numbered, joins)) free = same-free m.core (made 0 c m.core) next.core (joins.0 ∙ spent-same c m.core free.0) refl refl free
-commit-free asked (Err x) m next (inl h) free = same-free m.core m.core next.core h.1.core refl refl free
-commit-free asked (Err x) m next (inr (none, (c, file, count, is, why, fault, joins))) free =
-    same-free m.core (halting file count (made 0 c m.core)) next.core (joins.0 ∙ ap (λ (k : Core). halting file count k) (spent-same c m.core free.0)) refl refl free
 
 reuse-free : (file : ℕ) (answer : Result ℕ Refusal) (m next : Machine) → Reuses 0 file m next answer → IsFree m.core → IsFree next.core
 reuse-free file (Ok number) m next h free = same-free m.core (stamped next.moment (made 0 (change.Reuse file) m.core)) next.core h.1.1.core refl refl free
@@ -260,7 +262,7 @@ deleting-full places files d m next e (inr (file, answer, among, is)) why step f
 
 deleting-unheld : (places : Places) (files : List ℕ) (d : Deed) (m next : Machine) (e : Refusal) → IsDeleting files d → Refuses e d → Case places 0 d m next → IsFree m.core → IsNoHolder e
 deleting-unheld places files d m next e (inl h) why step free = (ending-plain places m next e d h why step).1
-deleting-unheld places files d m next e (inr (file, answer, among, is)) why step free = plain-unheld places m next e (change.DbDelete file) answer d (delete-takes file) free.1 is why step
+deleting-unheld places files d m next e (inr (file, answer, among, is)) why step free = plain-unheld places m next e (change.DbDelete file) answer d (delete-takes file) free is why step
 
 -- ---- steps of one kind, of which each keeps this
 
@@ -286,6 +288,23 @@ module _ (trusted : Type 0) (places : Places) (K : Deed → Type 0) (makes : (d 
   stopped-bounded events e old new mild free all (inr (stops, met)) f = elim (stopping-mild e stops mild) as (λ _. IsBounded old new e) [
     | inl full ↦ full-met events e old new all met f full
     | inr busy ↦ absurd (held-met events e old new free all met f busy.0 busy.1)
+  ]
+
+-- the same in a valid database, where only there is a bound
+module _ (trusted : Type 0) (places : Places) (K : Deed → Type 0) (makes : (d : Deed) → K d → Makes IsAny d) (frees : (d : Deed) (m next : Machine) → K d → Case places 0 d m next → IsFree m.core → IsFree next.core)
+    (fills : (d : Deed) (m next : Machine) (e : Refusal) → K d → Refuses e d → Case places 0 d m next → is_valid (inventory m.core) ≡ true → e ≡ refused.InventoryFull → 2 ^ 62 ≤ (inventory m.core).number + 1)
+    (holds : (d : Deed) (m next : Machine) (e : Refusal) → K d → Refuses e d → Case places 0 d m next → IsFree m.core → IsNoHolder e) where
+  valid-step : (d : Deed) (m next : Machine) → K d → Case places 0 d m next → is_valid (inventory m.core) ≡ true → is_valid (inventory next.core) ≡ true
+  valid-step d m next so step valid = valid-goes IsAny m.core next.core (step-goes IsAny places d m next (makes d so) step) valid
+
+  pub stopped-valid : (events : List Event) (e : Refusal) (old new : Machine) → halt_by e ≡ None → IsFree old.core → is_valid (database old) ≡ true → AllByRecursion (λ x. K x.deed) events → IsStopped events e
+      → Alone trusted places 0 events old new → IsBounded old new e
+  stopped-valid events e old new mild free valid all (inl memory) f = absurd (no-memory e memory mild)
+  stopped-valid events e old new mild free valid all (inr (stops, met)) f = elim (stopping-mild e stops mild) as (λ _. IsBounded old new e) [
+    | inl full ↦ (let at = met-at trusted places K (λ c. is_valid (inventory c) ≡ true) valid-step (Refuses e) events old new all valid f met in
+        last-number old at.before new e full at.grown (fills at.deed at.before at.after e at.kind at.is at.step at.holds full))
+    | inr busy ↦ (let at = met-at trusted places K IsFree frees (Refuses e) events old new all free f met in
+        absurd (holds at.deed at.before at.after e at.kind at.is at.step at.holds busy.0 busy.1))
   ]
 
 pub history-reason : (trusted : Type 0) (places : Places) (to : ℕ) (events : List Event) (e : Refusal) (old new : Machine) → halt_by e ≡ None → IsFree old.core → HistoryDeletion to events (Err e) → Alone trusted places 0 events old new
@@ -389,8 +408,8 @@ module _ (places : Places) (fix : Bool) (file : ℕ) (d : Deed) (m next : Machin
   auditing-unheld (inl h) why step free = (ending-plain places m next e d h why step).1
   auditing-unheld (inr (inl (line, offset, wanted, answer, is))) why step free =
       (read-plain line.object line.digest line.pool offset wanted answer m next e (subst (Refuses e) is why) (subst (λ (x : Deed). Case places 0 x m next) is step)).1
-  auditing-unheld (inr (inr (asked, (line, found, answer, inl is)))) why step free = plain-unheld places m next e _ answer d (drop-takes _) free.1 is why step
-  auditing-unheld (inr (inr (asked, (line, found, answer, inr is)))) why step free = plain-unheld places m next e _ answer d (discard-takes _) free.1 is why step
+  auditing-unheld (inr (inr (asked, (line, found, answer, inl is)))) why step free = plain-unheld places m next e _ answer d (drop-takes _) free is why step
+  auditing-unheld (inr (inr (asked, (line, found, answer, inr is)))) why step free = plain-unheld places m next e _ answer d (discard-takes _) free is why step
 
   -- the database is full for none but what mends
   auditing-fix : IsAuditing fix file d → Refuses e d → Case places 0 d m next → e ≡ refused.InventoryFull → fix ≡ true
@@ -429,7 +448,7 @@ told-there true x refusals m e none ten why =
     (append-all NoneMissing (ended m) (refusals (Ok x)) (ended-all NoneMissing (λ is. absurd cc) (λ file count is. absurd cc) m) (subst (λ (l : List Refusal). AllByRecursion NoneMissing l) (sym none) tt)) e why ten)
 told-there false x refusals m e none ten why = refl
 
-volume-missing : (file : ℕ) (m next : Machine) (e : Refusal) → (number_of e == 10) ≡ true → Asks 0 (query.OnVolume file) m next (Err e) → has_volume file (inventory m.core) ≡ false
+pub volume-missing : (file : ℕ) (m next : Machine) (e : Refusal) → (number_of e == 10) ≡ true → Asks 0 (query.OnVolume file) m next (Err e) → has_volume file (inventory m.core) ≡ false
 volume-missing file m next e ten (inl (inl why, stays)) =
     let shape : Rows → Answer = (λ it. record { n = (inventory m.core).number; today = (inventory m.core).today; rows = it }) in
     told-there (has_volume file (inventory m.core)) _ (λ r. refusal_of (on_ok shape (on_ok rows.OnVolume r))) m e refl ten why
@@ -472,6 +491,107 @@ audit-reason trusted places fix file events e old new mild free h f = elim h.cam
   | inr missing ↦ audit-missing trusted places fix file events e old new h.only f missing.0 missing.1
 ]
 
+-- ---- DELETE FILESPACE, DELETE VOLUME
+
+-- of what is there, or used, no more is said
+kept-so : (e : Refusal) → is_kept_by e ≡ true → IsUnremoved e
+kept-so refused.NotFound h = inl refl
+kept-so (refused.InUse user) h = inr (inl (user, refl))
+kept-so (refused.NotYet file day) h = inr (inr (file, day, refl))
+kept-so e h = absurd cc
+
+missing-so : (e : Refusal) → (number_of e == 10) ≡ true → IsUnremoved e
+missing-so refused.NotFound h = inl refl
+missing-so e h = absurd cc
+
+removing-makes : (reason : DiscardReason) (d : Deed) → IsDiscarding reason d → Makes IsAny d
+removing-makes reason d (objects, answer, is) = subst (λ (x : Deed). Makes IsAny x) (sym is) (λ c core so. tt)
+
+removing-free : (places : Places) (reason : DiscardReason) (d : Deed) (m next : Machine) → IsDiscarding reason d → Case places 0 d m next → IsFree m.core → IsFree next.core
+removing-free places reason d m next (objects, answer, is) step free = commit-free (removing reason objects) answer m next (subst (λ (x : Deed). Case places 0 x m next) is step) free
+
+removing-full : (places : Places) (reason : DiscardReason) (d : Deed) (m next : Machine) (e : Refusal) → IsDiscarding reason d → Refuses e d → Case places 0 d m next → IsFew (inventory m.core) → e ≡ refused.InventoryFull
+    → 2 ^ 62 ≤ (inventory m.core).number + 1
+removing-full places reason d m next e (objects, answer, is) why step few full =
+    plain-full places m next e _ answer d (discard-takes _) (discard_all_takes _ (inventory m.core)) few is why step full
+
+removing-unheld : (places : Places) (reason : DiscardReason) (d : Deed) (m next : Machine) (e : Refusal) → IsDiscarding reason d → Refuses e d → Case places 0 d m next → IsFree m.core → IsNoHolder e
+removing-unheld places reason d m next e (objects, answer, is) why step free = plain-unheld places m next e _ answer d (discard-takes _) free is why step
+
+module _ (places : Places) (filespace : ℕ) where
+  space-makes : (d : Deed) → filespaces.IsDeleting filespace d → Makes IsAny d
+  space-makes d (inl h) = ending-makes IsAny d h
+  space-makes d (inr (inl h)) = removing-makes (filespaces.reason_of filespace) d h
+  space-makes d (inr (inr (name, answer, is))) = subst (λ (x : Deed). Makes IsAny x) (sym is) (λ c core so. tt)
+
+  space-free : (d : Deed) (m next : Machine) → filespaces.IsDeleting filespace d → Case places 0 d m next → IsFree m.core → IsFree next.core
+  space-free d m next (inl h) step free = ending-free places m next d h step free
+  space-free d m next (inr (inl h)) step free = removing-free places (filespaces.reason_of filespace) d m next h step free
+  space-free d m next (inr (inr (name, answer, is))) step free = commit-free (filespaces.deleting name filespace) answer m next (subst (λ (x : Deed). Case places 0 x m next) is step) free
+
+  space-full : (d : Deed) (m next : Machine) (e : Refusal) → filespaces.IsDeleting filespace d → Refuses e d → Case places 0 d m next → IsFew (inventory m.core) → e ≡ refused.InventoryFull → 2 ^ 62 ≤ (inventory m.core).number + 1
+  space-full d m next e (inl h) why step few full = absurd ((ending-plain places m next e d h why step).0 full)
+  space-full d m next e (inr (inl h)) why step few full = removing-full places (filespaces.reason_of filespace) d m next e h why step few full
+  space-full d m next e (inr (inr (name, answer, is))) why step few full =
+      plain-full places m next e _ answer d (filespace-takes name filespace) (clients_take (client.Filespace two.Delete 0 name filespace) (inventory m.core) refl) few is why step full
+
+  space-unheld : (d : Deed) (m next : Machine) (e : Refusal) → filespaces.IsDeleting filespace d → Refuses e d → Case places 0 d m next → IsFree m.core → IsNoHolder e
+  space-unheld d m next e (inl h) why step free = (ending-plain places m next e d h why step).1
+  space-unheld d m next e (inr (inl h)) why step free = removing-unheld places (filespaces.reason_of filespace) d m next e h why step free
+  space-unheld d m next e (inr (inr (name, answer, is))) why step free = plain-unheld places m next e _ answer d (filespace-takes name filespace) free is why step
+
+pub filespace-reason : (trusted : Type 0) (places : Places) (filespace : ℕ) (events : List Event) (e : Refusal) (old new : Machine) → halt_by e ≡ None → IsFree old.core → FilespaceDeletion filespace events (Err e)
+    → Alone trusted places 0 events old new → IsBarred (CanEmpty filespace (database old)) e ⊎ IsBounded old new e
+filespace-reason trusted places filespace events e old new mild free h f = elim h.came as (λ _. IsBarred (CanEmpty filespace (database old)) e ⊎ IsBounded old new e) [
+  | inl stopped ↦ inr (stopped-bounded trusted places (filespaces.IsDeleting filespace) (space-makes places filespace) (space-free places filespace) (space-full places filespace) (space-unheld places filespace)
+      events e old new mild free h.only stopped f)
+  | inr other ↦ (elim other as (λ _. IsBarred (CanEmpty filespace (database old)) e ⊎ IsBounded old new e) [
+    | inl missing ↦ (let one : IsUnremoved e = missing-so e missing.0 in inl (one, λ can. unbarred trusted places filespace events e old new one h.place f can))
+    | inr kept ↦ (let one : IsUnremoved e = kept-so e kept.0 in inl (one, λ can. unbarred trusted places filespace events e old new one h.place f can))
+  ])
+]
+
+module _ (places : Places) (file : ℕ) where
+  volume-makes : (d : Deed) → volumes.IsDeleting true file d → Makes IsAny d
+  volume-makes d (inl (inl h)) = ending-makes IsAny d h
+  volume-makes d (inl (inr (row, answer, is))) = subst (λ (x : Deed). Makes IsAny x) (sym is) (λ c core so. tt)
+  volume-makes d (inr (inl (lines, answer, is))) = subst (λ (x : Deed). Makes IsAny x) (sym is) (λ c core so. tt)
+  volume-makes d (inr (inr h)) = removing-makes (for_volume file) d h
+
+  volume-free : (d : Deed) (m next : Machine) → volumes.IsDeleting true file d → Case places 0 d m next → IsFree m.core → IsFree next.core
+  volume-free d m next (inl (inl h)) step free = ending-free places m next d h step free
+  volume-free d m next (inl (inr (row, answer, is))) step free = commit-free (volumes.deleting row file) answer m next (subst (λ (x : Deed). Case places 0 x m next) is step) free
+  volume-free d m next (inr (inl (lines, answer, is))) step free = commit-free (dropping_for file lines) answer m next (subst (λ (x : Deed). Case places 0 x m next) is step) free
+  volume-free d m next (inr (inr h)) step free = removing-free places (for_volume file) d m next h step free
+
+  volume-full : (d : Deed) (m next : Machine) (e : Refusal) → volumes.IsDeleting true file d → Refuses e d → Case places 0 d m next → is_valid (inventory m.core) ≡ true → e ≡ refused.InventoryFull
+      → 2 ^ 62 ≤ (inventory m.core).number + 1
+  volume-full d m next e (inl (inl h)) why step valid full = absurd ((ending-plain places m next e d h why step).0 full)
+  volume-full d m next e (inl (inr (row, answer, is))) why step valid full =
+      plain-full places m next e _ answer d (volume-takes row.name file row.capacity row.access) (stores_take (store.Volume verb.Delete row.name 0 file row.capacity row.access) (inventory m.core) refl)
+      (facts_of (inventory m.core) valid).few_items is why step full
+  volume-full d m next e (inr (inl (lines, answer, is))) why step valid full =
+      let facts = facts_of (inventory m.core) valid in
+      plain-full places m next e _ answer d (drop-takes _) (drops_take _ (inventory m.core) facts.objects_apart) facts.few_items is why step full
+  volume-full d m next e (inr (inr h)) why step valid full = removing-full places (for_volume file) d m next e h why step (facts_of (inventory m.core) valid).few_items full
+
+  volume-unheld : (d : Deed) (m next : Machine) (e : Refusal) → volumes.IsDeleting true file d → Refuses e d → Case places 0 d m next → IsFree m.core → IsNoHolder e
+  volume-unheld d m next e (inl (inl h)) why step free = (ending-plain places m next e d h why step).1
+  volume-unheld d m next e (inl (inr (row, answer, is))) why step free = plain-unheld places m next e _ answer d (volume-takes row.name file row.capacity row.access) free is why step
+  volume-unheld d m next e (inr (inl (lines, answer, is))) why step free = plain-unheld places m next e _ answer d (drop-takes _) free is why step
+  volume-unheld d m next e (inr (inr h)) why step free = removing-unheld places (for_volume file) d m next e h why step free
+
+pub volume-reason : (trusted : Type 0) (places : Places) (file : ℕ) (events : List Event) (e : Refusal) (old new : Machine) → halt_by e ≡ None → IsFree old.core → VolumeDeletion true file events (Err e)
+    → Alone trusted places 0 events old new → IsBarred (CanRemove file (database old)) e ⊎ (is_valid (database old) ≡ true → IsBounded old new e)
+volume-reason trusted places file events e old new mild free h f = elim h.came as (λ _. IsBarred (CanRemove file (database old)) e ⊎ (is_valid (database old) ≡ true → IsBounded old new e)) [
+  | inl stopped ↦ inr (λ valid. stopped-valid trusted places (volumes.IsDeleting true file) (volume-makes places file) (volume-free places file) (volume-full places file) (volume-unheld places file)
+      events e old new mild free valid h.only stopped f)
+  | inr other ↦ (elim other as (λ _. IsBarred (CanRemove file (database old)) e ⊎ (is_valid (database old) ≡ true → IsBounded old new e)) [
+    | inl missing ↦ (let one : IsUnremoved e = missing-so e missing.0 in inl (one, λ can. unbarred-volume trusted places file events e old new free one h.place f can))
+    | inr kept ↦ (let one : IsUnremoved e = kept-so e kept.0 in inl (one, λ can. unbarred-volume trusted places file events e old new free one h.place f can))
+  ])
+]
+
 -- ---- results
 
 -- a process that is refused has its reason, or the run ended
@@ -483,6 +603,20 @@ reasoned numbers own old new shape (Err e) said is h = subst (λ (r : Result Out
       | None ↦ λ mild. inl (h e refl mild)
       | Some how ↦ λ halts. inr (how, halts)
     ] refl)
+
+-- so it is of one that makes copies
+pub copy-reasoned : {A : Type 0} (places : Places) (numbers : List ℕ) (own : Own) (old : Machine) (shape : A → Outcome) (answer : Result A Refusal) (said : Result Outcome Refusal) → said ≡ on_ok shape answer
+    → ((e : Refusal) → answer ≡ Err e → halt_by e ≡ None → HasCopyReason places numbers own old e) → IsCopyReasoned places numbers own old said
+copy-reasoned places numbers own old shape (Ok x) said is h = subst (λ (r : Result Outcome Refusal). IsCopyReasoned places numbers own old r) (sym is) tt
+copy-reasoned places numbers own old shape (Err e) said is h = subst (λ (r : Result Outcome Refusal). IsCopyReasoned places numbers own old r) (sym is)
+    (elim (halt_by e) as (λ o. halt_by e ≡ o → IsCopyReasoned places numbers own old (Err e)) [
+      | None ↦ λ mild. inl (h e refl mild)
+      | Some how ↦ λ halts. inr (how, halts)
+    ] refl)
+
+pub copy-unreasoned : (places : Places) (numbers : List ℕ) (own : Own) (old : Machine) (said : Result Outcome Refusal) → ((e : Refusal) → HasCopyReason places numbers own old e) → IsCopyReasoned places numbers own old said
+copy-unreasoned places numbers own old (Ok it) h = tt
+copy-unreasoned places numbers own old (Err e) h = inl (h e)
 
 -- where nothing else is asked
 pub unreasoned : (numbers : List ℕ) (own : Own) (old new : Machine) (said : Result Outcome Refusal) → ((e : Refusal) → HasReason numbers own old new e) → IsReasoned numbers own old new said

@@ -25,21 +25,21 @@ use Rattle.inventory_answers.specs.declared.reply.Rows.TheVariants as rows
 use Rattle.admin_words.specs.declared.files.FilesRestore.{FilesRestore}
 use Rattle.admin_words.specs.declared.files.Wanted.{Wanted}
 use Rattle.admin_words.specs.declared.files.Wanted.TheVariants.{Active, Like, Object, On}
-use Rattle.client_files.specs.Restoring.{Restores as RestoresOne, is_unrestored}
-use Rattle.client_files.specs.Sending.{is_stopping, stopping}
-use Rattle.client_files.specs.declared.outcome.Gave.{Gave}
-use Rattle.client_files.specs.declared.outcome.Gave.TheVariants as gave
+use Rattle.command_steps.specs.client_files.Restoring.{Restores as RestoresOne, is_unrestored}
+use Rattle.command_steps.specs.client_files.Sending.{is_stopping, stopping}
+use Rattle.command_steps.specs.client_files.declared.outcome.Gave.{Gave}
+use Rattle.command_steps.specs.client_files.declared.outcome.Gave.TheVariants as gave
 use Rattle.client_trees.specs.Files.{Files}
-use Rattle.restores.specs.Causes.{AreReading, IsCaused, IsReading}
-use Rattle.restores.specs.Given.{Ends as EndsAt, Gives, Stops}
-use Rattle.restores.specs.Restores.{Restores, unasked}
-use Rattle.restores.specs.declared.choosing.RestoreLine.{RestoreLine}
-use Rattle.restores.specs.declared.choosing.Which.{Which}
-use Rattle.restores.specs.declared.choosing.Which.TheVariants as which
-use Rattle.restores.specs.declared.process.Restored.{Restored}
-use Rattle.restores.proofs.Caused.{restores-caused, restores-reading}
-use Rattle.restores.proofs.Standing.{each-stands}
-use Rattle.copy_attempts.specs.Outcomes.{Met}
+use Rattle.command_steps.specs.restores.Causes.{AreReading, IsCaused, IsReading}
+use Rattle.command_steps.specs.restores.Given.{Ends as EndsAt, Gives, Stops}
+use Rattle.command_steps.specs.restores.Restores.{Restores, unasked}
+use Rattle.command_steps.specs.restores.declared.choosing.RestoreLine.{RestoreLine}
+use Rattle.command_steps.specs.restores.declared.choosing.Which.{Which}
+use Rattle.command_steps.specs.restores.declared.choosing.Which.TheVariants as which
+use Rattle.command_steps.specs.restores.declared.process.Restored.{Restored}
+use Rattle.command_steps.proofs.of_restores.Caused.{restores-caused, restores-reading}
+use Rattle.command_steps.proofs.of_restores.Standing.{each-stands}
+use Rattle.command_steps.specs.copy_attempts.Outcomes.{Met}
 use Rattle.script_loop.specs.declared.ends.Halt.{Halt}
 use Rattle.script_loop.specs.declared.ends.Halt.TheVariants as halt
 use Rattle.steps.specs.Events.{Deed, Event, event, has_number, refusal}

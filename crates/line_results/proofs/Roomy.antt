@@ -31,26 +31,26 @@ use Rattle.admin_words.specs.declared.command.Command.{Command}
 use Rattle.admin_words.specs.declared.files.FilesRestore.{FilesRestore}
 use Rattle.admin_words.specs.declared.files.IncrementalBackup.{IncrementalBackup}
 use Rattle.client_trees.specs.Files.{Files}
-use Rattle.client_files.specs.declared.outcome.Gave.{Gave}
-use Rattle.client_files.specs.declared.outcome.Gave.TheVariants as gave
-use Rattle.client_files.specs.declared.restoring.Stored.{Stored}
-use Rattle.client_files.specs.Restoring.{Breaks, Misses, ReadsAll, Restores as RestoresOne, is_unrestored, read_in}
-use Rattle.client_files.specs.Sending.{is_unopened, stopping}
+use Rattle.command_steps.specs.client_files.declared.outcome.Gave.{Gave}
+use Rattle.command_steps.specs.client_files.declared.outcome.Gave.TheVariants as gave
+use Rattle.command_steps.specs.client_files.declared.restoring.Stored.{Stored}
+use Rattle.command_steps.specs.client_files.Restoring.{Breaks, Misses, ReadsAll, Restores as RestoresOne, is_unrestored, read_in}
+use Rattle.command_steps.specs.client_files.Sending.{is_unopened, stopping}
 use Rattle.client_batches.specs.Commits.{is_in_the_way}
 use Rattle.client_batches.proofs.Ordering.{Each}
-use Rattle.incrementals.specs.Answering.{failed_of}
-use Rattle.incrementals.specs.Planning.{Begins}
-use Rattle.incrementals.specs.Process.{Finishes, Increments}
-use Rattle.incrementals.specs.declared.answering.Failure.{Failure}
-use Rattle.incrementals.specs.declared.answering.Outs.{Outs}
-use Rattle.incrementals.specs.declared.answering.Sent.{Sent}
-use Rattle.incrementals.specs.declared.planning.Begun.{Begun}
-use Rattle.deletions.specs.declared.copies.Removed.{Removed}
-use Rattle.restores.specs.Causes.{AreReading}
-use Rattle.restores.specs.Given.{Gives}
-use Rattle.restores.specs.declared.choosing.RestoreLine.{RestoreLine}
-use Rattle.restores.specs.declared.process.Restored.{Restored}
-use Rattle.restores.proofs.Caused.{restores-reading}
+use Rattle.command_steps.specs.incrementals.Answering.{failed_of}
+use Rattle.command_steps.specs.incrementals.Planning.{Begins}
+use Rattle.command_steps.specs.incrementals.Process.{Finishes, Increments}
+use Rattle.command_steps.specs.incrementals.declared.answering.Failure.{Failure}
+use Rattle.command_steps.specs.incrementals.declared.answering.Outs.{Outs}
+use Rattle.command_steps.specs.incrementals.declared.answering.Sent.{Sent}
+use Rattle.command_steps.specs.incrementals.declared.planning.Begun.{Begun}
+use Rattle.command_steps.specs.deletions.declared.copies.Removed.{Removed}
+use Rattle.command_steps.specs.restores.Causes.{AreReading}
+use Rattle.command_steps.specs.restores.Given.{Gives}
+use Rattle.command_steps.specs.restores.declared.choosing.RestoreLine.{RestoreLine}
+use Rattle.command_steps.specs.restores.declared.process.Restored.{Restored}
+use Rattle.command_steps.proofs.of_restores.Caused.{restores-reading}
 use Rattle.reports.specs.declared.shown.Shown.{Shown}
 use Rattle.reports.specs.declared.shown.Shown.TheVariants as shown
 use Rattle.script_loop.specs.Reply.{Answer}
@@ -61,7 +61,7 @@ use Rattle.steps.specs.Events.Deed.{Commit, OpenNew, ReadPiece, Seal, WritePiece
 use Rattle.tree_api.specs.Cause.{Rose}
 use Rattle.machine.proofs.Elsewhere.{append-all, ended-all, foremost-all, none-held, unless-all}
 use Rattle.machine.proofs.Mild.{mild-answered, mild-seal, mild-write}
-use Rattle.machine.specs.Alone.{Alone, behind as behind_deed}
+use Rattle.machine.specs.Alone.{Alone}
 use Rattle.machine.specs.Causes.{commit_refused, has_copy_in, most_bytes, read_refused, seal_refused, write_refused}
 use Rattle.machine.specs.Changes.{are_so_many}
 use Rattle.machine.specs.Machine.{CantRead, Case, Commits, IsLostFor, IsPlaced, OpensNew, Places, Seals, WritesPiece, asked_change, can_place_new, ended, held_refused, read_count, space}
@@ -81,6 +81,7 @@ use Rattle.line_results.specs.Lines.{Says}
 use Rattle.line_results.specs.Resting.{EndsRun, IsAtRest, Onward, RoseFrom, database}
 use Rattle.line_results.specs.Room.{ArePlanned, CanBeGiven, CanBeSent, ComesTo, HasRoomBy, HasRoomForAll, HasRoomOn, HasRoomOwn, IsOfOne, NoneFails}
 use Rattle.line_results.specs.Trees.{GivesChosen, IsChosen, IsOfBackup}
+use Rattle.line_results.proofs.Copyable.{copies-none, moves-none}
 use Rattle.line_results.proofs.Leaving.{rest-as}
 use Rattle.line_results.proofs.Opened.{orders-of}
 use Rattle.line_results.proofs.Planned.{backup-sends, begun-plan}
@@ -88,23 +89,10 @@ use Rattle.line_results.proofs.PutStoring.{same-self}
 use Rattle.line_results.proofs.Read.{read-step, reads-on}
 use Rattle.line_results.proofs.Readable.{contained_holds, not-lost}
 use Rattle.line_results.proofs.Restoring.{reads-walk}
-use Rattle.line_results.proofs.Runs.{Became, Stops, alone-append, alone-parts, became-still, is-as, onward-later, onward-none, onward-then, rose-from, rose-on}
+use Rattle.line_results.proofs.Runs.{Became, Stops, alone-append, alone-onward, alone-parts, became-still, is-as, onward-later, onward-none, onward-then, rose-from, rose-on}
 use Rattle.line_results.proofs.Sending.{AllSend, has-tickets}
 use Rattle.line_results.proofs.Spent.{HasTickets, ticket-step}
 use Rattle.line_results.proofs.Unfailed.{AreFine, IsFine, failed-none, fine-parts, finishes-none}
-
--- ---- later states
-
-deed-onward : (d : Deed) (contents : ℕ → List ℕ) (m next : Machine) → Onward m next → Onward m (behind_deed d contents next)
-deed-onward (ReadPiece object kept from offset wanted answer) contents m next x = record { counts = x.counts; since = x.since }
-deed-onward d contents m next x = x
-
--- no count falls by what one actor does
-alone-onward : (trusted : Type 0) (places : Places) (events : List Event) (m new : Machine) → Alone trusted places 0 events m new → Onward m new
-alone-onward trusted places [] m new same = subst (λ (x : Machine). Onward m x) (sym same) (onward-none m)
-alone-onward trusted places (e ∷ events) m new (next, moved, rest) =
-    let first : Onward m next = subst (λ (x : Machine). Onward m x) (sym moved.left) (deed-onward e.deed m.contents m moved.next (record { counts = moved.made.later.counts; since = moved.made.later.since })) in
-    onward-then m next new first (alone-onward trusted places events next new rest)
 
 -- ---- the steps of a backup
 
@@ -440,7 +428,7 @@ module _ (trusted : Type 0) (places : Places) (k : Client) (old new : Machine) (
       restored-none r before after room.1 it start events (room.0 before after turns) room.2 still alone did chosen
   there-none (restore r) it added room (inr (missing, kept, is, stays, none)) = absurd cc
 
-  own-none : (own : Own) (numbers : List ℕ) (it : Outcome) (added : List Entry) → HasRoomOwn trusted places k own old → DoesOwn trusted places k numbers own old new (Ok it) added → failed_in it ≡ 0
+  own-none : (own : Own) (numbers : List ℕ) (it : Outcome) (added : List Entry) → HasRoomOwn trusted places k numbers own old → DoesOwn trusted places k numbers own old new (Ok it) added → failed_in it ≡ 0
   own-none (on_tree work) numbers it added room h = there-none work it added room h
   own-none (validate set) numbers it added room (kept, h) = tells-failed _ (Ok it) old new (on-failed (λ x. came.Said shown.Done) (λ x. refl) (validated set (database old))) h.0
   own-none (put p) numbers it added room (kept, (answer, puts, is, image)) = ap failed_by is ∙ on-failed (λ object. came.Said (shown.Stored object)) (λ x. refl) answer
@@ -451,8 +439,8 @@ module _ (trusted : Type 0) (places : Places) (k : Client) (old new : Machine) (
       ap failed_by is ∙ on-failed (λ discarded. came.Said (shown.DiscardedFilespace discarded 0)) (λ x. refl) answer
   own-none empty_volume numbers it added room (kept, ((start, events, still, alone, (answer, did, is)), are, image, bytes, why)) =
       ap failed_by is ∙ on-failed (λ (went : Removed). came.Said (shown.DeletedVolume went.discarded went.dropped)) (λ x. refl) answer
-  own-none back_up_pool numbers it added room h = absurd room
-  own-none (moves mover) numbers it added room h = absurd room
+  own-none back_up_pool numbers it added room (kept, ((start, events, still, alone, did), are, image, bytes, why)) = copies-none trusted places k.choice numbers old start new still sound events alone it room did
+  own-none (moves mover) numbers it added room (kept, ((start, events, still, alone, did), are, image, bytes, why)) = moves-none trusted places k.choice numbers old start new still sound events alone mover it room did
   own-none back_up_database numbers it added room (kept, ((start, events, still, alone, (answer, did, is)), are, image, bytes, why)) = ap failed_by is ∙ on-failed backed_up (λ x. refl) answer
   own-none back_up_since numbers it added room (kept, ((start, events, still, alone, (answer, did, is)), are, image, bytes, why)) = ap failed_by is ∙ on-failed backed_up (λ x. refl) answer
   own-none (delete_history to) numbers it added room (kept, ((start, events, still, alone, (answer, did, is)), are, image, bytes, why)) =

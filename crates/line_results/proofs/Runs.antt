@@ -8,6 +8,7 @@ use Rattle.kinds.specs.declared.refusal.Refusal.TheVariants as refused
 use Rattle.item_refusals.proofs.Foremost.{foremost_append}
 use Rattle.steps.specs.Calls.{Made}
 use Rattle.steps.specs.Events.{Deed, Event, event, is_listed, refusal}
+use Rattle.steps.specs.Events.Deed.{ReadPiece}
 use Rattle.machine.specs.Alone.{Alone, AreBytes, Moves, behind, with_contents}
 use Rattle.machine.specs.Machine.{Becomes, Case, Ends, Later, Places, Stays, ended, halted, last_moment}
 use Rattle.machine.specs.Pieces.{RoseAt}
@@ -61,6 +62,17 @@ onward-then a b c x y = record {
 
 pub onward-later : (a b : Machine) → Later a b → Onward a b
 onward-later a b l = record { counts = l.counts; since = l.since }
+
+deed-onward : (d : Deed) (contents : ℕ → List ℕ) (m next : Machine) → Onward m next → Onward m (behind d contents next)
+deed-onward (ReadPiece object kept from offset wanted answer) contents m next x = record { counts = x.counts; since = x.since }
+deed-onward d contents m next x = x
+
+-- no count falls by what one actor does
+pub alone-onward : (trusted : Type 0) (places : Places) (events : List Event) (m new : Machine) → Alone trusted places 0 events m new → Onward m new
+alone-onward trusted places [] m new same = subst (λ (x : Machine). Onward m x) (sym same) (onward-none m)
+alone-onward trusted places (e ∷ events) m new (next, moved, rest) =
+    let first : Onward m next = subst (λ (x : Machine). Onward m x) (sym moved.left) (deed-onward e.deed m.contents m moved.next (record { counts = moved.made.later.counts; since = moved.made.later.since })) in
+    onward-then m next new first (alone-onward trusted places events next new rest)
 
 pub rose-from : (a b c : Machine) (file : ℕ) → Onward a b → RoseAt b.counts c.counts file → RoseFrom a c file
 rose-from a b c file x rose =

@@ -14,7 +14,7 @@ use Rattle.steps.specs.declared.asked.Asked.{Asked}
 use Rattle.steps.specs.Events.{Deed, Event}
 use Rattle.steps.specs.Events.Deed.{Ask, Commit, DropTicket, Force, OpenNew, Seal, WritePiece}
 use Rattle.machine.specs.Alone.{Alone, with_contents}
-use Rattle.copy_attempts.specs.Outcomes.{MetBy}
+use Rattle.command_steps.specs.copy_attempts.Outcomes.{MetBy}
 use Rattle.machine.proofs.Elsewhere.{append-none, none-held, own-none}
 use Rattle.machine.specs.Causes.{commit_refused, seal_refused, write_refused}
 use Rattle.machine.specs.Changes.{all_tickets}

@@ -7,10 +7,10 @@ use Rattle.kinds.specs.declared.refusal.Holder.TheVariants as holder
 use Rattle.kinds.specs.declared.refusal.Refusal.{Refusal}
 use Rattle.kinds.specs.declared.refusal.Refusal.TheVariants as refused
 use Rattle.kinds.specs.declared.segment.Digest.{Digest}
-use Rattle.client_files.specs.declared.outcome.Came.{Came}
-use Rattle.client_files.specs.declared.outcome.Came.TheVariants as came
-use Rattle.client_files.specs.Sending.{GivesUp, behind_drop, failing, is_stopping, is_unfilled, is_unopened, stopping, unopened}
-use Rattle.client_files.specs.Writing.{Keeps, Puts}
+use Rattle.command_steps.specs.client_files.declared.outcome.Came.{Came}
+use Rattle.command_steps.specs.client_files.declared.outcome.Came.TheVariants as came
+use Rattle.command_steps.specs.client_files.Sending.{GivesUp, behind_drop, failing, is_stopping, is_unfilled, is_unopened, stopping, unopened}
+use Rattle.command_steps.specs.client_files.Writing.{Keeps, Puts}
 use Rattle.client_trees.specs.Files.{ClientFile, Files}
 use Rattle.client_plan.specs.declared.lines.SendLine.{SendLine}
 use Rattle.client_batches.specs.declared.batch.Batch.{Batch}
@@ -22,9 +22,9 @@ use Rattle.client_batches.specs.Sends.{Fills, SendsEach, SendsOne, Stops}
 use Rattle.client_batches.specs.Tickets.{GivesBack, is_lasting, lasting_in}
 use Rattle.client_batches.specs.Verdicts.{waiting, waits}
 use Rattle.inventory_work.specs.declared.lines.Rules.{Rules}
-use Rattle.incrementals.specs.declared.answering.Outs.{Outs}
-use Rattle.incrementals.specs.declared.planning.Begun.{Begun}
-use Rattle.incrementals.specs.Process.{CarriesOut, CommitsLists, forced_as}
+use Rattle.command_steps.specs.incrementals.declared.answering.Outs.{Outs}
+use Rattle.command_steps.specs.incrementals.declared.planning.Begun.{Begun}
+use Rattle.command_steps.specs.incrementals.Process.{CarriesOut, CommitsLists, forced_as}
 use Rattle.steps.specs.declared.asked.Asked.{Asked}
 use Rattle.steps.specs.Calls.{Made, forced}
 use Rattle.steps.specs.Events.{Deed, Event, is_listed}
@@ -202,7 +202,7 @@ stored-ends : (filespace : ℕ) (lines : List SendLine) (all sealed : List Came)
 stored-ends filespace lines all sealed events e (inl (why, seals, is)) = ends-as (List (Option Refusal)) e why is (seals-end all sealed events why seals)
 stored-ends filespace lines all sealed events e (inr (xs, ys, cut, seals, stores)) = stores-end filespace lines sealed _ ys e stores
 
-batch-ends : (rules : Rules) (told : Option Files) (filespace : ℕ) (lines : List SendLine) (before after : ℕ) (events : List Event) (e : Refusal) → Batches rules told filespace lines before after events (Err e) → Ends e
+pub batch-ends : (rules : Rules) (told : Option Files) (filespace : ℕ) (lines : List SendLine) (before after : ℕ) (events : List Event) (e : Refusal) → Batches rules told filespace lines before after events (Err e) → Ends e
 batch-ends rules told filespace lines before after events e (inl (all, fills)) = fills-end rules told lines before after all events e fills
 batch-ends rules told filespace lines before after events e (inr (all, sealed, (xs, ys, cut, sent, stored))) = stored-ends filespace lines all sealed ys e stored
 
@@ -291,7 +291,7 @@ force-ends : (e : Refusal) (events : List Event) → Made (Force (Err e)) events
 force-ends e events (inl (n, one, listed)) = ends-lasting e (listed-ends e listed)
 force-ends e events (inr (memory, none)) = (let same : e ≡ refused.Memory = cc in subst Ends (sym same) refl)
 
-forced-ends : (why : Refusal) (answer : Result ℕ Refusal) (events : List Event) → Made (Force answer) events → Err why ≡ forced answer → Ends why
+pub forced-ends : (why : Refusal) (answer : Result ℕ Refusal) (events : List Event) → Made (Force answer) events → Err why ≡ forced answer → Ends why
 forced-ends why (Ok number) events made is = absurd cc
 forced-ends why (Err e) events made is = ends-as (Unit {0}) why e is (force-ends e events made)
 
@@ -300,7 +300,7 @@ or-first true a b c h = refl
 or-first false a b c h = h
 
 -- what ends a wait is answered as it is
-unwaited-ends : (why : Refusal) → Ends why → Ends (unwaited why)
+pub unwaited-ends : (why : Refusal) → Ends why → Ends (unwaited why)
 unwaited-ends why h =
     subst (λ (b : Bool). Ends (if b then why else refused.Memory)) (sym (or-first (21 == number_of why) (40 == number_of why) (41 == number_of why) (50 == number_of why) h)) h
 
@@ -325,7 +325,7 @@ sends-end rules told filespace lines before after events e (number, rest, outs, 
 
 -- ---- all behind the questions
 
-lists-end : (filespace : ℕ) (b : Begun) (sent : List (Option Refusal)) (events : List Event) (e : Refusal) → CommitsLists filespace b.plan sent events (Err e) → Ends e
+pub lists-end : (filespace : ℕ) (b : Begun) (sent : List (Option Refusal)) (events : List Event) (e : Refusal) → CommitsLists filespace b.plan sent events (Err e) → Ends e
 lists-end filespace b sent events e (inl binds) = runs-end _ _ events e binds.order
 lists-end filespace b sent events e (inr (outs, (xs, ys, cut, binds, goes))) = runs-end _ _ ys e goes.order
 

@@ -23,20 +23,20 @@ use Rattle.inventory_answers.specs.declared.reply.Rows.TheVariants as listing
 use Rattle.admin_words.specs.declared.command.Command.{Command}
 use Rattle.admin_commands.specs.declared.work.Work.{Work}
 use Rattle.admin_commands.specs.declared.work.Work.TheVariants.{Commit, Run, Show}
-use Rattle.copy_attempts.specs.Attempts.{Awaits}
+use Rattle.command_steps.specs.copy_attempts.Attempts.{Awaits}
 use Rattle.reports.specs.declared.shown.Shown.TheVariants.{BackedUp}
-use Rattle.sessions.specs.Checkpoints.{AreMore}
-use Rattle.sessions.specs.Waiting.{Held, Waited}
+use Rattle.command_steps.specs.sessions.Checkpoints.{AreMore}
+use Rattle.command_steps.specs.sessions.Waiting.{Held, Waited}
 use Rattle.steps.specs.declared.image.ImageKind.TheVariants as image
 use Rattle.steps.specs.declared.image.ImageReply.{ImageReply}
 use Rattle.steps.specs.declared.image.ImageReply.TheVariants as reply
 use Rattle.steps.specs.Calls.{Made}
 use Rattle.steps.specs.Events.{Deed, Event, event, has_number}
 use Rattle.steps.specs.Events.Deed.{Ask, Force, Image}
-use Rattle.db_backup.specs.declared.taking.Taken.{Taken}
-use Rattle.db_backup.specs.Backups.{Follows, FollowsNewest, Listed}
-use Rattle.db_backup.specs.Listing.{newest_file}
-use Rattle.db_backup.specs.Taking.{Backs, Begins, Continues, Opens, kind_of, numbers}
+use Rattle.command_steps.specs.db_backup.declared.taking.Taken.{Taken}
+use Rattle.command_steps.specs.db_backup.Backups.{Follows, FollowsNewest, Listed}
+use Rattle.command_steps.specs.db_backup.Listing.{newest_file}
+use Rattle.command_steps.specs.db_backup.Taking.{Backs, Begins, Continues, Opens, kind_of, numbers}
 use Rattle.machine.specs.Alone.{Alone, Moves}
 use Rattle.machine.specs.Causes.{change_illegal, image_refused, since_refused}
 use Rattle.machine.proofs.Elsewhere.{append-none, none-held}

@@ -8,11 +8,11 @@ use Rattle.kinds.specs.declared.refusal.Refusal.TheVariants as refused
 use Rattle.kinds.specs.declared.segment.Digest.{Digest}
 use Rattle.inventory_work.specs.declared.lines.Rules.{Rules}
 use Rattle.client_trees.specs.Files.{ClientFile, Files}
-use Rattle.client_files.specs.declared.outcome.Came.{Came}
-use Rattle.client_files.specs.declared.outcome.Came.TheVariants as came
-use Rattle.client_files.specs.Reading.{EndsEarly, GoesOn, file_of}
-use Rattle.client_files.specs.Sending.{Breaks, GivesUp, behind_drop, failing, is_unfilled, is_unopened, stopping, unopened, unwritten}
-use Rattle.client_files.specs.Writing.{Keeps, Loads, Puts}
+use Rattle.command_steps.specs.client_files.declared.outcome.Came.{Came}
+use Rattle.command_steps.specs.client_files.declared.outcome.Came.TheVariants as came
+use Rattle.command_steps.specs.client_files.Reading.{EndsEarly, GoesOn, file_of}
+use Rattle.command_steps.specs.client_files.Sending.{Breaks, GivesUp, behind_drop, failing, is_unfilled, is_unopened, stopping, unopened, unwritten}
+use Rattle.command_steps.specs.client_files.Writing.{Keeps, Loads, Puts}
 use Rattle.client_plan.specs.declared.lines.GoneLine.{GoneLine}
 use Rattle.client_plan.specs.declared.lines.RebindLine.{RebindLine}
 use Rattle.client_plan.specs.declared.lines.SendLine.{SendLine}
@@ -27,11 +27,11 @@ use Rattle.client_batches.specs.Seals.{SealsEach, SealsOne}
 use Rattle.client_batches.specs.Sends.{SendsEach, SendsOne, Sent, tickets_in}
 use Rattle.client_batches.specs.Verdicts.{has_ticket, left_behind, verdict, verdicts, waits}
 use Rattle.client_batches.proofs.Ordering.{Each}
-use Rattle.incrementals.specs.Answering.{failed_of, failures, failures_of, unbound}
-use Rattle.incrementals.specs.Process.{CarriesOut, Finishes, Works}
-use Rattle.incrementals.specs.declared.answering.Failure.{Failure}
-use Rattle.incrementals.specs.declared.answering.Outs.{Outs}
-use Rattle.incrementals.specs.declared.planning.Begun.{Begun}
+use Rattle.command_steps.specs.incrementals.Answering.{failed_of, failures, failures_of, unbound}
+use Rattle.command_steps.specs.incrementals.Process.{CarriesOut, Finishes, Works}
+use Rattle.command_steps.specs.incrementals.declared.answering.Failure.{Failure}
+use Rattle.command_steps.specs.incrementals.declared.answering.Outs.{Outs}
+use Rattle.command_steps.specs.incrementals.declared.planning.Begun.{Begun}
 use Rattle.client_plan.specs.Plans.{Lists}
 use Rattle.steps.specs.declared.asked.Asked.{Asked}
 use Rattle.steps.specs.Calls.{Made}

@@ -13,14 +13,15 @@ use Rattle.inventory_rules.specs.Valid.{is_valid}
 use Rattle.inventory_work.specs.Copies.{has_volume}
 use Rattle.inventory_answers.specs.Stores.{backup_lines}
 use Rattle.script_loop.specs.declared.ends.Halt.{Halt}
-use Rattle.db_backup.specs.Listing.{newest_file}
+use Rattle.command_steps.specs.db_backup.Listing.{newest_file}
 use Rattle.machine.specs.Machine.{made}
 use Rattle.machine.specs.State.{Core, Machine, inventory, sight}
 use Rattle.command_steps.specs.Answers.{halt_by}
 use Rattle.command_steps.specs.Behind.{Behind, reuses}
 use Rattle.command_steps.specs.Doing.{the_number}
-use Rattle.command_steps.specs.Owns.{Own, audit_volume, back_up_database, back_up_since, delete_history, expire}
+use Rattle.command_steps.specs.Owns.{Own, audit_volume, back_up_database, back_up_since, delete_history, empty_filespace, empty_volume, expire}
 use Rattle.command_steps.specs.declared.outcome.Outcome.{Outcome}
+use Rattle.line_results.specs.Removing.{CanEmpty, CanRemove, IsBarred}
 use Rattle.line_results.specs.Resting.{RoseFrom, database}
 
 -- ---- bounds
@@ -90,6 +91,8 @@ IsUnaudited fix file old new why =
 -- why a process is refused over the numbers of the things that it names; of those that aren't told apart here its steps alone say why
 abbrev pub HasReason : (numbers : List ℕ) → Own → (old new : Machine) → Refusal → Type 0
 HasReason numbers expire old new why = IsBounded old new why
+HasReason numbers empty_filespace old new why = IsBarred (CanEmpty (the_number numbers) (database old)) why ⊎ IsBounded old new why
+HasReason numbers empty_volume old new why = IsBarred (CanRemove (the_number numbers) (database old)) why ⊎ (is_valid (database old) ≡ true → IsBounded old new why)
 HasReason numbers back_up_database old new why = IsUnmade None old new why
 HasReason numbers back_up_since old new why = IsUnfollowed old new why
 HasReason numbers (delete_history to) old new why = IsBounded old new why

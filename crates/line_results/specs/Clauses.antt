@@ -32,31 +32,33 @@ use Rattle.admin_words.specs.declared.files.FilesRestore.{FilesRestore}
 use Rattle.admin_words.specs.declared.files.IncrementalBackup.{IncrementalBackup}
 use Rattle.admin_commands.specs.declared.work.Work.{Work}
 use Rattle.admin_commands.specs.declared.work.Work.TheVariants.{Commit, Show, Run}
-use Rattle.restores.specs.declared.choosing.RestoreLine.{RestoreLine}
+use Rattle.command_steps.specs.restores.declared.choosing.RestoreLine.{RestoreLine}
 use Rattle.reports.specs.Lines.{shown_line}
 use Rattle.reports.specs.declared.shown.Shown.TheVariants.{BackedUp, Stored}
 use Rattle.script_loop.specs.Reply.{Answer}
 use Rattle.tree_api.specs.Cause.{Rose}
 use Rattle.machine.specs.Machine.{Places}
 use Rattle.machine.specs.State.{Core, Machine, Place}
-use Rattle.sessions.specs.Homes.{home_of}
-use Rattle.sessions.specs.declared.getting.FileRead.{FileRead}
-use Rattle.sessions.specs.declared.homes.Home.{Home}
-use Rattle.db_backup.specs.Listing.{newest_file}
+use Rattle.command_steps.specs.sessions.Homes.{home_of}
+use Rattle.command_steps.specs.sessions.declared.getting.FileRead.{FileRead}
+use Rattle.command_steps.specs.sessions.declared.homes.Home.{Home}
+use Rattle.command_steps.specs.db_backup.Listing.{newest_file}
 use Rattle.command_steps.specs.Answers.{answer_of, done, file_lines, refusal, row_lines}
 use Rattle.command_steps.specs.Behind.{Behind, behind, forces, no_more, reuses}
 use Rattle.command_steps.specs.Clients.{Client, Known, Turns}
-use Rattle.command_steps.specs.Doing.{the_number}
+use Rattle.command_steps.specs.Doing.{the_number, the_second}
 use Rattle.command_steps.specs.Leaving.{ChangesOnly, tree_named}
 use Rattle.command_steps.specs.Trees.{is_absent}
 use Rattle.command_steps.specs.Lines.{Line, asks, comment, refused}
-use Rattle.command_steps.specs.Owns.{OnTree, Own, audit_volume, back_up, back_up_database, back_up_since, checkpoint, delete_history, erase, expire, get, last_of, none_but_reuse, on_tree, own_of, put, restore, validate, write}
+use Rattle.command_steps.specs.Owns.{OnTree, Own, audit_volume, back_up, back_up_database, back_up_pool, back_up_since, checkpoint, delete_history, empty_filespace, empty_volume, erase, expire, get, last_of, moves, none_but_reuse, on_tree, own_of, put, restore, validate, write}
 use Rattle.command_steps.specs.declared.outcome.Outcome.{Outcome}
 use Rattle.command_steps.specs.declared.outcome.Outcome.TheVariants.{Said}
 use Rattle.admin_words.specs.declared.command.Command.{Command}
 use Rattle.line_results.specs.Bounds.{HasNoneToFollow, IsBounded, ReachesBound, begins, end_refused, illegal, is_near, is_of_run}
 use Rattle.line_results.specs.Commands.{Does, DoesThere, EndsWith, IsReuse, MayMake, Works, drawn, validated, work_over}
 use Rattle.line_results.specs.Files.{Gets, IsPlacedIn, Puts, backed_up, filespace_defined, why_no_place}
+use Rattle.line_results.specs.Moving.{MayCopy, MayMove}
+use Rattle.line_results.specs.Removing.{CanEmpty, CanRemove}
 use Rattle.line_results.specs.Resting.{Makes, RoseFrom, database, entry, why_not}
 use Rattle.line_results.specs.Room.{NoneFails}
 use Rattle.line_results.specs.Trees.{HasBytes, IsChosen, IsOfTree, new_versions}
@@ -353,10 +355,14 @@ MayOwn places k numbers (get g) old mid = MayGet g (database old)
 MayOwn places k numbers checkpoint old mid = old.core.generation + 1 < 2 ^ 62
 MayOwn places k numbers (on_tree work) old mid = MayOn k work old
 MayOwn places k numbers expire old mid = StaysWithin old mid
+MayOwn places k numbers empty_filespace old mid = CanEmpty (the_number numbers) (database old) × StaysWithin old mid
+MayOwn places k numbers empty_volume old mid = CanRemove (the_number numbers) (database old) × (is_valid (database old) ≡ true) × StaysWithin old mid
 MayOwn places k numbers back_up_database old mid = MayBackUpDatabase None old
 MayOwn places k numbers back_up_since old mid = MayFollow old
 MayOwn places k numbers (delete_history to) old mid = StaysWithin old mid
 MayOwn places k numbers (audit_volume fix) old mid = MayAudit fix (the_number numbers) old mid
+MayOwn places k numbers back_up_pool old mid = MayCopy places (the_number numbers) (the_second numbers) old
+MayOwn places k numbers (moves mover) old mid = MayMove places numbers mover old
 MayOwn places k numbers none_but_reuse old mid = Unit {0}
 MayOwn places k numbers own old mid = ⊥
 

@@ -37,7 +37,7 @@ use Rattle.admin_commands.specs.declared.work.Work.{Work}
 use Rattle.admin_commands.specs.declared.work.Work.TheVariants.{Commit, Show, Run}
 use Rattle.reports.specs.declared.shown.Shown.TheVariants.{Done, Reused, Stored}
 use Rattle.script_loop.specs.declared.ends.Halt.{Halt}
-use Rattle.sessions.specs.declared.getting.FileRead.{FileRead}
+use Rattle.command_steps.specs.sessions.declared.getting.FileRead.{FileRead}
 use Rattle.steps.specs.Events.{Event}
 use Rattle.machine.specs.Alone.{Alone}
 use Rattle.machine.specs.Changes.{filled}
@@ -54,6 +54,7 @@ use Rattle.command_steps.specs.declared.outcome.Outcome.{Outcome}
 use Rattle.command_steps.specs.declared.outcome.Outcome.TheVariants.{Read, Rows, Said}
 use Rattle.line_results.specs.Bounds.{IsReasoned, IsReused}
 use Rattle.line_results.specs.Files.{Checkpoints, Gets, Puts}
+use Rattle.line_results.specs.Moving.{IsCopyReasoned}
 use Rattle.line_results.specs.Resting.{Adds, Commits, EndsRun, IsLate, Onward, SameBytes, SameImage, database}
 use Rattle.line_results.specs.Trees.{GivesChosen, HaveBytes, IsOfBackup, IsRefusedSo, KeepsBytes}
 
@@ -144,11 +145,16 @@ MayMake numbers (delete_history to) c = (file : ℕ) × (c ≡ change.DbDelete f
 MayMake numbers (audit_volume fix) c = (fix ≡ true) × IsMend (the_number numbers) c
 MayMake numbers _ c = ⊥
 
+-- Where it is refused, that has its reason, and so it has where it makes copies.
+pub record Reasoned (places : Places) (numbers : List ℕ) (own : Own) (old new : Machine) (result : Result Outcome Refusal) : Type 0 where
+  pub at_all : IsReasoned numbers own old new result
+  pub copying : IsCopyReasoned places numbers own old result
+
 -- A process ran: its own contract says what its steps did; each transaction that it made is one of these; and where it is refused, that has its reason.
 abbrev pub Processes : (trusted : Type 0) → Places → List Rule → (numbers : List ℕ) → Own → (old new : Machine) → Result Outcome Refusal → (added : List Entry) → Type 0
 Processes trusted places choice numbers own old new result added =
     Ran trusted places (λ events. steps.DoesAlone choice own numbers events result) old new × AllByRecursion (λ e. (e.actor ≡ 0) × MayMake numbers own e.change) added × SameImage old new × SameBytes old new
-    × IsReasoned numbers own old new result
+    × Reasoned places numbers own old new result
 
 -- ---- work
 

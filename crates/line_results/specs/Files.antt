@@ -28,9 +28,9 @@ use Rattle.machine.specs.Changes.{scratch_of, version_from}
 use Rattle.machine.specs.Machine.{IsPlaced, Places, can_place_new, has_file, placing_refused, space, storing_contents}
 use Rattle.machine.specs.Pieces.{IsUnavailable}
 use Rattle.machine.specs.State.{Core, Machine, Place, Ticket, inventory, sight, storing}
-use Rattle.sessions.specs.Homes.{home_of}
-use Rattle.sessions.specs.declared.getting.FileRead.{FileRead}
-use Rattle.sessions.specs.declared.homes.Home.{Home}
+use Rattle.command_steps.specs.sessions.Homes.{home_of}
+use Rattle.command_steps.specs.sessions.declared.getting.FileRead.{FileRead}
+use Rattle.command_steps.specs.sessions.declared.homes.Home.{Home}
 use Rattle.command_steps.specs.Answers.{halt_by}
 use Rattle.line_results.specs.Resting.{Breaks, Commits, EndsRun, Makes, Onward, RoseFrom, database, entry, why_not}
 

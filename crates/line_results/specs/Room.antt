@@ -1,4 +1,5 @@
--- When no file fails in a DSMC INCREMENTAL or a DSMC RESTORE, where one actor has the machine alone: each file of the plan has room wherever its turn comes, and each version that is wanted can be read.
+-- When nothing fails in a line, where one actor has the machine alone: in a DSMC INCREMENTAL each file of the plan has room wherever its turn comes, in a DSMC RESTORE each version that is wanted can be read, and
+-- in a process that copies objects or moves copies each copy has a place and can be read.
 use Rattle.std.specs.Prelude.{◌≡◌, ◌⊎◌, ℕ, Contains, List, [], ◌∷◌, ◌++◌, length, Option, None, Some, Result, Ok, true}
 use Rattle.std.specs.List.{AllByRecursion}
 use Rattle.sha2.specs.Sha256.{sha256}
@@ -16,7 +17,7 @@ use Rattle.admin_commands.specs.declared.work.Work.{Work}
 use Rattle.admin_commands.specs.declared.work.Work.TheVariants.{Run}
 use Rattle.admin_words.specs.declared.files.IncrementalBackup.{IncrementalBackup}
 use Rattle.client_trees.specs.Files.{ClientFile, Files}
-use Rattle.client_files.specs.Reading.{file_of}
+use Rattle.command_steps.specs.client_files.Reading.{file_of}
 use Rattle.client_plan.specs.Classes.{destination}
 use Rattle.client_plan.specs.Plans.{Lists}
 use Rattle.client_plan.specs.declared.lines.GoneLine.{GoneLine}
@@ -24,9 +25,9 @@ use Rattle.client_plan.specs.declared.lines.RebindLine.{RebindLine}
 use Rattle.client_plan.specs.declared.lines.SendLine.{SendLine}
 use Rattle.client_batches.specs.Listings.{ending, rebinding, storing}
 use Rattle.client_batches.specs.declared.listing.SealedLine.{SealedLine}
-use Rattle.incrementals.specs.Process.{Increments}
-use Rattle.incrementals.specs.declared.answering.Sent.{Sent}
-use Rattle.restores.specs.declared.choosing.RestoreLine.{RestoreLine}
+use Rattle.command_steps.specs.incrementals.Process.{Increments}
+use Rattle.command_steps.specs.incrementals.declared.answering.Sent.{Sent}
+use Rattle.command_steps.specs.restores.declared.choosing.RestoreLine.{RestoreLine}
 use Rattle.script_loop.specs.Reply.{Answer}
 use Rattle.steps.specs.declared.asked.Asked.{Asked}
 use Rattle.steps.specs.Events.{Deed, Event, event}
@@ -40,6 +41,7 @@ use Rattle.command_steps.specs.Clients.{Client, Known, Turns}
 use Rattle.command_steps.specs.Lines.{Line, asks}
 use Rattle.command_steps.specs.Owns.{OnTree, Own, back_up, back_up_pool, moves, on_tree, own_of, restore}
 use Rattle.line_results.specs.Commands.{IsStill, work_over}
+use Rattle.line_results.specs.Copied.{HasRoomForCopies}
 use Rattle.line_results.specs.Files.{IsPlacedIn, why_no_place}
 use Rattle.line_results.specs.Resting.{IsAtRest, RoseFrom, database}
 use Rattle.line_results.specs.Trees.{IsChosen, IsPlan}
@@ -118,22 +120,22 @@ HasRoomOn trusted places k (back_up i) old = IsCalm i.tree k × ((before : Known
 HasRoomOn trusted places k (restore r) old = IsCalm r.tree k × trusted × ((lines : List RestoreLine) → IsChosen r (database old) lines → AllByRecursion (CanBeGiven old) lines)
 HasRoomOn trusted places k work old = Unit {0}
 
--- nothing is said of what makes further copies of objects or moves them, object by object
-abbrev pub HasRoomOwn : (trusted : Type 0) → Places → Client → Own → (old : Machine) → Type 0
-HasRoomOwn trusted places k (on_tree work) old = HasRoomOn trusted places k work old
-HasRoomOwn trusted places k back_up_pool old = ⊥
-HasRoomOwn trusted places k (moves mover) old = ⊥
-HasRoomOwn trusted places k own old = Unit {0}
+-- What makes further copies of objects, or moves copies, has room for them and can read them.
+abbrev pub HasRoomOwn : (trusted : Type 0) → Places → Client → (numbers : List ℕ) → Own → (old : Machine) → Type 0
+HasRoomOwn trusted places k numbers (on_tree work) old = HasRoomOn trusted places k work old
+HasRoomOwn trusted places k numbers back_up_pool old = HasRoomForCopies trusted places k.choice numbers back_up_pool old
+HasRoomOwn trusted places k numbers (moves mover) old = HasRoomForCopies trusted places k.choice numbers (moves mover) old
+HasRoomOwn trusted places k numbers own old = Unit {0}
 
 abbrev pub HasRoomBy : (trusted : Type 0) → Places → Client → Own → Result Work Refusal → (old : Machine) → Type 0
-HasRoomBy trusted places k own (Ok (Run numbers)) old = HasRoomOwn trusted places k own old
+HasRoomBy trusted places k own (Ok (Run numbers)) old = HasRoomOwn trusted places k numbers own old
 HasRoomBy trusted places k own w old = Unit {0}
 
--- A line has room for what it stores: a DSMC INCREMENTAL and a DSMC RESTORE of which this holds, and any other line but BACKUP STGPOOL and what moves objects.
+-- A line has room for what it stores: a DSMC INCREMENTAL, a DSMC RESTORE, and what makes further copies or moves copies, of which this holds; and any other line.
 abbrev pub HasRoomFor : (trusted : Type 0) → Places → Client → Line → (old : Machine) → Type 0
 HasRoomFor trusted places k (asks c) old = HasRoomBy trusted places k (own_of c) (work_over c (database old)) old
 HasRoomFor trusted places k line old = Unit {0}
 
--- In such a line behind others, by which no count of faults rises, no file fails, and its answer counts none.
+-- In such a line behind others, by which no count of faults rises, no file and no object fails, and its answer counts none.
 abbrev pub NoneFails : (trusted : Type 0) → Places → Client → Line → (old mid : Machine) → Answer → Type 0
 NoneFails trusted places k line old mid answer = IsAtRest old.core → ((file : ℕ) → RoseFrom old mid file → ⊥) → HasRoomFor trusted places k line old → answer.tally.failed ≡ 0

@@ -28,13 +28,13 @@ use Rattle.client_plan.specs.declared.lines.GoneLine.{GoneLine}
 use Rattle.client_plan.specs.declared.lines.RebindLine.{RebindLine}
 use Rattle.client_plan.specs.declared.lines.SendLine.{SendLine}
 use Rattle.client_batches.specs.Listings.{named, rebound}
-use Rattle.incrementals.specs.Orders.{IsReadAs}
-use Rattle.incrementals.specs.Planning.{IsListing}
-use Rattle.restores.specs.Chosen.{chosen}
-use Rattle.restores.specs.Standing.{AreApart, HaveFiles}
-use Rattle.restores.specs.declared.choosing.RestoreLine.{RestoreLine}
-use Rattle.restores.specs.declared.choosing.Which.{Which}
-use Rattle.restores.specs.declared.process.Restored.{Restored}
+use Rattle.command_steps.specs.incrementals.Orders.{IsReadAs}
+use Rattle.command_steps.specs.incrementals.Planning.{IsListing}
+use Rattle.command_steps.specs.restores.Chosen.{chosen}
+use Rattle.command_steps.specs.restores.Standing.{AreApart, HaveFiles}
+use Rattle.command_steps.specs.restores.declared.choosing.RestoreLine.{RestoreLine}
+use Rattle.command_steps.specs.restores.declared.choosing.Which.{Which}
+use Rattle.command_steps.specs.restores.declared.process.Restored.{Restored}
 use Rattle.script_loop.specs.declared.ends.Halt.{Halt}
 use Rattle.tree_api.specs.Cause.{Rose}
 use Rattle.machine.specs.State.{Machine}

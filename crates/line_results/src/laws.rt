@@ -16,6 +16,7 @@ ghost use Rattle.line_results.specs.Resting.{HasSizes, IsAtRest};
 /// Where objects go, whatever decides it.
 pub trait Placing {
     ghost use Rattle.line_results.specs.Resting.{EndsNoRun, NobodyHolds};
+    ghost use Rattle.machine.specs.Laws.{RefusesElsewhere};
     ghost use Rattle.machine.specs.Machine.{Places};
 
     /// Where an object goes, or why it goes nowhere.
@@ -26,6 +27,9 @@ pub trait Placing {
 
     /// Where an object goes nowhere, that ends no run.
     ghost goes_on: { EndsNoRun places };
+
+    /// Where an object goes nowhere, that is for want of room, for room that others hold, or for numbers at their bounds.
+    ghost elsewhere: { RefusesElsewhere places };
 }
 
 /// A line whose steps one actor made on a machine that it has alone, and which was at rest, comes to what its command says of the database; or it ends the run, by its cause. So it is where the

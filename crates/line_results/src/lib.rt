@@ -3,3 +3,10 @@
 #![tactic(auto)]
 
 pub mod laws;
+
+pub use command_steps;
+pub use command_steps::{
+    client_files, copy_attempts, copy_pools, copy_runs, db_backup, deletions, expiration,
+    incrementals, migration, pool_restores, reclamation, restores, reuse_delay, sessions,
+    volume_audits,
+};

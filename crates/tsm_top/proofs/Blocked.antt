@@ -8,20 +8,20 @@ use Rattle.script_loop.specs.Reply.{Answer}
 use Rattle.script_loop.specs.declared.ends.Halt.{Halt}
 use Rattle.script_loop.specs.declared.ends.Halt.TheVariants.{Memory}
 use Rattle.hall_turns.specs.Runs.{CameTo}
-use Rattle.command_steps.specs.Answering.{AnswersLine}
-use Rattle.command_steps.specs.Answers.{nothing}
-use Rattle.command_steps.specs.Clients.{all_seen, client}
-use Rattle.command_steps.specs.Lines.{line_of}
+use Rattle.block_results.specs.command_steps.Answering.{AnswersLine}
+use Rattle.block_results.specs.command_steps.Answers.{nothing}
+use Rattle.block_results.specs.command_steps.Clients.{all_seen, client}
+use Rattle.block_results.specs.command_steps.Lines.{line_of}
 use Rattle.blocks.specs.Shapes.{Gathered, Placed}
-use Rattle.line_jobs.specs.Ran.{EndsLines, RanLines}
-use Rattle.line_jobs.specs.Shares.{with_said}
-use Rattle.line_jobs.specs.declared.job.Said.{Said}
+use Rattle.block_results.specs.line_jobs.Ran.{EndsLines, RanLines}
+use Rattle.block_results.specs.line_jobs.Shares.{with_said}
+use Rattle.block_results.specs.line_jobs.declared.job.Said.{Said}
 use Rattle.tsm_top.specs.InBlock.{BlockAnswered, BlockEnds, BlockHalted, BlockRan, IsAnswered, IsCause, JobsRan}
 use Rattle.tsm_top.specs.Notes.{notes_of}
 use Rattle.tsm_top.specs.Sessions.{number_of}
 use Rattle.tsm_top.specs.declared.note.Note.{Note}
 use Rattle.tsm_top.specs.declared.session.Session.{Session}
-use Rattle.line_jobs.proofs.Together.{map_err, map_ok}
+use Rattle.block_results.proofs.of_line_jobs.Together.{map_err, map_ok}
 
 pub ok_of : {A E : Type 0} (P : A → Type 0) (r : Result A E) (x : A) → r ≡ Ok x → IfOk r P → P x
 ok_of {A} {E} P r x is p = subst (λ (y : Result A E). IfOk y P) is p

@@ -4,7 +4,7 @@ use Rattle.store_api.specs.Cause.{NoneFell, Rose}
 use Rattle.store_api.specs.Disk.{History}
 use Rattle.kinds.specs.declared.refusal.OpenRefused.TheVariants as opening
 use Rattle.choosers.specs.declared.rule.Rule.{Rule}
-use Rattle.command_steps.specs.Clients.{Client}
+use Rattle.block_results.specs.command_steps.Clients.{Client}
 use Rattle.entries.specs.declared.entry.Entry.{Entry}
 use Rattle.inventory_rows.specs.State.{Inv}
 use Rattle.script_loop.specs.Ends.{status_of}

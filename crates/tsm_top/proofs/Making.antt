@@ -9,13 +9,13 @@ use Rattle.fields.specs.Editions.{first_form, second_form}
 use Rattle.kinds.specs.declared.refusal.OpenRefused.{OpenRefused}
 use Rattle.kinds.specs.declared.refusal.OpenRefused.TheVariants as refused
 use Rattle.entries.specs.declared.entry.Entry.{Entry}
-use Rattle.command_steps.specs.Clients.{Client}
+use Rattle.block_results.specs.command_steps.Clients.{Client}
 use Rattle.inventory.specs.Meant.{meaning}
 use Rattle.inventory.specs.Meaningful.{is_meaning}
 use Rattle.inventory_rows.specs.Fresh.{fresh}
 use Rattle.inventory_rows.specs.State.{Inv}
 use Rattle.script_loop.specs.declared.ends.End.{End}
-use Rattle.vault.specs.Openings.{Calm, Spared, is_formatted as has_gate, Formatted, SaysWhy, MayRefuseLooking, MayRefuseFormatting}
+use Rattle.vault.specs.Openings.{Calm, is_formatted as has_gate, Formatted, SaysWhy, MayRefuseLooking, MayRefuseFormatting}
 use Rattle.vault.specs.Recovery.{Recovers, IsBase}
 use Rattle.vault.proofs.Sounding.{ends_log, newest_one, within_recovers}
 use Rattle.vault.proofs.Unique.{one_database, one_form, is_formatted, not_damaged_there}
@@ -23,7 +23,7 @@ use Rattle.hall.specs.Protected.{HadBackups}
 use Rattle.hall.proofs.BackupsOpened.{had_fresh}
 use Rattle.hall_turns.proofs.Stops.{new_sound}
 use Rattle.tsm_top.specs.declared.note.Note.{Note}
-use Rattle.tsm_top.specs.Serve.{Command, format, run, fresh_run, Closing, no_command, formatted, exists, refused_opening, restored, untold, unread, HasCause, OpensNot, IsNone, IsNew, Had, HasImage, RunsOver, StartsAt, Sure, Spares, Opens, Later, RanScript, RoseBetween}
+use Rattle.tsm_top.specs.Serve.{Command, format, run, fresh_run, Closing, no_command, formatted, exists, refused_opening, restored, untold, unread, HasCause, OpensNot, IsNone, IsNew, Had, HasImage, RunsOver, StartsAt, Sure, Spares, SparesAll, Opens, Later, RanScript, RoseBetween}
 
 -- files that hold a new database recover to it alone
 new_base : (h : History) → IsNew (Some h) → IsBase meaning 0 fresh (reads h)
@@ -110,11 +110,11 @@ new_script x y left_told k before after opened last end status journal stamps no
 }
 
 -- opening it changes nothing that is read
-spared_calm : (x y : Option History) → IsNew x → Told x y (Spared meaning) → Told x y Calm
+spared_calm : (x y : Option History) → IsNew x → Told x y SparesAll → Told x y Calm
 spared_calm None None new spared = tt
 spared_calm None (Some b) new spared = absurd spared
 spared_calm (Some a) None new spared = absurd spared
-spared_calm (Some a) (Some b) new spared = spared.calm (new_form a new)
+spared_calm (Some a) (Some b) new spared = spared.files.calm (new_form a new)
 
 -- so what is new stays so meanwhile
 calm_new : (x y : Option History) → Told x y Calm → IsNew x → IsNew y
@@ -127,12 +127,12 @@ calm_new (Some a) (Some b) calm new = λ moment files from to here. new (now a) 
     later_now a b calm le = (let grew : now a ≤ now b = goes_later (λ f. f < 4) a b calm.goes in omega (arith, grew, le))
 
 -- a new database was made, and then opened
-pub opens_new : (x y z : Option History) → is_some y ≡ is_some x → HasImage false x → IsNew y → Told y z (Spared meaning) → Opens fresh_run x z
-opens_new x y z same had new spared = (had, tells_on (Spared meaning) y z spared ∙ same, calm_new y z (spared_calm y z new spared) new)
+pub opens_new : (x y z : Option History) → is_some y ≡ is_some x → HasImage false x → IsNew y → Told y z SparesAll → Opens fresh_run x z
+opens_new x y z same had new spared = (had, tells_on SparesAll y z spared ∙ same, calm_new y z (spared_calm y z new spared) new)
 
 -- a new database that couldn't be opened
-pub refused_spares : (x y z : Option History) → is_some y ≡ is_some x → HasImage false x → Told y z (Spared meaning) → Spares fresh_run x z
-refused_spares x y z same had spared = inr (had, tells_on (Spared meaning) y z spared ∙ same)
+pub refused_spares : (x y z : Option History) → is_some y ≡ is_some x → HasImage false x → Told y z SparesAll → Spares fresh_run x z
+refused_spares x y z same had spared = inr (had, tells_on SparesAll y z spared ∙ same)
 
 -- ---- calls one after the other
 

@@ -1,7 +1,7 @@
 -- The notes of a block's lines, one after the other.
 use Rattle.std.proofs.Common.{◌≡◌, ◌∙◌, ◌<◌, ◌+◌, ◌==◌, ℕ, suc, Bool, true, false, if◌then◌else◌, List, [], ◌∷◌, ◌++◌, length, get_or, drop, refl, ap, sym, append_assoc, append-nil, arith}
 use Rattle.std.proofs.Math.Seq.{drop-cons}
-use Rattle.line_jobs.specs.declared.job.Said.{Said}
+use Rattle.block_results.specs.line_jobs.declared.job.Said.{Said}
 use Rattle.tsm_top.specs.Notes.{note_in_block, notes_of}
 use Rattle.tsm_top.specs.declared.note.Note.{Note}
 

@@ -5,7 +5,7 @@ use Rattle.kinds.specs.declared.refusal.Refusal.TheVariants.{UnknownWord}
 use Rattle.command_words.specs.Comments.{is_comment}
 use Rattle.admin_words.specs.Line.{command}
 use Rattle.admin_words.specs.declared.command.Command.{Command}
-use Rattle.command_steps.specs.Lines.{asks, is_done, line_of, read_as, refused}
+use Rattle.block_results.specs.command_steps.Lines.{asks, is_done, line_of, read_as, refused}
 use Rattle.tsm_top.specs.Notes.{with_note}
 use Rattle.tsm_top.specs.declared.note.Note.{Note}
 

@@ -8,7 +8,7 @@ use Rattle.script_loop.specs.declared.ends.Halt.{Halt}
 use Rattle.machine.specs.State.{Machine}
 use Rattle.hall.specs.Good.{Is}
 use Rattle.hall.specs.Steps.{IsTrusted}
-use Rattle.line_results.specs.Resting.{Onward}
+use Rattle.block_results.specs.line_results.Resting.{Onward}
 use Rattle.tsm_top.specs.OneLine.{Answered, ComesTo, GoesTo, Halted, RestsAs}
 use Rattle.tsm_top.specs.Sessions.{HaltsLine, ServesLine}
 use Rattle.tsm_top.specs.declared.session.Session.{Session}

@@ -16,7 +16,7 @@ use Rattle.inventory_rules.specs.Valid.{is_valid}
 use Rattle.script_loop.specs.Runs.{Says}
 use Rattle.script_loop.specs.Ends.{DoneAtEnd, status_of}
 use Rattle.script_loop.specs.declared.ends.End.{End}
-use Rattle.vault.specs.Openings.{MayRefuseOpening, Opened, Spared}
+use Rattle.vault.specs.Openings.{MayRefuseOpening, Opened}
 use Rattle.vault.specs.Recovery.{Recovers}
 use Rattle.vault.specs.Vaults.{State}
 use Rattle.machine.specs.State.{Machine}
@@ -25,12 +25,13 @@ use Rattle.hall.specs.Held.{Hall, Held}
 use Rattle.hall.specs.Opening.{IsNewHall, IsSound, IsWith, Opens, OpensFiles}
 use Rattle.hall.specs.Steps.{IsTrusted}
 use Rattle.hall.proofs.Imaging.{no_image}
-use Rattle.command_steps.specs.Clients.{Client}
+use Rattle.hall_turns.proofs.Openings.{opened_backed}
+use Rattle.block_results.specs.command_steps.Clients.{Client}
 use Rattle.blocks.specs.Shapes.{Gathered}
 use Rattle.tsm_top.specs.declared.note.Note.{Note}
 use Rattle.tsm_top.specs.declared.server.Server.{Server}
 use Rattle.tsm_top.specs.declared.session.Session.{Session}
-use Rattle.tsm_top.specs.Serve.{Begins, IsNone, IsOurFile, Later, OpensNot, Ran, RanFrom, RanScript, RoseBetween, RunsOver, StartsAt, Sure, run}
+use Rattle.tsm_top.specs.Serve.{Begins, IsNone, IsOurFile, Later, OpensNot, Ran, RanFrom, RanScript, RoseBetween, RunsOver, SparesAll, StartsAt, Sure, run}
 use Rattle.tsm_top.specs.Servers.{HaltsBy, Serves}
 use Rattle.tsm_top.specs.Sessions.{clients}
 use Rattle.tsm_top.specs.Sites.{Site, site}
@@ -211,8 +212,9 @@ says_none (Some a) (Some b) refusal opened = opened.vault.says
 says_none (Some a) None refusal opened = absurd opened
 
 -- opening takes nothing away
-pub opened_spared : (x y : Option History) (result : Result (State Inv) OpenRefused) → Told x y (OpensFiles result) → Told x y (Spared meaning)
-opened_spared x y result opened = told_map x y (OpensFiles result) (Spared meaning) (λ a b done. done.vault.spared) opened
+pub opened_spared : (x y : Option History) (result : Result (State Inv) OpenRefused) → Told x y (OpensFiles result) → Told x y SparesAll
+opened_spared x y result opened =
+    told_map x y (OpensFiles result) SparesAll (λ a b done. record { files = done.vault.spared; backups = λ contents sound backed. opened_backed contents a b sound done.vault.spared backed }) opened
 
 -- why a database isn't opened
 pub opens_not : (x y : Option History) (refusal : OpenRefused) (last : ℕ) (before after : ℕ → ℕ) → (let result : Result (State Inv) OpenRefused = Err refusal in Told x y (OpensFiles result))

@@ -15,7 +15,7 @@ use Rattle.vault.specs.Recovery.{IsBase, Recovers}
 use Rattle.vault.proofs.Sounding.{within_recovers}
 use Rattle.vault.proofs.Unique.{one_database}
 use Rattle.tsm_top.specs.Restored.{IsRestored}
-use Rattle.tsm_top.proofs.Returning.{has_restored, returns}
+use Rattle.tsm_top.proofs.Returning.{has_restored, returns, since_restored}
 use Rattle.kinds.specs.declared.refusal.OpenRefused.TheVariants as opening
 use Rattle.db_chains.specs.declared.refused.ChainRefused.TheVariants as chain
 use Rattle.db_losses.specs.declared.lost.Lost.{Lost}
@@ -93,8 +93,8 @@ is_sound p file day skipped done old new is =
     )
 
 restored_from : (file day : ℕ) (skipped : List ℕ) (came : Result RestoreDone NotRestored) (old new : History) → RestoresFrom file day skipped came old new → IsRestored file day skipped came old new
-restored_from file day skipped (Ok done) old new from = record { from = from; sound = is_sound from.0 file day skipped done old new from.2.1.installed; backups = has_restored from.0 file day skipped done old new from.2.1.installed; kept = returns file day skipped (Ok done) old new from }
-restored_from file day skipped (Err why) old new from = record { from = from; sound = tt; backups = tt; kept = returns file day skipped (Err why) old new from }
+restored_from file day skipped (Ok done) old new from = record { from = from; sound = is_sound from.0 file day skipped done old new from.2.1.installed; backups = has_restored from.0 file day skipped done old new from.2.1.installed; kept = returns file day skipped (Ok done) old new from; within = λ contents known unspent backed. since_restored contents old new known unspent backed file day skipped (Ok done) from }
+restored_from file day skipped (Err why) old new from = record { from = from; sound = tt; backups = tt; kept = returns file day skipped (Err why) old new from; within = λ contents known unspent backed. since_restored contents old new known unspent backed file day skipped (Err why) from }
 
 module _ {S : Type 0} (told : S → Option History) (moment : S → ℕ) (faults : S → ℕ → ℕ) (store mid left : S) (file day : ℕ) (skipped : List ℕ) (came : Result RestoreDone NotRestored) (same : left ≡ mid) (from : Told (told store) (told mid) (RestoresFrom file day skipped came)) where
   is_restored : Told (told store) (told left) (IsRestored file day skipped came)

@@ -7,7 +7,7 @@ use Rattle.hall.specs.Held.{AreSeatsOf, Hall}
 use Rattle.hall.specs.Rest.{Rests}
 use Rattle.hall.specs.declared.seat.Seat.{Seat}
 use Rattle.hall.proofs.Imaging.{no_image}
-use Rattle.line_results.specs.Resting.{IsAtRest}
+use Rattle.block_results.specs.line_results.Resting.{IsAtRest}
 use Rattle.machine.specs.State.{Machine, Ticket}
 
 pub no_seats : (seats : List (ℕ × Seat)) (tickets : List Ticket) → seats ≡ [] → AreSeatsOf seats tickets → tickets ≡ []

@@ -1,48 +1,47 @@
 -- A backup that an image keeps comes back with its copies in sequential pools where it is restored.
-use Rattle.std.proofs.Common.{◌≡◌, ℕ, ◌+◌, ◌<◌, ◌≤◌, zero, suc, true, List, [], ◌∷◌, length, map, Option, None, Some, Result, Ok, Err, refl, sym, ap, subst, ◌∙◌, arith}
+use Rattle.std.proofs.Common.{◌≡◌, inl, inr, ℕ, ◌<◌, ◌≤◌, zero, suc, true, List, [], ◌∷◌, length, Some, Result, Ok, Err, refl, sym, subst, ◌∙◌, arith}
 use Rattle.std.specs.BTreeMap.{is_at}
 use Rattle.std.specs.List.{AllByRecursion, slice_index_or}
 use Rattle.std.specs.Map.{lookup}
 use Rattle.std.specs.Ordering.{nat_cmp}
 use Rattle.store_api.specs.Disk.{History, now, reads}
-use Rattle.store_api.specs.Runs.{Stands}
 use Rattle.store_api.proofs.Pieces.{image_reads}
 use Rattle.contents.specs.Contents.{InImage}
-use Rattle.contents.proofs.Segments.{Carries}
 use Rattle.inventory.specs.Meaningful.{is_meaning}
 use Rattle.inventory.specs.Meant.{meaning}
 use Rattle.inventory_rows.specs.declared.backup.Backup.{Backup}
 use Rattle.inventory_rows.specs.State.{Inv}
 use Rattle.inventory_rules.specs.Backups.{backup_at}
 use Rattle.inventory_rules.specs.Valid.{is_valid}
+use Rattle.vault.specs.Openings.{NotLast}
 use Rattle.vault.specs.Recovery.{Recovers}
 use Rattle.vault.proofs.Sounding.{within_recovers}
 use Rattle.vault.proofs.Unique.{one_database}
-use Rattle.hall.specs.Protected.{EachSequential, GivesBack, HadBackups, HasCopy, Taken, files_of}
-use Rattle.hall.proofs.BackedUp.{Lies, also_sequential, both_sequential, each_lies}
+use Rattle.hall.specs.Opening.{IsSound}
+use Rattle.hall.specs.Protected.{AlwaysBacked, Backs, EachSequential, GivesBack, HadBackups, HasCopy, IsProtected, IsRow, Taken, files_of}
+use Rattle.hall.proofs.BackedUp.{also_sequential}
 use Rattle.hall.proofs.BackupsOpened.{gives_alike, gives_valid}
-use Rattle.hall.proofs.Protecting.{copy_carried}
-use Rattle.hall_turns.specs.Runs.{HasOwnBackups}
+use Rattle.hall.proofs.Sound.{vault_sound}
+use Rattle.hall_turns.specs.Runs.{HasOwnBackups, IsBacked}
+use Rattle.hall_turns.proofs.Openings.{backed_since, copies_alike, one_backed}
 use Rattle.backup_payloads.specs.Increments.{Increment}
 use Rattle.db_chains.specs.Chains.{Gives, IsGiven}
+use Rattle.db_chains.specs.Reads.{OnlySettles}
 use Rattle.db_chains.specs.declared.refused.ChainRefused.TheVariants as chain
 use Rattle.db_chains.proofs.Unique.{one, whole}
 use Rattle.db_losses.specs.Losses.{Losses, restored}
 use Rattle.db_restore.specs.Chained.{RestoresFrom}
-use Rattle.db_restore.specs.Restoring.{IsInstalled}
+use Rattle.db_restore.specs.Restoring.{IsInstalled, Restores}
 use Rattle.db_restore.specs.Sequential.{KeepsSequential, StandsWith}
 use Rattle.db_restore.specs.declared.done.RestoreDone.{RestoreDone}
 use Rattle.db_restore.specs.declared.refused.NotRestored.{NotRestored}
+use Rattle.db_restore.specs.declared.refused.RestoreRefused.{RestoreRefused}
 use Rattle.db_restore.specs.declared.refused.NotRestored.TheVariants.{Chain, Database}
 use Rattle.db_restore.proofs.Standing.{found}
 use Rattle.db_restore.proofs.Staying.{sequentials_stay}
-use Rattle.tsm_top.specs.Restored.{ComesBack, FindsKept, FindsSequential}
+use Rattle.tsm_top.specs.Restored.{ComesBack, FindsKept, FindsSequential, IsRestored}
 
 -- ---- lists
-
-all_up : {A : Type 0} (P Q : A → Type 0) (xs : List A) → ((x : A) → P x → Q x) → AllByRecursion P xs → AllByRecursion Q xs
-all_up P Q [] up all = tt
-all_up P Q (x ∷ xs) up all = (up x all.0, all_up P Q xs up all.1)
 
 holds_at : {A : Type 0} (P : A → Type 0) (xs : List A) (k : ℕ) (x : A) → k < length xs → slice_index_or xs k x ≡ x → AllByRecursion P xs → P x
 holds_at P [] k x lt is all = absurd (omega (arith, lt))
@@ -63,11 +62,7 @@ module _ (image other : ℕ → List ℕ) (same : (n : ℕ) → 4 ≤ n → othe
 
   -- and its copies in sequential pools stand there
   copies_there : (contents : ℕ → List ℕ) (v : Inv) → is_valid v ≡ true → EachSequential (λ w c. HasCopy (InImage image) (contents w.object) w c) v → EachSequential (λ w c. HasCopy (InImage other) (contents w.object) w c) v
-  copies_there contents v valid each =
-      both_sequential (λ w c. AllByRecursion (Lies v c.pool) c.segments) (λ w c. HasCopy (InImage image) (contents w.object) w c) (λ w c. HasCopy (InImage other) (contents w.object) w c) v
-      (λ w c lies has. copy_carried (InImage image) (InImage other) (contents w.object) w c
-      (all_up (Lies v c.pool) (Carries (InImage image) (InImage other)) c.segments (λ s l piece long f. subst (λ (bytes : List ℕ). Stands bytes s.offset piece) (sym (same s.file l.from)) f) lies) has)
-      (each_lies v valid) each
+  copies_there contents v valid each = copies_alike image other (λ n from. sym (same n from)) contents v valid each
 
 -- copies that stand with their objects' bytes are found
 are_found : (image : ℕ → List ℕ) (contents : ℕ → List ℕ) (v : Inv) → EachSequential (λ w c. HasCopy (InImage image) (contents w.object) w c) v → KeepsSequential image v
@@ -77,14 +72,19 @@ are_found image contents v each = found image contents v
 -- ---- what came of a restore
 
 -- a database that lists no backup has none that a store could lack
+unlisted : (v : Inv) → v.backups ≡ [] → (file : ℕ) (b : Backup) → backup_at file v ≡ Some b → ⊥
+unlisted v none file b at = no_row file b v.backups none at
+  where
+    no_row : (f : ℕ) (row : Backup) (rows : List (ℕ × Backup)) → rows ≡ [] → lookup (is_at (nat_cmp f)) rows ≡ Some row → ⊥
+    no_row f row [] is found_at = absurd (cc)
+    no_row f row (r ∷ rows) is found_at = absurd (cc)
+
 had_none : (v : Inv) (h : History) → v.backups ≡ [] → HadBackups v (now h) h
-had_none v h none = record { before = λ file b at done. absurd (unlisted file b at); given = λ file b p. absurd (unlisted file b p.listed) } where
-  unlisted : (file : ℕ) (b : Backup) → backup_at file v ≡ Some b → ⊥
-  unlisted file b at = no_row file b v.backups none at
-    where
-      no_row : (f : ℕ) (row : Backup) (rows : List (ℕ × Backup)) → rows ≡ [] → lookup (is_at (nat_cmp f)) rows ≡ Some row → ⊥
-      no_row f row [] is found_at = absurd (cc)
-      no_row f row (r ∷ rows) is found_at = absurd (cc)
+had_none v h none = record { before = λ file b at done. absurd (unlisted v none file b at); given = λ file b p. absurd (unlisted v none file b p.listed) }
+
+-- nor one that an image could
+backs_none : (v : Inv) (image : ℕ → List ℕ) → v.backups ≡ [] → Backs image v
+backs_none v image none = record { before = λ file b at done. absurd (unlisted v none file b at); each = λ file b p. absurd (unlisted v none file b p.listed) }
 
 no_backups : (losses : Losses) (file day : ℕ) (p : Inv) → (restored losses file day p).backups ≡ []
 unfolding restored
@@ -95,11 +95,32 @@ read_back : (p : Inv) (file day : ℕ) (skipped : List ℕ) (done : RestoreDone)
 read_back p file day skipped done old new is =
     within_recovers meaning (reads new) (restored is.losses file day p) (is.images (now new) (reads new) (omega arith) (omega arith) (image_reads new)).recovers
 
--- so the store has its backups
-pub has_restored : (p : Inv) (file day : ℕ) (skipped : List ℕ) (done : RestoreDone) (old new : History) → IsInstalled p file day skipped done old new → HasOwnBackups new
-has_restored p file day skipped done old new is = λ v recovers.
-    subst (λ (w : Inv). HadBackups w (now new) new) (one_database meaning is_meaning (reads new) (restored is.losses file day p) v (read_back p file day skipped done old new is) recovers)
-    (had_none (restored is.losses file day p) new (no_backups is.losses file day p))
+-- so the store has its backups, and each image of then backs it
+pub has_restored : (p : Inv) (file day : ℕ) (skipped : List ℕ) (done : RestoreDone) (old new : History) → IsInstalled p file day skipped done old new → IsBacked new × HasOwnBackups new
+has_restored p file day skipped done old new is =
+    one_backed new (restored is.losses file day p) (had_none (restored is.losses file day p) new (no_backups is.losses file day p))
+    (λ image here. within_recovers meaning image (restored is.losses file day p) (is.images (now new) image (omega arith) (omega arith) here).recovers)
+
+-- ---- meanwhile
+
+module _ (contents : ℕ → List ℕ) (old new : History) (sound : IsSound contents old) (unspent : NotLast (reads old)) (backed : IsBacked old) where
+  since_put : (p : Inv) (file day : ℕ) (skipped : List ℕ) (result : Result RestoreDone RestoreRefused) → Restores p file day skipped result old new → AlwaysBacked (now old) new
+  since_put p file day skipped result is moment image from to here v recovers = elim (is.since (vault_sound contents old new sound) unspent moment image from to here) [
+    | inl had ↦ backed_since old backed image had (is.kept moment image from to here) v recovers
+    | inr put ↦ (let left = restored put.losses file day p in
+        subst (Backs image) (one_database meaning is_meaning image left v (within_recovers meaning image left put.recovers) recovers) (backs_none left image (no_backups put.losses file day p)))
+  ]
+
+  -- nothing was put where the backup couldn't be read
+  since_settled : OnlySettles old new → AlwaysBacked (now old) new
+  since_settled is moment image from to here = backed (now old) image (omega arith) (omega arith) (is.images moment image from to here)
+
+  pub since_restored : (file day : ℕ) (skipped : List ℕ) (came : Result RestoreDone NotRestored) → RestoresFrom file day skipped came old new → AlwaysBacked (now old) new
+  since_restored file day skipped (Ok done) from = since_put from.0 file day skipped (Ok done) from.2.1
+  since_restored file day skipped (Err (Chain why)) from = since_settled from.0
+  since_restored file day skipped (Err (Database why)) from = since_put from.0 file day skipped (Err why) from.2.1
+
+-- ---- a backup that was kept
 
 module _ (file day : ℕ) (skipped : List ℕ) (old new : History) (image : ℕ → List ℕ) (b : Backup) (t : Taken) (back : GivesBack image file b t) (same : (other : ℕ) → 4 ≤ other → reads old other ≡ image other) where
   given : IsGiven meaning (reads old) file t.database
@@ -129,3 +150,8 @@ module _ (file day : ℕ) (skipped : List ℕ) (old new : History) (image : ℕ 
 pub returns : (file day : ℕ) (skipped : List ℕ) (came : Result RestoreDone NotRestored) (old new : History) → RestoresFrom file day skipped came old new → FindsKept file day skipped came old new
 returns file day skipped came old new from =
     λ image v b keeps p same. (let it = keeps file b p in (it.0, it.1.row, comes file day skipped old new image b it.0 it.1 same came from))
+
+-- so does one of an image that backs its database
+pub kept_returns : (image : ℕ → List ℕ) (v : Inv) (file : ℕ) (b : Backup) → Backs image v → IsProtected v file b → (day : ℕ) (skipped : List ℕ) (came : Result RestoreDone NotRestored) (old new : History)
+    → ((other : ℕ) → 4 ≤ other → reads old other ≡ image other) → IsRestored file day skipped came old new → (t : Taken) × IsRow b t × ComesBack file day skipped t came new
+kept_returns image v file b backs listed day skipped came old new same is = is.kept image v b (λ other row p. (let it = backs.each other row p in (it.0, it.1))) listed same

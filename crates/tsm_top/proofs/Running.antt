@@ -28,22 +28,26 @@ use Rattle.hall.specs.Held.{Hall}
 use Rattle.hall.specs.Placed.{hall_places}
 use Rattle.hall.specs.Steps.{IsTrusted}
 use Rattle.hall.proofs.Databases.{valid_at}
+use Rattle.hall.proofs.Spots.{goes_where_aimed}
 use Rattle.hall_turns.specs.Left.{GivesState}
 use Rattle.hall_turns.proofs.Lefts.{inv_at_all}
-use Rattle.command_steps.specs.Answering.{AnswersLine}
-use Rattle.command_steps.specs.Answers.{nothing}
-use Rattle.command_steps.specs.Clients.{Client, Known, all_seen, client}
-use Rattle.command_steps.specs.Lines.{Line, line_of}
-use Rattle.line_results.specs.Clauses.{Holds}
-use Rattle.line_results.specs.Lines.{Halts as EndsLine, Replies}
-use Rattle.line_results.specs.Resting.{HasSizes, IsAtRest, Onward}
+use Rattle.block_results.specs.command_steps.Answering.{AnswersLine}
+use Rattle.block_results.specs.command_steps.Answers.{nothing}
+use Rattle.block_results.specs.command_steps.Clients.{Client, Known, all_seen, client}
+use Rattle.block_results.specs.command_steps.Lines.{Line, line_of}
+use Rattle.block_results.specs.line_results.Clauses.{Holds}
+use Rattle.block_results.specs.line_results.Lines.{Halts as EndsLine, Replies}
+use Rattle.block_results.specs.line_results.Resting.{HasSizes, IsAtRest, Onward}
 use Rattle.blocks.specs.Parts.{begins, part}
 use Rattle.blocks.specs.Shapes.{Gathered, begun, is_end, with_line}
 use Rattle.crew.specs.Ran.{EachFits, RanFrom, Turned, began}
-use Rattle.line_jobs.specs.Ran.{EndsLines, IsEnding, Worked, ending, shared}
-use Rattle.line_jobs.specs.Shares.{Came, with_said}
-use Rattle.line_jobs.specs.declared.job.Said.{Said}
+use Rattle.block_results.specs.line_jobs.Ran.{EndsLines, IsEnding, Worked, ending, shared}
+use Rattle.block_results.specs.line_jobs.Shares.{Came, with_said}
+use Rattle.block_results.specs.line_jobs.declared.job.Said.{Said}
+use Rattle.block_results.proofs.BySteps.{steps-of}
 use Rattle.block_results.proofs.Jobs.{block-held}
+use Rattle.block_results.proofs.JobsComplete.{jobs-complete}
+use Rattle.block_results.proofs.Turned.{further, have-causes, here, turned_on}
 use Rattle.tsm_top.specs.InBlock.{BlockEnds, BlockHalted, BlockRan, IsCause, JobsRan}
 use Rattle.tsm_top.specs.Notes.{note_of, notes_of, number_in, with_note}
 use Rattle.tsm_top.specs.Servers.{EndsBlock, EndsOutside, HaltsBy, HaltsHere, HaltsIn, HaltsInside, Keeps, Serves as ServesBy, ServesBlock, ServesHere, ServesIn, ServesInside, ServesOutside, Stays}
@@ -56,7 +60,7 @@ use Rattle.tsm_top.specs.declared.session.Session.{Session}
 use Rattle.tsm_top.proofs.Resting.{at_rest}
 use Rattle.tsm_top.proofs.There.{there}
 use Rattle.tsm_top.proofs.Treed.{ChangeTheirTree, leaves_file}
-use Rattle.tsm_top.proofs.Turning.{further, here, jobs_add, turned_on}
+use Rattle.tsm_top.proofs.Turning.{jobs_add}
 
 -- ---- the laws that a run stands on
 
@@ -321,9 +325,12 @@ module _ {S T : Type 0} (told : S → Option History) (moment : S → ℕ) (faul
             hold = λ sure w goes.
                 block-held w choice b.lines first (inventory m.core).number m.core worked.turns (shared b.lines (b.job + 1) (knows old.trees.items)) came at.rests.tickets at.rests.image
                 (λ actor. (let fits = run.5 sure w goes actor (inventory m.core).number (omega arith) in (own_in actor fits.0 run.0.core, fits.2))) worked.done;
+            causes = have-causes trusted hall_places worked.turns m run.0 run.1;
+            complete = jobs-complete trusted hall_places choice b.lines 0 first worked.turns m run.0 (shared b.lines (b.job + 1) (knows old.trees.items)) came run.1 worked.done;
             added = joined.0;
             adds = joined.1;
             by_jobs = joined.2;
+            by_steps = steps-of trusted hall_places goes_where_aimed worked.turns m run.0 joined.0 run.1 joined.1;
             onward = turned_on trusted hall_places worked.turns m run.0 run.1;
             timely = timely told moment faults mid.hall m run.0 run.2 run.4;
             in_order = in_order told moment faults mid.hall run.0 run.2;

@@ -11,11 +11,11 @@ use Rattle.admin_words.specs.declared.files.FileErase.{FileErase}
 use Rattle.admin_words.specs.declared.files.FileWrite.{FileWrite}
 use Rattle.script_loop.specs.Reply.{Answer}
 use Rattle.script_loop.specs.declared.ends.Halt.{Halt}
-use Rattle.command_steps.specs.Answering.{AnswersLine}
-use Rattle.command_steps.specs.Clients.{Client}
-use Rattle.command_steps.specs.Leaving.{ChangesOnly, TreeHas, tree_named}
-use Rattle.command_steps.specs.Lines.{Line, asks, comment, refused}
-use Rattle.command_steps.specs.Writing.{IsWithout, bytes_of}
+use Rattle.block_results.specs.command_steps.Answering.{AnswersLine}
+use Rattle.block_results.specs.command_steps.Clients.{Client}
+use Rattle.block_results.specs.command_steps.Leaving.{ChangesOnly, TreeHas, tree_named}
+use Rattle.block_results.specs.command_steps.Lines.{Line, asks, comment, refused}
+use Rattle.block_results.specs.command_steps.Writing.{IsWithout, bytes_of}
 use Rattle.tsm_top.specs.Trees.{LeavesFile}
 
 -- what a line does to the trees

@@ -7,13 +7,13 @@ use Rattle.script_loop.specs.Reply.{Answer}
 use Rattle.script_loop.specs.declared.ends.Halt.{Halt}
 use Rattle.script_loop.specs.declared.ends.Halt.TheVariants.{LogFault, Memory, RunFull}
 use Rattle.hall.specs.Rest.{Rests}
-use Rattle.command_steps.specs.Answers.{nothing}
-use Rattle.command_steps.specs.Clients.{all_seen}
+use Rattle.block_results.specs.command_steps.Answers.{nothing}
+use Rattle.block_results.specs.command_steps.Clients.{all_seen}
 use Rattle.blocks.specs.Parts.{begins, part}
 use Rattle.blocks.specs.Shapes.{Gathered, begun, is_end, with_line}
-use Rattle.line_jobs.specs.Ran.{EndsLines, RanLines}
-use Rattle.line_jobs.specs.Shares.{with_said}
-use Rattle.line_jobs.specs.declared.job.Said.{Said}
+use Rattle.block_results.specs.line_jobs.Ran.{EndsLines, RanLines}
+use Rattle.block_results.specs.line_jobs.Shares.{with_said}
+use Rattle.block_results.specs.line_jobs.declared.job.Said.{Said}
 use Rattle.tsm_top.specs.Notes.{notes_of}
 use Rattle.tsm_top.specs.Sessions.{HaltsLine, ServesLine, number_of}
 use Rattle.tsm_top.specs.declared.server.Taken.{Taken}

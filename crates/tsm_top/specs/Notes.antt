@@ -2,8 +2,8 @@
 use Rattle.std.specs.Prelude.{ℕ, ◌+◌, ◌-◌, ◌^◌, ◌==◌, min, if◌then◌else◌, Option, List, [], ◌∷◌, ◌++◌}
 use Rattle.kinds.specs.declared.refusal.Refusal.{Refusal}
 use Rattle.machine.specs.State.{Machine, inventory}
-use Rattle.command_steps.specs.Lines.{Line, asks, comment, refused}
-use Rattle.line_jobs.specs.declared.job.Said.{Said}
+use Rattle.block_results.specs.command_steps.Lines.{Line, asks, comment, refused}
+use Rattle.block_results.specs.line_jobs.declared.job.Said.{Said}
 use Rattle.tsm_top.specs.declared.note.Note.{Note}
 
 -- the number of the last transaction

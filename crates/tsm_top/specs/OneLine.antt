@@ -11,8 +11,8 @@ use Rattle.hall.specs.Good.{AlwaysSafe, Is}
 use Rattle.hall.specs.Held.{Hall}
 use Rattle.hall.specs.Steps.{IsTrusted}
 use Rattle.hall_turns.specs.Left.{LeavesSound}
-use Rattle.command_steps.specs.Clients.{all_seen}
-use Rattle.line_results.specs.Resting.{IsAtRest, Onward}
+use Rattle.block_results.specs.command_steps.Clients.{all_seen}
+use Rattle.block_results.specs.line_results.Resting.{IsAtRest, Onward}
 use Rattle.tsm_top.specs.Sites.{RepliesAt, Site, StopsAt, site}
 use Rattle.tsm_top.specs.declared.session.Session.{Session}
 

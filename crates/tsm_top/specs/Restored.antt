@@ -1,15 +1,16 @@
 -- What a restore of the database leaves in the store.
 use Rattle.std.specs.Prelude.{◌≡◌, ℕ, ◌≤◌, List, Result, Ok, Err, IfOk}
-use Rattle.store_api.specs.Disk.{History, reads}
+use Rattle.store_api.specs.Disk.{History, now, reads}
 use Rattle.contents.specs.Contents.{InImage}
 use Rattle.inventory.specs.Meant.{meaning}
 use Rattle.inventory_rows.specs.Search.{versions}
 use Rattle.inventory_rows.specs.State.{Inv}
 use Rattle.inventory_rows.specs.declared.backup.Backup.{Backup}
+use Rattle.vault.specs.Openings.{NotLast}
 use Rattle.vault.specs.Recovery.{Recovers}
 use Rattle.hall.specs.Opening.{IsSound}
-use Rattle.hall.specs.Protected.{EachSequential, HasCopy, IsProtected, IsRow, KeepsBackups, Taken}
-use Rattle.hall_turns.specs.Runs.{HasOwnBackups}
+use Rattle.hall.specs.Protected.{AlwaysBacked, EachSequential, HasCopy, IsProtected, IsRow, KeepsBackups, Taken}
+use Rattle.hall_turns.specs.Runs.{HasOwnBackups, IsBacked}
 use Rattle.db_chains.specs.declared.refused.ChainRefused.TheVariants as chain
 use Rattle.db_losses.specs.Losses.{Losses, restored}
 use Rattle.db_restore.specs.Chained.{RestoresFrom}
@@ -51,9 +52,11 @@ FindsKept file day skipped came old new =
 -- ---- a restore
 
 -- The database that the backup in a file gives was restored on a day, or that was refused. What is restored is what the files recover to then; where all copies of each of its objects have the same bytes the store is
--- sound, its objects having these, so that a script may be run over it; and it has the backups that what is restored lists, which are none. A backup that was kept comes back with its copies in sequential pools.
+-- sound, its objects having these, so that a script may be run over it; and it has the backups that what is restored lists, which are none, as has each image of then. A backup that was kept comes back with its copies in sequential pools. Whatever came of it, where the store
+-- was sound, its newest image not of the last generation, and each image at the start backed the database to which it recovers, each image of each moment since does so.
 pub record IsRestored (file day : ℕ) (skipped : List ℕ) (came : Result RestoreDone NotRestored) (old new : History) : Type 0 where
   pub from : RestoresFrom file day skipped came old new
   pub sound : IfOk came (λ done. (v : Inv) × Recovers meaning (reads new) v × ((contents : ℕ → List ℕ) → AreAlike contents (reads old) v → IsSound contents new))
-  pub backups : IfOk came (λ done. HasOwnBackups new)
+  pub backups : IfOk came (λ done. IsBacked new × HasOwnBackups new)
   pub kept : FindsKept file day skipped came old new
+  pub within : (contents : ℕ → List ℕ) → IsSound contents old → NotLast (reads old) → IsBacked old → AlwaysBacked (now old) new

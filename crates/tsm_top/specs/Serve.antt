@@ -26,9 +26,9 @@ use Rattle.hall.specs.Opening.{IsSound}
 use Rattle.hall.specs.Protected.{AlwaysBacked, HadBackups}
 use Rattle.hall.specs.Steps.{IsTrusted}
 use Rattle.hall_turns.specs.Left.{LeavesSound}
-use Rattle.hall_turns.specs.Runs.{HasOwnBackups}
-use Rattle.command_steps.specs.Clients.{Client}
-use Rattle.line_results.specs.Resting.{IsAtRest, Onward}
+use Rattle.hall_turns.specs.Runs.{HasOwnBackups, IsBacked}
+use Rattle.block_results.specs.command_steps.Clients.{Client}
+use Rattle.block_results.specs.line_results.Resting.{IsAtRest, Onward}
 use Rattle.machine.specs.State.{Machine}
 use Rattle.blocks.specs.Shapes.{Gathered}
 use Rattle.db_restore.specs.Chained.{MayNotRestore}
@@ -145,13 +145,18 @@ IsNew told = IfSome told (λ h. EachImage (now h) h (IsBase meaning 0 fresh))
 abbrev pub StillTells : (told left : Option History) → Type 0
 StillTells told left = is_some left ≡ is_some told
 
+-- What opening takes of a store: nothing of its files, as `Spared` says, and no database backup. Of a sound store each image of which backs, at the start, the database to which it recovers, each image of each moment since does so, too.
+pub record SparesAll (old new : History) : Type 0 where
+  pub files : Spared meaning old new
+  pub backups : (contents : ℕ → List ℕ) → IsSound contents old → IsBacked old → AlwaysBacked (now old) new
+
 -- What opening took from the files: nothing. Where they were opened, only the vault's were written. Where the database isn't in the first form, nothing that is
 -- read changed, and each image since is one that a stop might have left at the start. Of a sound store, also of one in the first form, which is written anew in the
--- second, each image since recovers to a database to which one recovers that a stop might have left at the start. Where a database was to be made, the files were
+-- second, each image since recovers to a database to which one recovers that a stop might have left at the start; and no stop takes a database backup meanwhile (`SparesAll`). Where a database was to be made, the files were
 -- only looked at, or no image had an open gate.
 abbrev pub Spares : Command → (told left : Option History) → Type 0
 Spares format told left = Told told left Looked ⊎ (HasImage false told × StillTells told left)
-Spares run told left = Told told left (Spared meaning)
+Spares run told left = Told told left SparesAll
 Spares fresh_run told left = Told told left Looked ⊎ (HasImage false told × StillTells told left)
 Spares (restore file day skipped) told left = ⊥
 
@@ -159,7 +164,7 @@ Spares (restore file day skipped) told left = ⊥
 -- then is that database, where no image had an open gate.
 abbrev pub Opens : Command → (told left : Option History) → Type 0
 Opens format told left = ⊥
-Opens run told left = Told told left (Spared meaning)
+Opens run told left = Told told left SparesAll
 Opens fresh_run told left = HasImage false told × StillTells told left × IsNew left
 Opens (restore file day skipped) told left = ⊥
 
@@ -245,6 +250,13 @@ pub record KeepsBacked (opened : ℕ) (h : History) : Type 0 where
   pub always : AlwaysBacked opened h
   pub left : HasOwnBackups h
 
+-- Where a sound store is run that has the backups of its database, and each image that a stop might have left at the start backs the database to which it recovers, so does each image of each moment from then on, those within opening included.
+abbrev pub Throughout : Command → (told left : Option History) → Type 0
+Throughout format told left = Unit {0}
+Throughout run told left = (contents : ℕ → List ℕ) → Sure run contents told → Had run told → Told told left (λ old new. IsBacked old → AlwaysBacked (now old) new)
+Throughout fresh_run told left = Unit {0}
+Throughout (restore file day skipped) told left = Unit {0}
+
 -- How a run begins: with the database that was opened, which is valid, no transaction, no ticket and no image; the numbers that are drawn next are that database's, and the first ticket's is 1.
 pub record Begins (base : Inv) (opened : ℕ) (counts : ℕ → ℕ) (m : Machine) : Type 0 where
   pub database : m.core.base ≡ base
@@ -294,13 +306,15 @@ pub record RanScript (command : Command) (k : Client) (told left_told : Option H
       → (first : Machine) × (first.contents ≡ contents) × (first.core.generation ≡ start) × Ran (Unit {0}) k database left_told before after opened last end journal stamps notes generation script was is first
   pub backups : (contents : ℕ → List ℕ) → Sure command contents told → Had command told → IfSome left_told (KeepsBacked opened)
 
--- At every moment since the opening each image is safe, and what is left is a sound store; and where the store had the backups of the database that is run, so does each image of its own database's.
+-- At every moment since the opening each image is safe, and what is left is a sound store; and where the store had the backups of the database that is run, so does each image of its own database's, at every moment since the start of the call
+-- where each image then did.
 pub record RanSafe (command : Command) (told left_told : Option History) (opened : ℕ) (journal : List Entry) (stamps : List ℕ) (base : Option Inv) : Type 0 where
   pub database : Inv
   pub base_is : base ≡ Some database
   pub safe : (contents : ℕ → List ℕ) → Sure command contents told
       → (final : Machine) × (final.core.base ≡ database) × (final.core.journal ≡ journal) × (final.core.stamps ≡ stamps) × IfSome left_told (AlwaysSafe final.contents final.core opened) × IfSome left_told (LeavesSound final)
   pub backups : (contents : ℕ → List ℕ) → Sure command contents told → Had command told → IfSome left_told (KeepsBacked opened)
+  pub throughout : Throughout command told left_told
 
 -- The store counted on: its moment and its counts of faults didn't fall.
 pub record Later {S : Type 0} (moment : S → ℕ) (faults : S → ℕ → ℕ) (old new : S) : Type 0 where

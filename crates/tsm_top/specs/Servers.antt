@@ -5,7 +5,7 @@ use Rattle.client_trees.specs.Files.{Files}
 use Rattle.script_loop.specs.Reply.{Answer}
 use Rattle.script_loop.specs.declared.ends.Halt.{Halt}
 use Rattle.script_loop.specs.declared.ends.Halt.TheVariants.{Memory}
-use Rattle.command_steps.specs.Answers.{nothing}
+use Rattle.block_results.specs.command_steps.Answers.{nothing}
 use Rattle.blocks.specs.Parts.{begins, part}
 use Rattle.blocks.specs.Shapes.{Gathered, begun, is_end, with_line}
 use Rattle.tsm_top.specs.InBlock.{BlockEnds, BlockRan}

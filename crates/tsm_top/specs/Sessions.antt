@@ -7,9 +7,9 @@ use Rattle.script_loop.specs.Reply.{Answer}
 use Rattle.script_loop.specs.declared.ends.Halt.{Halt}
 use Rattle.hall.specs.Held.{Hall}
 use Rattle.hall_turns.specs.Runs.{CameTo}
-use Rattle.command_steps.specs.Answering.{AnswersLine}
-use Rattle.command_steps.specs.Clients.{Client, client}
-use Rattle.command_steps.specs.Lines.{line_of}
+use Rattle.block_results.specs.command_steps.Answering.{AnswersLine}
+use Rattle.block_results.specs.command_steps.Clients.{Client, client}
+use Rattle.block_results.specs.command_steps.Lines.{line_of}
 use Rattle.tsm_top.specs.Notes.{note_of, with_note}
 use Rattle.tsm_top.specs.declared.session.Session.{Session}
 

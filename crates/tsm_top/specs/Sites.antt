@@ -11,11 +11,11 @@ use Rattle.machine.specs.Stamps.{KeepsStamps}
 use Rattle.machine.specs.State.{Machine, inventory}
 use Rattle.hall.specs.Placed.{hall_places}
 use Rattle.hall_turns.specs.Left.{GivesState}
-use Rattle.command_steps.specs.Clients.{Client, Known}
-use Rattle.command_steps.specs.Leaving.{ChangesOnly, tree_named}
-use Rattle.command_steps.specs.Lines.{line_of}
-use Rattle.line_results.specs.Clauses.{Holds}
-use Rattle.line_results.specs.Lines.{Halts, Replies}
+use Rattle.block_results.specs.command_steps.Clients.{Client, Known}
+use Rattle.block_results.specs.command_steps.Leaving.{ChangesOnly, tree_named}
+use Rattle.block_results.specs.command_steps.Lines.{line_of}
+use Rattle.block_results.specs.line_results.Clauses.{Holds}
+use Rattle.block_results.specs.line_results.Lines.{Halts, Replies}
 use Rattle.tsm_top.specs.Notes.{note_of, number_in, with_note}
 use Rattle.tsm_top.specs.Trees.{LeavesFile}
 use Rattle.tsm_top.specs.declared.note.Note.{Note}

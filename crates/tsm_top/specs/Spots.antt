@@ -17,6 +17,7 @@ use Rattle.space.specs.declared.request.Request.{Request}
 use Rattle.space.specs.Claims.{Claims, counted, own_alone, without_others}
 use Rattle.space.specs.Placing.{busy_or_full, choose, goes_to, holds_in, lies_in, no_place, placed_in, placed_or_refused, pool_for, random_among, ticket_in, unforced_in, walked}
 use Rattle.machine.specs.Machine.{Space}
+use Rattle.machine.specs.Says.{is_elsewhere}
 use Rattle.machine.specs.State.{Ticket as MachineTicket}
 use Rattle.hall.specs.Placed.{IsChosen, IsSpace, claim_of, hall_places, request}
 
@@ -108,24 +109,24 @@ nobody_holds v s actor size a prefer avoid h own (claims, space, placed) =
     (λ e is. refused_names r v claims (pool_for r claims.next_file (counted actor claims) v.stores) none e is) placed in
     (names.0, λ free. names.1 (λ number places p there within. nothing_freed s.freed free (number, p.segment) (space.freed number places p there within).0))
 
--- ---- no run ends by it
+-- ---- no run ends by it; it is so for want of room, for room that others hold, or for numbers at their bounds
 
--- a refusal that ends no run
+-- a refusal that ends no run, and that speaks neither of the database nor of the actor's own
 abbrev IsMild : Refusal → Type 0
-IsMild e = has_number (40 ∷ 41 ∷ 50 ∷ []) e ≡ false
+IsMild e = (has_number (40 ∷ 41 ∷ 50 ∷ []) e ≡ false) × (is_elsewhere e ≡ true)
 
 mild_busy : (start : ℕ) (holder : ℕ → Holder) (found : Option ℕ) → IsMild (busy_or_full start holder found)
-mild_busy start holder None = refl
-mild_busy start holder (Some number) = refl
+mild_busy start holder None = (refl, refl)
+mild_busy start holder (Some number) = (refl, refl)
 
 mild_place : (r : Request) (v : Inv) (claims : Claims) → IsMild (no_place r v.stores claims)
 mild_place r v claims =
     of_three IsMild (is_some (pool_for r claims.next_file (without_others (counted r.actor claims)) v.stores)) (is_some (pool_for r claims.next_file (own_alone (counted r.actor claims)) v.stores))
     (busy_or_full (goes_to r.aim) Ticket (ticket_in (walked r.aim v.stores) r.actor claims)) (busy_or_full (goes_to r.aim) Unforced (unforced_in (random_among (walked r.aim v.stores) v.stores) claims)) (NoSpace (goes_to r.aim))
-    (mild_busy (goes_to r.aim) Ticket (ticket_in (walked r.aim v.stores) r.actor claims)) (mild_busy (goes_to r.aim) Unforced (unforced_in (random_among (walked r.aim v.stores) v.stores) claims)) refl
+    (mild_busy (goes_to r.aim) Ticket (ticket_in (walked r.aim v.stores) r.actor claims)) (mild_busy (goes_to r.aim) Unforced (unforced_in (random_among (walked r.aim v.stores) v.stores) claims)) (refl, refl)
 
 full_mild : (full : Bool) (places : List Placed) (e : Refusal) → (let r : Result (List Placed) Refusal = if full then Err InventoryFull else Ok places in r ≡ Err e) → IsMild e
-full_mild true places e is = subst IsMild (let same : InventoryFull ≡ e = cc in same) refl
+full_mild true places e is = subst IsMild (let same : InventoryFull ≡ e = cc in same) (refl, refl)
 full_mild false places e is = absurd cc
 
 chosen_mild : (r : Request) (v : Inv) (claims : Claims) (found : Option ℕ) (e : Refusal) → placed_or_refused r v.stores claims found ≡ Err e → IsMild e
@@ -136,7 +137,13 @@ refused_mild : (pool : Option ℕ) (chosen : Result (List Placed) Refusal) (e : 
 refused_mild pool (Ok places) e mild is = absurd is
 refused_mild pool (Err f) e mild is = subst IsMild (let same : f ≡ e = cc in same) (mild f refl)
 
-pub hall_goes_on : (v : Inv) (s : Space) (actor size : ℕ) (a : Aim) (prefer avoid : ℕ) (e : Refusal) → hall_places v s actor size a prefer avoid (Err e) → has_number (40 ∷ 41 ∷ 50 ∷ []) e ≡ false
-hall_goes_on v s actor size a prefer avoid e (claims, space, placed) =
+hall_refuses : (v : Inv) (s : Space) (actor size : ℕ) (a : Aim) (prefer avoid : ℕ) (e : Refusal) → hall_places v s actor size a prefer avoid (Err e) → IsMild e
+hall_refuses v s actor size a prefer avoid e (claims, space, placed) =
     let r = request actor size a prefer avoid in
     refused_mild (pool_for r claims.next_file (counted actor claims) v.stores) (choose r v.stores claims) e (λ f is. chosen_mild r v claims (pool_for r claims.next_file (counted actor claims) v.stores) f is) placed
+
+pub hall_goes_on : (v : Inv) (s : Space) (actor size : ℕ) (a : Aim) (prefer avoid : ℕ) (e : Refusal) → hall_places v s actor size a prefer avoid (Err e) → has_number (40 ∷ 41 ∷ 50 ∷ []) e ≡ false
+hall_goes_on v s actor size a prefer avoid e placed = (hall_refuses v s actor size a prefer avoid e placed).0
+
+pub hall_is_lawful : (v : Inv) (s : Space) (actor size : ℕ) (a : Aim) (prefer avoid : ℕ) (e : Refusal) → hall_places v s actor size a prefer avoid (Err e) → is_elsewhere e ≡ true
+hall_is_lawful v s actor size a prefer avoid e placed = (hall_refuses v s actor size a prefer avoid e placed).1

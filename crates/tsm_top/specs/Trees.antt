@@ -5,10 +5,10 @@ use Rattle.client_files.specs.Restoring.{HasFile}
 use Rattle.admin_words.specs.declared.command.Command.TheVariants as commands
 use Rattle.admin_words.specs.declared.command.FileCommand.{FileCommand}
 use Rattle.admin_words.specs.declared.command.FileCommand.TheVariants.{Erase, Write}
-use Rattle.command_steps.specs.Clients.{Client}
-use Rattle.command_steps.specs.Leaving.{TreeHas}
-use Rattle.command_steps.specs.Lines.{Line, asks}
-use Rattle.command_steps.specs.Writing.{IsWithout, bytes_of}
+use Rattle.block_results.specs.command_steps.Clients.{Client}
+use Rattle.block_results.specs.command_steps.Leaving.{TreeHas}
+use Rattle.block_results.specs.command_steps.Lines.{Line, asks}
+use Rattle.block_results.specs.command_steps.Writing.{IsWithout, bytes_of}
 
 -- Where the tree that it names tells its files: a WRITE left the named file with its bytes and its time, and an ERASE none; all other files of the tree are as they were.
 abbrev pub DidInTree : FileCommand → Client → Type 0

@@ -7,11 +7,11 @@ ghost use Rattle.tsm_top.specs.Sessions.{can_serve};
 
 use crate::note::Note;
 use crate::session::{Session, answer_alone};
+use block_results::line_jobs::{Ran, Said, print_said, run_lines};
 use blocks::Block;
 use client_trees::Tree;
 use crew::Gate;
 use hall::Hall;
-use line_jobs::{Ran, Said, print_said, run_lines};
 use script_loop::{Halt, Reply};
 use std::alloc::{AllocError, Global};
 use std::sync::Wait;

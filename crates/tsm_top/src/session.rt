@@ -3,17 +3,18 @@ ghost use Rattle.std.specs.Prelude.{◌≡◌, ◌≤◌, ◌<◌, ◌-◌, ◌^
 ghost use Rattle.machine.specs.State.{Machine};
 ghost use Rattle.hall.specs.Steps.{IsTrusted};
 ghost use Rattle.hall_turns.specs.Runs.{CameTo};
-ghost use Rattle.command_steps.specs.Answering.{AnswersLine};
-ghost use Rattle.command_steps.specs.Clients.{client};
-ghost use Rattle.command_steps.specs.Lines.{line_of};
+ghost use Rattle.block_results.specs.command_steps.Answering.{AnswersLine};
+ghost use Rattle.block_results.specs.command_steps.Clients.{client};
+ghost use Rattle.block_results.specs.command_steps.Lines.{line_of};
 ghost use Rattle.tsm_top.specs.OneLine.{ComesTo, RestsAs};
 ghost use Rattle.tsm_top.specs.Sessions.{HaltsLine, ServesLine, can_serve};
 
 use crate::note::{Note, note_of};
+use block_results::command_steps::answer_line;
+use block_results::command_steps::laws::lines_change_their_tree;
+use block_results::line_results::laws::{Placing, answered_lines_hold, lines_come_to};
 use choosers::Binder;
 use client_trees::Tree;
-use command_steps::answer_line;
-use command_steps::laws::lines_change_their_tree;
 use command_words::is_comment;
 use entries::Database;
 use hall::Hall;
@@ -21,7 +22,6 @@ use hall::laws::trusted_halls_are_safe;
 use hall_turns::Direct;
 use hall_turns::laws::{halls_at_rest_are_there, halls_leave_sound_stores, runs_are_alone};
 use kinds::Refusal;
-use line_results::laws::{Placing, answered_lines_hold, lines_come_to};
 use script_loop::{Halt, Reply};
 use std::alloc::Global;
 use store_api::Store;
@@ -46,13 +46,15 @@ pub(crate) struct HallPlaces;
 
 impl Placing for HallPlaces {
     ghost use Rattle.hall.specs.Placed.{hall_places};
-    ghost use Rattle.tsm_top.specs.Spots.{hall_goes_on, nobody_holds};
+    ghost use Rattle.tsm_top.specs.Spots.{hall_goes_on, hall_is_lawful, nobody_holds};
 
     ghost places = { hall_places };
 
     ghost nobody = { nobody_holds };
 
     ghost goes_on = { hall_goes_on };
+
+    ghost elsewhere = { hall_is_lawful };
 }
 
 /// Answers a line by the steps of the script, who has the hall alone, and by calls on the tree that it names.

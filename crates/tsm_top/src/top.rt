@@ -10,7 +10,7 @@ ghost use Rattle.kinds.specs.declared.refusal.OpenRefused.TheVariants.{Memory as
 ghost use Rattle.script_loop.specs.declared.ends.End.{End};
 ghost use Rattle.script_loop.specs.Ends.{SourceCause, SinkCause};
 ghost use Rattle.vault.specs.log_file.Cursor.{Looked};
-ghost use Rattle.command_steps.specs.Clients.{client};
+ghost use Rattle.block_results.specs.command_steps.Clients.{client};
 ghost use Rattle.machine.specs.State.{Machine};
 ghost use Rattle.hall.specs.Good.{Is};
 ghost use Rattle.hall.specs.Opening.{IsNewHall};
@@ -21,9 +21,10 @@ use crate::recover::recover;
 use crate::script::{answer_script, clocks_agree};
 use crate::server::Server;
 use crate::session::{HallPlaces, Session};
+use block_results::command_steps::laws::lines_change_their_tree;
+use block_results::line_results::laws::{answered_lines_hold, lines_come_to};
 use choosers::Binder;
 use client_trees::Tree;
-use command_steps::laws::lines_change_their_tree;
 use crew::Gate;
 use crew::laws::blocks_are_turns;
 use entries::Entry;
@@ -32,7 +33,6 @@ use hall::{Closed, Hall};
 use hall_turns::laws::{halls_at_rest_are_there, halls_leave_sound_stores, runs_are_alone};
 use inventory::Inventory;
 use kinds::OpenRefused;
-use line_results::laws::{answered_lines_hold, lines_come_to};
 use program_words::{Asked, read_words};
 use script_loop::number_line;
 use std::alloc::Global;
@@ -121,9 +121,10 @@ pub fn serve<
     ensures counts { NoneFell (S.faults_of store) (S.faults_of result.store) }
     ensures opened { (S.moment_of store ≤ result.opened) × (result.opened ≤ S.moment_of result.store) }
 
-    // At every moment since the opening each image that a stop may leave is safe, and what is left is a sound store.
+    // At every moment since the opening each image that a stop may leave is safe, and what is left is a sound store. Each image gives back the database backups of the database to which it recovers, as `KeepsBacked` and `Throughout` say.
     ensures images { Images (Asks words.now) S.told store result.store result.opened result.journal.items result.stamps.items result.base }
 {
+    clocks_agree::<S>();
     call(rt, alloc, words, store, trees, script, out, gate, binder)
 }
 

@@ -1,7 +1,7 @@
 use Rattle.std.proofs.Common.{List, refl, sym, subst}
-use Rattle.command_steps.specs.Clients.{all_seen}
-use Rattle.line_jobs.specs.Ran.{RanLines}
-use Rattle.line_jobs.specs.declared.job.Said.{Said}
+use Rattle.block_results.specs.command_steps.Clients.{all_seen}
+use Rattle.block_results.specs.line_jobs.Ran.{RanLines}
+use Rattle.block_results.specs.line_jobs.declared.job.Said.{Said}
 use Rattle.tsm_top.proofs.Blocked.{block_ends, block_ran, err_of, jobs_end, ok_of, ran_block}
 use Rattle.tsm_top.proofs.block.run_block.Goals as goal
 

@@ -1,13 +1,13 @@
 use Rattle.std.proofs.Common.{◌∙◌, ap, sym, refl, arith, ℕ, List, [], ◌∷◌, ◌++◌, Result, Ok, Err}
 use Rattle.inventory_rows.specs.State.{Inv}
 use Rattle.hall_turns.specs.Runs.{CameTo}
-use Rattle.command_steps.specs.Answering.{AnswersLine}
-use Rattle.command_steps.specs.Clients.{client}
-use Rattle.command_steps.specs.Lines.{line_of}
+use Rattle.block_results.specs.command_steps.Answering.{AnswersLine}
+use Rattle.block_results.specs.command_steps.Clients.{client}
+use Rattle.block_results.specs.command_steps.Lines.{line_of}
 use Rattle.tsm_top.specs.Notes.{note_of}
 use Rattle.tsm_top.specs.Sessions.{number_of}
 use Rattle.tsm_top.specs.declared.note.Note.{Note}
-use Rattle.line_jobs.proofs.Running.{lent_out}
+use Rattle.block_results.proofs.of_line_jobs.Running.{lent_out}
 use Rattle.tsm_top.proofs.Noting.{line_noted, not_noted}
 use Rattle.tsm_top.proofs.session.Session.answer_noted.Goals as goal
 

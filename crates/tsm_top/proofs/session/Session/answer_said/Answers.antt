@@ -1,9 +1,9 @@
 use Rattle.std.proofs.Common.{◌∙◌, ap, refl, arith, List, [], ◌++◌, Ok, Err}
 use Rattle.hall_turns.specs.Runs.{CameTo}
-use Rattle.command_steps.specs.Answering.{AnswersLine}
-use Rattle.command_steps.specs.Clients.{client}
-use Rattle.command_steps.specs.Lines.{line_of}
-use Rattle.line_jobs.proofs.Running.{lent_out}
+use Rattle.block_results.specs.command_steps.Answering.{AnswersLine}
+use Rattle.block_results.specs.command_steps.Clients.{client}
+use Rattle.block_results.specs.command_steps.Lines.{line_of}
+use Rattle.block_results.proofs.of_line_jobs.Running.{lent_out}
 use Rattle.tsm_top.specs.declared.note.Note.{Note}
 use Rattle.tsm_top.proofs.Blocked.{is_answered}
 use Rattle.tsm_top.proofs.session.Session.answer_said.Goals as goal
