@@ -15,7 +15,7 @@ loose-bytes : (trusted : Type 0) (d : Deed) (contents seen : ℕ → List ℕ) �
 loose-bytes trusted (ReadPiece object kept from offset wanted answer) contents seen h = λ never. absurd never
 loose-bytes trusted d contents seen h = h
 
-loose-moved : (trusted : Type 0) (places : Places) (e : Event) (m next : Machine) → Moves trusted places 0 e m next → Moves ⊥ places 0 e m next
+pub loose-moved : (trusted : Type 0) (places : Places) (e : Event) (m next : Machine) → Moves trusted places 0 e m next → Moves ⊥ places 0 e m next
 loose-moved trusted places e m next moved = record { seen = moved.seen; next = moved.next; bytes = loose-bytes trusted e.deed m.contents moved.seen moved.bytes; made = moved.made; left = moved.left }
 
 -- ---- the step

@@ -28,14 +28,16 @@ use Rattle.command_steps.specs.sessions.declared.homes.Home.{Home}
 use Rattle.command_steps.specs.Behind.{Behind, forces, no_more, reuses}
 use Rattle.command_steps.specs.Clients.{Client, Known}
 use Rattle.command_steps.specs.Doing.{the_number, the_second}
-use Rattle.command_steps.specs.Owns.{Mover, OnTree, Own, audit_volume, back_up, back_up_database, back_up_pool, back_up_since, checkpoint, data_mover, delete_history, empty_filespace, empty_volume, erase, expire, get, moves, none_but_reuse, none_yet, on_tree, own_of, put, reclaimer, restore, validate, write}
+use Rattle.command_steps.specs.Owns.{Mover, OnTree, Own, all_migrator, audit_volume, back_up, back_up_database, back_up_pool, back_up_since, checkpoint, data_mover, delete_history, empty_filespace, empty_volume, erase, expire, get, migrator, moves, none_but_reuse, none_yet, on_tree, own_of, pool_restorer, put, reclaimer, restore, validate, volume_restorer, write}
 use Rattle.command_steps.specs.Trees.{BacksUp, GivesWanted}
 use Rattle.command_steps.specs.declared.outcome.Outcome.{Outcome}
 use Rattle.line_results.specs.Bounds.{HasReason, IsReasoned, IsUnfollowed, IsUnmade}
 use Rattle.line_results.specs.Commands.{Does, DoesOn, DoesOwn, DoesThere, EndsSo, IsStill, Processes, Ran, Tells, Works, WorksWith, drawn}
 use Rattle.line_results.specs.Files.{Gets, GetsNot, GetsOf, GetsUnder, Puts, PutsBy, PutsHome, PutsOf, PutsUnder, Shows, ShowsFound, Stores, StoresAt, StoresBy, active_at, why_no_place}
+use Rattle.line_results.specs.Migrating.{IsAllMigration, IsPoolMigration}
 use Rattle.line_results.specs.Moving.{ComesToBound, ComesToMissing, HasCopyReason, HasMoveReason, IsBackup, IsCopyReasoned, IsDataMove, IsReclamation, IsStuck, IsUncopied}
 use Rattle.line_results.specs.Resting.{Breaks, EndsRun, RoseFrom, database}
+use Rattle.line_results.specs.Returning.{RestoresPool, RestoresVolume}
 use Rattle.line_results.specs.Trees.{IsRefusedSo}
 use Rattle.line_results.proofs.Runs.{Became, is-as, onward-then, rose-from}
 use Rattle.line_results.proofs.Since.{came-as, commits-as, ends-as, later_of, on-later}
@@ -197,7 +199,13 @@ module _ (trusted : Type 0) (places : Places) (k : Client) (result : Result Outc
   move-reason-as numbers data_mover e (inr (inr stuck)) = inr (inr (stuck-as (IsDataMove (the_number numbers) (the_second numbers)) e stuck))
   move-reason-as numbers reclaimer e (inl none) = inl none
   move-reason-as numbers reclaimer e (inr stuck) = inr (stuck-as (IsReclamation (the_number numbers) (min (the_second numbers) 100)) e stuck)
-  move-reason-as numbers mover e h = tt
+  move-reason-as numbers migrator e (inl without) = inl without
+  move-reason-as numbers migrator e (inr stuck) = inr (stuck-as (IsPoolMigration (the_number numbers) (min (the_second numbers) 100)) e stuck)
+  move-reason-as numbers all_migrator e h = λ sorted. stuck-as IsAllMigration e (h sorted)
+  move-reason-as numbers pool_restorer e (inl none) = inl none
+  move-reason-as numbers pool_restorer e (inr stuck) = inr (stuck-as (RestoresPool (the_number numbers)) e stuck)
+  move-reason-as numbers volume_restorer e (inl barred) = inl barred
+  move-reason-as numbers volume_restorer e (inr stuck) = inr (stuck-as (RestoresVolume (the_number numbers)) e stuck)
 
   copy-reason-as : (numbers : List ℕ) (own : Own) (e : Refusal) → HasCopyReason places numbers own (later_of old mid) e → HasCopyReason places numbers own old e
   copy-reason-as numbers back_up_pool e h = uncopied-as (the_number numbers) (the_second numbers) e h

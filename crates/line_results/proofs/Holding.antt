@@ -48,7 +48,7 @@ use Rattle.command_steps.specs.Lines.{Line, asks, comment, refused as refused_li
 use Rattle.command_steps.specs.Behind.{Behind, behind, forces, no_more, reuses}
 use Rattle.command_steps.specs.Doing.{Forcing, Reusing, the_number, the_second}
 use Rattle.command_steps.specs.Writing.{Erases, Writes, bytes_of}
-use Rattle.command_steps.specs.Owns.{Mover, OnTree, Own, audit_volume, back_up, back_up_database, back_up_pool, back_up_since, checkpoint, data_mover, delete_history, empty_filespace, empty_volume, erase, expire, get, last_of, moves, none_but_reuse, none_yet, on_tree, own_of, put, reclaimer, restore, validate, write}
+use Rattle.command_steps.specs.Owns.{Mover, OnTree, Own, all_migrator, audit_volume, back_up, back_up_database, back_up_pool, back_up_since, checkpoint, data_mover, delete_history, empty_filespace, empty_volume, erase, expire, get, last_of, migrator, moves, none_but_reuse, none_yet, on_tree, own_of, pool_restorer, put, reclaimer, restore, validate, volume_restorer, write}
 use Rattle.command_steps.specs.declared.outcome.Outcome.{Outcome}
 use Rattle.command_steps.specs.declared.outcome.Outcome.TheVariants.{Read, Rows, Said}
 use Rattle.line_results.specs.Bounds.{IsBounded, IsUnaudited, IsUnfollowed, IsUnmade, IsUnmadeBehind, ReachesBound, begins, end_refused, illegal, is_near, is_of_run}
@@ -56,9 +56,11 @@ use Rattle.line_results.specs.Clauses.{BytesBy, BytesOwn, CauseBy, CauseOwn, Cau
 use Rattle.line_results.specs.Commands.{Comes, Does, DoesOwn, DoesThere, EndsWith, IsReuse, Tells, Works, WorksWith, drawn, validated, work_over}
 use Rattle.line_results.specs.Files.{Checkpoints, Gets, GetsOf, GetsUnder, Puts, ShowsFound, active_at, filespace_defined}
 use Rattle.line_results.specs.Lines.{Replies, Says}
+use Rattle.line_results.specs.Migrating.{IsAllMigration, IsPoolMigration}
 use Rattle.line_results.specs.Moving.{HasMoveReason, IsDataMove, IsOpen, IsReclamation, IsStuck, IsUncopied, MayCopy, MayMove}
 use Rattle.line_results.specs.Removing.{CanEmpty, CanRemove, IsBarred}
 use Rattle.line_results.specs.Resting.{Commits, EndsRun, Onward, RoseFrom, SameBytes, database, why_not}
+use Rattle.line_results.specs.Returning.{CanBeLost, CannotBeLost, RestoresPool, RestoresVolume}
 use Rattle.admin_words.specs.declared.files.FilesRestore.{FilesRestore}
 use Rattle.command_steps.specs.Trees.{is_absent, which_of}
 use Rattle.inventory_answers.specs.Clients.{versions_of}
@@ -72,6 +74,7 @@ use Rattle.line_results.proofs.ForceEnds.{forced-done, forced-same, no_said, sai
 use Rattle.line_results.proofs.Growing.{Grows, grown-number}
 use Rattle.line_results.proofs.Keeping.{each-same}
 use Rattle.line_results.proofs.Meeting.{alone-grows}
+use Rattle.line_results.proofs.MigrateReason.{next-not}
 use Rattle.line_results.proofs.Changing.{comes-trees}
 use Rattle.line_results.proofs.Processing.{IsPlainOwn, IsPlainTree, IsProcess, IsProcessOwn, IsProcessTree, IsRowless, kind, over-rowless}
 use Rattle.line_results.proofs.Readable.{contained_holds, not-lost}
@@ -665,13 +668,26 @@ module _ (old between mid : Machine) (on : IsBehind between mid) (rose : NoneRos
   stuck-so places Did (inl (is, missing)) may = may.0 missing
   stuck-so places Did (inr (full, bound)) may = may.1 bound
 
+  lost-so : (file : ℕ) → CannotBeLost file old f → CanBeLost file old → ⊥
+  lost-so file (inl none) may = (let odd : ◌≡◌ {A = Result Change Refusal} (Err f) (Ok may.0) = sym none ∙ may.1 in cc)
+  lost-so file (inr (c, is, why)) may =
+      let both : ◌≡◌ {A = Result Change Refusal} (Ok c) (Ok may.0) = sym is ∙ may.1 in
+      let same : c ≡ may.0 = cc in
+      (let odd : None ≡ Some f = sym may.2 ∙ ap (λ (x : Change). why_not x old.core) (sym same) ∙ why in cc)
+
   moved-so : (places : Places) (mover : Mover) (numbers : List ℕ) → HasMoveReason places numbers mover old f ⊎ ((how : Halt) × (halt_by f ≡ Some how)) → MayMove places numbers mover old → ⊥
   moved-so places data_mover numbers (inl (inl (is, none))) may = true≢false (sym may.0 ∙ none)
   moved-so places data_mover numbers (inl (inr (inl (named, barred)))) may = (let odd : ◌≡◌ {A = Result (Unit {0}) Refusal} (Ok tt) (Err f) = sym (may.1 named) ∙ barred in cc)
   moved-so places data_mover numbers (inl (inr (inr stuck))) may = stuck-so places (IsDataMove (the_number numbers) (the_second numbers)) stuck may.2
   moved-so places reclaimer numbers (inl (inl (is, none))) may = true≢false (sym may.0 ∙ none)
   moved-so places reclaimer numbers (inl (inr stuck)) may = stuck-so places (IsReclamation (the_number numbers) (min (the_second numbers) 100)) stuck may.1
-  moved-so places mover numbers (inl why) may = may
+  moved-so places migrator numbers (inl (inl without)) may = next-not (the_number numbers) (database old) f may.0 without
+  moved-so places migrator numbers (inl (inr stuck)) may = stuck-so places (IsPoolMigration (the_number numbers) (min (the_second numbers) 100)) stuck may.1
+  moved-so places all_migrator numbers (inl why) may = stuck-so places IsAllMigration (why may.0) may.1
+  moved-so places pool_restorer numbers (inl (inl none)) may = true≢false (sym may.0 ∙ none.1)
+  moved-so places pool_restorer numbers (inl (inr stuck)) may = stuck-so places (RestoresPool (the_number numbers)) stuck may.1
+  moved-so places volume_restorer numbers (inl (inl barred)) may = lost-so (the_number numbers) barred may.0
+  moved-so places volume_restorer numbers (inl (inr stuck)) may = stuck-so places (RestoresVolume (the_number numbers)) stuck may.1
   moved-so places mover numbers (inr halts) may = some-not f halts.0 mild halts.1
 
   emptied-so : (filespace : ℕ) → (IsBarred (CanEmpty filespace (database old)) f ⊎ IsBounded old between f) ⊎ ((how : Halt) × (halt_by f ≡ Some how)) → CanEmpty filespace (database old) × StaysWithin old mid → ⊥

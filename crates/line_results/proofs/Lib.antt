@@ -52,6 +52,7 @@ pub mod Line
 pub mod Listed
 pub mod Lying
 pub mod Meeting
+pub mod MigrateReason
 pub mod Mild
 pub mod MoveReason
 pub mod Needs
@@ -73,6 +74,7 @@ pub mod Readable
 pub mod Reasons
 pub mod Removable
 pub mod Restoring
+pub mod ReturnReason
 pub mod Roomy
 pub mod Runs
 pub mod Sending

@@ -54,7 +54,7 @@ ask-core q (Ok a) m next h = h.1.1.core
 ask-core q (Err e) m next (inl h) = h.1.core
 ask-core q (Err e) m next (inr h) = absurd h.1
 
-asks-core : (places : Places) (events : List Event) (m new : Machine) → AreAsking events → Alone ⊥ places 0 events m new → new.core ≡ m.core
+pub asks-core : (places : Places) (events : List Event) (m new : Machine) → AreAsking events → Alone ⊥ places 0 events m new → new.core ≡ m.core
 asks-core places [] m new all same = ap (λ (x : Machine). x.core) same
 asks-core places (e ∷ events) m new all (next, moved, rest) =
     let a = all.0 in
@@ -62,7 +62,7 @@ asks-core places (e ∷ events) m new all (next, moved, rest) =
     let s = ticket-step ⊥ places e m next has moved in
     asks-core places events next new all.1 rest ∙ ask-core a.0 a.1 m next (subst (λ (d : Deed). Case places 0 d m next) a.2 s.1)
 
-at-start : (places : Places) (Is : Deed → Type 0) (events : List Event) (old : Machine) → AreAsking events → (c : CutAt places Is events old) → database c.m ≡ database old
+pub at-start : (places : Places) (Is : Deed → Type 0) (events : List Event) (old : Machine) → AreAsking events → (c : CutAt places Is events old) → database c.m ≡ database old
 at-start places Is events old asks c =
     ap inventory (asks-core places c.first old c.m (all-first _ c.first (c.at ∷ c.later) (subst AreAsking c.cut asks)) c.made)
 
@@ -87,7 +87,7 @@ module _ (places : Places) (lawful : RefusesElsewhere places) (object : ℕ) (a 
   own-all [] h = tt
   own-all (x ∷ xs) h = ((λ is. h.0), own-all xs h.1)
 
-  missing-at : OpensCopy places 0 object a avoid m next (Err e) → IsIn refused.NotFound own
+  pub missing-at : OpensCopy places 0 object a avoid m next (Err e) → IsIn refused.NotFound own
   missing-at (placed, at, inl (inl why, stays)) =
       let can : Bool = can_place_copy object a (inventory m.core) in
       subst (λ (x : Refusal). IsIn x own) (ten-is e ten)
@@ -141,12 +141,12 @@ module _ (trusted : Type 0) (places : Places) (nobody : NobodyHolds places) (law
   by-stop Did did unheld (inr busy) met = absurd (never-held trusted places nobody true events old new rest tries f e unheld met busy.0 busy.1)
 
   -- what stopped it is a bound
-  stuck-by : (Did : List Event → Type 0) → Did events → IsUnheld events e → IsStopped events e → IsStuck places Did old e
+  pub stuck-by : (Did : List Event → Type 0) → Did events → IsUnheld events e → IsStopped events e → IsStuck places Did old e
   stuck-by Did did unheld (inl memory) = absurd (ends-halt e (subst Ends (sym memory) refl) mild)
   stuck-by Did did unheld (inr (stops, met)) = by-stop Did did unheld (stopping-mild e stops mild) met
 
   -- a ticket wasn't given for what it names
-  stuck-at : (Did : List Event → Type 0) → Did events → (number_of e == 10) ≡ true → (object : ℕ) (a : Aim) (avoid : ℕ) → MetBy (λ d. d ≡ OpenCopy object a avoid (Err e)) events → IsStuck places Did old e
+  pub stuck-at : (Did : List Event → Type 0) → Did events → (number_of e == 10) ≡ true → (object : ℕ) (a : Aim) (avoid : ℕ) → MetBy (λ d. d ≡ OpenCopy object a avoid (Err e)) events → IsStuck places Did old e
   stuck-at Did did ten object a avoid met =
       let Is : Deed → Type 0 = (λ d. d ≡ OpenCopy object a avoid (Err e)) in
       let c = cut Is met in
@@ -155,7 +155,7 @@ module _ (trusted : Type 0) (places : Places) (nobody : NobodyHolds places) (law
 
   -- ---- MOVE DATA
 
-  volume-not : (file : ℕ) → (number_of e == 10) ≡ true → MetBy (λ d. d ≡ Ask (query.OnVolume file) (Err e)) events → AreAsking events → has_volume file (database old) ≡ false
+  pub volume-not : (file : ℕ) → (number_of e == 10) ≡ true → MetBy (λ d. d ≡ Ask (query.OnVolume file) (Err e)) events → AreAsking events → has_volume file (database old) ≡ false
   volume-not file ten met asks =
       let Is : Deed → Type 0 = (λ d. d ≡ Ask (query.OnVolume file) (Err e)) in
       let c = cut Is met in

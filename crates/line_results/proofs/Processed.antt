@@ -45,11 +45,11 @@ use Rattle.command_steps.specs.incrementals.Process.{may_leave}
 use Rattle.command_steps.specs.incrementals.declared.answering.Sent.{Sent}
 use Rattle.inventory_answers.specs.declared.lines.VolumeLine.{VolumeLine}
 use Rattle.kinds.specs.declared.pool.Access.TheVariants.{Destroyed}
-use Rattle.command_steps.specs.migration.Migrating.{IsMigration}
-use Rattle.command_steps.specs.migration.Sweeping.{IsSweep}
+use Rattle.command_steps.specs.migration.Migrating.{IsMigration, Migration}
+use Rattle.command_steps.specs.migration.Sweeping.{AllMigration, IsSweep}
 use Rattle.command_steps.specs.pool_restores.Listing.{aim_of, destroying, destroying_found, volume_with}
-use Rattle.command_steps.specs.pool_restores.Restoring.{IsRestore}
-use Rattle.command_steps.specs.pool_restores.Volumes.{IsVolumeRestore}
+use Rattle.command_steps.specs.pool_restores.Restoring.{IsRestore, PoolRestore}
+use Rattle.command_steps.specs.pool_restores.Volumes.{IsVolumeRestore, VolumeRestore}
 use Rattle.command_steps.specs.reclamation.Moving.{DataMove, IsMoving, into}
 use Rattle.command_steps.specs.reclamation.Reclaiming.{IsReclaiming, Reclamation}
 use Rattle.command_steps.specs.reuse_delay.Reusing.{IsReusing, VolumeReuse}
@@ -72,7 +72,7 @@ use Rattle.machine.specs.State.{Core, Machine, inventory}
 use Rattle.command_steps.specs.Answers.{halt_by}
 use Rattle.command_steps.specs.Behind.{Behind, behind, forces, no_more, reuses, with_reused}
 use Rattle.command_steps.specs.Clients.{Client, IsKept}
-use Rattle.command_steps.specs.Doing.{Does as DoesBy, DoesAlone as DoesAloneBy, DoesOwn as DoesOwnBy, DoesWork, EndsWork, Forcing, MovesSo, Reusing, backed_up, moved_line, the_number, the_second}
+use Rattle.command_steps.specs.Doing.{Does as DoesBy, DoesAlone as DoesAloneBy, DoesOwn as DoesOwnBy, DoesWork, EndsWork, Forcing, MovesSo, Reusing, backed_up, first_picks, moved_line, the_number, the_second}
 use Rattle.command_steps.specs.Owns.{Mover, OnTree, Own, all_migrator, audit_volume, back_up, back_up_database, back_up_pool, back_up_since, checkpoint, data_mover, delete_history, empty_filespace, empty_volume, expire, get, last_of, migrator, moves, none_but_reuse, none_yet, on_tree, own_of, pool_restorer, put, reclaimer, validate, volume_restorer}
 use Rattle.command_steps.specs.Trees.{DoesThere as DoesThereBy, ShowsSent}
 use Rattle.command_steps.specs.volume_audits.Auditing.{IsAuditing, VolumeAudit}
@@ -102,7 +102,9 @@ use Rattle.line_results.proofs.Keeping.{IsStored, each-same}
 use Rattle.line_results.proofs.Opened.{orders-of}
 use Rattle.line_results.proofs.Planned.{backup-sends}
 use Rattle.line_results.proofs.CopyReason.{copy-reason}
+use Rattle.line_results.proofs.MigrateReason.{all-reason, migrate-reason, migrations-try, sweeps-try}
 use Rattle.line_results.proofs.MoveReason.{move-reason, moves-try, reclaim-reason, reclaims-try}
+use Rattle.line_results.proofs.ReturnReason.{restore-pool-reason, restore-volume-reason, restores-try}
 use Rattle.line_results.proofs.Reasons.{audit-reason, copy-reasoned, copy-unreasoned, expire-reason, filespace-reason, history-reason, reasoned, reuses-reason, unreasoned, volume-reason}
 use Rattle.line_results.proofs.Runs.{alone-none, alone-parts, onward-none}
 use Rattle.line_results.proofs.Sending.{Sends, Stored, has-tickets, sends-walk, stored-none}
@@ -421,17 +423,37 @@ module _ (trusted : Type 0) (places : Places) (choice : List Rule) (b : Behind) 
       ) f
   moves-began nobody lawful pool_restorer numbers said events old mid rest h f =
       copies-began true NoOther numbers (moves pool_restorer) said events old mid (λ c is. no-other c true is) rest h (all-copies true NoOther IsRestore (restore-moves NoOther) events h.1.only)
-      (λ leave. moves-settled events said leave pool_restorer (the_number numbers) (the_second numbers) h.0 h.1 h.2) (unreasoned numbers (moves pool_restorer) old mid said (λ e. tt), copy-unreasoned places numbers (moves pool_restorer) old said (λ e. tt)) f
+      (λ leave. moves-settled events said leave pool_restorer (the_number numbers) (the_second numbers) h.0 h.1 h.2) (
+        unreasoned numbers (moves pool_restorer) old mid said (λ e. tt),
+        copy-reasoned places numbers (moves pool_restorer) old (λ (m : Moved). Said (moved_line pool_restorer m)) h.0 said h.2
+            (λ e is mild. restore-pool-reason trusted places nobody lawful events e old mid mild rest (restores-try events h.1.only) f (the_number numbers)
+            (subst (λ (r : Result Moved Refusal). PoolRestore (the_number numbers) events r) is h.1)),
+      ) f
   moves-began nobody lawful volume_restorer numbers said events old mid rest h f =
       copies-began true (IsLoss (the_number numbers)) numbers (moves volume_restorer) said events old mid (λ c is. is) rest h
       (all-copies true (IsLoss (the_number numbers)) (IsVolumeRestore (the_number numbers)) (volume-moves (the_number numbers)) events h.1.only)
-      (λ leave. moves-settled events said leave volume_restorer (the_number numbers) (the_second numbers) h.0 h.1 h.2) (unreasoned numbers (moves volume_restorer) old mid said (λ e. tt), copy-unreasoned places numbers (moves volume_restorer) old said (λ e. tt)) f
+      (λ leave. moves-settled events said leave volume_restorer (the_number numbers) (the_second numbers) h.0 h.1 h.2) (
+        unreasoned numbers (moves volume_restorer) old mid said (λ e. tt),
+        copy-reasoned places numbers (moves volume_restorer) old (λ (m : Moved). Said (moved_line volume_restorer m)) h.0 said h.2
+            (λ e is mild. restore-volume-reason trusted places nobody lawful (the_number numbers) events e old mid mild rest f
+            (subst (λ (r : Result Moved Refusal). VolumeRestore (the_number numbers) events r) is h.1)),
+      ) f
   moves-began nobody lawful migrator numbers said events old mid rest h f =
       copies-began true NoOther numbers (moves migrator) said events old mid (λ c is. no-other c true is) rest h (all-copies true NoOther (IsMigration (the_number numbers)) (migration-moves (the_number numbers)) events h.1.only)
-      (λ leave. moves-settled events said leave migrator (the_number numbers) (the_second numbers) h.0 h.1 h.2) (unreasoned numbers (moves migrator) old mid said (λ e. tt), copy-unreasoned places numbers (moves migrator) old said (λ e. tt)) f
+      (λ leave. moves-settled events said leave migrator (the_number numbers) (the_second numbers) h.0 h.1 h.2) (
+        unreasoned numbers (moves migrator) old mid said (λ e. tt),
+        copy-reasoned places numbers (moves migrator) old (λ (m : Moved). Said (moved_line migrator m)) h.0 said h.2
+            (λ e is mild. migrate-reason trusted places nobody lawful events e old mid mild rest (migrations-try (the_number numbers) events h.1.only) f (the_number numbers) (min (the_second numbers) 100)
+            (subst (λ (r : Result Moved Refusal). Migration first_picks (the_number numbers) (min (the_second numbers) 100) events r) is h.1)),
+      ) f
   moves-began nobody lawful all_migrator numbers said events old mid rest h f =
       copies-began true NoOther numbers (moves all_migrator) said events old mid (λ c is. no-other c true is) rest h (all-copies true NoOther IsSweep sweep-moves events h.1.only)
-      (λ leave. moves-settled events said leave all_migrator (the_number numbers) (the_second numbers) h.0 h.1 h.2) (unreasoned numbers (moves all_migrator) old mid said (λ e. tt), copy-unreasoned places numbers (moves all_migrator) old said (λ e. tt)) f
+      (λ leave. moves-settled events said leave all_migrator (the_number numbers) (the_second numbers) h.0 h.1 h.2) (
+        unreasoned numbers (moves all_migrator) old mid said (λ e. tt),
+        copy-reasoned places numbers (moves all_migrator) old (λ (m : Moved). Said (moved_line all_migrator m)) h.0 said h.2
+            (λ e is mild. all-reason trusted places nobody lawful events e old mid mild rest (sweeps-try events h.1.only) f
+            (subst (λ (r : Result Moved Refusal). AllMigration first_picks events r) is h.1)),
+      ) f
 
   alone-began : NobodyHolds places → RefusesElsewhere places → (own : Own) (numbers : List ℕ) (said : Result Outcome Refusal) (events : List Event) (old mid : Machine) → IsProcessOwn own → IsAtRest old.core → DoesAloneBy choice own numbers events said
       → Alone trusted places 0 events old mid → OwnBegan trusted places (λ added. DoesAlone trusted places choice numbers own old mid said added) b old mid said

@@ -2,6 +2,7 @@
 use Rattle.std.proofs.Common.{Result}
 use Rattle.command_steps.specs.deletions.Filespaces.{of_version, with_node}
 use Rattle.command_steps.specs.deletions.Volumes.{row_of}
+use Rattle.command_steps.specs.migration.Sweeping.{due_at}
 
 abbrev Gives : {A B : Type 0} → (A → B) → Type 0
 Gives {A} {B} f = B
@@ -20,3 +21,7 @@ Names = Answers with_node
 -- what the deletion of a volume names
 abbrev pub Row : Type 0
 Row = Gives row_of
+
+-- a pool that is due
+abbrev pub Due : Type 0
+Due = Gives due_at

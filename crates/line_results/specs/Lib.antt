@@ -20,8 +20,10 @@ pub mod Commands
 pub mod Copied
 pub mod Files
 pub mod Lines
+pub mod Migrating
 pub mod Moving
 pub mod Removing
 pub mod Resting
+pub mod Returning
 pub mod Room
 pub mod Trees

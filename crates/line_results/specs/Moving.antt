@@ -5,7 +5,7 @@ use Rattle.kinds.specs.declared.refusal.Refusal.TheVariants.{InventoryFull, NotF
 use Rattle.entries.specs.declared.change.Change.{Change}
 use Rattle.inventory_answers.specs.Stores.{pool_lines, volume_lines}
 use Rattle.inventory_rows.specs.State.{Inv}
-use Rattle.inventory_work.specs.Copies.{has_volume}
+use Rattle.inventory_work.specs.Copies.{has_pool, has_volume}
 use Rattle.command_steps.specs.copy_pools.Backups.{Backup, are_kinds, pool_kind}
 use Rattle.command_steps.specs.copy_runs.declared.wanted.Moved.{Moved}
 use Rattle.command_steps.specs.copy_runs.Wanting.{IsIn}
@@ -20,10 +20,12 @@ use Rattle.machine.specs.Machine.{Places, asked_change, size_of, space}
 use Rattle.machine.specs.State.{Machine, sight}
 use Rattle.command_steps.specs.Answers.{halt_by}
 use Rattle.command_steps.specs.Doing.{the_number, the_second}
-use Rattle.command_steps.specs.Owns.{Mover, Own, back_up_pool, data_mover, moves, reclaimer}
+use Rattle.command_steps.specs.Owns.{Mover, Own, all_migrator, back_up_pool, data_mover, migrator, moves, pool_restorer, reclaimer, volume_restorer}
 use Rattle.command_steps.specs.declared.outcome.Outcome.{Outcome}
 use Rattle.line_results.specs.Bounds.{illegal}
+use Rattle.line_results.specs.Migrating.{IsAllMigration, IsPoolMigration, IsWithoutNext, StandByNumber, has_next}
 use Rattle.line_results.specs.Resting.{Onward, database}
+use Rattle.line_results.specs.Returning.{CanBeLost, CannotBeLost, HasNoPool, RestoresPool, RestoresVolume}
 
 -- ---- bounds
 
@@ -118,7 +120,11 @@ IsUnreclaimed places pool threshold old why =
 abbrev pub HasMoveReason : Places → (numbers : List ℕ) → Mover → (old : Machine) → Refusal → Type 0
 HasMoveReason places numbers data_mover old why = IsUnmoved places (the_number numbers) (the_second numbers) old why
 HasMoveReason places numbers reclaimer old why = IsUnreclaimed places (the_number numbers) (min (the_second numbers) 100) old why
-HasMoveReason places numbers mover old why = Unit {0}
+HasMoveReason places numbers migrator old why =
+    IsWithoutNext (the_number numbers) (database old) why ⊎ IsStuck places (IsPoolMigration (the_number numbers) (min (the_second numbers) 100)) old why
+HasMoveReason places numbers all_migrator old why = StandByNumber (database old) → IsStuck places IsAllMigration old why
+HasMoveReason places numbers pool_restorer old why = HasNoPool (the_number numbers) old why ⊎ IsStuck places (RestoresPool (the_number numbers)) old why
+HasMoveReason places numbers volume_restorer old why = CannotBeLost (the_number numbers) old why ⊎ IsStuck places (RestoresVolume (the_number numbers)) old why
 
 -- why a process that makes copies is refused over the numbers of the things that it names; of those that aren't told apart here its steps alone say why
 abbrev pub HasCopyReason : Places → (numbers : List ℕ) → Own → (old : Machine) → Refusal → Type 0
@@ -146,8 +152,10 @@ MayMoveData places file to old =
 abbrev pub MayReclaim : Places → (pool threshold : ℕ) → (old : Machine) → Type 0
 MayReclaim places pool threshold old = (is_sequential_there pool (database old) ≡ true) × IsOpen places (IsReclamation pool threshold) old
 
--- Of movers that aren't told apart here none is said to be legal.
 abbrev pub MayMove : Places → (numbers : List ℕ) → Mover → (old : Machine) → Type 0
 MayMove places numbers data_mover old = MayMoveData places (the_number numbers) (the_second numbers) old
 MayMove places numbers reclaimer old = MayReclaim places (the_number numbers) (min (the_second numbers) 100) old
-MayMove places numbers mover old = ⊥
+MayMove places numbers migrator old = (has_next (the_number numbers) (database old) ≡ true) × IsOpen places (IsPoolMigration (the_number numbers) (min (the_second numbers) 100)) old
+MayMove places numbers all_migrator old = StandByNumber (database old) × IsOpen places IsAllMigration old
+MayMove places numbers pool_restorer old = (has_pool (the_number numbers) (database old) ≡ true) × IsOpen places (RestoresPool (the_number numbers)) old
+MayMove places numbers volume_restorer old = CanBeLost (the_number numbers) old × IsOpen places (RestoresVolume (the_number numbers)) old

@@ -15,13 +15,13 @@ use Rattle.steps.specs.Events.Deed.{Force}
 use Rattle.steps.specs.Receipts.{is_forced, made, receipts}
 use Rattle.machine.specs.Fits.{Fits, History, Own}
 use Rattle.machine.proofs.Runs.{fits-cut}
-use Rattle.copy_attempts.proofs.Facts.{all-append, made-append}
+use Rattle.copy_attempts.proofs.Facts.{all-append, made-append, met-behind}
 use Rattle.steps.proofs.Spending.{settled-append}
 use Rattle.copy_attempts.specs.Attempts.{stopping}
-use Rattle.copy_attempts.specs.Outcomes.{IsOf, may_leave}
+use Rattle.copy_attempts.specs.Outcomes.{IsOf, MetBy, may_leave}
 use Rattle.copy_runs.specs.declared.wanted.Moved.{Moved}
 use Rattle.copy_runs.specs.declared.wanted.Wanted.{Wanted}
-use Rattle.copy_runs.specs.Ends.{AreAsking, AreEnding, AskedPools, AsksPools, Finishes, IsStopped}
+use Rattle.copy_runs.specs.Ends.{AreAsking, AreEnding, AskedPools, AsksPools, Finishes, IsStopped, IsUnheld}
 use Rattle.copy_runs.specs.Parts.{Part, both_moved, none_moved}
 use Rattle.copy_runs.specs.Processes.{AreMoving}
 use Rattle.copy_runs.specs.Runs.{EntersOnly, HasFailed, IsEntered, IsEntryFor, LeavesNone, failing_in}
@@ -30,11 +30,12 @@ use Rattle.copy_runs.proofs.Ending.{force-refused, stopped-behind}
 use Rattle.copy_runs.proofs.Outcomes.{failing-append, then-none}
 use Rattle.copy_runs.proofs.Parts.{all-before, as-failed, asks-failed, behind-failed, in-either, join-failed, none-behind, part-acknowledged, part-as, part-behind-asks, part-join, part-of-asks}
 use Rattle.copy_runs.proofs.Risen.{call-rises}
+use Rattle.copy_runs.proofs.Unheld.{asking-unheld, ending-unheld, other-unheld, unheld-behind}
 use Rattle.copy_runs.proofs.Whole.{asks-begun, ends-none, ends-settled, ends-unmade}
 use Rattle.migration.specs.declared.sweep.Due.{Due}
 use Rattle.migration.specs.declared.sweep.Swept.{Swept}
-use Rattle.migration.specs.Migrating.{AreMigration, Breaks, EntersFrom, IsBarred, IsEnteredIn, IsForced, IsMigrated, IsMigration, Lowers, Migrates}
-use Rattle.migration.specs.Sweeping.{AllMigration, AreAny, AreSweep, AskedDue, AsksDue, EntersAny, HasFailedAny, IsAny, IsEnteredAny, IsSweep, SweepBreaks, SweepTurn, Sweeping, Sweeps, SweepsAll, SweptAll, Turn, due_of, last_of_turns}
+use Rattle.migration.specs.Migrating.{AreMigration, Breaks, EntersFrom, IsEnteredIn, IsForced, IsMigrated, IsMigration, Lowers, Migrates}
+use Rattle.migration.specs.Sweeping.{AllMigration, AreAny, AreSweep, AskedDue, AsksDue, EntersAny, HasFailedAny, IsAny, IsBarredIn, IsEnteredAny, IsSweep, SweepBreaks, SweepTurn, Sweeping, Sweeps, SweepsAll, SweptAll, TellsDue, Turn, due_of, last_of_turns}
 use Rattle.migration.specs.Turns.{Picks, unasked}
 use Rattle.migration.proofs.Rows.{row-of}
 use Rattle.migration.proofs.Turning.{AreMigrating, cause-behind, turns-migrate}
@@ -57,18 +58,6 @@ any-entered pool w actor (e ∷ xs) h = ((h.0.0, pool, h.0.1, h.0.2, h.0.3, h.0.
 
 any-enters : (pool : ℕ) (xs : List Event) → EntersFrom pool xs → EntersAny xs
 any-enters pool xs h w actor a b none f = any-entered pool w actor (made xs) (h w actor a b none f)
-
-breaks-any : (pool low : ℕ) (xs : List Event) (e : Refusal) → Breaks pool low xs e → SweepBreaks xs e
-breaks-any pool low xs e h = record {
-  cause = elim h.cause as (λ _. IsStopped xs e ⊎ ((p : ℕ) × (l : ℕ) × IsBarred p l xs e)) [
-    | inl stopped ↦ inl stopped
-    | inr barred ↦ inr (pool, low, barred)
-  ];
-  only = any-migration pool xs h.only;
-  entries = any-enters pool xs h.entries;
-  settled = h.settled;
-  none_left = h.none_left;
-}
 
 only-any : (wanted : List Wanted) (xs : List Event) → AreAny wanted → AreMoving wanted 0 xs → AreSweep xs
 only-any wanted [] all h = tt
@@ -99,16 +88,17 @@ failed-any : (wanted : List Wanted) (events : List Event) (objects : List ℕ) �
 failed-any wanted events [] all h = tt
 failed-any wanted events (o ∷ objects) all h = ((h.0.0, all h.0.0 h.0.4, (h.0.0, h.0.1, h.0.2, h.0.3, inl refl, h.0.5, h.0.6, h.0.7)), failed-any wanted events objects all h.1)
 
-any-behind : (xs ys : List Event) (e : Refusal) → IsStopped ys e ⊎ ((p : ℕ) × (l : ℕ) × IsBarred p l ys e) → IsStopped (xs ++ ys) e ⊎ ((p : ℕ) × (l : ℕ) × IsBarred p l (xs ++ ys) e)
+any-behind : (xs ys : List Event) (e : Refusal) → IsStopped ys e ⊎ IsBarredIn ys e → IsStopped (xs ++ ys) e ⊎ IsBarredIn (xs ++ ys) e
 any-behind xs ys e (inl h) = inl (stopped-behind xs ys e h)
-any-behind xs ys e (inr h) = elim (cause-behind h.0 h.1 xs ys e (inr h.2)) as (λ _. IsStopped (xs ++ ys) e ⊎ ((p : ℕ) × (l : ℕ) × IsBarred p l (xs ++ ys) e)) [
+any-behind xs ys e (inr h) = elim (cause-behind h.0.pool h.0.low xs ys e (inr h.2)) as (λ _. IsStopped (xs ++ ys) e ⊎ IsBarredIn (xs ++ ys) e) [
   | inl stopped ↦ inl stopped
-  | inr barred ↦ inr (h.0, h.1, barred)
+  | inr barred ↦ inr (h.0, met-behind (TellsDue h.0) xs ys h.1, barred)
 ]
 
 breaks-behind : (wanted : List Wanted) (xs ys : List Event) (m : Moved) (e : Refusal) → AreAny wanted → Part wanted 0 xs m → SweepBreaks ys e → SweepBreaks (xs ++ ys) e
 breaks-behind wanted xs ys m e all p h = record {
   cause = any-behind xs ys e h.cause;
+  unheld = unheld-behind xs ys e h.unheld;
   only = all-append (λ x. IsSweep x.deed) xs ys (only-any wanted xs all p.only) h.only;
   entries = enters-both xs ys (enters-any wanted xs all p.entries) p.done.none_left h.entries;
   settled = λ leave. settled-append xs ys p.done.settled (h.settled leave);
@@ -118,9 +108,10 @@ breaks-behind wanted xs ys m e all p h = record {
 none-any : AreAny []
 none-any x i = absurd i
 
-part-breaks : (wanted : List Wanted) (xs : List Event) (m : Moved) (e : Refusal) → IsStopped xs e → AreAny wanted → Part wanted 0 xs m → SweepBreaks xs e
-part-breaks wanted xs m e stopped all p = record {
+part-breaks : (wanted : List Wanted) (xs : List Event) (m : Moved) (e : Refusal) → IsStopped xs e → IsUnheld xs e → AreAny wanted → Part wanted 0 xs m → SweepBreaks xs e
+part-breaks wanted xs m e stopped unheld all p = record {
   cause = inl stopped;
+  unheld = unheld;
   only = only-any wanted xs all p.only;
   entries = enters-any wanted xs all p.entries;
   settled = λ leave. p.done.settled;
@@ -150,7 +141,7 @@ sweep-none did p q picks before a = a
 
 pub sweep-unasked : {S : Type 0} (did : S → List Event → S → Type 0) (p q : S) (picks : Picks) (before : Option ℕ) (e : Refusal) → Call did p q (λ events. AsksDue before events (Err e))
     → Call did p q (λ events. SweepTurn picks before events (Err e))
-sweep-unasked did p q picks before e a = (a.0, a.1, part-breaks [] a.0 none_moved e a.2.0 none-any (part-of-asks 0 a.0 a.2.1))
+sweep-unasked did p q picks before e a = (a.0, a.1, part-breaks [] a.0 none_moved e a.2.0 (asking-unheld a.0 e a.2.1 a.2.0) none-any (part-of-asks 0 a.0 a.2.1))
 
 turn-row : (picks : Picks) (pool low : ℕ) (xs : List Event) (m : Moved) → (h : Migrates picks pool low xs m) → IsMigrated pool low h.part.done.failed xs
 turn-row picks pool low xs m h = subst (λ (es : List Event). IsMigrated pool low h.part.done.failed es) (append-nil xs) (row-of picks pool low h.wanted m xs [] h.order h.part (inl refl))
@@ -167,12 +158,30 @@ sweep-moved did goes p q r picks before t m a b =
     call_then did goes (λ events. AsksDue before events (Ok (Some t))) (λ events. Lowers picks t.pool t.low events (Ok m))
     (λ events. SweepTurn picks before events (Ok (Some (record { pool = t.pool; moved = m })))) p q r a b (λ xs ys f g. sweep-ok picks before t m xs ys f g)
 
+due-told : (before : Option ℕ) (t : Due) (xs ys : List Event) → AskedDue before xs (Some t) → MetBy (TellsDue t) (xs ++ ys)
+due-told before t xs ys h = subst (λ (es : List Event). MetBy (TellsDue t) (es ++ ys)) (sym h.1.2) (inl (before, h.1.1, h.0, refl, h.1.3, h.2))
+
+broke-of : (before : Option ℕ) (t : Due) (xs ys : List Event) (e : Refusal) → AskedDue before xs (Some t) → Breaks t.pool t.low ys e → SweepBreaks (xs ++ ys) e
+broke-of before t xs ys e asked h =
+    let p : Part [] 0 xs none_moved = part-of-asks 0 xs (due-asks before xs (Some t) asked) in
+    record {
+      cause = elim (cause-behind t.pool t.low xs ys e h.cause) as (λ _. IsStopped (xs ++ ys) e ⊎ IsBarredIn (xs ++ ys) e) [
+        | inl stopped ↦ inl stopped
+        | inr barred ↦ inr (t, due-told before t xs ys asked, barred)
+      ];
+      unheld = unheld-behind xs ys e h.unheld;
+      only = all-append (λ x. IsSweep x.deed) xs ys (only-any [] xs none-any p.only) (any-migration t.pool ys h.only);
+      entries = enters-both xs ys (enters-any [] xs none-any p.entries) p.done.none_left (any-enters t.pool ys h.entries);
+      settled = λ leave. settled-append xs ys p.done.settled (h.settled leave);
+      none_left = λ leave. then-none xs ys p.done.none_left (h.none_left leave);
+    }
+
 pub sweep-broke : {S : Type 0} (did : S → List Event → S → Type 0) → GoesOn did → (p q r : S) (picks : Picks) (before : Option ℕ) (t : Due) (e : Refusal)
     → Call did p q (λ events. AsksDue before events (Ok (Some t))) → Call did q r (λ events. Lowers picks t.pool t.low events (Err e))
     → Call did p r (λ events. SweepTurn picks before events (Err e))
 sweep-broke did goes p q r picks before t e a b =
     call_then did goes (λ events. AsksDue before events (Ok (Some t))) (λ events. Lowers picks t.pool t.low events (Err e)) (λ events. SweepTurn picks before events (Err e)) p q r a b
-    (λ xs ys f g. breaks-behind [] xs ys none_moved e none-any (part-of-asks 0 xs (due-asks before xs (Some t) f)) (breaks-any t.pool t.low ys e g))
+    (λ xs ys f g. broke-of before t xs ys e f g)
 
 -- ---- several
 
@@ -270,7 +279,7 @@ sweeping-breaks did goes p q r picks before m e a b =
 
 pub sweeping-ends : {S : Type 0} (did : S → List Event → S → Type 0) (p q : S) (picks : Picks) (before : Option ℕ) (m : Moved) → Call did p q (λ events. Sweeping picks before events m)
     → Call did p q (λ events. SweepsAll picks events (Err refused.Memory))
-sweeping-ends did p q picks before m a = (a.0, a.1, part-breaks a.2.wanted a.0 m refused.Memory (inl refl) a.2.all a.2.part)
+sweeping-ends did p q picks before m a = (a.0, a.1, part-breaks a.2.wanted a.0 m refused.Memory (inl refl) (other-unheld a.0 refused.Memory (λ h busy. cc)) a.2.all a.2.part)
 
 pub sweeping-too-far : {S : Type 0} (did : S → List Event → S → Type 0) → GoesOn did → (p q r : S) (picks : Picks) (before : Option ℕ) (s : Swept) (m : Moved)
     → Call did p q (λ events. Sweeping picks before events m) → Call did q r (λ events. SweepTurn picks before events (Ok (Some s)))
@@ -298,6 +307,7 @@ ending-enters zs h w actor a b none f = subst (λ (es : List Event). AllByRecurs
 ending-breaks : (zs : List Event) (e : Refusal) → AreEnding zs → IsStopped zs e → SweepBreaks zs e
 ending-breaks zs e h stopped = record {
   cause = inl stopped;
+  unheld = ending-unheld zs e h stopped;
   only = ending-sweeps zs h;
   entries = ending-enters zs h;
   settled = λ leave. ends-settled zs h;

@@ -4,6 +4,7 @@ use Rattle.std.proofs.lemmas.Bool.{false≢true}
 use Rattle.std.proofs.lemmas.List.{append-nil}
 use Rattle.std.specs.List.{AllByRecursion}
 use Rattle.kinds.specs.Refusals.{number_of}
+use Rattle.kinds.specs.declared.refusal.Holder.{Holder}
 use Rattle.kinds.specs.declared.refusal.Refusal.{Refusal}
 use Rattle.kinds.specs.declared.refusal.Refusal.TheVariants as refused
 use Rattle.entries.specs.declared.change.Change.{Change}
@@ -29,7 +30,7 @@ use Rattle.steps.specs.Spent.{AreSettled}
 use Rattle.copy_pools.proofs.Missing.{asked-pools}
 use Rattle.copy_runs.specs.declared.wanted.Moved.{Moved}
 use Rattle.copy_runs.specs.declared.wanted.Wanted.{Wanted}
-use Rattle.copy_runs.specs.Ends.{AreAsking, AskedPools, IsAsking, IsStopped, IsUnlisted}
+use Rattle.copy_runs.specs.Ends.{AreAsking, AskedPools, IsAsking, IsStopped, IsUnheld, IsUnlisted}
 use Rattle.copy_runs.specs.Parts.{Part, both_moved, none_moved}
 use Rattle.copy_runs.specs.Processes.{AreMoving}
 use Rattle.copy_runs.specs.Runs.{AreOfThese, EntersOnly, HasFailed, IsCausedByOne, IsEntered, IsEntryFor, LeavesNone, Run}
@@ -38,9 +39,10 @@ use Rattle.copy_runs.proofs.Ending.{stopped-behind}
 use Rattle.copy_runs.proofs.Outcomes.{then-none}
 use Rattle.copy_runs.proofs.Parts.{none-behind, part-as, part-behind-asks, part-join, part-of-asks, part-of-run}
 use Rattle.copy_runs.proofs.Told.{reaches}
+use Rattle.copy_runs.proofs.Unheld.{asking-unheld, other-unheld, run-unheld, unheld-behind}
 use Rattle.copy_runs.proofs.Whole.{IsBegun, asks-begun, asks-unmade}
-use Rattle.migration.specs.Marks.{Looked, Looks, target}
-use Rattle.migration.specs.Migrating.{AreMigration, Breaks, EntersFrom, Going, GoesSo, HasFailedIn, IsBarred, IsEnteredIn, IsMigrating, IsMigration, Lowers, Migrates, Turning}
+use Rattle.migration.specs.Marks.{Looked, Looks, is_within, line_of, onward, target, target_of}
+use Rattle.migration.specs.Migrating.{AreMigration, Breaks, EntersFrom, Going, GoesSo, HasFailedIn, IsBarred, IsEnteredIn, IsMigrating, IsMigration, Lowers, Migrates, TellsWhy, Turning}
 use Rattle.migration.specs.Turns.{AreTried, AsksPool, Filled, FilledFrom, Fills, IsLow, IsOver, IsPicked, Lowered, Picks, Rest, Turned, Turns, unasked}
 
 -- ---- of the pool
@@ -92,15 +94,37 @@ pub each-failed : (pool : ℕ) (wanted : List Wanted) (events : List Event) (obj
 each-failed pool wanted events [] all h = tt
 each-failed pool wanted events (o ∷ objects) all h = (failed-in pool wanted events o all h.0, each-failed pool wanted events objects all h.1)
 
+-- ---- refusals that nothing holds
+
+onward-other : (within : Bool) (next : Option ℕ) (e : Refusal) → onward within next ≡ Err e → (h : Holder) → e ≡ refused.Busy h → ⊥
+onward-other within None e is h busy = (let odd : ◌≡◌ {A = Result (Option ℕ) Refusal} (Err refused.BadHierarchy) (Err (refused.Busy h)) = is ∙ ap (λ (x : Refusal). Err x) busy in cc)
+onward-other true (Some next) e is h busy = absurd cc
+onward-other false (Some next) e is h busy = absurd cc
+
+of-other : (low : ℕ) (found : Option PoolLine) (e : Refusal) → target_of low found ≡ Err e → (h : Holder) → e ≡ refused.Busy h → ⊥
+of-other low None e is h busy = (let odd : ◌≡◌ {A = Result (Option ℕ) Refusal} (Err refused.NotFound) (Err (refused.Busy h)) = is ∙ ap (λ (x : Refusal). Err x) busy in cc)
+of-other low (Some line) e is h busy = onward-other (is_within low line) line.settings.next e is h busy
+
+target-other : (pool low : ℕ) (lines : List PoolLine) (e : Refusal) → target pool low lines ≡ Err e → (h : Holder) → e ≡ refused.Busy h → ⊥
+target-other pool low lines e is h busy = of-other low (line_of pool lines) e is h busy
+
+ten-other : (e : Refusal) → (number_of e == 10) ≡ true → (h : Holder) → e ≡ refused.Busy h → ⊥
+ten-other e ten h busy = (let odd : (number_of (refused.Busy h) == 10) ≡ true = subst (λ (x : Refusal). (number_of x == 10) ≡ true) busy ten in cc)
+
+unlisted-unheld : (q : Query) (xs : List Event) (e : Refusal) → AreAsking xs → IsUnlisted q xs e → IsUnheld xs e
+unlisted-unheld q xs e asks (inl stopped) = asking-unheld xs e asks stopped
+unlisted-unheld q xs e asks (inr h) = other-unheld xs e (ten-other e h.0)
+
 -- ---- what breaks off
 
-asks-break : (pool low : ℕ) (xs : List Event) (e : Refusal) → AreAsking xs → IsStopped xs e ⊎ IsBarred pool low xs e → Breaks pool low xs e
-asks-break pool low xs e asks cause =
+asks-break : (pool low : ℕ) (xs : List Event) (e : Refusal) → AreAsking xs → IsUnheld xs e → IsStopped xs e ⊎ IsBarred pool low xs e → Breaks pool low xs e
+asks-break pool low xs e asks unheld cause =
     let b : IsBegun xs = asks-begun xs asks in
     let p : Part [] 0 xs none_moved = part-of-asks 0 xs asks in
     let none : AreMigrating pool [] = λ x i. absurd i in
     record {
       cause = cause;
+      unheld = unheld;
       only = only-migration pool [] xs none p.only;
       entries = enters-from pool [] xs none p.entries;
       settled = λ leave. b.settled;
@@ -122,9 +146,13 @@ goes-so pool low xs is h w actor a b f =
     let lines : h.0 ≡ pool_lines None (inv w n).stores = asked-pools w actor a b n h.1.1 h.0 s h.1.3 in
     (n, s.since, reaches w actor a b (event n (Ask (query.Pools None) (Ok h.1.1))) s, ap (target pool low) (sym lines) ∙ h.2)
 
+why-told : (pool low : ℕ) (xs : List Event) (e : Refusal) → Looked pool low xs (Err e) → MetBy (TellsWhy pool low e) xs
+why-told pool low xs e h = subst (λ (es : List Event). MetBy (TellsWhy pool low e) es) (sym h.1.2) (inl (h.1.1, h.0, refl, h.1.3, h.2))
+
 pub look-breaks : (pool low : ℕ) (xs : List Event) (e : Refusal) → Looks pool low xs (Err e) → Breaks pool low xs e
-look-breaks pool low xs e (inl h) = asks-break pool low xs e h.1 (inl h.0)
-look-breaks pool low xs e (inr h) = asks-break pool low xs e (looked-asks pool low xs (Err e) h) (inr (inl (goes-so pool low xs (Err e) h)))
+look-breaks pool low xs e (inl h) = asks-break pool low xs e h.1 (asking-unheld xs e h.1 h.0) (inl h.0)
+look-breaks pool low xs e (inr h) =
+    asks-break pool low xs e (looked-asks pool low xs (Err e) h) (other-unheld xs e (target-other pool low h.0 e h.2)) (inr (inl (goes-so pool low xs (Err e) h, why-told pool low xs e h)))
 
 unlisted-bars : (pool low : ℕ) (xs : List Event) (e : Refusal) → IsUnlisted (query.OnPool pool) xs e → IsStopped xs e ⊎ IsBarred pool low xs e
 unlisted-bars pool low xs e (inl h) = inl h
@@ -147,6 +175,7 @@ these-move wanted (e ∷ xs) h = (inr h.0, these-move wanted xs h.1)
 run-breaks : (pool low : ℕ) (x : Wanted) (xs : List Event) (e : Refusal) → IsMigrating pool x → Run (x ∷ []) 0 xs (Err e) → Breaks pool low xs e
 run-breaks pool low x xs e m r = record {
   cause = one-caused pool low x xs e m r.outcome.0;
+  unheld = run-unheld (x ∷ []) 0 xs e r;
   only = only-migration pool (x ∷ []) xs (one-migrates pool x m) (these-move (x ∷ []) xs r.only);
   entries = enters-from pool (x ∷ []) xs (one-migrates pool x m) r.entries;
   settled = r.outcome.1;
@@ -165,7 +194,7 @@ so-behind pool low xs ys is h w actor a b f =
 
 pub cause-behind : (pool low : ℕ) (xs ys : List Event) (e : Refusal) → IsStopped ys e ⊎ IsBarred pool low ys e → IsStopped (xs ++ ys) e ⊎ IsBarred pool low (xs ++ ys) e
 cause-behind pool low xs ys e (inl h) = inl (stopped-behind xs ys e h)
-cause-behind pool low xs ys e (inr (inl h)) = inr (inl (so-behind pool low xs ys (Err e) h))
+cause-behind pool low xs ys e (inr (inl h)) = inr (inl (so-behind pool low xs ys (Err e) h.0, met-behind (TellsWhy pool low e) xs ys h.1))
 cause-behind pool low xs ys e (inr (inr (inl h))) = inr (inr (inl (h.0, met-behind (λ d. d ≡ Ask (query.OnPool pool) (Err e)) xs ys h.1)))
 cause-behind pool low xs ys e (inr (inr (inr h))) =
     inr (inr (inr (h.0, (h.1.0, h.1.1, h.1.2, met-behind (λ d. d ≡ OpenCopy h.1.0 (aim.Move pool h.1.1 h.1.2 true) 0 (Err e)) xs ys h.1.3))))
@@ -173,6 +202,7 @@ cause-behind pool low xs ys e (inr (inr (inr h))) =
 pub breaks-behind : (pool low : ℕ) (wanted : List Wanted) (xs ys : List Event) (m : Moved) (e : Refusal) → AreMigrating pool wanted → Part wanted 0 xs m → Breaks pool low ys e → Breaks pool low (xs ++ ys) e
 breaks-behind pool low wanted xs ys m e all p h = record {
   cause = cause-behind pool low xs ys e h.cause;
+  unheld = unheld-behind xs ys e h.unheld;
   only = all-append (λ x. IsMigration pool x.deed) xs ys (only-migration pool wanted xs all p.only) h.only;
   entries = enters-both pool xs ys (enters-from pool wanted xs all p.entries) p.done.none_left h.entries;
   settled = λ leave. settled-append xs ys p.done.settled (h.settled leave);
@@ -186,6 +216,7 @@ asks-behind pool low xs ys e asks h = breaks-behind pool low [] xs ys none_moved
 pub part-breaks : (pool low : ℕ) (wanted : List Wanted) (xs : List Event) (m : Moved) → AreMigrating pool wanted → Part wanted 0 xs m → Breaks pool low xs refused.Memory
 part-breaks pool low wanted xs m all p = record {
   cause = inl (inl refl);
+  unheld = other-unheld xs refused.Memory (λ h busy. cc);
   only = only-migration pool wanted xs all p.only;
   entries = enters-from pool wanted xs all p.entries;
   settled = λ leave. p.done.settled;
@@ -220,7 +251,7 @@ pub turn-unfilled : {S : Type 0} (did : S → List Event → S → Type 0) → G
     → Call did p t (λ events. Turning picks pool low r s events (Err e))
 turn-unfilled did goes p q t picks pool low to r k s e a b =
     call_then did goes (λ events. Looks pool low events (Ok (Some to))) (λ events. Fills (is_nil r.candidates) pool r events k (Err e)) (λ events. Turning picks pool low r s events (Err e)) p q t a b
-    (λ xs ys f g. asks-behind pool low xs ys e (looked-asks pool low xs (Ok (Some to)) f) (asks-break pool low ys e g.1 (unlisted-bars pool low ys e g.0)))
+    (λ xs ys f g. asks-behind pool low xs ys e (looked-asks pool low xs (Ok (Some to)) f) (asks-break pool low ys e g.1 (unlisted-unheld (query.OnPool pool) ys e g.1 g.0) (unlisted-bars pool low ys e g.0)))
 
 none-left : (picks : Picks) (pool low to : ℕ) (r k : Rest) (empty : Bool) (xs ys : List Event) → is_nil r.candidates ≡ empty → is_nil k.candidates ≡ true → Looked pool low xs (Ok (Some to)) → Filled empty pool r ys k
     → IsOver pool low r (xs ++ ys)

@@ -20,6 +20,7 @@ use Rattle.copy_runs.proofs.Ending.{force-refused}
 use Rattle.copy_runs.proofs.Outcomes.{failing-append, then-none}
 use Rattle.copy_runs.proofs.Parts.{all-before, part-acknowledged}
 use Rattle.copy_runs.proofs.Risen.{call-rises}
+use Rattle.copy_runs.proofs.Unheld.{ending-unheld}
 use Rattle.copy_runs.proofs.Whole.{ends-none, ends-settled, ends-unmade}
 use Rattle.migration.specs.Migrating.{AreMigration, Breaks, EntersFrom, HasFailedIn, IsEnteredIn, IsForced, IsMigration, Lowers, Migrated, Migrates, Migration}
 use Rattle.migration.specs.Turns.{Lowered, Picks, unasked}
@@ -44,6 +45,7 @@ ending-enters pool zs h w actor a b none f = subst (λ (es : List Event). AllByR
 ending-breaks : (pool low : ℕ) (zs : List Event) (e : Refusal) → AreEnding zs → IsStopped zs e → Breaks pool low zs e
 ending-breaks pool low zs e h stopped = record {
   cause = inl stopped;
+  unheld = ending-unheld zs e h stopped;
   only = ending-migrates pool zs h;
   entries = ending-enters pool zs h;
   settled = λ leave. ends-settled zs h;

@@ -5,7 +5,10 @@ use Rattle.kinds.specs.Refusals.{number_of}
 use Rattle.kinds.specs.declared.refusal.Refusal.{Refusal}
 use Rattle.entries.specs.declared.change.Change.{Change}
 use Rattle.inventory_answers.specs.Stores.{pool_lines}
+use Rattle.inventory_answers.specs.declared.lines.PoolLine.{PoolLine}
 use Rattle.inventory_answers.specs.declared.query.Query.TheVariants as query
+use Rattle.inventory_answers.specs.declared.reply.Answer.{Answer}
+use Rattle.inventory_answers.specs.declared.reply.Rows.TheVariants as rows
 use Rattle.inventory_rows.specs.pool_rows.Shares.{percent_at_most}
 use Rattle.inventory_rows.specs.version_groups.declared.copies.CopyRow.{CopyRow}
 use Rattle.space.specs.declared.aim.Aim.TheVariants as aim
@@ -18,7 +21,7 @@ use Rattle.copy_attempts.specs.Outcomes.{IsOf, MetBy, may_leave}
 use Rattle.steps.specs.Spent.{AreSettled}
 use Rattle.copy_runs.specs.declared.wanted.Moved.{Moved}
 use Rattle.copy_runs.specs.declared.wanted.Wanted.{Wanted}
-use Rattle.copy_runs.specs.Ends.{IsEnding, IsStopped, IsUnlisted, first_of, last_of}
+use Rattle.copy_runs.specs.Ends.{IsEnding, IsStopped, IsUnheld, IsUnlisted, first_of, last_of}
 use Rattle.copy_runs.specs.Parts.{Part}
 use Rattle.copy_runs.specs.Returning.{AreValid, Holds, is_kept}
 use Rattle.copy_runs.specs.Runs.{HasFailed, IsEntryFor, LeavesNone, copies_in, failing_in, is_among}
@@ -85,16 +88,23 @@ GoesSo pool low events is =
     (w : History) (actor : ℕ) (a b : Own) → Fits w actor a events b
     → (n : ℕ) × (a.reached ≤ n) × (n ≤ b.reached) × (target pool low (pool_lines None (inv w n).stores) ≡ is)
 
--- The pool isn't there at one of the numbers, or has no next one; or it wasn't there when its copies were asked for; or the pool wasn't there to which a copy was to go.
+-- the pools were asked for, and by the answer it is refused so
+abbrev pub TellsWhy : (pool low : ℕ) → Refusal → Deed → Type 0
+TellsWhy pool low e d = (answer : Answer) × (lines : List PoolLine) × (d ≡ Ask (query.Pools None) (Ok answer)) × (answer.rows ≡ rows.Pools lines) × (target pool low lines ≡ Err e)
+
+-- The pool isn't there at one of the numbers, or has no next one, as one of its questions was answered; or it wasn't there when its copies were asked for; or the pool wasn't there to which a copy was
+-- to go.
 abbrev pub IsBarred : (pool low : ℕ) → List Event → Refusal → Type 0
 IsBarred pool low events e =
-    GoesSo pool low events (Err e)
+    (GoesSo pool low events (Err e) × MetBy (TellsWhy pool low e) events)
     ⊎ (((number_of e == 10) ≡ true) × MetBy (λ d. d ≡ Ask (query.OnPool pool) (Err e)) events)
     ⊎ (((number_of e == 10) ≡ true) × ((object : ℕ) × (placed : ℕ) × (to : ℕ) × MetBy (λ d. d ≡ OpenCopy object (aim.Move pool placed to true) 0 (Err e)) events))
 
--- it was refused: for want of memory, or with a refusal that ends a process and that one of its steps met, or that bars it; and no ticket is left, unless none can be given back
+-- It was refused: for want of memory, or with a refusal that ends a process and that one of its steps met, or that bars it; it waits for no transaction that a force would make durable; and no ticket
+-- is left, unless none can be given back.
 pub record Breaks (pool low : ℕ) (events : List Event) (e : Refusal) : Type 0 where
   pub cause : IsStopped events e ⊎ IsBarred pool low events e
+  pub unheld : IsUnheld events e
   pub only : AreMigration pool events
   pub entries : EntersFrom pool events
   pub settled : may_leave (Err e) ≡ false → AreSettled events

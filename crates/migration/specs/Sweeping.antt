@@ -5,17 +5,21 @@ use Rattle.std.specs.Option.{option_map}
 use Rattle.kinds.specs.declared.refusal.Refusal.{Refusal}
 use Rattle.entries.specs.declared.change.Change.{Change}
 use Rattle.inventory_answers.specs.declared.lines.PoolLine.{PoolLine}
+use Rattle.inventory_answers.specs.declared.query.Query.TheVariants as query
+use Rattle.inventory_answers.specs.declared.reply.Answer.{Answer}
+use Rattle.inventory_answers.specs.declared.reply.Rows.TheVariants as rows
 use Rattle.inventory_rows.specs.Search.{is_primary_kind}
 use Rattle.space.specs.declared.aim.Aim.TheVariants as aim
 use Rattle.steps.specs.Calls.{Then}
 use Rattle.steps.specs.Events.{Deed, Event}
+use Rattle.steps.specs.Events.Deed.{Ask}
 use Rattle.steps.specs.Receipts.{made, receipts}
 use Rattle.machine.specs.Fits.{Fits, History, Own}
-use Rattle.copy_attempts.specs.Outcomes.{IsOf, may_leave}
+use Rattle.copy_attempts.specs.Outcomes.{IsOf, MetBy, may_leave}
 use Rattle.steps.specs.Spent.{AreSettled}
 use Rattle.copy_runs.specs.declared.wanted.Moved.{Moved}
 use Rattle.copy_runs.specs.declared.wanted.Wanted.{Wanted}
-use Rattle.copy_runs.specs.Ends.{AskedPools, IsEnding, IsStopped, Unanswered}
+use Rattle.copy_runs.specs.Ends.{AskedPools, IsEnding, IsStopped, IsUnheld, Unanswered}
 use Rattle.copy_runs.specs.Parts.{Part}
 use Rattle.copy_runs.specs.Runs.{HasFailed, IsEntryFor, LeavesNone, copies_in, failing_in}
 use Rattle.copy_runs.specs.Wanting.{IsIn}
@@ -113,9 +117,19 @@ pub record Sweeping (picks : Picks) (before : Option ℕ) (events : List Event) 
   pub same : part.done.failed ≡ failed
   pub all : AreAny wanted
 
--- It was refused: for want of memory, or with a refusal that ends a process and that one of its steps met, or that bars the migration of a pool; and no ticket is left, unless none can be given back.
+-- the pools were asked for, and by the answer this one is due
+abbrev pub TellsDue : Due → Deed → Type 0
+TellsDue t d = (before : Option ℕ) × (answer : Answer) × (lines : List PoolLine) × (d ≡ Ask (query.Pools None) (Ok answer)) × (answer.rows ≡ rows.Pools lines) × (due_of before lines ≡ Some t)
+
+-- the migration of a pool is barred that was due by an answer
+abbrev pub IsBarredIn : List Event → Refusal → Type 0
+IsBarredIn events e = (t : Due) × MetBy (TellsDue t) events × IsBarred t.pool t.low events e
+
+-- It was refused: for want of memory, or with a refusal that ends a process and that one of its steps met, or that bars the migration of a pool that was due; it waits for no transaction that a force
+-- would make durable; and no ticket is left, unless none can be given back.
 pub record SweepBreaks (events : List Event) (e : Refusal) : Type 0 where
-  pub cause : IsStopped events e ⊎ ((pool : ℕ) × (low : ℕ) × IsBarred pool low events e)
+  pub cause : IsStopped events e ⊎ IsBarredIn events e
+  pub unheld : IsUnheld events e
   pub only : AreSweep events
   pub entries : EntersAny events
   pub settled : may_leave (Err e) ≡ false → AreSettled events

@@ -1,6 +1,6 @@
 -- The questions of a restore.
-use Rattle.std.proofs.Common.{◌≡◌, ◌⊎◌, inl, inr, ℕ, ◌+◌, ◌<◌, Bool, true, false, List, [], ◌∷◌, ◌++◌, length, take, get_or, Option, Some, None, Result, Ok, Err, refl, sym, ap, subst, ◌∙◌, arith, append_assoc}
-use Rattle.std.proofs.lemmas.List.{append-nil, take_all, take_more}
+use Rattle.std.proofs.Common.{◌≡◌, ◌⊎◌, inl, inr, ℕ, ◌+◌, ◌<◌, Bool, true, false, List, [], ◌∷◌, ◌++◌, length, take, drop, get_or, Option, Some, None, Result, Ok, Err, refl, sym, ap, subst, ◌∙◌, arith, append_assoc}
+use Rattle.std.proofs.lemmas.List.{append-nil, take-append-drop, take_all, take_more}
 use Rattle.std.specs.List.{AllByRecursion}
 use Rattle.kinds.specs.Answers.{AnswersBy}
 use Rattle.kinds.specs.declared.refusal.Refusal.{Refusal}
@@ -9,18 +9,23 @@ use Rattle.inventory_answers.specs.declared.lines.PoolLine.{PoolLine}
 use Rattle.inventory_answers.specs.declared.lines.VolumeLine.{VolumeLine}
 use Rattle.inventory_answers.specs.Stores.{pool_lines}
 use Rattle.inventory_answers.specs.declared.query.Query.TheVariants as query
+use Rattle.inventory_answers.specs.declared.reply.Answer.{Answer}
+use Rattle.inventory_answers.specs.declared.reply.Rows.TheVariants as rows
 use Rattle.inventory_work.specs.declared.lines.CopyLine.{CopyLine}
 use Rattle.steps.proofs.Joining.{GoesOn, call_then}
 use Rattle.steps.specs.Calls.{Call}
-use Rattle.steps.specs.Events.{Event, event}
+use Rattle.steps.specs.Events.{Deed, Event, event}
 use Rattle.steps.specs.Events.Deed.{Ask}
 use Rattle.machine.specs.Fits.{Fits, History, Own, Step, inv}
 use Rattle.machine.proofs.Runs.{fits-cut, fits-one, fits-rises}
-use Rattle.copy_attempts.proofs.Facts.{all-append, met-behind}
+use Rattle.copy_attempts.specs.Outcomes.{MetBy}
+use Rattle.copy_attempts.proofs.Facts.{all-append, met-before, met-behind}
 use Rattle.copy_pools.proofs.Missing.{asked-pools}
 use Rattle.copy_runs.specs.declared.wanted.Wanted.{Wanted}
 use Rattle.copy_runs.specs.Ends.{AreAsking, AsksPools, IsAsking, IsStopped, IsUnlisted, Unanswered}
+use Rattle.copy_runs.specs.Wanting.{IsIn}
 use Rattle.copy_runs.proofs.Ending.{stopped-behind}
+use Rattle.copy_runs.proofs.Outcomes.{in-before, in-behind}
 use Rattle.copy_runs.proofs.Told.{reaches}
 use Rattle.pool_restores.specs.Listing.{AskedVolumes, AsksVolumes, Collected, Collecting, Collects, IsUncollected, Listed, Lists, destroyed_of, is_there, with_all}
 use Rattle.pool_restores.specs.Restoring.{BegunPool, BeginsPool, ChecksThere, IsPoolBarred, IsThereSo, ToldThere}
@@ -64,20 +69,28 @@ unlisted-behind : (file : ℕ) (xs ys : List Event) (e : Refusal) → IsUnlisted
 unlisted-behind file xs ys e (inl h) = inl (stopped-behind xs ys e h)
 unlisted-behind file xs ys e (inr h) = inr (h.0, met-behind (λ d. d ≡ Ask (query.OnVolume file) (Err e)) xs ys h.1)
 
-pub uncollected-behind : (xs ys : List Event) (e : Refusal) → IsUncollected ys e → IsUncollected (xs ++ ys) e
-uncollected-behind xs ys e h = (h.0, unlisted-behind h.0 xs ys e h.1)
+pub uncollected-behind : (files : List ℕ) (xs ys : List Event) (e : Refusal) → IsUncollected files ys e → IsUncollected files (xs ++ ys) e
+uncollected-behind files xs ys e h = (h.0, h.1, unlisted-behind h.0 xs ys e h.2)
 
-pub collecting-breaks : {S : Type 0} (did : S → List Event → S → Type 0) → GoesOn did → (p q r : S) (pool : Option ℕ) (files some : List ℕ) (file : ℕ) (wanted : List Wanted) (e : Refusal)
-    → Call did p q (λ events. Collecting pool some events wanted) → Call did q r (λ events. Lists file events (Err e)) → Call did p r (λ events. Collects pool files events (Err e))
-collecting-breaks did goes p q r pool files some file wanted e a b =
-    call_then did goes (λ events. Collecting pool some events wanted) (λ events. Lists file events (Err e)) (λ events. Collects pool files events (Err e)) p q r a b
-    (λ xs ys f g. ((file, unlisted-behind file xs ys e g.0), asks-append xs ys (collected-asks pool some [] wanted xs f) g.1))
+in-place : (files : List ℕ) (place file : ℕ) → place < length files → file ≡ get_or files place 0 → IsIn file files
+in-place files place file l is =
+    subst (λ (fs : List ℕ). IsIn file fs) (take-append-drop (place + 1) files)
+    (in-before file (take (place + 1) files) (drop (place + 1) files)
+    (subst (λ (fs : List ℕ). IsIn file fs) (sym (one-more files place file l is)) (in-behind file (take place files) (file ∷ []) (inl refl))))
 
-pub collecting-full : {S : Type 0} (did : S → List Event → S → Type 0) → GoesOn did → (p q r : S) (pool : Option ℕ) (files some : List ℕ) (file : ℕ) (wanted : List Wanted) (lines : List CopyLine) (e : Refusal)
-    → e ≡ refused.Memory → Call did p q (λ events. Collecting pool some events wanted) → Call did q r (λ events. Lists file events (Ok lines)) → Call did p r (λ events. Collects pool files events (Err e))
-collecting-full did goes p q r pool files some file wanted lines e is a b =
-    call_then did goes (λ events. Collecting pool some events wanted) (λ events. Lists file events (Ok lines)) (λ events. Collects pool files events (Err e)) p q r a b
-    (λ xs ys f g. ((file, inl (inl is)), asks-append xs ys (collected-asks pool some [] wanted xs f) (listed-asks file ys lines g)))
+pub collecting-breaks : {S : Type 0} (did : S → List Event → S → Type 0) → GoesOn did → (p q r : S) (pool : Option ℕ) (files : List ℕ) (place file : ℕ) (wanted : List Wanted) (e : Refusal)
+    → place < length files → file ≡ get_or files place 0
+    → Call did p q (λ events. Collecting pool (take place files) events wanted) → Call did q r (λ events. Lists file events (Err e)) → Call did p r (λ events. Collects pool files events (Err e))
+collecting-breaks did goes p q r pool files place file wanted e l at a b =
+    call_then did goes (λ events. Collecting pool (take place files) events wanted) (λ events. Lists file events (Err e)) (λ events. Collects pool files events (Err e)) p q r a b
+    (λ xs ys f g. ((file, in-place files place file l at, unlisted-behind file xs ys e g.0), asks-append xs ys (collected-asks pool (take place files) [] wanted xs f) g.1))
+
+pub collecting-full : {S : Type 0} (did : S → List Event → S → Type 0) → GoesOn did → (p q r : S) (pool : Option ℕ) (files : List ℕ) (place file : ℕ) (wanted : List Wanted) (lines : List CopyLine) (e : Refusal)
+    → place < length files → file ≡ get_or files place 0 → e ≡ refused.Memory
+    → Call did p q (λ events. Collecting pool (take place files) events wanted) → Call did q r (λ events. Lists file events (Ok lines)) → Call did p r (λ events. Collects pool files events (Err e))
+collecting-full did goes p q r pool files place file wanted lines e l at is a b =
+    call_then did goes (λ events. Collecting pool (take place files) events wanted) (λ events. Lists file events (Ok lines)) (λ events. Collects pool files events (Err e)) p q r a b
+    (λ xs ys f g. ((file, in-place files place file l at, inl (inl is)), asks-append xs ys (collected-asks pool (take place files) [] wanted xs f) (listed-asks file ys lines g)))
 
 pub collecting-all : {S : Type 0} (did : S → List Event → S → Type 0) (p q : S) (pool : Option ℕ) (files : List ℕ) (wanted those : List Wanted) → those ≡ wanted
     → Call did p q (λ events. Collecting pool (take (length files) files) events wanted) → Call did p q (λ events. Collects pool files events (Ok those))
@@ -125,6 +138,20 @@ there-before pool xs ys is h w actor a b f =
     let high = g.2 in
     (g.0, g.1, omega (arith, rise, high), g.3)
 
+-- what the pools were answered
+abbrev TellsNone : (pool : ℕ) → Deed → Type 0
+TellsNone pool d = (answer : Answer) × (lines : List PoolLine) × (d ≡ Ask (query.Pools None) (Ok answer)) × (answer.rows ≡ rows.Pools lines) × (is_there pool lines ≡ false)
+
+told-none : (pool : ℕ) (xs : List Event) → ToldThere pool xs false → MetBy (TellsNone pool) xs
+told-none pool xs h = subst (λ (es : List Event). MetBy (TellsNone pool) es) (sym h.1.2) (inl (h.1.1, h.0, refl, h.1.3, h.2))
+
+-- and the volumes
+abbrev TellsVolumes : List VolumeLine → Deed → Type 0
+TellsVolumes volumes d = (answer : Answer) × (d ≡ Ask (query.Volumes None None) (Ok answer)) × (answer.rows ≡ rows.Volumes volumes)
+
+told-volumes : (volumes : List VolumeLine) (xs : List Event) → AskedVolumes xs volumes → MetBy (TellsVolumes volumes) xs
+told-volumes volumes xs h = subst (λ (es : List Event). MetBy (TellsVolumes volumes) es) (sym h.2) (inl (h.1, refl, h.3))
+
 -- ---- all of them
 
 pub volumes-ask : (xs : List Event) (lines : List VolumeLine) → AskedVolumes xs lines → AreAsking xs
@@ -136,7 +163,8 @@ begin-unasked did p q pool e a = (a.0, a.1, (inl a.2.0, a.2.1))
 unchecked : (pool : ℕ) (volumes : List VolumeLine) (xs ys : List Event) (e : Refusal) → AskedVolumes xs volumes → ChecksThere pool ys (Err e) → BeginsPool pool (xs ++ ys) (Err e)
 unchecked pool volumes xs ys e f (inl g) = (inl (stopped-behind xs ys e g.0), asks-append xs ys (volumes-ask xs volumes f) g.1)
 unchecked pool volumes xs ys e f (inr g) =
-    (inr (inl (g.0, there-behind pool xs ys false (there-so pool ys false g.1))), asks-append xs ys (volumes-ask xs volumes f) (there-asks pool ys false g.1))
+    let asks : AreAsking (xs ++ ys) = asks-append xs ys (volumes-ask xs volumes f) (there-asks pool ys false g.1) in
+    (inr (inl (g.0, there-behind pool xs ys false (there-so pool ys false g.1), (asks, met-behind (TellsNone pool) xs ys (told-none pool ys g.1)))), asks)
 
 pub begin-unchecked : {S : Type 0} (did : S → List Event → S → Type 0) → GoesOn did → (p q r : S) (pool : ℕ) (volumes : List VolumeLine) (e : Refusal) → Call did p q (λ events. AsksVolumes events (Ok volumes))
     → Call did q r (λ events. ChecksThere pool events (Err e)) → Call did p r (λ events. BeginsPool pool events (Err e))
@@ -154,10 +182,12 @@ begin-by : (pool : ℕ) (volumes : List VolumeLine) (files : List ℕ) (result :
     → Collects (Some pool) files vs result → BeginsPool pool (xs ++ (us ++ vs)) result
 begin-by pool volumes files (Ok wanted) xs us vs same f g h =
     (volumes, (xs, us ++ vs, refl, f, (us, vs, refl, g, subst (λ (fs : List ℕ). Collected (Some pool) fs [] wanted vs) same h)))
-begin-by pool volumes files (Err e) xs us vs same f g h = (
-  inr (inr (inl (h.0.0, unlisted-behind h.0.0 xs (us ++ vs) e (unlisted-behind h.0.0 us vs e h.0.1)))),
-  asks-append xs (us ++ vs) (volumes-ask xs volumes f) (asks-append us vs (there-asks pool us true g) h.1),
-)
+begin-by pool volumes files (Err e) xs us vs same f g h =
+    let asks : AreAsking (xs ++ (us ++ vs)) = asks-append xs (us ++ vs) (volumes-ask xs volumes f) (asks-append us vs (there-asks pool us true g) h.1) in
+    let those : List ℕ = destroyed_of volumes in
+    let lost : IsUncollected those (xs ++ (us ++ vs)) e =
+    uncollected-behind those xs (us ++ vs) e (uncollected-behind those us vs e (subst (λ (fs : List ℕ). IsUncollected fs vs e) same h.0)) in
+    (inr (inr (inl (volumes, lost, asks, met-before (TellsVolumes volumes) xs (us ++ vs) (told-volumes volumes xs f)))), asks)
 
 pub begins : {S : Type 0} (did : S → List Event → S → Type 0) → GoesOn did → (p q r s : S) (pool : ℕ) (volumes those : List VolumeLine) (files all : List ℕ) (result : Result (List Wanted) Refusal)
     → those ≡ volumes → files ≡ destroyed_of those → all ≡ files

@@ -31,13 +31,14 @@ use Rattle.copy_runs.proofs.Ending.{stopped-behind}
 use Rattle.copy_runs.proofs.Outcomes.{copies-append, then-none}
 use Rattle.copy_runs.proofs.Risen.{call-rises}
 use Rattle.copy_runs.proofs.Told.{fits-empty}
+use Rattle.copy_runs.proofs.Unheld.{unheld-behind}
 use Rattle.copy_runs.proofs.Whole.{IsBegun, Told, asks-begun, asks-unmade, process-told}
 use Rattle.sessions.specs.Changing.{Changing, IsOf}
 use Rattle.pool_restores.specs.Listing.{AskedVolumes, AsksVolumes, Collected, Collects, IsUncollected, destroying_of}
 use Rattle.pool_restores.specs.Restoring.{IsAimless, IsEnteredSo, IsRestore}
-use Rattle.pool_restores.specs.Volumes.{BeginsVolume, BegunVolume, Destroyed, Destroys, IsEnteredOr, IsNoVolume, IsVolumeBarred, IsVolumeRestore, IsVolumeRestored, Unbegun, VolumeRestore, VolumeStopped, is_unmade, unmade}
+use Rattle.pool_restores.specs.Volumes.{BeginsVolume, BegunVolume, Destroyed, Destroys, EndsBehind, IsEnteredOr, IsInPlace, IsNoVolume, IsVolumeBarred, IsVolumeRestore, IsVolumeRestored, Unbegun, VolumeRestore, VolumeStopped, is_unmade, unmade}
 use Rattle.pool_restores.proofs.Beginning.{collected-asks, uncollected-behind, volumes-ask}
-use Rattle.pool_restores.proofs.Restored.{AreRestoring, asking-restore, caused, collected-restoring, completes-some, counted-of, entered-so, lost-row, only-restore}
+use Rattle.pool_restores.proofs.Restored.{AreRestoring, aimless-behind, asking-restore, caused, collected-restoring, completes-caused, completes-some, counted-of, entered-so, lost-row, only-restore, unlisted-unheld}
 
 -- ---- a change
 
@@ -178,9 +179,9 @@ first-both file xs ys f g = record {
   entries = enters-both file xs ys f.entries f.begun.none_left g.entries;
 }
 
-unbegun-of : (file : ℕ) (events : List Event) (e : Refusal) → IsFirst file events → IsStopped events e ⊎ IsVolumeBarred file events e → Unbegun file events e
-unbegun-of file events e f cause = record {
-  stopped = record { cause = cause; settled = λ leave. f.begun.settled; none_left = λ leave. f.begun.none_left };
+unbegun-of : (file : ℕ) (events : List Event) (e : Refusal) → IsFirst file events → IsStopped events e ⊎ IsVolumeBarred file events e → IsInPlace file events e → Unbegun file events e
+unbegun-of file events e f cause place = record {
+  stopped = record { cause = cause; place = place; settled = λ leave. f.begun.settled; none_left = λ leave. f.begun.none_left };
   only = f.only;
   entries = f.entries;
 }
@@ -188,16 +189,20 @@ unbegun-of file events e f cause = record {
 -- ---- the volume's transaction
 
 pub unasked : {S : Type 0} (did : S → List Event → S → Type 0) (p q : S) (file : ℕ) (e : Refusal) → Call did p q (λ events. AsksVolumes events (Err e)) → Call did p q (λ events. Destroys file events (Err e))
-unasked did p q file e a = (a.0, a.1, unbegun-of file a.0 e (first-asks file a.0 a.2.1) (inl a.2.0))
+unasked did p q file e a = (a.0, a.1, unbegun-of file a.0 e (first-asks file a.0 a.2.1) (inl a.2.0) (inl (inl a.2.0, a.2.1)))
 
 no-volume : (file : ℕ) (lines : List VolumeLine) (e : Refusal) (xs : List Event) → destroying_of file lines ≡ Err e → AskedVolumes xs lines → MetBy (IsNoVolume file e) xs
 no-volume file lines e xs is h = subst (λ (es : List Event). MetBy (IsNoVolume file e) es) (sym h.2) (inl (h.1, lines, refl, h.3, is))
 
 pub unfound : {S : Type 0} (did : S → List Event → S → Type 0) (p q : S) (file : ℕ) (lines those : List VolumeLine) (e : Refusal) → those ≡ lines → (e ≡ refused.Memory) ⊎ (destroying_of file those ≡ Err e)
     → Call did p q (λ events. AsksVolumes events (Ok lines)) → Call did p q (λ events. Destroys file events (Err e))
-unfound did p q file lines those e same (inl memory) a = (a.0, a.1, unbegun-of file a.0 e (first-asks file a.0 (volumes-ask a.0 lines a.2)) (inl (inl memory)))
+unfound did p q file lines those e same (inl memory) a =
+    let asks : AreAsking a.0 = volumes-ask a.0 lines a.2 in
+    (a.0, a.1, unbegun-of file a.0 e (first-asks file a.0 asks) (inl (inl memory)) (inl (inl (inl memory), asks)))
 unfound did p q file lines those e same (inr is) a =
-    (a.0, a.1, unbegun-of file a.0 e (first-asks file a.0 (volumes-ask a.0 lines a.2)) (inr (inl (no-volume file lines e a.0 (ap (destroying_of file) (sym same) ∙ is) a.2))))
+    let asks : AreAsking a.0 = volumes-ask a.0 lines a.2 in
+    let none : MetBy (IsNoVolume file e) a.0 = no-volume file lines e a.0 (ap (destroying_of file) (sym same) ∙ is) a.2 in
+    (a.0, a.1, unbegun-of file a.0 e (first-asks file a.0 asks) (inr (inl none)) (inl (inr none, asks)))
 
 unmade-cause : (file : ℕ) (xs us : List Event) (e : Refusal) → (e ≡ refused.Memory) ⊎ Met e us → IsStopped (xs ++ us) (unmade e) ⊎ IsVolumeBarred file (xs ++ us) (unmade e)
 unmade-cause file xs us e (inl h) = inl (inl (ap unmade h))
@@ -213,6 +218,7 @@ changed-cause c us e h = elim h.cause as (λ _. (e ≡ refused.Memory) ⊎ Met e
 unchanged-by : (file : ℕ) (lines : List VolumeLine) (c : Change) (xs us : List Event) (e : Refusal) → destroying_of file lines ≡ Ok c → AskedVolumes xs lines → Changing c us (Err e) → Unbegun file (xs ++ us) (unmade e)
 unchanged-by file lines c xs us e is a h =
     unbegun-of file (xs ++ us) (unmade e) (first-both file xs us (first-asks file xs (volumes-ask xs lines a)) (first-change file lines c us is h.only)) (unmade-cause file xs us e (changed-cause c us e h))
+    (inr (inl (lines, c, e, is, refl, (xs, us, refl, a, h))))
 
 pub unchanged : {S : Type 0} (did : S → List Event → S → Type 0) → GoesOn did → (p q r : S) (file : ℕ) (lines those : List VolumeLine) (c : Change) (e k : Refusal) → those ≡ lines → destroying_of file those ≡ Ok c → k ≡ unmade e
     → Call did p q (λ events. AsksVolumes events (Ok lines)) → Call did q r (λ events. Changing c events (Err e)) → Call did p r (λ events. Destroys file events (Err k))
@@ -237,7 +243,8 @@ begins-by : (file : ℕ) (c : Change) (xs vs : List Event) (result : Result (Lis
 begins-by file c xs vs (Ok wanted) h g =
     (c, (h.0, h.1, h.2, (h.3.0, h.3.1 ++ vs, ap (λ (es : List Event). es ++ vs) h.3.2 ∙ append_assoc h.3.0 h.3.1 vs, h.3.3, (h.3.1, vs, refl, h.3.4, g))))
 begins-by file c xs vs (Err e) h g =
-    unbegun-of file (xs ++ vs) e (first-both file xs vs (first-destroyed file c xs h) (first-asks file vs g.1)) (inr (inr (inr (inl (uncollected-behind xs vs e g.0)))))
+    unbegun-of file (xs ++ vs) e (first-both file xs vs (first-destroyed file c xs h) (first-asks file vs g.1)) (inr (inr (inr (inl (uncollected-behind (file ∷ []) xs vs e g.0)))))
+    (inr (inr (c, (xs, vs, refl, h, record { cause = inr (inl g); unheld = unlisted-unheld g.0.0 vs e g.1 g.0.2; only = asking-restore vs g.1 }))))
 
 pub begins-volume : {S : Type 0} (did : S → List Event → S → Type 0) → GoesOn did → (p q r : S) (file : ℕ) (files : List ℕ) (result : Result (List Wanted) Refusal) → files ≡ file ∷ []
     → Call did p q (λ events. Destroys file events (Ok tt)) → Call did q r (λ events. Collects None files events result) → Call did p r (λ events. BeginsVolume file events result)
@@ -255,9 +262,26 @@ volume-row : (file : ℕ) (wanted : List Wanted) (failed : List ℕ) (x y : Even
 volume-row file wanted failed x y us vs ys got done all w actor a b valid none f object copy there on_it =
     lost-row w actor a b None (file ∷ []) file object copy wanted failed x y us vs ys valid none f got done all there (inl refl) on_it (λ l same. refl)
 
+-- it ended behind the volume's transaction
+ended-behind : (file : ℕ) (wanted : List Wanted) (vs ys : List Event) (e : Refusal) → AreRestoring wanted → AreAsking vs → AllByRecursion (λ x. IsRestore x.deed) ys → Completes wanted 0 ys (Err e)
+    → EndsBehind file (vs ++ ys) e
+ended-behind file wanted vs ys e all asks only h =
+    let why = completes-caused wanted ys e all h in
+    record {
+      cause = elim why.0 as (λ _. IsStopped (vs ++ ys) e ⊎ (IsUncollected (file ∷ []) (vs ++ ys) e × AreAsking (vs ++ ys)) ⊎ IsAimless (vs ++ ys) e) [
+        | inl stopped ↦ inl (stopped-behind vs ys e stopped)
+        | inr aimless ↦ inr (inr (aimless-behind vs ys e aimless))
+      ];
+      unheld = unheld-behind vs ys e why.1;
+      only = all-append (λ x. IsRestore x.deed) vs ys (asking-restore vs asks) only;
+    }
+
+place-behind : (file : ℕ) (c : Change) (x : Event) (us vs ys : List Event) (e : Refusal) → Destroyed file c (x ∷ us) → EndsBehind file (vs ++ ys) e → IsInPlace file ((x ∷ (us ++ vs)) ++ ys) e
+place-behind file c x us vs ys e done h = inr (inr (c, (x ∷ us, vs ++ ys, ap (λ (es : List Event). x ∷ es) (append_assoc us vs ys), done, h)))
+
 volume-of : (file : ℕ) (c : Change) (wanted : List Wanted) (x : Event) (us vs ys : List Event) (result : Result Moved Refusal) → BegunVolume file c wanted (x ∷ (us ++ vs)) → IsFirst file (x ∷ (us ++ vs))
-    → Collected None (file ∷ []) [] wanted vs → Completes wanted 0 ys result → VolumeRestore file ((x ∷ (us ++ vs)) ++ ys) result
-volume-of file c wanted x us vs ys (Ok m) begun f got h =
+    → Destroyed file c (x ∷ us) → Collected None (file ∷ []) [] wanted vs → Completes wanted 0 ys result → VolumeRestore file ((x ∷ (us ++ vs)) ++ ys) result
+volume-of file c wanted x us vs ys (Ok m) begun f done got h =
     let first : List Event = x ∷ (us ++ vs) in
     let all : AreRestoring wanted = collected-restoring None (file ∷ []) [] wanted vs got (λ y i. absurd i) in
     let t : Told wanted 0 first ys (Ok m) = process-told wanted 0 x (us ++ vs) ys (Ok m) f.begun h in
@@ -276,7 +300,7 @@ volume-of file c wanted x us vs ys (Ok m) begun f got h =
       only = all-append (λ e. IsVolumeRestore file e.deed) first ys f.only (restores-volume file ys (only-restore wanted ys all t.only));
       entries = enters-both file first ys f.entries f.begun.none_left (λ w actor a b none g. moves-enter file w actor (made ys) (entered-so wanted w actor (made ys) all (t.entries w actor a b none g)));
     }
-volume-of file c wanted x us vs ys (Err e) begun f got h =
+volume-of file c wanted x us vs ys (Err e) begun f done got h =
     let first : List Event = x ∷ (us ++ vs) in
     let all : AreRestoring wanted = collected-restoring None (file ∷ []) [] wanted vs got (λ y i. absurd i) in
     let t : Told wanted 0 first ys (Err e) = process-told wanted 0 x (us ++ vs) ys (Err e) f.begun h in
@@ -290,6 +314,9 @@ volume-of file c wanted x us vs ys (Err e) begun f got h =
             | inr aimless ↦ inr (inr (inr (inr aimless)))
           ]
         ];
+        place =
+            place-behind file c x us vs ys e done
+            (ended-behind file wanted vs ys e all (collected-asks None (file ∷ []) [] wanted vs got) (only-restore wanted ys all t.only) h);
         settled = p.settled;
         none_left = p.none_left;
       };
@@ -307,7 +334,8 @@ began file c wanted xs ys result h g =
     let first : IsFirst file (x ∷ (t.0 ++ t.1)) = first-both file (x ∷ []) (t.0 ++ t.1) one
     (first-both file t.0 t.1 (first-change file h.0 c t.0 h.2 t.3.only) (first-asks file t.1 (collected-asks None (file ∷ []) [] wanted t.1 t.4))) in
     subst (λ (es : List Event). VolumeRestore file (es ++ ys) result) (sym those)
-    (volume-of file c wanted x t.0 t.1 ys result (subst (λ (es : List Event). BegunVolume file c wanted es) those h) first t.4 g)
+    (volume-of file c wanted x t.0 t.1 ys result (subst (λ (es : List Event). BegunVolume file c wanted es) those h) first
+    (h.0, h.1, h.2, (x ∷ [], t.0, refl, (q.0, q.1, refl, q.3), t.3)) t.4 g)
 
 pub restores-of : {S : Type 0} (did : S → List Event → S → Type 0) → GoesOn did → (p q r : S) (file : ℕ) (wanted those : List Wanted) (result : Result Moved Refusal) → those ≡ wanted
     → Call did p q (λ events. BeginsVolume file events (Ok wanted)) → Call did q r (λ events. Completes those 0 events result) → Call did p r (λ events. VolumeRestore file events result)

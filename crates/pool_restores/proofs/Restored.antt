@@ -4,6 +4,7 @@ use Rattle.std.proofs.lemmas.Bool.{and_parts, eq-eqb, eqb-true, false≢true}
 use Rattle.std.proofs.lemmas.List.{append-nil}
 use Rattle.std.specs.List.{AllByRecursion, list_any}
 use Rattle.kinds.specs.Refusals.{number_of}
+use Rattle.kinds.specs.declared.refusal.Holder.{Holder}
 use Rattle.kinds.specs.declared.refusal.Refusal.{Refusal}
 use Rattle.kinds.specs.declared.refusal.Refusal.TheVariants as refused
 use Rattle.inventory_answers.specs.declared.lines.VolumeLine.{VolumeLine}
@@ -30,15 +31,16 @@ use Rattle.machine.specs.Fits.{Fits, History, Own, Step, inv, last}
 use Rattle.machine.specs.Machine.{IsAnswer}
 use Rattle.machine.specs.Says.{Says}
 use Rattle.machine.proofs.Runs.{fits-cut, fits-first, fits-one, fits-rises}
-use Rattle.copy_attempts.proofs.Facts.{all-append}
+use Rattle.copy_attempts.proofs.Facts.{all-append, met-behind}
 use Rattle.copy_attempts.specs.Outcomes.{IsOf, MetBy}
 use Rattle.copy_runs.specs.declared.wanted.Moved.{Moved}
 use Rattle.copy_runs.specs.declared.wanted.Wanted.{Wanted}
-use Rattle.copy_runs.specs.Ends.{AreAsking, IsAsking, IsStopped, first_of, last_of}
+use Rattle.copy_runs.specs.Ends.{AreAsking, IsAsking, IsStopped, IsUnheld, IsUnlisted, first_of, last_of}
 use Rattle.copy_runs.specs.Processes.{AreMoving, Completes, Ended, IsDoneAllAlong, Process}
 use Rattle.copy_runs.specs.Returning.{AreValid, Holds, is_kept}
 use Rattle.copy_runs.specs.Runs.{EntersOnly, HasFailed, IsCausedByOne, IsEntered, IsEntryFor, is_among}
 use Rattle.copy_runs.specs.Wanting.{IsIn, IsPast, is_wanted}
+use Rattle.copy_runs.proofs.Ending.{stopped-behind}
 use Rattle.copy_runs.proofs.Entries.{enters-append, unmade-enters}
 use Rattle.copy_runs.proofs.Listing.{HasLine, copy-listed, lines_of_copies}
 use Rattle.copy_runs.proofs.Outcomes.{in-before, in-behind}
@@ -46,6 +48,7 @@ use Rattle.copy_runs.proofs.Parts.{in-either}
 use Rattle.copy_runs.proofs.Returning.{held-all-along, held-wanted, placed-past}
 use Rattle.copy_runs.proofs.Risen.{call-rises}
 use Rattle.copy_runs.proofs.Told.{reaches}
+use Rattle.copy_runs.proofs.Unheld.{asking-unheld, ending-unheld, other-unheld, run-unheld, unheld-behind}
 use Rattle.copy_runs.proofs.Whole.{IsBegun, Told, asks-begun, asks-unmade, last-behind, process-told, reached-last}
 use Rattle.pool_restores.specs.Listing.{AskedVolumes, Collected, Listed, aim_of, destroyed_of, is_of, is_that, is_wanted_of, restoring, with_all, with_one}
 use Rattle.pool_restores.specs.Restoring.{BegunPool, BeginsPool, Counted, HasFailedSo, IsAimless, IsEnteredSo, IsPoolBarred, IsPoolRestored, IsRestore, IsRestoring, IsThereSo, PoolRestore, PoolStopped, ToldThere, is_lost}
@@ -303,6 +306,31 @@ caused wanted events e all h = elim h.2 as (λ _. IsStopped events e ⊎ IsAimle
   ]
 ]
 
+-- ---- a refusal waits for no force
+
+ten-fine : (e : Refusal) → (number_of e == 10) ≡ true → (h : Holder) → e ≡ refused.Busy h → ⊥
+ten-fine e ten h busy = (let odd : (number_of (refused.Busy h) == 10) ≡ true = subst (λ (x : Refusal). (number_of x == 10) ≡ true) busy ten in cc)
+
+pub unlisted-unheld : (file : ℕ) (events : List Event) (e : Refusal) → AreAsking events → IsUnlisted (query.OnVolume file) events e → IsUnheld events e
+unlisted-unheld file events e asks (inl stopped) = asking-unheld events e asks stopped
+unlisted-unheld file events e asks (inr missing) = other-unheld events e (ten-fine e missing.0)
+
+begin-unheld : (pool : ℕ) (events : List Event) (e : Refusal) → AreAsking events → IsStopped events e ⊎ IsPoolBarred pool events e → IsUnheld events e
+begin-unheld pool events e asks (inl stopped) = asking-unheld events e asks stopped
+begin-unheld pool events e asks (inr (inl gone)) = other-unheld events e (λ holder busy. (let odd : refused.NotFound ≡ refused.Busy holder = sym gone.0 ∙ busy in cc))
+begin-unheld pool events e asks (inr (inr (inl lost))) = unlisted-unheld lost.1.0 events e asks lost.1.2
+begin-unheld pool events e asks (inr (inr (inr aimless))) = other-unheld events e (ten-fine e aimless.0)
+
+pub aimless-behind : (xs ys : List Event) (e : Refusal) → IsAimless ys e → IsAimless (xs ++ ys) e
+aimless-behind xs ys e h = (h.0, (h.1.0, h.1.1, h.1.2, met-behind (λ d. d ≡ OpenCopy h.1.0 (aim_of h.1.1 h.1.2) 0 (Err e)) xs ys h.1.3))
+
+-- what ended the making of the copies
+pub completes-caused : (wanted : List Wanted) (ys : List Event) (e : Refusal) → AreRestoring wanted → Completes wanted 0 ys (Err e) → (IsStopped ys e ⊎ IsAimless ys e) × IsUnheld ys e
+completes-caused wanted ys e all (inl run) = (caused wanted ys e all run.outcome.0, run-unheld wanted 0 ys e run)
+completes-caused wanted ys e all (inr (m, (us, vs, is, run, ends))) =
+    subst (λ (es : List Event). (IsStopped es e ⊎ IsAimless es e) × IsUnheld es e) (sym is)
+    (inl (stopped-behind us vs e ends.0), unheld-behind us vs e (ending-unheld vs e ends.1 ends.0))
+
 pub counted-of : (wanted : List Wanted) (events : List Event) (m : Moved) → AreRestoring wanted → (p : Process wanted 0 events m) → Counted p.failed events m
 counted-of wanted events m all p = record {
   moved = p.moved;
@@ -356,6 +384,7 @@ restored-of pool volumes wanted x us vs ys (Err e) asked there got asks h =
             | inr aimless ↦ inr (inr (inr aimless))
           ]
         ];
+        unheld = p.unheld;
         settled = p.settled;
         none_left = p.none_left;
       };
@@ -382,7 +411,7 @@ refused-restore : (pool : ℕ) (events : List Event) (e : Refusal) → BeginsPoo
 refused-restore pool events e h =
     let b : IsBegun events = asks-begun events h.1 in
     record {
-      came = record { cause = h.0; settled = λ leave. b.settled; none_left = λ leave. b.none_left };
+      came = record { cause = h.0; unheld = begin-unheld pool events e h.1 h.0; settled = λ leave. b.settled; none_left = λ leave. b.none_left };
       only = asking-restore events h.1;
       entries = λ w actor a c none f. entered-so [] w actor (made events) (λ x i. absurd i) (unmade-enters [] events (asks-unmade events h.1) w actor a c none f);
     }

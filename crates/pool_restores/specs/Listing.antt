@@ -25,6 +25,7 @@ use Rattle.steps.specs.Events.{Event, event}
 use Rattle.steps.specs.Events.Deed.{Ask}
 use Rattle.copy_runs.specs.declared.wanted.Wanted.{Wanted}
 use Rattle.copy_runs.specs.Ends.{AreAsking, AskedPools, IsUnlisted, Unanswered}
+use Rattle.copy_runs.specs.Wanting.{IsIn}
 
 -- ---- volumes
 
@@ -118,13 +119,13 @@ Collected pool [] from to events = (events ≡ []) × (to ≡ from)
 Collected pool (file ∷ files) from to events =
     (lines : List CopyLine) × Then (λ xs. Listed file xs lines) (λ ys. Collected pool files (with_all pool lines from) to ys) events
 
--- one of the questions was refused
-abbrev pub IsUncollected : List Event → Refusal → Type 0
-IsUncollected events e = (file : ℕ) × IsUnlisted (query.OnVolume file) events e
+-- one of the questions for these volumes was refused
+abbrev pub IsUncollected : (files : List ℕ) → List Event → Refusal → Type 0
+IsUncollected files events e = (file : ℕ) × IsIn file files × IsUnlisted (query.OnVolume file) events e
 
 abbrev pub Collects : Option ℕ → List ℕ → List Event → Result (List Wanted) Refusal → Type 0
 Collects pool files events (Ok wanted) = Collected pool files [] wanted events
-Collects pool files events (Err e) = IsUncollected events e × AreAsking events
+Collects pool files events (Err e) = IsUncollected files events e × AreAsking events
 
 -- so far these volumes were asked
 abbrev pub Collecting : Option ℕ → List ℕ → List Event → List Wanted → Type 0

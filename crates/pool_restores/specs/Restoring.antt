@@ -8,6 +8,8 @@ use Rattle.entries.specs.declared.change.Change.{Change}
 use Rattle.inventory_answers.specs.declared.lines.PoolLine.{PoolLine}
 use Rattle.inventory_answers.specs.declared.lines.VolumeLine.{VolumeLine}
 use Rattle.inventory_answers.specs.declared.query.Query.TheVariants as query
+use Rattle.inventory_answers.specs.declared.reply.Answer.{Answer}
+use Rattle.inventory_answers.specs.declared.reply.Rows.TheVariants as rows
 use Rattle.inventory_answers.specs.Stores.{pool_lines, volume_lines}
 use Rattle.inventory_rows.specs.version_groups.declared.copies.CopyRow.{CopyRow}
 use Rattle.inventory_rows.specs.Search.{lies_on}
@@ -15,14 +17,14 @@ use Rattle.inventory_rows.specs.State.{Inv}
 use Rattle.steps.specs.declared.asked.Asked.TheVariants as asked
 use Rattle.steps.specs.Calls.{Then}
 use Rattle.steps.specs.Events.{Deed, Event, has_number}
-use Rattle.steps.specs.Events.Deed.{Commit, OpenCopy}
+use Rattle.steps.specs.Events.Deed.{Ask, Commit, OpenCopy}
 use Rattle.steps.specs.Receipts.{made, receipts}
 use Rattle.machine.specs.Fits.{Fits, History, Own, inv}
 use Rattle.copy_attempts.specs.Outcomes.{IsOf, Met, MetBy, may_leave}
 use Rattle.steps.specs.Spent.{AreSettled}
 use Rattle.copy_runs.specs.declared.wanted.Moved.{Moved}
 use Rattle.copy_runs.specs.declared.wanted.Wanted.{Wanted}
-use Rattle.copy_runs.specs.Ends.{AreAsking, AskedPools, IsEnding, IsStopped, Unanswered, first_of, last_of}
+use Rattle.copy_runs.specs.Ends.{AreAsking, AskedPools, IsEnding, IsStopped, IsUnheld, Unanswered, first_of, last_of}
 use Rattle.copy_runs.specs.Processes.{Completes}
 use Rattle.copy_runs.specs.Returning.{AreValid, Holds, is_kept}
 use Rattle.copy_runs.specs.Runs.{HasFailed, IsEntryFor, LeavesNone, copies_in, failing_in, is_among}
@@ -97,8 +99,20 @@ BegunPool pool wanted events =
     (volumes : List VolumeLine)
     × Then (λ xs. AskedVolumes xs volumes) (λ ys. Then (λ us. ToldThere pool us true) (λ vs. Collected (Some pool) (destroyed_of volumes) [] wanted vs) ys) events
 
+-- nothing but questions was asked, for the pools among them, and by the answer the pool isn't there
+abbrev pub TellsGone : (pool : ℕ) → List Event → Type 0
+TellsGone pool events =
+    AreAsking events
+    × MetBy (λ d. (answer : Answer) × (lines : List PoolLine) × (d ≡ Ask (query.Pools None) (Ok answer)) × (answer.rows ≡ rows.Pools lines) × (is_there pool lines ≡ false)) events
+
+-- nothing but questions was asked, for the volumes among them, and the one for the copies on a volume on which by the answer what it held is lost was refused
+abbrev pub IsLostUnlisted : List Event → Refusal → Type 0
+IsLostUnlisted events e =
+    (volumes : List VolumeLine) × IsUncollected (destroyed_of volumes) events e × AreAsking events
+    × MetBy (λ d. (answer : Answer) × (d ≡ Ask (query.Volumes None None) (Ok answer)) × (answer.rows ≡ rows.Volumes volumes)) events
+
 abbrev pub IsPoolBarred : (pool : ℕ) → List Event → Refusal → Type 0
-IsPoolBarred pool events e = ((e ≡ refused.NotFound) × IsThereSo pool events false) ⊎ IsUncollected events e ⊎ IsAimless events e
+IsPoolBarred pool events e = ((e ≡ refused.NotFound) × IsThereSo pool events false × TellsGone pool events) ⊎ IsLostUnlisted events e ⊎ IsAimless events e
 
 abbrev pub BeginsPool : (pool : ℕ) → List Event → Result (List Wanted) Refusal → Type 0
 BeginsPool pool events (Ok wanted) = BegunPool pool wanted events
@@ -114,9 +128,10 @@ pub record PoolRestored (pool : ℕ) (events : List Event) (m : Moved) : Type 0 
   pub there : IsThereSo pool events true
 
 -- What it did where it was refused: for want of memory, or with a refusal that ends a process and that one of its steps met; or the pool isn't there, or a volume wasn't when its copies were asked for,
--- or a pool to which one was to go; and no ticket is left, unless none can be given back.
+-- or a pool to which one was to go; it waits for no transaction that a force would make durable; and no ticket is left, unless none can be given back.
 pub record PoolStopped (pool : ℕ) (events : List Event) (e : Refusal) : Type 0 where
   pub cause : IsStopped events e ⊎ IsPoolBarred pool events e
+  pub unheld : IsUnheld events e
   pub settled : may_leave (Err e) ≡ false → AreSettled events
   pub none_left : may_leave (Err e) ≡ false → LeavesNone events
 

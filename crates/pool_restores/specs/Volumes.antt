@@ -22,7 +22,7 @@ use Rattle.copy_attempts.specs.Outcomes.{Met, MetBy, may_leave}
 use Rattle.steps.specs.Spent.{AreSettled}
 use Rattle.copy_runs.specs.declared.wanted.Moved.{Moved}
 use Rattle.copy_runs.specs.declared.wanted.Wanted.{Wanted}
-use Rattle.copy_runs.specs.Ends.{IsStopped, first_of, last_of}
+use Rattle.copy_runs.specs.Ends.{AreAsking, IsStopped, IsUnheld, first_of, last_of}
 use Rattle.copy_runs.specs.Processes.{Completes}
 use Rattle.copy_runs.specs.Returning.{AreValid, Holds, is_kept}
 use Rattle.copy_runs.specs.Runs.{LeavesNone, is_among}
@@ -49,9 +49,35 @@ BegunVolume file c wanted events =
 abbrev pub IsNoVolume : (file : ℕ) → Refusal → Deed → Type 0
 IsNoVolume file e d = (answer : Answer) × (lines : List VolumeLine) × (d ≡ Ask (query.Volumes None None) (Ok answer)) × (answer.rows ≡ rows.Volumes lines) × (destroying_of file lines ≡ Err e)
 
+-- the volumes were asked for, and what this one held was made known as lost
+abbrev pub Destroyed : (file : ℕ) → Change → List Event → Type 0
+Destroyed file c events = (volumes : List VolumeLine) × (number : ℕ) × (destroying_of file volumes ≡ Ok c) × Then (λ xs. AskedVolumes xs volumes) (λ us. Changing c us (Ok number)) events
+
 -- There is no such volume; or it is how one of its own transactions was refused; or it wasn't there any more when its copies were asked for, or a pool to which one was to go.
 abbrev pub IsVolumeBarred : (file : ℕ) → List Event → Refusal → Type 0
-IsVolumeBarred file events e = MetBy (IsNoVolume file e) events ⊎ ((is_unmade e ≡ true) × Met e events) ⊎ IsUncollected events e ⊎ IsAimless events e
+IsVolumeBarred file events e = MetBy (IsNoVolume file e) events ⊎ ((is_unmade e ≡ true) × Met e events) ⊎ IsUncollected (file ∷ []) events e ⊎ IsAimless events e
+
+-- ---- where it was refused
+
+-- the volumes were asked for, and then the transaction by which what this one held is lost was refused
+abbrev pub IsUndestroyed : (file : ℕ) → List Event → Refusal → Type 0
+IsUndestroyed file events e =
+    (volumes : List VolumeLine) × (c : Change) × (why : Refusal) × (destroying_of file volumes ≡ Ok c) × (e ≡ unmade why)
+    × Then (λ xs. AskedVolumes xs volumes) (λ us. Changing c us (Err why)) events
+
+-- Behind that transaction: the question for the copies on the volume was refused, and nothing else was done; or one of its steps stopped it, or found that a pool to which a copy was to go isn't there. It
+-- waits for no transaction that a force would make durable.
+pub record EndsBehind (file : ℕ) (events : List Event) (e : Refusal) : Type 0 where
+  pub cause : IsStopped events e ⊎ (IsUncollected (file ∷ []) events e × AreAsking events) ⊎ IsAimless events e
+  pub unheld : IsUnheld events e
+  pub only : AllByRecursion (λ x. IsRestore x.deed) events
+
+-- where the volumes were asked for, and nothing else; where its transaction was asked for; or behind that
+abbrev pub IsInPlace : (file : ℕ) → List Event → Refusal → Type 0
+IsInPlace file events e =
+    ((IsStopped events e ⊎ MetBy (IsNoVolume file e) events) × AreAsking events)
+    ⊎ IsUndestroyed file events e
+    ⊎ ((c : Change) × Then (λ xs. Destroyed file c xs) (λ ys. EndsBehind file ys e) events)
 
 -- ---- the row
 
@@ -85,9 +111,11 @@ pub record VolumeRestored (file : ℕ) (events : List Event) (m : Moved) : Type 
   pub counts : Counted failed events m
   pub row : IsVolumeRestored file failed events
 
--- What it did where it was refused: for want of memory, or with a refusal that ends a process and that one of its steps met, or that bars it; and no ticket is left, unless none can be given back.
+-- What it did where it was refused: for want of memory, or with a refusal that ends a process and that one of its steps met, or that bars it; where that was; and no ticket is left, unless none can be
+-- given back.
 pub record VolumeStopped (file : ℕ) (events : List Event) (e : Refusal) : Type 0 where
   pub cause : IsStopped events e ⊎ IsVolumeBarred file events e
+  pub place : IsInPlace file events e
   pub settled : may_leave (Err e) ≡ false → AreSettled events
   pub none_left : may_leave (Err e) ≡ false → LeavesNone events
 
@@ -110,10 +138,6 @@ pub record Unbegun (file : ℕ) (events : List Event) (e : Refusal) : Type 0 whe
 abbrev pub BeginsVolume : (file : ℕ) → List Event → Result (List Wanted) Refusal → Type 0
 BeginsVolume file events (Ok wanted) = (c : Change) × BegunVolume file c wanted events
 BeginsVolume file events (Err e) = Unbegun file events e
-
--- the volumes were asked for, and what this one held was made known as lost
-abbrev pub Destroyed : (file : ℕ) → Change → List Event → Type 0
-Destroyed file c events = (volumes : List VolumeLine) × (number : ℕ) × (destroying_of file volumes ≡ Ok c) × Then (λ xs. AskedVolumes xs volumes) (λ us. Changing c us (Ok number)) events
 
 abbrev pub Destroys : (file : ℕ) → List Event → Result (Unit {0}) Refusal → Type 0
 Destroys file events (Ok done) = (c : Change) × Destroyed file c events
