@@ -3,7 +3,7 @@ use Rattle.std.specs.Prelude.{ℕ, List, ◌++◌, codes, decimal}
 use Rattle.hex.specs.Hex.{encode_lower}
 use Rattle.kinds.specs.declared.refusal.Refusal.{Refusal}
 use Rattle.reports.specs.declared.shown.Notice.{Notice}
-use Rattle.reports.specs.declared.shown.Notice.TheVariants.{Lost, Restored, Refused, NotABackup, Differs}
+use Rattle.reports.specs.declared.shown.Notice.TheVariants.{Lost, Restored, Refused, NotABackup}
 use Rattle.reports.specs.declared.shown.Shown.{Shown}
 use Rattle.reports.specs.declared.shown.Shown.TheVariants.{Done, Reused, Stored, Data, Read, Sent, File, Failed, RestoredFiles, Archived, Retrieved, Moved, Copied, RestoredCopies, Expired, DiscardedFilespace, DeletedVolume, Damaged, Audited, BackedUp, DeletedHistory, Rows}
 use Rattle.reports.specs.Pieces.{numbered, escaped, digits}
@@ -50,7 +50,6 @@ notice_text (Lost node filespace path object) = codes "LOST " ++ node ++ codes "
 notice_text (Restored versions copies lost) = codes "RESTORED versions=" ++ decimal versions ++ codes " copies=" ++ decimal copies ++ codes " lost=" ++ decimal lost
 notice_text (Refused refusal) = codes "REFUSED" ++ refusal_text refusal
 notice_text (NotABackup file) = codes "NOT A BACKUP " ++ decimal file
-notice_text (Differs kept found) = codes "DIFFERS " ++ decimal kept ++ codes " " ++ decimal found
 
 -- such a line
 abbrev pub notice_line : Notice → List ℕ

@@ -9,7 +9,7 @@ use Rattle.kinds.specs.declared.refusal.By.TheVariants.{Object}
 use Rattle.kinds.specs.declared.refusal.Refusal.TheVariants.{DayBack, Exists, InUse, NoSpace, NotFound}
 use Rattle.inventory_rows.specs.volume_rows.declared.status.Status.TheVariants.{Filling}
 use Rattle.inventory_answers.specs.declared.reply.Rows.TheVariants as rows
-use Rattle.reports.specs.declared.shown.Notice.TheVariants.{Lost, Restored, Refused, NotABackup, Differs}
+use Rattle.reports.specs.declared.shown.Notice.TheVariants.{Lost, Restored, Refused, NotABackup}
 use Rattle.reports.specs.declared.shown.Shown.TheVariants.{Reused, Read, Sent, Failed, Moved}
 use Rattle.reports.specs.Lines.{shown_line, refused_line, notice_line}
 use Rattle.reports.specs.Printed.{printed_rows}
@@ -89,10 +89,6 @@ restored = refl
 no_backup : notice_line (NotABackup 5) ≡ codes "NOT A BACKUP 5\n"
 unfolding digits
 no_backup = refl
-
-differs : notice_line (Differs 1 0) ≡ codes "DIFFERS 1 0\n"
-unfolding digits
-differs = refl
 
 format_refused : notice_line (Refused Exists) ≡ codes "REFUSED 11 Exists\n"
 unfolding digits

@@ -239,9 +239,6 @@ fn put_notice(text: &mut Vec<u8>, notice: &Notice) -> Result<(), Refusal>
         ),
         Notice::Refused { refusal } => put_refused(text, refusal),
         Notice::NotABackup { file } => put_number(text, b"NOT A BACKUP ", u64::from(*file)),
-        Notice::Differs { kept, found } => {
-            put_two_numbers(text, b"DIFFERS ", *kept, b" ", *found)
-        }
     }
 }
 

@@ -137,13 +137,8 @@ pub enum Notice {
     Refused {
         refusal: Refusal,
     },
-    /// The file with this number is no database backup, or is none that the one behind it follows.
+    /// The file with this number is no database backup, or holds one that can't be read over the one that it says it follows.
     NotABackup {
         file: u32,
-    },
-    /// What was kept twice differs: the first numbers that do, as they were kept and as they were found.
-    Differs {
-        kept: u64,
-        found: u64,
     },
 }
