@@ -2,27 +2,27 @@
 use Rattle.std.proofs.Common.{◌≡◌, ℕ, eqb, Bool, true, false, cond, ◌||◌, List, [], ◌∷◌, ◌++◌, Ok, Err, refl, sym, subst}
 use Rattle.std.proofs.lemmas.Bool.{cond-false, cond-true, eq-eqb}
 use Rattle.kinds.specs.declared.segment.Segment.{Segment}
-use Rattle.entries.specs.change_items.declared.items.NewHeldObject.{NewHeldObject}
-use Rattle.entries.specs.change_items.declared.items.NewVersion.{NewVersion}
-use Rattle.entries.specs.change_items.declared.lists.NewHeldObjects.{NewHeldObjects}
-use Rattle.entries.specs.change_items.declared.lists.NewVersions.{NewVersions}
-use Rattle.entries.specs.declared.change.Change.{Change}
-use Rattle.entries.specs.declared.change.Change.TheVariants as change
-use Rattle.inventory_rows.specs.version_groups.declared.versions.Version.{Version}
-use Rattle.inventory_rows.specs.version_groups.Versions.{has_active, has_object, retired, superseded}
-use Rattle.inventory_rows.specs.object_rows.Filespaces.{filespaces_with, versions_at}
-use Rattle.inventory_rows.specs.object_rows.HeldRows.{held_with}
-use Rattle.inventory_rows.specs.object_rows.Rows.{Rows, kept_of}
-use Rattle.inventory_rows.proofs.of_object_rows.Splices.{Splices}
-use Rattle.inventory_rows.specs.Search.{versions}
-use Rattle.inventory_rows.specs.State.{Inv}
-use Rattle.inventory_rules.specs.Common.{or_same, with_filespaces}
-use Rattle.inventory_rules.specs.Journal.{Journal}
-use Rattle.inventory_rules.specs.Transactions.{effect, causes}
-use Rattle.inventory_rules.specs.Segments.{put}
-use Rattle.inventory_rules.specs.Valid.{is_valid}
-use Rattle.inventory_rules.specs.Versions.{held_too, inserted, new_held, new_version}
-use Rattle.inventory_rows.specs.Ascending.{AreAscending}
+use Rattle.inventory_laws.specs.entries.change_items.declared.items.NewHeldObject.{NewHeldObject}
+use Rattle.inventory_laws.specs.entries.change_items.declared.items.NewVersion.{NewVersion}
+use Rattle.inventory_laws.specs.entries.change_items.declared.lists.NewHeldObjects.{NewHeldObjects}
+use Rattle.inventory_laws.specs.entries.change_items.declared.lists.NewVersions.{NewVersions}
+use Rattle.inventory_laws.specs.entries.declared.change.Change.{Change}
+use Rattle.inventory_laws.specs.entries.declared.change.Change.TheVariants as change
+use Rattle.inventory_laws.specs.inventory_rows.version_groups.declared.versions.Version.{Version}
+use Rattle.inventory_laws.specs.inventory_rows.version_groups.Versions.{has_active, has_object, retired, superseded}
+use Rattle.inventory_laws.specs.inventory_rows.object_rows.Filespaces.{filespaces_with, versions_at}
+use Rattle.inventory_laws.specs.inventory_rows.object_rows.HeldRows.{held_with}
+use Rattle.inventory_laws.specs.inventory_rows.object_rows.Rows.{Rows, kept_of}
+use Rattle.inventory_laws.proofs.of_inventory_rows.of_object_rows.Splices.{Splices}
+use Rattle.inventory_laws.specs.inventory_rows.Search.{versions}
+use Rattle.inventory_laws.specs.inventory_rows.State.{Inv}
+use Rattle.inventory_laws.specs.inventory_rules.Common.{or_same, with_filespaces}
+use Rattle.inventory_laws.specs.inventory_rules.Journal.{Journal}
+use Rattle.inventory_laws.specs.inventory_rules.Transactions.{effect, causes}
+use Rattle.inventory_laws.specs.inventory_rules.Segments.{put}
+use Rattle.inventory_laws.specs.inventory_rules.Valid.{is_valid}
+use Rattle.inventory_laws.specs.inventory_rules.Versions.{held_too, inserted, new_held, new_version}
+use Rattle.inventory_laws.specs.inventory_rows.Ascending.{AreAscending}
 use Rattle.inventory_laws.proofs.Facts.{facts_of}
 use Rattle.inventory_laws.proofs.Grouped.{versions_put}
 use Rattle.inventory_laws.proofs.Kept.{held_comes, splice_held, splice_kept}

@@ -4,13 +4,13 @@ use Rattle.std.specs.List.{AllByRecursion}
 use Rattle.sha2.specs.Sha256.{sha256}
 use Rattle.kinds.specs.declared.segment.Digest.{Digest}
 use Rattle.kinds.specs.declared.segment.Segment.{Segment}
-use Rattle.entries.specs.declared.change.Change.{Change}
-use Rattle.inventory_rows.specs.version_groups.declared.copies.CopyRow.{CopyRow}
-use Rattle.inventory_rows.specs.version_groups.declared.versions.Version.{Version}
-use Rattle.inventory_rows.specs.version_groups.Versions.{has_object, version_of}
-use Rattle.inventory_rows.specs.Search.{version, versions}
-use Rattle.inventory_rows.specs.State.{Inv}
-use Rattle.inventory_rules.specs.Transactions.{effect}
+use Rattle.inventory_laws.specs.entries.declared.change.Change.{Change}
+use Rattle.inventory_laws.specs.inventory_rows.version_groups.declared.copies.CopyRow.{CopyRow}
+use Rattle.inventory_laws.specs.inventory_rows.version_groups.declared.versions.Version.{Version}
+use Rattle.inventory_laws.specs.inventory_rows.version_groups.Versions.{has_object, version_of}
+use Rattle.inventory_laws.specs.inventory_rows.Search.{version, versions}
+use Rattle.inventory_laws.specs.inventory_rows.State.{Inv}
+use Rattle.inventory_laws.specs.inventory_rules.Transactions.{effect}
 use Rattle.inventory_laws.specs.Origins.{placed_segments}
 use Rattle.inventory_laws.proofs.Lists.{each_also, each_both}
 use Rattle.inventory_laws.proofs.Origins.{Has, Places, effect_has}

@@ -5,25 +5,25 @@ use Rattle.std.specs.Map.{keys_of}
 use Rattle.std.proofs.lemmas.Bool.{and_parts, not-true}
 use Rattle.std.proofs.lemmas.List.{append-nil}
 use Rattle.kinds.specs.declared.segment.Segment.{Segment}
-use Rattle.entries.specs.change_items.declared.items.NewHeldObject.{NewHeldObject}
-use Rattle.entries.specs.change_items.declared.items.NewVersion.{NewVersion}
-use Rattle.entries.specs.change_items.declared.items.ScratchVolume.{ScratchVolume}
-use Rattle.entries.specs.change_items.declared.lists.NewHeldObjects.{NewHeldObjects}
-use Rattle.entries.specs.change_items.declared.lists.NewVersions.{NewVersions}
-use Rattle.entries.specs.declared.change.Change.{Change}
-use Rattle.entries.specs.declared.change.Change.TheVariants as change
-use Rattle.inventory_rows.specs.version_groups.Versions.{has_object}
-use Rattle.inventory_rows.specs.volume_rows.declared.volume.Volume.{Volume}
-use Rattle.inventory_rows.specs.pool_rows.PoolRows.{is_sequential}
-use Rattle.inventory_rows.specs.pool_tables.Rows.{row_at}
-use Rattle.inventory_rows.specs.Search.{pool, segments_on, versions}
-use Rattle.inventory_rows.specs.State.{Inv}
-use Rattle.inventory_rules.specs.Valid.{is_valid, lie_in}
+use Rattle.inventory_laws.specs.entries.change_items.declared.items.NewHeldObject.{NewHeldObject}
+use Rattle.inventory_laws.specs.entries.change_items.declared.items.NewVersion.{NewVersion}
+use Rattle.inventory_laws.specs.entries.change_items.declared.items.ScratchVolume.{ScratchVolume}
+use Rattle.inventory_laws.specs.entries.change_items.declared.lists.NewHeldObjects.{NewHeldObjects}
+use Rattle.inventory_laws.specs.entries.change_items.declared.lists.NewVersions.{NewVersions}
+use Rattle.inventory_laws.specs.entries.declared.change.Change.{Change}
+use Rattle.inventory_laws.specs.entries.declared.change.Change.TheVariants as change
+use Rattle.inventory_laws.specs.inventory_rows.version_groups.Versions.{has_object}
+use Rattle.inventory_laws.specs.inventory_rows.volume_rows.declared.volume.Volume.{Volume}
+use Rattle.inventory_laws.specs.inventory_rows.pool_rows.PoolRows.{is_sequential}
+use Rattle.inventory_laws.specs.inventory_rows.pool_tables.Rows.{row_at}
+use Rattle.inventory_laws.specs.inventory_rows.Search.{pool, segments_on, versions}
+use Rattle.inventory_laws.specs.inventory_rows.State.{Inv}
+use Rattle.inventory_laws.specs.inventory_rules.Valid.{is_valid, lie_in}
 use Rattle.inventory_laws.proofs.Facts.{facts_of, first, rest}
-use Rattle.inventory_rules.specs.Segments.{are_all_clear, are_clear, copy_fits, lies_rightly, scratch_refused, segment_fits}
-use Rattle.inventory_rules.specs.Journal.{Journal}
-use Rattle.inventory_rules.specs.Transactions.{causes, parts_fit}
-use Rattle.inventory_rules.specs.Versions.{is_new_object, new_refused, object_refused, objects_refused}
+use Rattle.inventory_laws.specs.inventory_rules.Segments.{are_all_clear, are_clear, copy_fits, lies_rightly, scratch_refused, segment_fits}
+use Rattle.inventory_laws.specs.inventory_rules.Journal.{Journal}
+use Rattle.inventory_laws.specs.inventory_rules.Transactions.{causes, parts_fit}
+use Rattle.inventory_laws.specs.inventory_rules.Versions.{is_new_object, new_refused, object_refused, objects_refused}
 use Rattle.kinds.specs.Refusals.{bad_value, unless}
 use Rattle.inventory_laws.proofs.Tests.{both_none, unless_holds}
 use Rattle.contents.proofs.Segments.{all_weaker, drawn_row, each_passes, front_lies}

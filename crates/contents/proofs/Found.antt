@@ -4,14 +4,14 @@ use Rattle.std.specs.List.{AllByRecursion, list_all, sum_by}
 use Rattle.std.proofs.lemmas.Bool.{eqb-true}
 use Rattle.std.proofs.lemmas.List.Sums.{sum_by-cons}
 use Rattle.kinds.specs.declared.segment.Segment.{Segment}
-use Rattle.inventory_rows.specs.version_groups.declared.copies.CopyRow.{CopyRow}
-use Rattle.inventory_rows.specs.version_groups.declared.versions.Version.{Version}
-use Rattle.inventory_rows.specs.version_groups.Copies.{are_by_pool}
-use Rattle.inventory_rows.specs.version_groups.Entries.{is_nil}
+use Rattle.inventory_laws.specs.inventory_rows.version_groups.declared.copies.CopyRow.{CopyRow}
+use Rattle.inventory_laws.specs.inventory_rows.version_groups.declared.versions.Version.{Version}
+use Rattle.inventory_laws.specs.inventory_rows.version_groups.Copies.{are_by_pool}
+use Rattle.inventory_laws.specs.inventory_rows.version_groups.Entries.{is_nil}
 use Rattle.volume_frames.specs.Frames.{bytes_len}
-use Rattle.inventory_rows.specs.Search.{version, versions}
-use Rattle.inventory_rows.specs.State.{Inv}
-use Rattle.inventory_rules.specs.Valid.{is_copied, is_valid, primary_copies}
+use Rattle.inventory_laws.specs.inventory_rows.Search.{version, versions}
+use Rattle.inventory_laws.specs.inventory_rows.State.{Inv}
+use Rattle.inventory_laws.specs.inventory_rules.Valid.{is_copied, is_valid, primary_copies}
 use Rattle.inventory_laws.proofs.Facts.{facts_of, rest}
 use Rattle.inventory_laws.proofs.Origins.{each_found}
 use Rattle.contents.specs.Contents.{HasVersion, HaveAll}

@@ -5,14 +5,14 @@ use Rattle.std.proofs.lemmas.Bool.{eq-eqb}
 use Rattle.std.proofs.lemmas.List.{drop-append-le, drop_all, length-append, take-append-le, take_all}
 use Rattle.std.proofs.lemmas.List.Folds.{list_all-append}
 use Rattle.kinds.specs.declared.segment.Segment.{Segment}
-use Rattle.inventory_rows.specs.version_groups.Entries.{all_later}
-use Rattle.inventory_rows.specs.pool_rows.PoolRows.{is_sequential_at}
+use Rattle.inventory_laws.specs.inventory_rows.version_groups.Entries.{all_later}
+use Rattle.inventory_laws.specs.inventory_rows.pool_rows.PoolRows.{is_sequential_at}
 use Rattle.store_api.specs.Disk.{History}
 use Rattle.store_api.specs.Runs.{WroteWithin}
-use Rattle.inventory_rows.specs.State.{Inv}
-use Rattle.inventory_rules.specs.Valid.{high_of, low_of}
+use Rattle.inventory_laws.specs.inventory_rows.State.{Inv}
+use Rattle.inventory_laws.specs.inventory_rules.Valid.{high_of, low_of}
 use Rattle.inventory_laws.proofs.Facts.{first, rest}
-use Rattle.inventory_rules.specs.Segments.{are_all_clear, are_clear}
+use Rattle.inventory_laws.specs.inventory_rules.Segments.{are_all_clear, are_clear}
 use Rattle.contents.specs.Contents.{frame, FramesHave, HasFrame, InStore}
 use Rattle.contents.proofs.Kept.{firm_clear}
 use Rattle.contents.proofs.Segments.{Carries, all_weaker, frames_carried}

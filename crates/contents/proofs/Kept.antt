@@ -3,16 +3,16 @@ use Rattle.std.proofs.Common.{◌≡◌, inl, inr, ℕ, ◌+◌, ◌<◌, ◌≤
 use Rattle.std.specs.List.{list_all}
 use Rattle.std.proofs.lemmas.Bool.{cases_eq}
 use Rattle.kinds.specs.declared.segment.Segment.{Segment}
-use Rattle.inventory_rows.specs.version_groups.declared.versions.Version.{Version}
+use Rattle.inventory_laws.specs.inventory_rows.version_groups.declared.versions.Version.{Version}
 use Rattle.store_api.specs.Disk.{History, standing, reads, now, ImageAt}
 use Rattle.store_api.specs.Runs.{Firm, Stands, GoesOn, EachImage, WroteWithin}
 use Rattle.store_api.proofs.Standings.{leaves_firm}
 use Rattle.store_api.proofs.Runs.{now_image}
 use Rattle.store_api.proofs.Pieces.{image_reads, firm_beside, firm_since}
-use Rattle.inventory_rows.specs.Search.{segments_on, versions}
-use Rattle.inventory_rows.specs.State.{Inv}
-use Rattle.inventory_rules.specs.Valid.{is_valid}
-use Rattle.inventory_rules.specs.Segments.{are_clear}
+use Rattle.inventory_laws.specs.inventory_rows.Search.{segments_on, versions}
+use Rattle.inventory_laws.specs.inventory_rows.State.{Inv}
+use Rattle.inventory_laws.specs.inventory_rules.Valid.{is_valid}
+use Rattle.inventory_laws.specs.inventory_rules.Segments.{are_clear}
 use Rattle.contents.specs.Contents.{HaveAll, InImage, InStore, Holds, IsKept}
 use Rattle.contents.proofs.Segments.{EachSegment, Carries, all_carried, each_of, each_weaker, on_volumes, each_on, clear_outside}
 

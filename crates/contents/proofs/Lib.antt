@@ -1,3 +1,4 @@
+pub use Rattle.store_api.proofs as of_store_api
 pub mod Arrived
 pub mod Brought
 pub mod Came

@@ -10,17 +10,17 @@ use Rattle.std.proofs.lemmas.List.Sums.{sum_by-cons}
 use Rattle.std.proofs.lemmas.Option.{same_Some}
 use Rattle.kinds.specs.declared.segment.Segment.{Segment}
 use Rattle.volume_frames.specs.Frames.{bytes_len}
-use Rattle.inventory_rows.specs.version_groups.Copies.{are_by_pool}
-use Rattle.inventory_rows.specs.version_groups.Entries.{is_nil}
-use Rattle.inventory_rows.specs.version_groups.declared.copies.CopyRow.{CopyRow}
-use Rattle.inventory_rows.specs.version_groups.declared.versions.Version.{Version}
-use Rattle.inventory_rows.specs.volume_rows.declared.volume.Volume.{Volume}
-use Rattle.inventory_rows.specs.pool_rows.PoolRows.{is_sequential, pool_capacity}
-use Rattle.inventory_rows.specs.pool_tables.Rows.{row_at}
-use Rattle.inventory_rows.proofs.of_object_rows.Stands.{at-eqb}
-use Rattle.inventory_rows.specs.Search.{is_primary_kind, pool, segments_on, versions}
-use Rattle.inventory_rows.specs.State.{Inv}
-use Rattle.inventory_rules.specs.Valid.{are_disjoint, is_copied, is_of_pool, is_placed, is_sized, is_valid, is_volume, may_have, primary_copies, volumes_are}
+use Rattle.inventory_laws.specs.inventory_rows.version_groups.Copies.{are_by_pool}
+use Rattle.inventory_laws.specs.inventory_rows.version_groups.Entries.{is_nil}
+use Rattle.inventory_laws.specs.inventory_rows.version_groups.declared.copies.CopyRow.{CopyRow}
+use Rattle.inventory_laws.specs.inventory_rows.version_groups.declared.versions.Version.{Version}
+use Rattle.inventory_laws.specs.inventory_rows.volume_rows.declared.volume.Volume.{Volume}
+use Rattle.inventory_laws.specs.inventory_rows.pool_rows.PoolRows.{is_sequential, pool_capacity}
+use Rattle.inventory_laws.specs.inventory_rows.pool_tables.Rows.{row_at}
+use Rattle.inventory_laws.proofs.of_inventory_rows.of_object_rows.Stands.{at-eqb}
+use Rattle.inventory_laws.specs.inventory_rows.Search.{is_primary_kind, pool, segments_on, versions}
+use Rattle.inventory_laws.specs.inventory_rows.State.{Inv}
+use Rattle.inventory_laws.specs.inventory_rules.Valid.{are_disjoint, is_copied, is_of_pool, is_placed, is_sized, is_valid, is_volume, may_have, primary_copies, volumes_are}
 use Rattle.inventory_laws.proofs.Facts.{facts_of, first, rest}
 use Rattle.inventory_laws.proofs.VolumeRows.{all_so}
 use Rattle.contents.proofs.Segments.{EachSegment, all_weaker, each_on, each_passes, versions_pass}

@@ -8,19 +8,19 @@ use Rattle.std.proofs.lemmas.List.Folds.{list_all-append}
 use Rattle.std.specs.BTreeMap.{is_at}
 use Rattle.std.specs.Ordering.{nat_cmp}
 use Rattle.kinds.specs.declared.segment.Segment.{Segment}
-use Rattle.inventory_rows.specs.version_groups.declared.copies.CopyRow.{CopyRow}
-use Rattle.inventory_rows.specs.version_groups.declared.versions.Version.{Version}
-use Rattle.inventory_rows.specs.volume_rows.declared.volume.Volume.{Volume}
-use Rattle.inventory_rows.proofs.of_object_rows.Stands.{at-eqb}
-use Rattle.inventory_rows.specs.pool_tables.Rows.{row_at}
+use Rattle.inventory_laws.specs.inventory_rows.version_groups.declared.copies.CopyRow.{CopyRow}
+use Rattle.inventory_laws.specs.inventory_rows.version_groups.declared.versions.Version.{Version}
+use Rattle.inventory_laws.specs.inventory_rows.volume_rows.declared.volume.Volume.{Volume}
+use Rattle.inventory_laws.proofs.of_inventory_rows.of_object_rows.Stands.{at-eqb}
+use Rattle.inventory_laws.specs.inventory_rows.pool_tables.Rows.{row_at}
 use Rattle.store_api.specs.Runs.{IsOutside}
 use Rattle.volume_frames.proofs.Copies.{length-first_header, length-frame_header}
 use Rattle.volume_frames.specs.Frames.{first_header, frame_header}
-use Rattle.inventory_rows.specs.Search.{pool, segments_on, versions}
-use Rattle.inventory_rows.specs.State.{Inv}
-use Rattle.inventory_rules.specs.Valid.{is_valid, is_of_pool, lie_in, high_of, low_of}
+use Rattle.inventory_laws.specs.inventory_rows.Search.{pool, segments_on, versions}
+use Rattle.inventory_laws.specs.inventory_rows.State.{Inv}
+use Rattle.inventory_laws.specs.inventory_rules.Valid.{is_valid, is_of_pool, lie_in, high_of, low_of}
 use Rattle.inventory_laws.proofs.Facts.{facts_of, first, rest}
-use Rattle.inventory_rules.specs.Segments.{are_clear}
+use Rattle.inventory_laws.specs.inventory_rules.Segments.{are_clear}
 use Rattle.contents.specs.Contents.{first_frame, frame, FramesHave, HasFrame, HasVersion, HaveAll}
 
 -- a frame is 32 bytes longer than its data

@@ -13,28 +13,28 @@ use Rattle.kinds.specs.declared.change.PoolChange.{PoolChange}
 use Rattle.kinds.specs.declared.change.PoolChange.TheVariants as store
 use Rattle.kinds.specs.declared.refusal.Refusal.{Refusal}
 use Rattle.kinds.specs.declared.refusal.Refusal.TheVariants as refusal
-use Rattle.entries.specs.declared.change.Change.TheVariants as change
-use Rattle.inventory_rows.specs.version_groups.declared.groups.Filespace.{Filespace}
-use Rattle.inventory_rows.specs.version_groups.declared.versions.Version.{Version}
-use Rattle.inventory_rows.specs.version_groups.Entries.{if_found}
-use Rattle.inventory_rows.specs.object_rows.declared.place.Node.{Node}
-use Rattle.inventory_rows.specs.object_rows.Changes.{by_object, least_in, least_object, nodes_with, nodes_without, rows_changed, unless_used, with_nodes}
-use Rattle.inventory_rows.specs.object_rows.Filespaces.{at_number, filespace_at, versions_in, versions_of}
-use Rattle.inventory_rows.specs.object_rows.HeldRows.{held_versions}
-use Rattle.inventory_rows.specs.object_rows.Names.{filespace_named}
-use Rattle.inventory_rows.specs.object_rows.Rows.{Rows, kept_of, with_filespaces}
-use Rattle.inventory_rows.proofs.of_object_rows.Least.{least_of_none}
-use Rattle.inventory_rows.proofs.of_object_rows.Splices.{Splices, flatten-remove_entry, splice_new, splice_same}
-use Rattle.inventory_rows.proofs.of_object_rows.Stands.{at-eqb}
-use Rattle.inventory_rows.specs.Search.{versions}
-use Rattle.inventory_rows.specs.State.{Inv}
-use Rattle.inventory_rules.specs.Common.{or_same, full_at}
-use Rattle.inventory_rules.specs.Transactions.{effect, causes}
-use Rattle.inventory_rules.specs.Journal.{Journal}
+use Rattle.inventory_laws.specs.entries.declared.change.Change.TheVariants as change
+use Rattle.inventory_laws.specs.inventory_rows.version_groups.declared.groups.Filespace.{Filespace}
+use Rattle.inventory_laws.specs.inventory_rows.version_groups.declared.versions.Version.{Version}
+use Rattle.inventory_laws.specs.inventory_rows.version_groups.Entries.{if_found}
+use Rattle.inventory_laws.specs.inventory_rows.object_rows.declared.place.Node.{Node}
+use Rattle.inventory_laws.specs.inventory_rows.object_rows.Changes.{by_object, least_in, least_object, nodes_with, nodes_without, rows_changed, unless_used, with_nodes}
+use Rattle.inventory_laws.specs.inventory_rows.object_rows.Filespaces.{at_number, filespace_at, versions_in, versions_of}
+use Rattle.inventory_laws.specs.inventory_rows.object_rows.HeldRows.{held_versions}
+use Rattle.inventory_laws.specs.inventory_rows.object_rows.Names.{filespace_named}
+use Rattle.inventory_laws.specs.inventory_rows.object_rows.Rows.{Rows, kept_of, with_filespaces}
+use Rattle.inventory_laws.proofs.of_inventory_rows.of_object_rows.Least.{least_of_none}
+use Rattle.inventory_laws.proofs.of_inventory_rows.of_object_rows.Splices.{Splices, flatten-remove_entry, splice_new, splice_same}
+use Rattle.inventory_laws.proofs.of_inventory_rows.of_object_rows.Stands.{at-eqb}
+use Rattle.inventory_laws.specs.inventory_rows.Search.{versions}
+use Rattle.inventory_laws.specs.inventory_rows.State.{Inv}
+use Rattle.inventory_laws.specs.inventory_rules.Common.{or_same, full_at}
+use Rattle.inventory_laws.specs.inventory_rules.Transactions.{effect, causes}
+use Rattle.inventory_laws.specs.inventory_rules.Journal.{Journal}
 use Rattle.kinds.specs.Least.{lesser}
 use Rattle.kinds.specs.Refusals.{refusal_of, bad_value, unless}
-use Rattle.inventory_rules.specs.Clients.{client_bounds}
-use Rattle.inventory_rules.specs.Valid.{is_valid, lie_in}
+use Rattle.inventory_laws.specs.inventory_rules.Clients.{client_bounds}
+use Rattle.inventory_laws.specs.inventory_rules.Valid.{is_valid, lie_in}
 use Rattle.inventory_laws.proofs.Facts.{facts_of, first, rest}
 
 pub day_same : (day : ℕ) (v : Inv) → versions (effect (change.Day day) v) ≡ versions v

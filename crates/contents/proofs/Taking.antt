@@ -11,8 +11,8 @@ use Rattle.store_api.proofs.Runs.{goes_standing}
 use Rattle.store_api.proofs.Standings.{firm_settled}
 use Rattle.volume_frames.specs.Frames.{bytes_len, frame_header}
 use Rattle.volume_frames.proofs.Copies.{length-frame_header}
-use Rattle.inventory_rows.specs.State.{Inv}
-use Rattle.inventory_rules.specs.Segments.{are_all_clear, are_clear}
+use Rattle.inventory_laws.specs.inventory_rows.State.{Inv}
+use Rattle.inventory_laws.specs.inventory_rules.Segments.{are_all_clear, are_clear}
 use Rattle.inventory_laws.proofs.Lists.{each_also}
 use Rattle.contents.specs.Contents.{FramesHave, InImage, InStore, TookHave, frame}
 use Rattle.contents.proofs.Growing.{front_clear}

@@ -5,11 +5,11 @@ use Rattle.sha2.specs.Sha256.{sha256}
 use Rattle.kinds.specs.declared.segment.Segment.{Segment}
 use Rattle.store_api.specs.Disk.{History, standing}
 use Rattle.store_api.specs.Runs.{Stands, Firm}
-use Rattle.entries.specs.declared.change.Change.{Change}
+use Rattle.inventory_laws.specs.entries.declared.change.Change.{Change}
 use Rattle.volume_frames.specs.Frames.{frame_header, first_header}
-use Rattle.inventory_rows.specs.version_groups.declared.versions.Version.{Version}
-use Rattle.inventory_rows.specs.Search.{versions}
-use Rattle.inventory_rows.specs.State.{Inv}
+use Rattle.inventory_laws.specs.inventory_rows.version_groups.declared.versions.Version.{Version}
+use Rattle.inventory_laws.specs.inventory_rows.Search.{versions}
+use Rattle.inventory_laws.specs.inventory_rows.State.{Inv}
 use Rattle.inventory_laws.specs.Origins.{new_objects, placed_segments}
 
 -- a segment's frame: the header, which names the object, the segment's number and the length, and the data

@@ -1,2 +1,3 @@
+pub use Rattle.store_api.specs as store_api
 pub mod Contents
 pub mod Reading

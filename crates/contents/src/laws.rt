@@ -4,12 +4,12 @@ ghost use Rattle.std.specs.List.{AllByRecursion, list_all};
 ghost use Rattle.kinds.specs.declared.segment.Segment.{Segment};
 ghost use Rattle.store_api.specs.Disk.{History, standing, reads, settled, now, ImageAt};
 ghost use Rattle.store_api.specs.Runs.{Stands, Firm, GoesOn, EachImage, WroteWithin};
-ghost use Rattle.inventory_rows.specs.version_groups.declared.versions.Version.{Version};
+ghost use Rattle.inventory_laws.specs.inventory_rows.version_groups.declared.versions.Version.{Version};
 ghost use Rattle.volume_frames.specs.Frames.{bytes_len, bytes_of, data_place, frame_header};
-ghost use Rattle.inventory_rows.specs.Search.{segments_on, version};
-ghost use Rattle.inventory_rows.specs.State.{Inv};
-ghost use Rattle.inventory_rules.specs.Valid.{is_valid};
-ghost use Rattle.inventory_rules.specs.Segments.{are_all_clear, are_clear};
+ghost use Rattle.inventory_laws.specs.inventory_rows.Search.{segments_on, version};
+ghost use Rattle.inventory_laws.specs.inventory_rows.State.{Inv};
+ghost use Rattle.inventory_laws.specs.inventory_rules.Valid.{is_valid};
+ghost use Rattle.inventory_laws.specs.inventory_rules.Segments.{are_all_clear, are_clear};
 ghost use Rattle.contents.specs.Contents.{frame, FramesHave, TookHave, HasVersion, InImage, InStore, Holds, IsKept};
 ghost use Rattle.contents.specs.Reading.{begins_at, segments_in};
 

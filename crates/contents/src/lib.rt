@@ -6,3 +6,4 @@ pub mod laws;
 pub mod transactions;
 
 pub use frames::{Unread, framed, read_copy, read_piece};
+pub use store_api;

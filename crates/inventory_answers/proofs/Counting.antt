@@ -10,9 +10,9 @@ use Rattle.std.specs.Ordering.{nat_cmp, match_ordering, is_eq}
 use Rattle.std.specs.Prelude.{unwrap_or, if◌then◌else◌}
 use Rattle.std.specs.declared.cmp.Ordering.{Ordering}
 use Rattle.std.specs.declared.cmp.Ordering.TheVariants.{Less, Equal, Greater}
-use Rattle.inventory_rows.specs.volume_rows.declared.held.HeldSegment.{HeldSegment}
-use Rattle.inventory_rows.specs.object_rows.Filespaces.{at_number}
-use Rattle.inventory_rows.specs.pool_tables.Rows.{row_at}
+use Rattle.inventory_work.specs.inventory_rows.volume_rows.declared.held.HeldSegment.{HeldSegment}
+use Rattle.inventory_work.specs.inventory_rows.object_rows.Filespaces.{at_number}
+use Rattle.inventory_work.specs.inventory_rows.pool_tables.Rows.{row_at}
 use Rattle.inventory_answers.specs.Content.{so_far, with_segment, counted, segments_of}
 
 same_test : {A : Type 0} (b c : Bool) (x y z : A) → c ≡ b → cond b x y ≡ cond c x (cond b z y)

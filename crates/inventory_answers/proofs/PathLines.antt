@@ -9,14 +9,14 @@ use Rattle.std.specs.List.Sorted.{IsStrictlySortedBy}
 use Rattle.std.specs.Map.{keys_of, lookup}
 use Rattle.std.specs.Ordering.{nat_cmp, is_eq}
 use Rattle.std.specs.declared.cmp.Ordering.TheVariants.{Less}
-use Rattle.inventory_rows.specs.object_rows.Filespaces.{at_number, filespace_at, groups_in}
-use Rattle.inventory_rows.specs.object_rows.Places.{PathsAscend}
-use Rattle.inventory_rows.specs.Search.{rule_in}
-use Rattle.inventory_rows.specs.State.{Inv}
-use Rattle.inventory_rows.specs.version_groups.declared.group.Group.{Group}
-use Rattle.inventory_rows.specs.version_groups.declared.groups.Filespace.{Filespace}
-use Rattle.inventory_rows.specs.version_groups.declared.versions.Version.{Version}
-use Rattle.inventory_rows.specs.version_groups.Groups.{AreByPath, at_path}
+use Rattle.inventory_work.specs.inventory_rows.object_rows.Filespaces.{at_number, filespace_at, groups_in}
+use Rattle.inventory_work.specs.inventory_rows.object_rows.Places.{PathsAscend}
+use Rattle.inventory_work.specs.inventory_rows.Search.{rule_in}
+use Rattle.inventory_work.specs.inventory_rows.State.{Inv}
+use Rattle.inventory_work.specs.inventory_rows.version_groups.declared.group.Group.{Group}
+use Rattle.inventory_work.specs.inventory_rows.version_groups.declared.groups.Filespace.{Filespace}
+use Rattle.inventory_work.specs.inventory_rows.version_groups.declared.versions.Version.{Version}
+use Rattle.inventory_work.specs.inventory_rows.version_groups.Groups.{AreByPath, at_path}
 use Rattle.inventory_answers.specs.Clients.{group_versions, lines_from, version_line_at, version_lines, versions_at, versions_of_group, versions_under}
 use Rattle.inventory_answers.specs.declared.lines.VersionLine.{VersionLine}
 

@@ -1,8 +1,8 @@
 -- What the database answers to queries.
 use Rattle.std.specs.Prelude.{Result, Ok}
 use Rattle.kinds.specs.declared.refusal.Refusal.{Refusal}
-use Rattle.inventory_rows.specs.version_groups.Entries.{on_ok}
-use Rattle.inventory_rows.specs.State.{Inv}
+use Rattle.inventory_work.specs.inventory_rows.version_groups.Entries.{on_ok}
+use Rattle.inventory_work.specs.inventory_rows.State.{Inv}
 use Rattle.inventory_work.specs.Copies.{on_pool, on_volume, missing}
 use Rattle.inventory_work.specs.Expiring.{unretained}
 use Rattle.inventory_work.specs.Found.{find_named}

@@ -3,17 +3,17 @@ use Rattle.std.specs.Prelude.{ℕ, suc, Bool, List, [], ◌∷◌, map, length, 
 use Rattle.std.specs.List.{flat_map, sum_by}
 use Rattle.kinds.specs.declared.refusal.Refusal.{Refusal}
 use Rattle.kinds.specs.declared.rule.RuleFound.{RuleFound}
-use Rattle.copy_groups.specs.Retention.{is_owed}
-use Rattle.inventory_rows.specs.version_groups.declared.group.Group.{Group}
-use Rattle.inventory_rows.specs.version_groups.declared.groups.Filespace.{Filespace}
-use Rattle.inventory_rows.specs.version_groups.declared.versions.Version.{Version}
-use Rattle.inventory_rows.specs.version_groups.Entries.{on_ok}
-use Rattle.inventory_rows.specs.version_groups.Versions.{has_active}
-use Rattle.inventory_rows.specs.object_rows.declared.place.Node.{Node}
-use Rattle.inventory_rows.specs.object_rows.Filespaces.{filespace_at, groups_in, group_at}
-use Rattle.inventory_rows.specs.object_rows.Rows.{Rows}
-use Rattle.inventory_rows.specs.Search.{rule_in}
-use Rattle.inventory_rows.specs.State.{Inv}
+use Rattle.inventory_work.specs.copy_groups.Retention.{is_owed}
+use Rattle.inventory_work.specs.inventory_rows.version_groups.declared.group.Group.{Group}
+use Rattle.inventory_work.specs.inventory_rows.version_groups.declared.groups.Filespace.{Filespace}
+use Rattle.inventory_work.specs.inventory_rows.version_groups.declared.versions.Version.{Version}
+use Rattle.inventory_work.specs.inventory_rows.version_groups.Entries.{on_ok}
+use Rattle.inventory_work.specs.inventory_rows.version_groups.Versions.{has_active}
+use Rattle.inventory_work.specs.inventory_rows.object_rows.declared.place.Node.{Node}
+use Rattle.inventory_work.specs.inventory_rows.object_rows.Filespaces.{filespace_at, groups_in, group_at}
+use Rattle.inventory_work.specs.inventory_rows.object_rows.Rows.{Rows}
+use Rattle.inventory_work.specs.inventory_rows.Search.{rule_in}
+use Rattle.inventory_work.specs.inventory_rows.State.{Inv}
 use Rattle.inventory_answers.specs.declared.lines.NodeLine.{NodeLine}
 use Rattle.inventory_answers.specs.declared.lines.FilespaceLine.{FilespaceLine}
 use Rattle.inventory_answers.specs.declared.lines.VersionLine.{VersionLine}

@@ -6,14 +6,14 @@ use Rattle.std.specs.Option.{option_map}
 use Rattle.std.specs.Ordering.{nat_cmp}
 use Rattle.kinds.specs.declared.refusal.Refusal.{Refusal}
 use Rattle.kinds.specs.declared.refusal.Refusal.TheVariants.{Memory}
-use Rattle.inventory_rows.specs.version_groups.Entries.{if_found}
-use Rattle.inventory_rows.specs.volume_rows.declared.held.HeldSegment.{HeldSegment}
-use Rattle.inventory_rows.specs.volume_rows.declared.volume.Volume.{Volume}
-use Rattle.inventory_rows.specs.object_rows.Filespaces.{at_number}
-use Rattle.inventory_rows.specs.pool_tables.Rows.{row_at}
-use Rattle.inventory_rows.specs.pool_rows.PoolRows.{PoolRows, volume_named}
-use Rattle.inventory_rows.specs.Search.{version}
-use Rattle.inventory_rows.specs.State.{Inv}
+use Rattle.inventory_work.specs.inventory_rows.version_groups.Entries.{if_found}
+use Rattle.inventory_work.specs.inventory_rows.volume_rows.declared.held.HeldSegment.{HeldSegment}
+use Rattle.inventory_work.specs.inventory_rows.volume_rows.declared.volume.Volume.{Volume}
+use Rattle.inventory_work.specs.inventory_rows.object_rows.Filespaces.{at_number}
+use Rattle.inventory_work.specs.inventory_rows.pool_tables.Rows.{row_at}
+use Rattle.inventory_work.specs.inventory_rows.pool_rows.PoolRows.{PoolRows, volume_named}
+use Rattle.inventory_work.specs.inventory_rows.Search.{version}
+use Rattle.inventory_work.specs.inventory_rows.State.{Inv}
 use Rattle.inventory_answers.specs.declared.lines.ContentLine.{ContentLine}
 
 -- how many segments were counted for an object

@@ -3,10 +3,10 @@ use Rattle.std.specs.Prelude.{ℕ, ◌==◌, List, Result, Ok, Err, is_some, if�
 use Rattle.std.specs.List.{flat_map}
 use Rattle.kinds.specs.declared.refusal.Refusal.{Refusal}
 use Rattle.kinds.specs.declared.refusal.Refusal.TheVariants.{NotFound}
-use Rattle.copy_groups.specs.Retention.{is_held_on}
-use Rattle.inventory_rows.specs.object_rows.declared.held_object.HeldRow.{HeldRow}
-use Rattle.inventory_rows.specs.object_rows.Filespaces.{filespace_at}
-use Rattle.inventory_rows.specs.State.{Inv}
+use Rattle.inventory_work.specs.copy_groups.Retention.{is_held_on}
+use Rattle.inventory_work.specs.inventory_rows.object_rows.declared.held_object.HeldRow.{HeldRow}
+use Rattle.inventory_work.specs.inventory_rows.object_rows.Filespaces.{filespace_at}
+use Rattle.inventory_work.specs.inventory_rows.State.{Inv}
 use Rattle.inventory_work.specs.Lists.{only}
 use Rattle.inventory_answers.specs.declared.lines.HeldLine.{HeldLine}
 

@@ -3,13 +3,13 @@ use Rattle.std.specs.Prelude.{ℕ, ◌==◌, List, [], ◌∷◌, Bool, true, Op
 use Rattle.std.specs.Map.{lookup}
 use Rattle.std.specs.Option.{option_map, option_map_or}
 use Rattle.kinds.specs.declared.refusal.Refusal.{Refusal}
-use Rattle.inventory_rows.specs.policy_domains.Rows.{SetRow, DomainRow, row_of}
-use Rattle.inventory_rows.specs.version_groups.Entries.{if_found}
-use Rattle.inventory_rows.specs.object_rows.Filespaces.{at_number}
-use Rattle.inventory_rows.specs.object_rows.Names.{node_named}
-use Rattle.inventory_rows.specs.object_rows.Rows.{Rows}
-use Rattle.inventory_rows.specs.pool_tables.Rows.{row_at}
-use Rattle.inventory_rows.specs.pool_rows.PoolRows.{PoolRows, pool_named, volume_named}
+use Rattle.inventory_work.specs.inventory_rows.policy_domains.Rows.{SetRow, DomainRow, row_of}
+use Rattle.inventory_work.specs.inventory_rows.version_groups.Entries.{if_found}
+use Rattle.inventory_work.specs.inventory_rows.object_rows.Filespaces.{at_number}
+use Rattle.inventory_work.specs.inventory_rows.object_rows.Names.{node_named}
+use Rattle.inventory_work.specs.inventory_rows.object_rows.Rows.{Rows}
+use Rattle.inventory_work.specs.inventory_rows.pool_tables.Rows.{row_at}
+use Rattle.inventory_work.specs.inventory_rows.pool_rows.PoolRows.{PoolRows, pool_named, volume_named}
 
 -- the set of a domain, where both are there
 abbrev pub set_row : List ℕ → List ℕ → List (List ℕ × DomainRow) → Result SetRow Refusal

@@ -6,11 +6,11 @@ use Rattle.std.specs.Result.{result_err}
 use Rattle.kinds.specs.declared.change.PolicyChange.TheVariants as policy
 use Rattle.kinds.specs.declared.refusal.Refusal.{Refusal}
 use Rattle.kinds.specs.declared.rule.BackupRule.{BackupRule}
-use Rattle.inventory_rows.specs.policy_domains.declared.classes.ManagementClass.{ManagementClass}
-use Rattle.inventory_rows.specs.policy_domains.Changes.{after}
-use Rattle.inventory_rows.specs.policy_domains.Rows.{SetRow, DomainRow, active_set, row_of}
-use Rattle.inventory_rows.specs.version_groups.Entries.{on_ok, if_found}
-use Rattle.inventory_rows.specs.pool_rows.PoolRows.{PoolRows}
+use Rattle.inventory_work.specs.inventory_rows.policy_domains.declared.classes.ManagementClass.{ManagementClass}
+use Rattle.inventory_work.specs.inventory_rows.policy_domains.Changes.{after}
+use Rattle.inventory_work.specs.inventory_rows.policy_domains.Rows.{SetRow, DomainRow, active_set, row_of}
+use Rattle.inventory_work.specs.inventory_rows.version_groups.Entries.{on_ok, if_found}
+use Rattle.inventory_work.specs.inventory_rows.pool_rows.PoolRows.{PoolRows}
 use Rattle.inventory_answers.specs.declared.lines.DomainLine.{DomainLine}
 use Rattle.inventory_answers.specs.declared.lines.SetLine.{SetLine}
 use Rattle.inventory_answers.specs.declared.lines.ClassLine.{ClassLine}

@@ -2,14 +2,14 @@
 use Rattle.std.specs.Prelude.{ℕ, ◌+◌, ◌*◌, nat_lt, Bool, List, map, Option, Some, None, Result, Ok, Err, if◌then◌else◌}
 use Rattle.std.specs.List.{flat_map}
 use Rattle.kinds.specs.declared.refusal.Refusal.{Refusal}
-use Rattle.inventory_rows.specs.version_groups.Entries.{on_ok}
-use Rattle.inventory_rows.specs.volume_rows.declared.volume.Volume.{Volume}
-use Rattle.inventory_rows.specs.volume_rows.Holdings.{live_bytes, used_blocks}
-use Rattle.inventory_rows.specs.volume_rows.Volumes.{status_of}
-use Rattle.inventory_rows.specs.pool_tables.declared.pool.Pool.{Pool}
-use Rattle.inventory_rows.specs.pool_rows.PoolRows.{PoolRows, is_sequential}
-use Rattle.inventory_rows.specs.pool_rows.Shares.{percent_at_most, percent_of}
-use Rattle.inventory_rows.specs.declared.backup.Backup.{Backup}
+use Rattle.inventory_work.specs.inventory_rows.version_groups.Entries.{on_ok}
+use Rattle.inventory_work.specs.inventory_rows.volume_rows.declared.volume.Volume.{Volume}
+use Rattle.inventory_work.specs.inventory_rows.volume_rows.Holdings.{live_bytes, used_blocks}
+use Rattle.inventory_work.specs.inventory_rows.volume_rows.Volumes.{status_of}
+use Rattle.inventory_work.specs.inventory_rows.pool_tables.declared.pool.Pool.{Pool}
+use Rattle.inventory_work.specs.inventory_rows.pool_rows.PoolRows.{PoolRows, is_sequential}
+use Rattle.inventory_work.specs.inventory_rows.pool_rows.Shares.{percent_at_most, percent_of}
+use Rattle.inventory_work.specs.inventory_rows.declared.backup.Backup.{Backup}
 use Rattle.inventory_answers.specs.declared.lines.DeviceLine.{DeviceLine}
 use Rattle.inventory_answers.specs.declared.lines.PoolLine.{PoolLine}
 use Rattle.inventory_answers.specs.declared.lines.VolumeLine.{VolumeLine}

@@ -1,6 +1,6 @@
 ghost use Rattle.std.specs.Prelude.{◌≡◌};
 ghost use Rattle.kinds.specs.Answers.{Answers};
-ghost use Rattle.inventory_rows.specs.State.{inv_of};
+ghost use Rattle.inventory_work.specs.inventory_rows.State.{inv_of};
 ghost use Rattle.inventory_work.specs.OnVolume.{RowsHoldObjects};
 ghost use Rattle.inventory_answers.specs.Answered.{rows_of, answered};
 
@@ -11,7 +11,7 @@ use crate::policy::{activation_refusal, classes_of, domain_lines, groups_of, set
 use crate::query::Query;
 use crate::reply::{Answer, Rows};
 use crate::stores::{backup_lines, device_lines, pools_of, volumes_of};
-use inventory_rows::Tables;
+use inventory_work::inventory_rows::Tables;
 use inventory_work::{
     eligible, emptied, find_named, missing, on_pool, on_volume, rules_of, unretained,
 };

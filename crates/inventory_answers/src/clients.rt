@@ -1,18 +1,18 @@
 // Client nodes, filespaces and versions.
 ghost use Rattle.std.specs.Prelude.{◌≡◌, ℕ, List, [], ◌∷◌, filter};
 ghost use Rattle.kinds.specs.Answers.{Answers, AnswersBy};
-ghost use Rattle.inventory_rows.specs.object_rows.Places.{PathsAscend};
-ghost use Rattle.inventory_rows.specs.version_groups.Groups.{at_path};
-ghost use Rattle.inventory_rows.specs.State.{Inv, inv_of};
+ghost use Rattle.inventory_work.specs.inventory_rows.object_rows.Places.{PathsAscend};
+ghost use Rattle.inventory_work.specs.inventory_rows.version_groups.Groups.{at_path};
+ghost use Rattle.inventory_work.specs.inventory_rows.State.{Inv, inv_of};
 ghost use Rattle.inventory_work.specs.Lists.{Writes};
 ghost use Rattle.inventory_answers.specs.Clients.{node_line, active_files, version_line_at, node_lines, files_in, versions_in, filespace_line, filespace_lines_of, filespace_lines, filespaces_of, version_line, lines_from, group_versions, version_lines, versions_at, versions_of, versions_under, path_versions_of};
 
 use crate::lines::{FilespaceLine, NodeLine, VersionLine};
 use crate::look::{is_asked, name_of_node, node_asked, plus};
-use copy_groups::is_owed;
-use inventory_rows::object_rows::{Node, Objects};
-use inventory_rows::version_groups::{Filespace, Group, Version};
-use inventory_rows::{Tables, rule_in};
+use inventory_work::copy_groups::is_owed;
+use inventory_work::inventory_rows::object_rows::{Node, Objects};
+use inventory_work::inventory_rows::version_groups::{Filespace, Group, Version};
+use inventory_work::inventory_rows::{Tables, rule_in};
 use inventory_work::{Listed, filespace_asked};
 use kinds::{Day, FilespaceName, Name, NodeName, Path, Refusal, RuleFound};
 use std::alloc::Global;

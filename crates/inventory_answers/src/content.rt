@@ -2,16 +2,16 @@
 ghost use Rattle.std.specs.Prelude.{◌≡◌, ℕ, List, []};
 ghost use Rattle.std.specs.Option.{option_copied};
 ghost use Rattle.kinds.specs.Answers.{Answers, AnswersBy};
-ghost use Rattle.inventory_rows.specs.volume_rows.declared.held.HeldSegment.{HeldSegment};
-ghost use Rattle.inventory_rows.specs.State.{inv_of};
+ghost use Rattle.inventory_work.specs.inventory_rows.volume_rows.declared.held.HeldSegment.{HeldSegment};
+ghost use Rattle.inventory_work.specs.inventory_rows.State.{inv_of};
 ghost use Rattle.inventory_answers.specs.Content.{so_far, with_segment, counted, content_line, content_lines, size_of_object, volume_at, content_of, Counts, segments_of};
 
 use crate::lines::ContentLine;
 use crate::look::plus;
-use inventory_rows::Tables;
-use inventory_rows::pool_rows::Pools;
-use inventory_rows::volume_rows::{HeldSegment, Volume};
 use inventory_work::Listed;
+use inventory_work::inventory_rows::Tables;
+use inventory_work::inventory_rows::pool_rows::Pools;
+use inventory_work::inventory_rows::volume_rows::{HeldSegment, Volume};
 use kinds::{Name, ObjectSize, Refusal};
 use std::alloc::Global;
 use std::collections::BTreeMap;

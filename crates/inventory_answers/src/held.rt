@@ -1,15 +1,15 @@
 // Held objects.
 ghost use Rattle.std.specs.Prelude.{◌≡◌};
 ghost use Rattle.kinds.specs.Answers.{Answers, AnswersBy};
-ghost use Rattle.inventory_rows.specs.State.{inv_of};
+ghost use Rattle.inventory_work.specs.inventory_rows.State.{inv_of};
 ghost use Rattle.inventory_work.specs.Lists.{Writes};
 ghost use Rattle.inventory_answers.specs.Held.{held_line, held_lines_of, held_lines, held_of};
 
 use crate::lines::HeldLine;
-use copy_groups::is_held_on;
-use inventory_rows::Tables;
-use inventory_rows::object_rows::HeldRow;
 use inventory_work::Listed;
+use inventory_work::copy_groups::is_held_on;
+use inventory_work::inventory_rows::Tables;
+use inventory_work::inventory_rows::object_rows::HeldRow;
 use kinds::{Day, Refusal};
 use std::alloc::Global;
 use std::collections::BTreeMap;

@@ -1,4 +1,4 @@
-use inventory_rows::volume_rows::Status;
+use inventory_work::inventory_rows::volume_rows::Status;
 use kinds::{
     Access, ArchiveRule, BackupRule, Capacity, Day, Days, Digest, FilespaceName, Name, NodeName,
     ObjectSize, Path, PoolKind, PoolRule, Text,

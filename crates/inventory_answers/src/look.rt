@@ -2,13 +2,13 @@
 ghost use Rattle.std.specs.Prelude.{◌≡◌, ◌+◌, ◌*◌};
 ghost use Rattle.std.specs.Option.{option_copied};
 ghost use Rattle.kinds.specs.Answers.{AnswersBy};
-ghost use Rattle.inventory_rows.specs.policy_domains.Rows.{active_set, row_of};
-ghost use Rattle.inventory_rows.specs.policy_domains.Seen.{seen};
+ghost use Rattle.inventory_work.specs.inventory_rows.policy_domains.Rows.{active_set, row_of};
+ghost use Rattle.inventory_work.specs.inventory_rows.policy_domains.Seen.{seen};
 ghost use Rattle.inventory_answers.specs.Look.{set_row, name_of_pool, next_name, name_of_node, node_asked, pool_asked, volume_asked, is_asked};
 
-use inventory_rows::object_rows::Objects;
-use inventory_rows::policy_domains::{Domains, PolicyDomain, PolicySet};
-use inventory_rows::pool_rows::Pools;
+use inventory_work::inventory_rows::object_rows::Objects;
+use inventory_work::inventory_rows::policy_domains::{Domains, PolicyDomain, PolicySet};
+use inventory_work::inventory_rows::pool_rows::Pools;
 use kinds::{Name, NodeName, Refusal};
 use std::alloc::Global;
 

@@ -1,15 +1,17 @@
 // Policy domains, policy sets, management classes and copy groups.
 ghost use Rattle.std.specs.Prelude.{◌≡◌, is_some};
 ghost use Rattle.kinds.specs.Answers.{Answers, AnswersBy};
-ghost use Rattle.inventory_rows.specs.policy_domains.Rows.{active_set};
+ghost use Rattle.inventory_work.specs.inventory_rows.policy_domains.Rows.{active_set};
 ghost use Rattle.inventory_work.specs.Lists.{Writes};
 ghost use Rattle.inventory_answers.specs.Policy.{domain_line, domain_lines, set_line, set_lines, sets_of, class_line, class_lines, classes_of, group_line, group_lines_of, group_lines, groups_of, activation_refusal};
 
 use crate::lines::{ClassLine, DomainLine, GroupLine, SetLine};
 use crate::look::{active_name, domain_row, name_of_pool, set_row};
-use inventory_rows::policy_domains::{Domains, ManagementClass, PolicyDomain, PolicySet};
-use inventory_rows::pool_rows::Pools;
 use inventory_work::Listed;
+use inventory_work::inventory_rows::policy_domains::{
+    Domains, ManagementClass, PolicyDomain, PolicySet,
+};
+use inventory_work::inventory_rows::pool_rows::Pools;
 use kinds::{ArchiveGroup, ArchiveRule, CopyGroup, Name, Refusal};
 use std::alloc::Global;
 

@@ -1,17 +1,17 @@
 // Device classes, storage pools, volumes and database backups.
 ghost use Rattle.std.specs.Prelude.{◌≡◌, ◌<◌, Some, None};
 ghost use Rattle.kinds.specs.Answers.{Answers, AnswersBy};
-ghost use Rattle.inventory_rows.specs.pool_rows.Shares.{percent_of};
+ghost use Rattle.inventory_work.specs.inventory_rows.pool_rows.Shares.{percent_of};
 ghost use Rattle.inventory_work.specs.Lists.{Writes};
 ghost use Rattle.inventory_answers.specs.Stores.{device_line, device_lines, first_within, least_of, pool_line, pool_lines, pools_of, used_on, volume_line, volume_lines_of, volume_lines, volumes_of, backup_line, backup_lines};
 
 use crate::lines::{BackupLine, DeviceLine, PoolLine, VolumeLine};
 use crate::look::{is_asked, name_of_pool, next_name, pool_asked, times, volume_asked};
-use inventory_rows::Backup;
-use inventory_rows::pool_rows::Pools;
-use inventory_rows::pool_tables::Pool;
-use inventory_rows::volume_rows::Volume;
 use inventory_work::Listed;
+use inventory_work::inventory_rows::Backup;
+use inventory_work::inventory_rows::pool_rows::Pools;
+use inventory_work::inventory_rows::pool_tables::Pool;
+use inventory_work::inventory_rows::volume_rows::Volume;
 use kinds::{Capacity, Name, Refusal};
 use std::alloc::Global;
 use std::collections::BTreeMap;

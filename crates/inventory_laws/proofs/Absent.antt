@@ -7,13 +7,13 @@ use Rattle.std.specs.Map.{keys_of}
 use Rattle.std.specs.Ordering.{nat_cmp}
 use Rattle.std.proofs.lemmas.Bool.{ltb-true}
 use Rattle.kinds.specs.declared.refusal.Refusal.{Refusal}
-use Rattle.inventory_rows.specs.pool_tables.Rows.{row_at}
-use Rattle.inventory_rows.proofs.of_pool_tables.Counting.{apart_at}
-use Rattle.inventory_rows.specs.State.{Inv}
+use Rattle.inventory_rules.specs.inventory_rows.pool_tables.Rows.{row_at}
+use Rattle.inventory_rules.proofs.of_inventory_rows.of_pool_tables.Counting.{apart_at}
+use Rattle.inventory_rules.specs.inventory_rows.State.{Inv}
 use Rattle.inventory_rules.specs.Common.{files_refused, is_free_file}
 use Rattle.kinds.specs.Refusals.{bad_value, unless}
 use Rattle.inventory_rules.specs.Valid.{lie_in}
-use Rattle.inventory_rows.specs.version_groups.Entries.{all_later}
+use Rattle.inventory_rules.specs.inventory_rows.version_groups.Entries.{all_later}
 use Rattle.inventory_laws.proofs.Facts.{first, rest}
 
 pub unless_holds : (b : Bool) (e : Refusal) → unless b e ≡ [] → b ≡ true

@@ -4,12 +4,12 @@ use Rattle.std.specs.Prelude.{◌==◌, nat_le}
 use Rattle.std.specs.List.{list_all}
 use Rattle.std.proofs.lemmas.Bool.{and_parts}
 use Rattle.kinds.specs.declared.segment.Segment.{Segment}
-use Rattle.inventory_rows.specs.volume_rows.declared.volume.Volume.{Volume}
-use Rattle.inventory_rows.specs.volume_rows.Held.{held_of}
-use Rattle.inventory_rows.specs.volume_rows.Volumes.{put_on, take_from}
-use Rattle.inventory_rows.proofs.of_pool_tables.Sound.{Keeps, put_keeps}
-use Rattle.inventory_rows.specs.pool_rows.PoolRows.{is_sequential, pool_capacity}
-use Rattle.inventory_rows.specs.State.{Inv}
+use Rattle.inventory_rules.specs.inventory_rows.volume_rows.declared.volume.Volume.{Volume}
+use Rattle.inventory_rules.specs.inventory_rows.volume_rows.Held.{held_of}
+use Rattle.inventory_rules.specs.inventory_rows.volume_rows.Volumes.{put_on, take_from}
+use Rattle.inventory_rules.proofs.of_inventory_rows.of_pool_tables.Sound.{Keeps, put_keeps}
+use Rattle.inventory_rules.specs.inventory_rows.pool_rows.PoolRows.{is_sequential, pool_capacity}
+use Rattle.inventory_rules.specs.inventory_rows.State.{Inv}
 use Rattle.inventory_rules.specs.Held.{holding}
 use Rattle.inventory_rules.specs.Halfway.{is_volume_with}
 use Rattle.inventory_rules.specs.Segments.{are_clear, lies_rightly}

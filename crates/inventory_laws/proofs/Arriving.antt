@@ -8,16 +8,16 @@ use Rattle.std.specs.List.{list_all, sum_by}
 use Rattle.std.specs.Option.{is_some}
 use Rattle.kinds.specs.declared.segment.Digest.{Digest}
 use Rattle.kinds.specs.declared.segment.Segment.{Segment}
-use Rattle.inventory_rows.specs.version_groups.declared.copies.CopyRow.{CopyRow}
-use Rattle.inventory_rows.specs.version_groups.declared.groups.Filespace.{Filespace}
-use Rattle.inventory_rows.specs.version_groups.declared.versions.Version.{Version}
-use Rattle.inventory_rows.specs.version_groups.Versions.{are_distinct, has_object, version_of}
-use Rattle.inventory_rows.proofs.of_version_groups.Lists.{of_others}
-use Rattle.inventory_rows.specs.object_rows.declared.held_object.HeldRow.{HeldRow}
-use Rattle.inventory_rows.specs.object_rows.Filespaces.{filespace_at}
-use Rattle.inventory_rows.proofs.of_object_rows.Splices.{Splices, splice_in}
-use Rattle.inventory_rows.specs.Search.{copies, is_primary, pool, versions}
-use Rattle.inventory_rows.specs.State.{Inv}
+use Rattle.inventory_rules.specs.inventory_rows.version_groups.declared.copies.CopyRow.{CopyRow}
+use Rattle.inventory_rules.specs.inventory_rows.version_groups.declared.groups.Filespace.{Filespace}
+use Rattle.inventory_rules.specs.inventory_rows.version_groups.declared.versions.Version.{Version}
+use Rattle.inventory_rules.specs.inventory_rows.version_groups.Versions.{are_distinct, has_object, version_of}
+use Rattle.inventory_rules.proofs.of_inventory_rows.of_version_groups.Lists.{of_others}
+use Rattle.inventory_rules.specs.inventory_rows.object_rows.declared.held_object.HeldRow.{HeldRow}
+use Rattle.inventory_rules.specs.inventory_rows.object_rows.Filespaces.{filespace_at}
+use Rattle.inventory_rules.proofs.of_inventory_rows.of_object_rows.Splices.{Splices, splice_in}
+use Rattle.inventory_rules.specs.inventory_rows.Search.{copies, is_primary, pool, versions}
+use Rattle.inventory_rules.specs.inventory_rows.State.{Inv}
 use Rattle.inventory_rules.specs.Common.{this}
 use Rattle.inventory_rules.specs.Copies.{placed_now}
 use Rattle.inventory_rules.specs.Versions.{after_object, is_new_object, new_object}

@@ -4,17 +4,17 @@ use Rattle.std.specs.Prelude.{nat_le, ◌==◌}
 use Rattle.std.specs.List.{flat_map, list_all, sum_by}
 use Rattle.std.proofs.lemmas.Bool.{and_parts, and_from, not-true}
 use Rattle.kinds.specs.declared.segment.Segment.{Segment}
-use Rattle.entries.specs.change_items.declared.items.NewHeldObject.{NewHeldObject}
-use Rattle.entries.specs.change_items.declared.items.NewVersion.{NewVersion}
-use Rattle.inventory_rows.specs.version_groups.declared.copies.CopyRow.{CopyRow}
-use Rattle.inventory_rows.specs.version_groups.Entries.{all_later}
-use Rattle.inventory_rows.specs.version_groups.Versions.{has_object}
-use Rattle.inventory_rows.specs.object_rows.Filespaces.{filespace_at}
-use Rattle.inventory_rows.specs.object_rows.Rows.{Rows, kept_of}
-use Rattle.inventory_rows.specs.pool_tables.Rows.{row_at}
-use Rattle.inventory_rows.specs.pool_rows.PoolRows.{PoolRows}
-use Rattle.inventory_rows.specs.Search.{copies, pool, versions}
-use Rattle.inventory_rows.specs.State.{Inv}
+use Rattle.inventory_rules.specs.entries.change_items.declared.items.NewHeldObject.{NewHeldObject}
+use Rattle.inventory_rules.specs.entries.change_items.declared.items.NewVersion.{NewVersion}
+use Rattle.inventory_rules.specs.inventory_rows.version_groups.declared.copies.CopyRow.{CopyRow}
+use Rattle.inventory_rules.specs.inventory_rows.version_groups.Entries.{all_later}
+use Rattle.inventory_rules.specs.inventory_rows.version_groups.Versions.{has_object}
+use Rattle.inventory_rules.specs.inventory_rows.object_rows.Filespaces.{filespace_at}
+use Rattle.inventory_rules.specs.inventory_rows.object_rows.Rows.{Rows, kept_of}
+use Rattle.inventory_rules.specs.inventory_rows.pool_tables.Rows.{row_at}
+use Rattle.inventory_rules.specs.inventory_rows.pool_rows.PoolRows.{PoolRows}
+use Rattle.inventory_rules.specs.inventory_rows.Search.{copies, pool, versions}
+use Rattle.inventory_rules.specs.inventory_rows.State.{Inv}
 use Rattle.inventory_rules.specs.Common.{each, with_clients}
 use Rattle.inventory_rules.specs.Halfway.{segments_of, VersionFacts}
 use Rattle.inventory_rules.specs.Ordered.{IsOrdered}

@@ -7,12 +7,12 @@ use Rattle.std.specs.List.{list_all}
 use Rattle.std.specs.Map.{keys_of, lookup, remove_entry, set_value}
 use Rattle.std.specs.Ordering.{nat_cmp}
 use Rattle.kinds.specs.declared.refusal.Refusal.TheVariants as refusal
-use Rattle.entries.specs.declared.change.Change.TheVariants as change
-use Rattle.inventory_rows.specs.volume_rows.declared.volume.Volume.{Volume}
-use Rattle.inventory_rows.specs.pool_tables.Rows.{row_at}
-use Rattle.inventory_rows.specs.declared.backup.Backup.{Backup}
-use Rattle.inventory_rows.specs.Search.{versions}
-use Rattle.inventory_rows.specs.State.{Inv}
+use Rattle.inventory_rules.specs.entries.declared.change.Change.TheVariants as change
+use Rattle.inventory_rules.specs.inventory_rows.volume_rows.declared.volume.Volume.{Volume}
+use Rattle.inventory_rules.specs.inventory_rows.pool_tables.Rows.{row_at}
+use Rattle.inventory_rules.specs.inventory_rows.declared.backup.Backup.{Backup}
+use Rattle.inventory_rules.specs.inventory_rows.Search.{versions}
+use Rattle.inventory_rules.specs.inventory_rows.State.{Inv}
 use Rattle.inventory_rules.specs.Backups.{after_refused, backup_ended, delays_now}
 use Rattle.inventory_rules.specs.Transactions.{effect, causes, sizes_refused}
 use Rattle.inventory_rules.specs.Held.{IsTied}

@@ -6,11 +6,11 @@ use Rattle.std.specs.BTreeMap.{is_at}
 use Rattle.std.specs.Ordering.{is_eq, nat_cmp}
 use Rattle.std.proofs.lemmas.Bool.{ltb-true}
 use Rattle.kinds.specs.declared.refusal.Refusal.{Refusal}
-use Rattle.inventory_rows.proofs.of_object_rows.Stands.{same_number}
+use Rattle.inventory_rules.proofs.of_inventory_rows.of_object_rows.Stands.{same_number}
 use Rattle.inventory_laws.proofs.Facts.{first, rest}
 use Rattle.kinds.specs.Refusals.{unless, refusal_of}
 use Rattle.kinds.specs.declared.refusal.Refusal.TheVariants as refusal
-use Rattle.inventory_rows.specs.State.{Inv}
+use Rattle.inventory_rules.specs.inventory_rows.State.{Inv}
 use Rattle.inventory_rules.specs.Common.{file_bound, full_at}
 use Rattle.inventory_rules.specs.Valid.{lie_in}
 

@@ -10,25 +10,25 @@ use Rattle.std.proofs.lemmas.Map.{keys-set_value}
 use Rattle.kinds.specs.declared.refusal.Refusal.{Refusal}
 use Rattle.kinds.specs.declared.refusal.Refusal.TheVariants.{NotFound}
 use Rattle.kinds.specs.declared.segment.Segment.{Segment}
-use Rattle.inventory_rows.specs.version_groups.declared.copies.CopyRow.{CopyRow}
-use Rattle.inventory_rows.specs.version_groups.Entries.{all_later}
-use Rattle.inventory_rows.specs.volume_rows.declared.volume.Volume.{Volume}
-use Rattle.inventory_rows.specs.volume_rows.Held.{held_of}
-use Rattle.inventory_rows.specs.volume_rows.Holdings.{is_held}
-use Rattle.inventory_rows.specs.volume_rows.Volumes.{put_on, take_from}
-use Rattle.inventory_rows.specs.pool_tables.Rows.{row_at, set_row, changed, row_set}
-use Rattle.inventory_rows.specs.pool_tables.RowChanges as row
-use Rattle.inventory_rows.proofs.of_pool_tables.Counting.{each_there}
-use Rattle.inventory_rows.proofs.of_pool_tables.Sound.{Keeps, put_keeps, take_keeps}
-use Rattle.inventory_rows.specs.pool_rows.PoolRows.{PoolRows, is_sequential, is_sequential_row, is_sequential_at, pool_capacity}
-use Rattle.inventory_rows.specs.pool_rows.Segments.{with_volumes}
-use Rattle.inventory_rows.specs.Search.{segments_on}
-use Rattle.inventory_rows.specs.State.{Inv}
+use Rattle.inventory_rules.specs.inventory_rows.version_groups.declared.copies.CopyRow.{CopyRow}
+use Rattle.inventory_rules.specs.inventory_rows.version_groups.Entries.{all_later}
+use Rattle.inventory_rules.specs.inventory_rows.volume_rows.declared.volume.Volume.{Volume}
+use Rattle.inventory_rules.specs.inventory_rows.volume_rows.Held.{held_of}
+use Rattle.inventory_rules.specs.inventory_rows.volume_rows.Holdings.{is_held}
+use Rattle.inventory_rules.specs.inventory_rows.volume_rows.Volumes.{put_on, take_from}
+use Rattle.inventory_rules.specs.inventory_rows.pool_tables.Rows.{row_at, set_row, changed, row_set}
+use Rattle.inventory_rules.specs.inventory_rows.pool_tables.RowChanges as row
+use Rattle.inventory_rules.proofs.of_inventory_rows.of_pool_tables.Counting.{each_there}
+use Rattle.inventory_rules.proofs.of_inventory_rows.of_pool_tables.Sound.{Keeps, put_keeps, take_keeps}
+use Rattle.inventory_rules.specs.inventory_rows.pool_rows.PoolRows.{PoolRows, is_sequential, is_sequential_row, is_sequential_at, pool_capacity}
+use Rattle.inventory_rules.specs.inventory_rows.pool_rows.Segments.{with_volumes}
+use Rattle.inventory_rules.specs.inventory_rows.Search.{segments_on}
+use Rattle.inventory_rules.specs.inventory_rows.State.{Inv}
 use Rattle.inventory_rules.specs.Common.{or_same, with_stores}
 use Rattle.inventory_rules.specs.Segments.{put, take_all, take_away, are_clear, lies_rightly}
 use Rattle.inventory_rules.specs.Held.{holding}
 use Rattle.inventory_rules.specs.Valid.{is_named_soundly}
-use Rattle.inventory_rows.specs.pool_tables.Scratch.{scratch_name, is_scratch_name}
+use Rattle.inventory_rules.specs.inventory_rows.pool_tables.Scratch.{scratch_name, is_scratch_name}
 use Rattle.kinds.specs.Names.{is_same_name}
 use Rattle.inventory_rules.specs.Halfway.{lying, pending_on, segments_of, VolumeFacts}
 use Rattle.inventory_rules.specs.Reordered.{IsReordered}

@@ -9,12 +9,12 @@ use Rattle.kinds.specs.declared.change.DefineOrDelete.TheVariants as two
 use Rattle.kinds.specs.declared.change.PoolChange.TheVariants as store
 use Rattle.kinds.specs.declared.refusal.Refusal.{Refusal}
 use Rattle.kinds.specs.declared.refusal.Refusal.TheVariants.{Exists, NotFound}
-use Rattle.entries.specs.declared.change.Change.TheVariants as change
-use Rattle.inventory_rows.specs.pool_tables.Rows.{named}
-use Rattle.inventory_rows.proofs.of_pool_tables.Ascending.{none_from}
-use Rattle.inventory_rows.specs.pool_rows.PoolRows.{PoolRows, capacity_there, class_capacity}
-use Rattle.inventory_rows.specs.pool_rows.ClassChanges.{class_gone, define_class, delete_class, pool_of_class}
-use Rattle.inventory_rows.specs.State.{Inv}
+use Rattle.inventory_rules.specs.entries.declared.change.Change.TheVariants as change
+use Rattle.inventory_rules.specs.inventory_rows.pool_tables.Rows.{named}
+use Rattle.inventory_rules.proofs.of_inventory_rows.of_pool_tables.Ascending.{none_from}
+use Rattle.inventory_rules.specs.inventory_rows.pool_rows.PoolRows.{PoolRows, capacity_there, class_capacity}
+use Rattle.inventory_rules.specs.inventory_rows.pool_rows.ClassChanges.{class_gone, define_class, delete_class, pool_of_class}
+use Rattle.inventory_rules.specs.inventory_rows.State.{Inv}
 use Rattle.inventory_rules.specs.Transactions.{effect, causes, sizes_refused}
 use Rattle.inventory_rules.specs.Held.{IsTied}
 use Rattle.inventory_rules.specs.Journal.{Journal}

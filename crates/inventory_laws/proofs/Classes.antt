@@ -6,14 +6,14 @@ use Rattle.std.specs.BTreeMap.{insert_entry, is_at}
 use Rattle.std.specs.Cmp.Lexicographic.{slice_cmp}
 use Rattle.std.specs.Ordering.{nat_cmp}
 use Rattle.std.proofs.lemmas.Bool.{and_parts, and_from, false≢true, false_from_ne_true}
-use Rattle.inventory_rows.specs.pool_tables.declared.pool.Pool.{Pool}
+use Rattle.inventory_rules.specs.inventory_rows.pool_tables.declared.pool.Pool.{Pool}
 use Rattle.kinds.specs.Names.{is_same_name}
-use Rattle.inventory_rows.specs.pool_tables.Rows.{named, row_at, number_where}
-use Rattle.inventory_rows.proofs.of_pool_tables.Counting.{each_there}
-use Rattle.inventory_rows.proofs.of_pool_tables.Names.{same_is, at_name}
-use Rattle.inventory_rows.specs.pool_rows.PoolRows.{capacity_there, pool_class_capacity}
-use Rattle.inventory_rows.specs.Search.{pool}
-use Rattle.inventory_rows.specs.State.{Inv}
+use Rattle.inventory_rules.specs.inventory_rows.pool_tables.Rows.{named, row_at, number_where}
+use Rattle.inventory_rules.proofs.of_inventory_rows.of_pool_tables.Counting.{each_there}
+use Rattle.inventory_rules.proofs.of_inventory_rows.of_pool_tables.Names.{same_is, at_name}
+use Rattle.inventory_rules.specs.inventory_rows.pool_rows.PoolRows.{capacity_there, pool_class_capacity}
+use Rattle.inventory_rules.specs.inventory_rows.Search.{pool}
+use Rattle.inventory_rules.specs.inventory_rows.State.{Inv}
 use Rattle.inventory_rules.specs.Held.{IsTied}
 use Rattle.inventory_rules.specs.Valid.{disk, is_class, next_is_there}
 use Rattle.inventory_rules.specs.Facts.{Facts}

@@ -12,18 +12,18 @@ use Rattle.kinds.specs.declared.change.ObjectChange.TheVariants as client
 use Rattle.kinds.specs.declared.refusal.By.{By}
 use Rattle.kinds.specs.declared.refusal.Refusal.{Refusal}
 use Rattle.kinds.specs.declared.refusal.Refusal.TheVariants.{Exists}
-use Rattle.entries.specs.declared.change.Change.TheVariants as change
-use Rattle.inventory_rows.specs.version_groups.declared.groups.Filespace.{Filespace}
-use Rattle.inventory_rows.specs.version_groups.Entries.{if_found}
-use Rattle.inventory_rows.specs.object_rows.declared.place.Node.{Node}
-use Rattle.inventory_rows.specs.object_rows.Changes.{by_filespace, by_object, filespaces_defined, filespaces_without, least_in, least_object, nodes_with, nodes_without, rows_changed, unless_used, with_nodes}
-use Rattle.inventory_rows.specs.object_rows.Filespaces.{at_number, filespace_at}
-use Rattle.inventory_rows.specs.object_rows.Items.{items_of_held}
-use Rattle.inventory_rows.specs.object_rows.Names.{filespace_named, filespace_of, node_named}
-use Rattle.inventory_rows.specs.object_rows.Rows.{Rows, with_filespaces}
-use Rattle.inventory_rows.specs.pool_tables.Rows.{row_at}
-use Rattle.inventory_rows.specs.Items.{count_items, items_of_filespace}
-use Rattle.inventory_rows.specs.State.{Inv}
+use Rattle.inventory_rules.specs.entries.declared.change.Change.TheVariants as change
+use Rattle.inventory_rules.specs.inventory_rows.version_groups.declared.groups.Filespace.{Filespace}
+use Rattle.inventory_rules.specs.inventory_rows.version_groups.Entries.{if_found}
+use Rattle.inventory_rules.specs.inventory_rows.object_rows.declared.place.Node.{Node}
+use Rattle.inventory_rules.specs.inventory_rows.object_rows.Changes.{by_filespace, by_object, filespaces_defined, filespaces_without, least_in, least_object, nodes_with, nodes_without, rows_changed, unless_used, with_nodes}
+use Rattle.inventory_rules.specs.inventory_rows.object_rows.Filespaces.{at_number, filespace_at}
+use Rattle.inventory_rules.specs.inventory_rows.object_rows.Items.{items_of_held}
+use Rattle.inventory_rules.specs.inventory_rows.object_rows.Names.{filespace_named, filespace_of, node_named}
+use Rattle.inventory_rules.specs.inventory_rows.object_rows.Rows.{Rows, with_filespaces}
+use Rattle.inventory_rules.specs.inventory_rows.pool_tables.Rows.{row_at}
+use Rattle.inventory_rules.specs.inventory_rows.Items.{count_items, items_of_filespace}
+use Rattle.inventory_rules.specs.inventory_rows.State.{Inv}
 use Rattle.inventory_rules.specs.Common.{or_same, full_at, one_if}
 use Rattle.inventory_rules.specs.Transactions.{effect}
 use Rattle.kinds.specs.Refusals.{refusal_of, bad_value, unless}

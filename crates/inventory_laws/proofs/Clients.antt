@@ -9,24 +9,24 @@ use Rattle.kinds.specs.declared.change.ObjectChange.{ObjectChange}
 use Rattle.kinds.specs.declared.change.ObjectChange.TheVariants as client
 use Rattle.kinds.specs.declared.refusal.Refusal.{Refusal}
 use Rattle.kinds.specs.declared.refusal.Refusal.TheVariants as refusal
-use Rattle.entries.specs.declared.change.Change.TheVariants as change
-use Rattle.inventory_rows.specs.policy_domains.Rows.{row_of}
-use Rattle.inventory_rows.specs.version_groups.declared.groups.Filespace.{Filespace}
-use Rattle.inventory_rows.specs.version_groups.Entries.{if_found}
-use Rattle.inventory_rows.specs.object_rows.declared.held_object.HeldRow.{HeldRow}
-use Rattle.inventory_rows.specs.object_rows.declared.place.Node.{Node}
-use Rattle.inventory_rows.specs.object_rows.Changes.{by_filespace, by_object, filespaces_defined, filespaces_without, least, least_in, least_object, nodes_with, nodes_without, numbers_in, rows_changed, unless_used, with_nodes}
-use Rattle.inventory_rows.specs.object_rows.Filespaces.{at_number, filespace_at, versions_in, versions_of}
-use Rattle.inventory_rows.specs.object_rows.HeldRows.{held_versions, is_held_row}
-use Rattle.inventory_rows.specs.object_rows.Names.{filespace_named, filespace_of, node_named}
-use Rattle.inventory_rows.specs.object_rows.Rows.{Rows, kept_of, with_filespaces}
-use Rattle.inventory_rows.proofs.of_object_rows.Least.{least_of_none}
-use Rattle.inventory_rows.proofs.of_object_rows.Splices.{flatten-remove_entry}
+use Rattle.inventory_rules.specs.entries.declared.change.Change.TheVariants as change
+use Rattle.inventory_rules.specs.inventory_rows.policy_domains.Rows.{row_of}
+use Rattle.inventory_rules.specs.inventory_rows.version_groups.declared.groups.Filespace.{Filespace}
+use Rattle.inventory_rules.specs.inventory_rows.version_groups.Entries.{if_found}
+use Rattle.inventory_rules.specs.inventory_rows.object_rows.declared.held_object.HeldRow.{HeldRow}
+use Rattle.inventory_rules.specs.inventory_rows.object_rows.declared.place.Node.{Node}
+use Rattle.inventory_rules.specs.inventory_rows.object_rows.Changes.{by_filespace, by_object, filespaces_defined, filespaces_without, least, least_in, least_object, nodes_with, nodes_without, numbers_in, rows_changed, unless_used, with_nodes}
+use Rattle.inventory_rules.specs.inventory_rows.object_rows.Filespaces.{at_number, filespace_at, versions_in, versions_of}
+use Rattle.inventory_rules.specs.inventory_rows.object_rows.HeldRows.{held_versions, is_held_row}
+use Rattle.inventory_rules.specs.inventory_rows.object_rows.Names.{filespace_named, filespace_of, node_named}
+use Rattle.inventory_rules.specs.inventory_rows.object_rows.Rows.{Rows, kept_of, with_filespaces}
+use Rattle.inventory_rules.proofs.of_inventory_rows.of_object_rows.Least.{least_of_none}
+use Rattle.inventory_rules.proofs.of_inventory_rows.of_object_rows.Splices.{flatten-remove_entry}
 use Rattle.kinds.specs.Least.{lesser}
 use Rattle.kinds.specs.Names.{is_same_name}
-use Rattle.inventory_rows.specs.Items.{count_items, most_items}
-use Rattle.inventory_rows.specs.Search.{versions}
-use Rattle.inventory_rows.specs.State.{Inv}
+use Rattle.inventory_rules.specs.inventory_rows.Items.{count_items, most_items}
+use Rattle.inventory_rules.specs.inventory_rows.Search.{versions}
+use Rattle.inventory_rules.specs.inventory_rows.State.{Inv}
 use Rattle.inventory_rules.specs.Common.{or_same, full_at}
 use Rattle.inventory_rules.specs.Transactions.{effect, causes, sizes_refused}
 use Rattle.inventory_rules.specs.Held.{IsTied}

@@ -6,21 +6,21 @@ use Rattle.std.proofs.lemmas.List.{append-nil}
 use Rattle.std.specs.List.{list_all}
 use Rattle.std.specs.Option.{is_some}
 use Rattle.kinds.specs.declared.refusal.Refusal.{Refusal}
-use Rattle.inventory_rows.specs.version_groups.declared.copies.CopyChange.{CopyChange}
-use Rattle.inventory_rows.specs.version_groups.declared.copies.CopyRow.{CopyRow}
-use Rattle.inventory_rows.specs.version_groups.declared.group.Group.{Group}
-use Rattle.inventory_rows.specs.version_groups.declared.groups.Filespace.{Filespace}
-use Rattle.inventory_rows.specs.version_groups.declared.versions.Version.{Version}
-use Rattle.inventory_rows.specs.version_groups.Copies.{copies_after}
-use Rattle.inventory_rows.specs.version_groups.Entries.{on_ok, if_found}
-use Rattle.inventory_rows.specs.version_groups.Versions.{are_distinct, has_object, version_of, with_copies, without_object}
-use Rattle.inventory_rows.proofs.of_version_groups.Lists.{are_of_others, distinct-with_copies}
-use Rattle.inventory_rows.specs.object_rows.Filespaces.{filespaces_copied, groups_copied, group_copied}
-use Rattle.inventory_rows.specs.object_rows.Rows.{Rows, kept_of, rows_altered, rows_copied}
-use Rattle.inventory_rows.proofs.of_object_rows.Splices.{Splices, splice_behind}
-use Rattle.inventory_rows.proofs.of_object_rows.VersionLists.{none_of_others, with_copies-others, without_object-others}
-use Rattle.inventory_rows.specs.Search.{copies, pool, version, versions}
-use Rattle.inventory_rows.specs.State.{Inv}
+use Rattle.inventory_rules.specs.inventory_rows.version_groups.declared.copies.CopyChange.{CopyChange}
+use Rattle.inventory_rules.specs.inventory_rows.version_groups.declared.copies.CopyRow.{CopyRow}
+use Rattle.inventory_rules.specs.inventory_rows.version_groups.declared.group.Group.{Group}
+use Rattle.inventory_rules.specs.inventory_rows.version_groups.declared.groups.Filespace.{Filespace}
+use Rattle.inventory_rules.specs.inventory_rows.version_groups.declared.versions.Version.{Version}
+use Rattle.inventory_rules.specs.inventory_rows.version_groups.Copies.{copies_after}
+use Rattle.inventory_rules.specs.inventory_rows.version_groups.Entries.{on_ok, if_found}
+use Rattle.inventory_rules.specs.inventory_rows.version_groups.Versions.{are_distinct, has_object, version_of, with_copies, without_object}
+use Rattle.inventory_rules.proofs.of_inventory_rows.of_version_groups.Lists.{are_of_others, distinct-with_copies}
+use Rattle.inventory_rules.specs.inventory_rows.object_rows.Filespaces.{filespaces_copied, groups_copied, group_copied}
+use Rattle.inventory_rules.specs.inventory_rows.object_rows.Rows.{Rows, kept_of, rows_altered, rows_copied}
+use Rattle.inventory_rules.proofs.of_inventory_rows.of_object_rows.Splices.{Splices, splice_behind}
+use Rattle.inventory_rules.proofs.of_inventory_rows.of_object_rows.VersionLists.{none_of_others, with_copies-others, without_object-others}
+use Rattle.inventory_rules.specs.inventory_rows.Search.{copies, pool, version, versions}
+use Rattle.inventory_rules.specs.inventory_rows.State.{Inv}
 use Rattle.inventory_rules.specs.Common.{or_same, with_clients}
 use Rattle.inventory_rules.specs.Copies.{change_copy}
 use Rattle.inventory_rules.specs.Valid.{is_copied, is_orderly}

@@ -5,16 +5,16 @@ use Rattle.std.specs.List.{list_all, flat_map, sum_by}
 use Rattle.std.specs.Option.{option_map_or}
 use Rattle.std.proofs.lemmas.Bool.{and_parts, and_from, not-true}
 use Rattle.kinds.specs.declared.segment.Segment.{Segment}
-use Rattle.entries.specs.change_items.declared.items.NewCopy.{NewCopy}
-use Rattle.entries.specs.change_items.declared.lists.NewCopies.{NewCopies}
-use Rattle.entries.specs.declared.change.Change.TheVariants as change
-use Rattle.inventory_rows.specs.version_groups.declared.copies.CopyRow.{CopyRow}
-use Rattle.inventory_rows.specs.version_groups.declared.versions.Version.{Version}
-use Rattle.inventory_rows.specs.version_groups.Entries.{all_later, is_nil}
-use Rattle.inventory_rows.specs.version_groups.Versions.{version_of}
-use Rattle.inventory_rows.specs.object_rows.Rows.{Rows, kept_of}
-use Rattle.inventory_rows.specs.Search.{copy_in, is_primary, pool, version}
-use Rattle.inventory_rows.specs.State.{Inv}
+use Rattle.inventory_rules.specs.entries.change_items.declared.items.NewCopy.{NewCopy}
+use Rattle.inventory_rules.specs.entries.change_items.declared.lists.NewCopies.{NewCopies}
+use Rattle.inventory_rules.specs.entries.declared.change.Change.TheVariants as change
+use Rattle.inventory_rules.specs.inventory_rows.version_groups.declared.copies.CopyRow.{CopyRow}
+use Rattle.inventory_rules.specs.inventory_rows.version_groups.declared.versions.Version.{Version}
+use Rattle.inventory_rules.specs.inventory_rows.version_groups.Entries.{all_later, is_nil}
+use Rattle.inventory_rules.specs.inventory_rows.version_groups.Versions.{version_of}
+use Rattle.inventory_rules.specs.inventory_rows.object_rows.Rows.{Rows, kept_of}
+use Rattle.inventory_rules.specs.inventory_rows.Search.{copy_in, is_primary, pool, version}
+use Rattle.inventory_rules.specs.inventory_rows.State.{Inv}
 use Rattle.inventory_rules.specs.Common.{each, this}
 use Rattle.inventory_rules.specs.Copies.{add_copy, added, change_copy, placed_now, copied_refused, copy_list_refused, stale_copy, added_fits, new_copy_fits}
 use Rattle.inventory_rules.specs.Segments.{make_scratch, scratch_refused, are_all_clear, copy_fits, items_fit, scratch_fits, segment_fits}

@@ -5,23 +5,23 @@ use Rattle.std.specs.List.{list_all, flat_map, sum_by}
 use Rattle.std.proofs.lemmas.List.Sums.{sum_by-cons}
 use Rattle.kinds.specs.declared.refusal.Refusal.{Refusal}
 use Rattle.kinds.specs.declared.refusal.Refusal.TheVariants.{NotFound}
-use Rattle.entries.specs.change_items.declared.items.DroppedCopy.{DroppedCopy}
-use Rattle.entries.specs.change_items.declared.items.NewCopy.{NewCopy}
-use Rattle.entries.specs.change_items.declared.lists.DroppedCopies.{DroppedCopies}
-use Rattle.entries.specs.change_items.declared.lists.NewCopies.{NewCopies}
-use Rattle.entries.specs.declared.change.Change.TheVariants as change
-use Rattle.inventory_rows.specs.version_groups.declared.copies.CopyChange.{CopyChange}
-use Rattle.inventory_rows.specs.version_groups.declared.copies.CopyChange.TheVariants as copy
-use Rattle.inventory_rows.specs.version_groups.declared.copies.CopyRow.{CopyRow}
-use Rattle.inventory_rows.specs.version_groups.declared.versions.Version.{Version}
-use Rattle.inventory_rows.specs.version_groups.Copies.{copies_after, has_copy, with_copy, without_copy}
-use Rattle.inventory_rows.specs.version_groups.Entries.{if_found, on_ok}
-use Rattle.inventory_rows.specs.version_groups.Versions.{are_distinct, having_copies, version_of, with_copies}
-use Rattle.inventory_rows.proofs.of_version_groups.Lists.{distinct-with_copies}
-use Rattle.inventory_rows.specs.object_rows.Rows.{Rows, kept_of, rows_altered, rows_copied}
-use Rattle.inventory_rows.specs.Items.{count_items}
-use Rattle.inventory_rows.specs.Search.{copy_in, version, versions}
-use Rattle.inventory_rows.specs.State.{Inv}
+use Rattle.inventory_rules.specs.entries.change_items.declared.items.DroppedCopy.{DroppedCopy}
+use Rattle.inventory_rules.specs.entries.change_items.declared.items.NewCopy.{NewCopy}
+use Rattle.inventory_rules.specs.entries.change_items.declared.lists.DroppedCopies.{DroppedCopies}
+use Rattle.inventory_rules.specs.entries.change_items.declared.lists.NewCopies.{NewCopies}
+use Rattle.inventory_rules.specs.entries.declared.change.Change.TheVariants as change
+use Rattle.inventory_rules.specs.inventory_rows.version_groups.declared.copies.CopyChange.{CopyChange}
+use Rattle.inventory_rules.specs.inventory_rows.version_groups.declared.copies.CopyChange.TheVariants as copy
+use Rattle.inventory_rules.specs.inventory_rows.version_groups.declared.copies.CopyRow.{CopyRow}
+use Rattle.inventory_rules.specs.inventory_rows.version_groups.declared.versions.Version.{Version}
+use Rattle.inventory_rules.specs.inventory_rows.version_groups.Copies.{copies_after, has_copy, with_copy, without_copy}
+use Rattle.inventory_rules.specs.inventory_rows.version_groups.Entries.{if_found, on_ok}
+use Rattle.inventory_rules.specs.inventory_rows.version_groups.Versions.{are_distinct, having_copies, version_of, with_copies}
+use Rattle.inventory_rules.proofs.of_inventory_rows.of_version_groups.Lists.{distinct-with_copies}
+use Rattle.inventory_rules.specs.inventory_rows.object_rows.Rows.{Rows, kept_of, rows_altered, rows_copied}
+use Rattle.inventory_rules.specs.inventory_rows.Items.{count_items}
+use Rattle.inventory_rules.specs.inventory_rows.Search.{copy_in, version, versions}
+use Rattle.inventory_rules.specs.inventory_rows.State.{Inv}
 use Rattle.inventory_rules.specs.Common.{each, or_same}
 use Rattle.inventory_rules.specs.Copies.{add_copy, added, change_copy, drop_copy, placed_now, segments_in, version_at, copied_refused, copy_list_refused, stale_copy}
 use Rattle.inventory_rules.specs.Segments.{make_scratch, take_away, scratch_refused}

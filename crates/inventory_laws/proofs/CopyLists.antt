@@ -4,11 +4,11 @@ use Rattle.std.specs.Prelude.{nat_lt, nat_le}
 use Rattle.std.proofs.lemmas.Bool.{false≢true, and_parts, and_from, leb-true, le-leb, ltb-true, ne_eqb, eqb-true}
 use Rattle.std.specs.List.{list_all, filter, find, sum_by}
 use Rattle.std.specs.Option.{is_some}
-use Rattle.inventory_rows.specs.version_groups.declared.copies.CopyRow.{CopyRow}
-use Rattle.inventory_rows.specs.version_groups.Copies.{are_by_pool, has_copy, with_copy, without_copy}
-use Rattle.inventory_rows.specs.version_groups.Entries.{is_nil}
-use Rattle.inventory_rows.proofs.of_version_groups.Lists.{by_pool-with_copy, by_pool-without_copy}
-use Rattle.inventory_rows.proofs.of_object_rows.Splices.{Splices, splice_behind}
+use Rattle.inventory_rules.specs.inventory_rows.version_groups.declared.copies.CopyRow.{CopyRow}
+use Rattle.inventory_rules.specs.inventory_rows.version_groups.Copies.{are_by_pool, has_copy, with_copy, without_copy}
+use Rattle.inventory_rules.specs.inventory_rows.version_groups.Entries.{is_nil}
+use Rattle.inventory_rules.proofs.of_inventory_rows.of_version_groups.Lists.{by_pool-with_copy, by_pool-without_copy}
+use Rattle.inventory_rules.proofs.of_inventory_rows.of_object_rows.Splices.{Splices, splice_behind}
 use Rattle.inventory_laws.proofs.Spliced.{all_come, splice_filter, splice_length}
 
 -- the copy in a pool

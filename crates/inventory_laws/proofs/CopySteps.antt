@@ -6,16 +6,16 @@ use Rattle.std.specs.List.{list_all, sum_by}
 use Rattle.std.specs.Option.{is_some}
 use Rattle.kinds.specs.declared.refusal.Refusal.{Refusal}
 use Rattle.kinds.specs.declared.refusal.Refusal.TheVariants.{NotFound}
-use Rattle.inventory_rows.specs.version_groups.declared.copies.CopyChange.TheVariants.{Add, Replace, Drop}
-use Rattle.inventory_rows.specs.version_groups.declared.copies.CopyRow.{CopyRow}
-use Rattle.inventory_rows.specs.version_groups.declared.versions.Version.{Version}
-use Rattle.inventory_rows.specs.version_groups.Copies.{are_by_pool, copies_after, has_copy, with_copy, without_copy}
-use Rattle.inventory_rows.specs.version_groups.Entries.{is_nil}
-use Rattle.inventory_rows.proofs.of_version_groups.Lists.{list_all-filter, version_of-object}
-use Rattle.inventory_rows.specs.object_rows.Rows.{rows_copied}
-use Rattle.inventory_rows.proofs.of_object_rows.Splices.{Splices, splice_in}
-use Rattle.inventory_rows.specs.Search.{copies, copy_in, is_primary, pool, version, versions}
-use Rattle.inventory_rows.specs.State.{Inv}
+use Rattle.inventory_rules.specs.inventory_rows.version_groups.declared.copies.CopyChange.TheVariants.{Add, Replace, Drop}
+use Rattle.inventory_rules.specs.inventory_rows.version_groups.declared.copies.CopyRow.{CopyRow}
+use Rattle.inventory_rules.specs.inventory_rows.version_groups.declared.versions.Version.{Version}
+use Rattle.inventory_rules.specs.inventory_rows.version_groups.Copies.{are_by_pool, copies_after, has_copy, with_copy, without_copy}
+use Rattle.inventory_rules.specs.inventory_rows.version_groups.Entries.{is_nil}
+use Rattle.inventory_rules.proofs.of_inventory_rows.of_version_groups.Lists.{list_all-filter, version_of-object}
+use Rattle.inventory_rules.specs.inventory_rows.object_rows.Rows.{rows_copied}
+use Rattle.inventory_rules.proofs.of_inventory_rows.of_object_rows.Splices.{Splices, splice_in}
+use Rattle.inventory_rules.specs.inventory_rows.Search.{copies, copy_in, is_primary, pool, version, versions}
+use Rattle.inventory_rules.specs.inventory_rows.State.{Inv}
 use Rattle.inventory_rules.specs.Common.{with_clients}
 use Rattle.inventory_rules.specs.Copies.{change_copy}
 use Rattle.inventory_rules.specs.Valid.{primary_copies}

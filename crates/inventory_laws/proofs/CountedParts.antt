@@ -1,12 +1,12 @@
 -- The count of all items, by the tables that have them.
 use Rattle.std.proofs.Common.{◌≡◌, ℕ, ◌+◌, ◌≤◌, List, [], ◌∷◌, ◌++◌, length, Result, Ok, Err, refl, arith}
 use Rattle.kinds.specs.declared.refusal.Refusal.{Refusal}
-use Rattle.inventory_rows.specs.policy_domains.Rows.{DomainRow}
-use Rattle.inventory_rows.specs.object_rows.Items.{items_of_held}
-use Rattle.inventory_rows.specs.object_rows.Rows.{Rows}
-use Rattle.inventory_rows.specs.pool_rows.PoolRows.{PoolRows}
-use Rattle.inventory_rows.specs.declared.backup.Backup.{Backup}
-use Rattle.inventory_rows.specs.Items.{items_of_domain, items_of_filespace}
+use Rattle.inventory_rules.specs.inventory_rows.policy_domains.Rows.{DomainRow}
+use Rattle.inventory_rules.specs.inventory_rows.object_rows.Items.{items_of_held}
+use Rattle.inventory_rules.specs.inventory_rows.object_rows.Rows.{Rows}
+use Rattle.inventory_rules.specs.inventory_rows.pool_rows.PoolRows.{PoolRows}
+use Rattle.inventory_rules.specs.inventory_rows.declared.backup.Backup.{Backup}
+use Rattle.inventory_rules.specs.inventory_rows.Items.{items_of_domain, items_of_filespace}
 use Rattle.kinds.specs.Refusals.{refusal_of}
 use Rattle.inventory_laws.proofs.Weights.{rows}
 

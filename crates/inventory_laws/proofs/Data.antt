@@ -8,24 +8,24 @@ use Rattle.std.proofs.lemmas.List.{length-map}
 use Rattle.std.proofs.lemmas.List.Folds.{list_all-map}
 use Rattle.kinds.specs.declared.refusal.Refusal.{Refusal}
 use Rattle.kinds.specs.declared.refusal.Refusal.TheVariants as refusal
-use Rattle.entries.specs.change_items.declared.items.MovedCopy.{MovedCopy}
-use Rattle.entries.specs.change_items.declared.items.NewCopy.{NewCopy}
-use Rattle.entries.specs.change_items.declared.items.ScratchVolume.{ScratchVolume}
-use Rattle.entries.specs.change_items.declared.lists.MovedCopies.{MovedCopies}
-use Rattle.entries.specs.change_items.declared.lists.NamedVersions.{NamedVersions}
-use Rattle.entries.specs.change_items.declared.lists.NewCopies.{NewCopies}
-use Rattle.entries.specs.change_items.declared.lists.NewHeldObjects.{NewHeldObjects}
-use Rattle.entries.specs.change_items.declared.lists.NewVersions.{NewVersions}
-use Rattle.entries.specs.declared.change.Change.TheVariants as change
-use Rattle.inventory_rows.specs.version_groups.declared.versions.Version.{Version}
-use Rattle.inventory_rows.specs.version_groups.Copies.{has_copy, without_copy}
-use Rattle.inventory_rows.specs.version_groups.Entries.{is_nil}
-use Rattle.inventory_rows.specs.version_groups.Versions.{has_object, is_active}
-use Rattle.inventory_rows.specs.object_rows.Filespaces.{filespace_at, versions_at}
-use Rattle.inventory_rows.specs.object_rows.Places.{AreAllOrderly}
-use Rattle.inventory_rows.specs.object_rows.Rows.{Rows, kept_of}
-use Rattle.inventory_rows.specs.Search.{copy_in, is_primary, version, versions}
-use Rattle.inventory_rows.specs.State.{Inv}
+use Rattle.inventory_rules.specs.entries.change_items.declared.items.MovedCopy.{MovedCopy}
+use Rattle.inventory_rules.specs.entries.change_items.declared.items.NewCopy.{NewCopy}
+use Rattle.inventory_rules.specs.entries.change_items.declared.items.ScratchVolume.{ScratchVolume}
+use Rattle.inventory_rules.specs.entries.change_items.declared.lists.MovedCopies.{MovedCopies}
+use Rattle.inventory_rules.specs.entries.change_items.declared.lists.NamedVersions.{NamedVersions}
+use Rattle.inventory_rules.specs.entries.change_items.declared.lists.NewCopies.{NewCopies}
+use Rattle.inventory_rules.specs.entries.change_items.declared.lists.NewHeldObjects.{NewHeldObjects}
+use Rattle.inventory_rules.specs.entries.change_items.declared.lists.NewVersions.{NewVersions}
+use Rattle.inventory_rules.specs.entries.declared.change.Change.TheVariants as change
+use Rattle.inventory_rules.specs.inventory_rows.version_groups.declared.versions.Version.{Version}
+use Rattle.inventory_rules.specs.inventory_rows.version_groups.Copies.{has_copy, without_copy}
+use Rattle.inventory_rules.specs.inventory_rows.version_groups.Entries.{is_nil}
+use Rattle.inventory_rules.specs.inventory_rows.version_groups.Versions.{has_object, is_active}
+use Rattle.inventory_rules.specs.inventory_rows.object_rows.Filespaces.{filespace_at, versions_at}
+use Rattle.inventory_rules.specs.inventory_rows.object_rows.Places.{AreAllOrderly}
+use Rattle.inventory_rules.specs.inventory_rows.object_rows.Rows.{Rows, kept_of}
+use Rattle.inventory_rules.specs.inventory_rows.Search.{copy_in, is_primary, version, versions}
+use Rattle.inventory_rules.specs.inventory_rows.State.{Inv}
 use Rattle.inventory_rules.specs.Transactions.{causes, CanChange, parts_fit}
 use Rattle.inventory_rules.specs.Facts.{Facts}
 use Rattle.inventory_rules.specs.Copies.{added_fits, moved_copy_fits, new_copy_fits, replaced_fits, put_moved, copied_refused, copy_list_refused, move_refused, moved_refused, stale_copy}

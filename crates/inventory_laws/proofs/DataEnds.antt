@@ -1,8 +1,8 @@
 -- The beginning and the end of a transaction on data.
 use Rattle.std.proofs.Common.{◌≡◌, ◌+◌, true, [], arith}
 use Rattle.std.proofs.lemmas.Bool.{le-leb}
-use Rattle.entries.specs.declared.change.Change.{Change}
-use Rattle.inventory_rows.specs.State.{Inv}
+use Rattle.inventory_rules.specs.entries.declared.change.Change.{Change}
+use Rattle.inventory_rules.specs.inventory_rows.State.{Inv}
 use Rattle.inventory_rules.specs.Transactions.{changed, effect, sizes_refused, is_of_data}
 use Rattle.inventory_rules.specs.Held.{IsTied}
 use Rattle.inventory_rules.specs.Valid.{is_valid}

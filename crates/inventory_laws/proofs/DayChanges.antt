@@ -1,9 +1,9 @@
 -- A new day leaves a valid database.
 use Rattle.std.proofs.Common.{◌≡◌, ℕ, ◌+◌, ◌^◌, true, ltb, leb, []}
 use Rattle.kinds.specs.declared.refusal.Refusal.TheVariants as refusal
-use Rattle.entries.specs.declared.change.Change.TheVariants as change
-use Rattle.inventory_rows.specs.Search.{versions}
-use Rattle.inventory_rows.specs.State.{Inv}
+use Rattle.inventory_rules.specs.entries.declared.change.Change.TheVariants as change
+use Rattle.inventory_rules.specs.inventory_rows.Search.{versions}
+use Rattle.inventory_rules.specs.inventory_rows.State.{Inv}
 use Rattle.inventory_rules.specs.Transactions.{effect, causes, sizes_refused}
 use Rattle.inventory_rules.specs.Held.{IsTied}
 use Rattle.inventory_rules.specs.Journal.{Journal}

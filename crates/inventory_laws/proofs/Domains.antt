@@ -16,17 +16,17 @@ use Rattle.kinds.specs.declared.refusal.Refusal.{Refusal}
 use Rattle.kinds.specs.declared.refusal.Refusal.TheVariants as refusal
 use Rattle.kinds.specs.declared.rule.ArchiveRule.{ArchiveRule}
 use Rattle.kinds.specs.declared.rule.BackupRule.{BackupRule}
-use Rattle.inventory_rows.specs.policy_domains.declared.classes.ManagementClass.{ManagementClass}
-use Rattle.inventory_rows.specs.policy_domains.Changes.{after, names_active}
-use Rattle.inventory_rows.specs.policy_domains.Groups.{group_changed}
+use Rattle.inventory_rules.specs.inventory_rows.policy_domains.declared.classes.ManagementClass.{ManagementClass}
+use Rattle.inventory_rules.specs.inventory_rows.policy_domains.Changes.{after, names_active}
+use Rattle.inventory_rules.specs.inventory_rows.policy_domains.Groups.{group_changed}
 use Rattle.kinds.specs.Names.{is_same_name}
-use Rattle.inventory_rows.specs.policy_domains.Rows.{DomainRow, SetRow, active_set, changed, changed_row, defined, deleted, row_of, with_row, with_value, within, without_row}
-use Rattle.inventory_rows.specs.policy_domains.Sets.{activated, assigned, bare_class, class_changed, empty_domain, empty_set, in_sets, other_default, set_changed, to_activate}
-use Rattle.inventory_rows.specs.object_rows.Names.{at_name}
-use Rattle.inventory_rows.proofs.of_object_rows.Stands.{path_itself, same_path}
-use Rattle.inventory_rows.specs.pool_tables.declared.pool.Pool.{Pool}
-use Rattle.inventory_rows.specs.pool_tables.Rows.{row_at}
-use Rattle.inventory_rows.specs.Search.{destinations_of, destinations_of_set}
+use Rattle.inventory_rules.specs.inventory_rows.policy_domains.Rows.{DomainRow, SetRow, active_set, changed, changed_row, defined, deleted, row_of, with_row, with_value, within, without_row}
+use Rattle.inventory_rules.specs.inventory_rows.policy_domains.Sets.{activated, assigned, bare_class, class_changed, empty_domain, empty_set, in_sets, other_default, set_changed, to_activate}
+use Rattle.inventory_rules.specs.inventory_rows.object_rows.Names.{at_name}
+use Rattle.inventory_rules.proofs.of_inventory_rows.of_object_rows.Stands.{path_itself, same_path}
+use Rattle.inventory_rules.specs.inventory_rows.pool_tables.declared.pool.Pool.{Pool}
+use Rattle.inventory_rules.specs.inventory_rows.pool_tables.Rows.{row_at}
+use Rattle.inventory_rules.specs.inventory_rows.Search.{destinations_of, destinations_of_set}
 use Rattle.inventory_rules.specs.Valid.{is_default_there}
 use Rattle.inventory_laws.proofs.Facts.{both, first, rest}
 use Rattle.inventory_laws.proofs.Names.{at-same}

@@ -1,8 +1,8 @@
 -- The facts of the volumes where nothing is pending: what they are of a valid database.
 use Rattle.std.proofs.Common.{◌≡◌, ℕ, true, List, [], sym, ap, subst, ◌∙◌, append-nil}
 use Rattle.kinds.specs.declared.segment.Segment.{Segment}
-use Rattle.inventory_rows.specs.Search.{segments_on}
-use Rattle.inventory_rows.specs.State.{Inv}
+use Rattle.inventory_rules.specs.inventory_rows.Search.{segments_on}
+use Rattle.inventory_rules.specs.inventory_rows.State.{Inv}
 use Rattle.inventory_rules.specs.Held.{holding, IsTied}
 use Rattle.inventory_rules.specs.Valid.{is_volume, volumes_are}
 use Rattle.inventory_rules.specs.Facts.{Facts}

@@ -7,11 +7,11 @@ use Rattle.kinds.specs.declared.change.DefineOrDelete.TheVariants as two
 use Rattle.kinds.specs.declared.change.PolicyChange.{PolicyChange}
 use Rattle.kinds.specs.declared.change.PolicyChange.TheVariants as policy
 use Rattle.kinds.specs.declared.change.Verb.TheVariants as verb
-use Rattle.entries.specs.declared.change.Change.{Change}
-use Rattle.entries.specs.declared.change.Change.TheVariants as change
-use Rattle.inventory_rows.specs.Items.{count_items, most_items}
-use Rattle.inventory_rows.specs.State.{Inv}
-use Rattle.inventory_rows.specs.object_rows.Places.{AreAllOrderly}
+use Rattle.inventory_rules.specs.entries.declared.change.Change.{Change}
+use Rattle.inventory_rules.specs.entries.declared.change.Change.TheVariants as change
+use Rattle.inventory_rules.specs.inventory_rows.Items.{count_items, most_items}
+use Rattle.inventory_rules.specs.inventory_rows.State.{Inv}
+use Rattle.inventory_rules.specs.inventory_rows.object_rows.Places.{AreAllOrderly}
 use Rattle.inventory_rules.specs.Transactions.{effect, causes, brings_items, items_added, items_gone, AreRowsOrdered, IsOrderedFor, CanChange, CanMake, parts_fit, sizes_refused, IsDayOf}
 use Rattle.inventory_rules.specs.Journal.{Journal}
 use Rattle.inventory_rules.specs.Backups.{after_refused}

@@ -4,10 +4,10 @@ use Rattle.std.specs.Prelude.{nat_lt, nat_le}
 use Rattle.std.specs.List.{list_all}
 use Rattle.std.specs.Map.{keys_of}
 use Rattle.std.specs.Option.{option_map_or}
-use Rattle.inventory_rows.specs.version_groups.Versions.{are_distinct}
-use Rattle.inventory_rows.specs.Items.{count_items, most_items}
-use Rattle.inventory_rows.specs.Search.{versions, copies}
-use Rattle.inventory_rows.specs.State.{Inv}
+use Rattle.inventory_rules.specs.inventory_rows.version_groups.Versions.{are_distinct}
+use Rattle.inventory_rules.specs.inventory_rows.Items.{count_items, most_items}
+use Rattle.inventory_rules.specs.inventory_rows.Search.{versions, copies}
+use Rattle.inventory_rules.specs.inventory_rows.State.{Inv}
 use Rattle.inventory_rules.specs.Valid.{are_apart, are_bounded, are_by_today, are_drawn, are_named, are_numbered, are_past, classes_are, copies_cite, defaults_are_there, filespaces_apart, filespaces_cite, groups_are_orderly, held_cite, is_named_soundly, is_valid, lie_in, names_apart, no_ring, nodes_cite, pools_cite, rules_cite, versions_are_copied, volumes_are, volumes_cite}
 use Rattle.inventory_rules.specs.Facts.{Facts}
 

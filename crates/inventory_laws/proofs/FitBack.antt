@@ -6,21 +6,21 @@ use Rattle.std.specs.Option.{option_map_or}
 use Rattle.std.proofs.lemmas.Bool.{and_parts, and_from, eqb-true, leb-true, ltb-true, ne_eqb}
 use Rattle.std.proofs.lemmas.Option.{same_Some}
 use Rattle.kinds.specs.declared.segment.Segment.{Segment}
-use Rattle.entries.specs.change_items.declared.items.MovedCopy.{MovedCopy}
-use Rattle.entries.specs.change_items.declared.items.NewCopy.{NewCopy}
-use Rattle.inventory_rows.specs.version_groups.declared.copies.CopyChange.TheVariants as copy
-use Rattle.inventory_rows.specs.version_groups.declared.copies.CopyRow.{CopyRow}
-use Rattle.inventory_rows.specs.version_groups.declared.versions.Version.{Version}
-use Rattle.inventory_rows.specs.version_groups.Copies.{are_by_pool, copies_after, has_copy, with_copy, without_copy}
-use Rattle.inventory_rows.specs.version_groups.Entries.{all_later, is_nil}
-use Rattle.inventory_rows.specs.version_groups.Versions.{are_distinct, version_of}
-use Rattle.inventory_rows.specs.volume_rows.declared.volume.Volume.{Volume}
-use Rattle.inventory_rows.proofs.of_object_rows.Splices.{Splices}
-use Rattle.inventory_rows.specs.pool_tables.declared.pool.Pool.{Pool}
-use Rattle.inventory_rows.specs.pool_tables.Rows.{row_at}
-use Rattle.inventory_rows.specs.pool_rows.PoolRows.{PoolRows, is_sequential, is_sequential_at, is_sequential_row}
-use Rattle.inventory_rows.specs.Search.{copies, copy_in, is_primary, is_primary_kind, pool, segments_on, version, versions}
-use Rattle.inventory_rows.specs.State.{Inv}
+use Rattle.inventory_rules.specs.entries.change_items.declared.items.MovedCopy.{MovedCopy}
+use Rattle.inventory_rules.specs.entries.change_items.declared.items.NewCopy.{NewCopy}
+use Rattle.inventory_rules.specs.inventory_rows.version_groups.declared.copies.CopyChange.TheVariants as copy
+use Rattle.inventory_rules.specs.inventory_rows.version_groups.declared.copies.CopyRow.{CopyRow}
+use Rattle.inventory_rules.specs.inventory_rows.version_groups.declared.versions.Version.{Version}
+use Rattle.inventory_rules.specs.inventory_rows.version_groups.Copies.{are_by_pool, copies_after, has_copy, with_copy, without_copy}
+use Rattle.inventory_rules.specs.inventory_rows.version_groups.Entries.{all_later, is_nil}
+use Rattle.inventory_rules.specs.inventory_rows.version_groups.Versions.{are_distinct, version_of}
+use Rattle.inventory_rules.specs.inventory_rows.volume_rows.declared.volume.Volume.{Volume}
+use Rattle.inventory_rules.proofs.of_inventory_rows.of_object_rows.Splices.{Splices}
+use Rattle.inventory_rules.specs.inventory_rows.pool_tables.declared.pool.Pool.{Pool}
+use Rattle.inventory_rules.specs.inventory_rows.pool_tables.Rows.{row_at}
+use Rattle.inventory_rules.specs.inventory_rows.pool_rows.PoolRows.{PoolRows, is_sequential, is_sequential_at, is_sequential_row}
+use Rattle.inventory_rules.specs.inventory_rows.Search.{copies, copy_in, is_primary, is_primary_kind, pool, segments_on, version, versions}
+use Rattle.inventory_rules.specs.inventory_rows.State.{Inv}
 use Rattle.inventory_rules.specs.Common.{each, with_clients}
 use Rattle.inventory_rules.specs.Copies.{added, add_copy, added_fits, change_copy, move_copy, moved, moved_copy_fits, new_copy_fits, put_moved, replaced_fits}
 use Rattle.inventory_rules.specs.Halfway.{pending_on, segments_of}

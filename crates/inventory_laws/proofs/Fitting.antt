@@ -7,26 +7,26 @@ use Rattle.std.specs.Option.{option_map_or}
 use Rattle.std.proofs.lemmas.Bool.{and_from}
 use Rattle.std.proofs.lemmas.List.Folds.{list_all-map}
 use Rattle.kinds.specs.Refusals.{bad_value, unless}
-use Rattle.entries.specs.change_items.declared.items.MovedCopy.{MovedCopy}
-use Rattle.entries.specs.change_items.declared.items.NewCopy.{NewCopy}
-use Rattle.entries.specs.change_items.declared.items.NewHeldObject.{NewHeldObject}
-use Rattle.entries.specs.change_items.declared.items.NewVersion.{NewVersion}
-use Rattle.entries.specs.change_items.declared.items.ScratchVolume.{ScratchVolume}
-use Rattle.entries.specs.change_items.declared.lists.MovedCopies.{MovedCopies}
-use Rattle.entries.specs.change_items.declared.lists.NewCopies.{NewCopies}
-use Rattle.entries.specs.change_items.declared.lists.NewHeldObjects.{NewHeldObjects}
-use Rattle.entries.specs.change_items.declared.lists.NewVersions.{NewVersions}
-use Rattle.entries.specs.declared.change.Change.{Change}
-use Rattle.entries.specs.declared.change.Change.TheVariants as change
-use Rattle.inventory_rows.specs.version_groups.declared.copies.CopyRow.{CopyRow}
-use Rattle.inventory_rows.specs.version_groups.declared.versions.Version.{Version}
-use Rattle.inventory_rows.specs.version_groups.Versions.{has_object, version_of}
-use Rattle.inventory_rows.specs.object_rows.Filespaces.{filespace_at}
-use Rattle.inventory_rows.specs.object_rows.Rows.{Rows, kept_of}
-use Rattle.inventory_rows.specs.volume_rows.declared.volume.Volume.{Volume}
-use Rattle.inventory_rows.specs.pool_rows.PoolRows.{is_sequential}
-use Rattle.inventory_rows.specs.Search.{copy_in, is_primary_kind, pool, segments_on, version}
-use Rattle.inventory_rows.specs.State.{Inv}
+use Rattle.inventory_rules.specs.entries.change_items.declared.items.MovedCopy.{MovedCopy}
+use Rattle.inventory_rules.specs.entries.change_items.declared.items.NewCopy.{NewCopy}
+use Rattle.inventory_rules.specs.entries.change_items.declared.items.NewHeldObject.{NewHeldObject}
+use Rattle.inventory_rules.specs.entries.change_items.declared.items.NewVersion.{NewVersion}
+use Rattle.inventory_rules.specs.entries.change_items.declared.items.ScratchVolume.{ScratchVolume}
+use Rattle.inventory_rules.specs.entries.change_items.declared.lists.MovedCopies.{MovedCopies}
+use Rattle.inventory_rules.specs.entries.change_items.declared.lists.NewCopies.{NewCopies}
+use Rattle.inventory_rules.specs.entries.change_items.declared.lists.NewHeldObjects.{NewHeldObjects}
+use Rattle.inventory_rules.specs.entries.change_items.declared.lists.NewVersions.{NewVersions}
+use Rattle.inventory_rules.specs.entries.declared.change.Change.{Change}
+use Rattle.inventory_rules.specs.entries.declared.change.Change.TheVariants as change
+use Rattle.inventory_rules.specs.inventory_rows.version_groups.declared.copies.CopyRow.{CopyRow}
+use Rattle.inventory_rules.specs.inventory_rows.version_groups.declared.versions.Version.{Version}
+use Rattle.inventory_rules.specs.inventory_rows.version_groups.Versions.{has_object, version_of}
+use Rattle.inventory_rules.specs.inventory_rows.object_rows.Filespaces.{filespace_at}
+use Rattle.inventory_rules.specs.inventory_rows.object_rows.Rows.{Rows, kept_of}
+use Rattle.inventory_rules.specs.inventory_rows.volume_rows.declared.volume.Volume.{Volume}
+use Rattle.inventory_rules.specs.inventory_rows.pool_rows.PoolRows.{is_sequential}
+use Rattle.inventory_rules.specs.inventory_rows.Search.{copy_in, is_primary_kind, pool, segments_on, version}
+use Rattle.inventory_rules.specs.inventory_rows.State.{Inv}
 use Rattle.inventory_rules.specs.Common.{each}
 use Rattle.inventory_rules.specs.Copies.{add_copy, copied_refused, copy_list_refused, copy_refused, move_copy, move_refused, moved_copy_fits, moved_refused, new_copy_fits, placed_by, put_moved, stale_copy}
 use Rattle.inventory_rules.specs.Facts.{Facts}

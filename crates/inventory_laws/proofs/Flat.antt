@@ -3,19 +3,19 @@ use Rattle.std.proofs.Common.{◌≡◌, ℕ, ◌+◌, true, false, cond, suc, e
 use Rattle.std.specs.Map.{values_of}
 use Rattle.std.proofs.lemmas.Bool.{eqb-true}
 use Rattle.std.proofs.lemmas.List.Sums.{sum_by-cons}
-use Rattle.inventory_rows.specs.version_groups.declared.copies.CopyRow.{CopyRow}
-use Rattle.inventory_rows.specs.version_groups.declared.group.Group.{Group}
-use Rattle.inventory_rows.specs.version_groups.declared.groups.Filespace.{Filespace}
-use Rattle.inventory_rows.specs.version_groups.declared.versions.Version.{Version}
-use Rattle.inventory_rows.specs.version_groups.Versions.{are_distinct, has_object, version_of, with_copies}
-use Rattle.inventory_rows.proofs.of_version_groups.Lists.{are_of_others}
-use Rattle.inventory_rows.specs.object_rows.declared.held_object.HeldRow.{HeldRow}
-use Rattle.inventory_rows.specs.object_rows.Filespaces.{filespace_copied, filespaces_copied, groups_copied, versions_in, versions_of}
-use Rattle.inventory_rows.specs.object_rows.HeldRows.{held_versions}
-use Rattle.inventory_rows.specs.object_rows.Items.{items_of_held, items_with}
-use Rattle.inventory_rows.specs.object_rows.Rows.{Rows, kept_of, rows_copied}
-use Rattle.inventory_rows.proofs.of_object_rows.VersionLists.{none_of_others, with_copies-others}
-use Rattle.inventory_rows.specs.Items.{items_of_filespace, items_of_group, items_of_version}
+use Rattle.inventory_rules.specs.inventory_rows.version_groups.declared.copies.CopyRow.{CopyRow}
+use Rattle.inventory_rules.specs.inventory_rows.version_groups.declared.group.Group.{Group}
+use Rattle.inventory_rules.specs.inventory_rows.version_groups.declared.groups.Filespace.{Filespace}
+use Rattle.inventory_rules.specs.inventory_rows.version_groups.declared.versions.Version.{Version}
+use Rattle.inventory_rules.specs.inventory_rows.version_groups.Versions.{are_distinct, has_object, version_of, with_copies}
+use Rattle.inventory_rules.proofs.of_inventory_rows.of_version_groups.Lists.{are_of_others}
+use Rattle.inventory_rules.specs.inventory_rows.object_rows.declared.held_object.HeldRow.{HeldRow}
+use Rattle.inventory_rules.specs.inventory_rows.object_rows.Filespaces.{filespace_copied, filespaces_copied, groups_copied, versions_in, versions_of}
+use Rattle.inventory_rules.specs.inventory_rows.object_rows.HeldRows.{held_versions}
+use Rattle.inventory_rules.specs.inventory_rows.object_rows.Items.{items_of_held, items_with}
+use Rattle.inventory_rules.specs.inventory_rows.object_rows.Rows.{Rows, kept_of, rows_copied}
+use Rattle.inventory_rules.proofs.of_inventory_rows.of_object_rows.VersionLists.{none_of_others, with_copies-others}
+use Rattle.inventory_rules.specs.inventory_rows.Items.{items_of_filespace, items_of_group, items_of_version}
 use Rattle.inventory_rules.proofs.CopiedLists.{kept_of-copied}
 use Rattle.inventory_laws.proofs.Facts.{first, rest}
 use Rattle.inventory_laws.proofs.Weights.{rows, rows-cons, rows-map, weigh, weigh-cons}

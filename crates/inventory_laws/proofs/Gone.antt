@@ -5,20 +5,20 @@ use Rattle.std.specs.List.{list_all}
 use Rattle.std.specs.Map.{lookup, remove_entry, set_value}
 use Rattle.std.proofs.lemmas.Bool.{OnTrue_from, eq-eqb, eqb-true, false≢true}
 use Rattle.kinds.specs.declared.refusal.Refusal.{Refusal}
-use Rattle.entries.specs.change_items.declared.items.NamedVersion.{NamedVersion}
-use Rattle.inventory_rows.specs.version_groups.declared.group.Group.{Group}
-use Rattle.inventory_rows.specs.version_groups.declared.group.GroupChange.{GroupChange}
-use Rattle.inventory_rows.specs.version_groups.declared.group.GroupChange.TheVariants as change
-use Rattle.inventory_rows.specs.version_groups.declared.groups.Filespace.{Filespace}
-use Rattle.inventory_rows.specs.version_groups.declared.versions.Version.{Version}
-use Rattle.inventory_rows.specs.version_groups.Entries.{all_later, if_found, on_ok}
-use Rattle.inventory_rows.specs.version_groups.Groups as grouped
-use Rattle.inventory_rows.specs.version_groups.Groups.{at_path, group_after, groups_after, without_empty}
-use Rattle.inventory_rows.specs.version_groups.Versions.{has_object, is_active, is_empty}
-use Rattle.inventory_rows.proofs.of_version_groups.Maps.{lookup-set}
-use Rattle.inventory_rows.specs.object_rows.Filespaces.{at_number, filespace_after, filespace_at, filespaces_after, groups_in, versions_at}
-use Rattle.inventory_rows.proofs.of_object_rows.Stands.{same_path}
-use Rattle.inventory_rows.specs.State.{Inv}
+use Rattle.inventory_rules.specs.entries.change_items.declared.items.NamedVersion.{NamedVersion}
+use Rattle.inventory_rules.specs.inventory_rows.version_groups.declared.group.Group.{Group}
+use Rattle.inventory_rules.specs.inventory_rows.version_groups.declared.group.GroupChange.{GroupChange}
+use Rattle.inventory_rules.specs.inventory_rows.version_groups.declared.group.GroupChange.TheVariants as change
+use Rattle.inventory_rules.specs.inventory_rows.version_groups.declared.groups.Filespace.{Filespace}
+use Rattle.inventory_rules.specs.inventory_rows.version_groups.declared.versions.Version.{Version}
+use Rattle.inventory_rules.specs.inventory_rows.version_groups.Entries.{all_later, if_found, on_ok}
+use Rattle.inventory_rules.specs.inventory_rows.version_groups.Groups as grouped
+use Rattle.inventory_rules.specs.inventory_rows.version_groups.Groups.{at_path, group_after, groups_after, without_empty}
+use Rattle.inventory_rules.specs.inventory_rows.version_groups.Versions.{has_object, is_active, is_empty}
+use Rattle.inventory_rules.proofs.of_inventory_rows.of_version_groups.Maps.{lookup-set}
+use Rattle.inventory_rules.specs.inventory_rows.object_rows.Filespaces.{at_number, filespace_after, filespace_at, filespaces_after, groups_in, versions_at}
+use Rattle.inventory_rules.proofs.of_inventory_rows.of_object_rows.Stands.{same_path}
+use Rattle.inventory_rules.specs.inventory_rows.State.{Inv}
 use Rattle.inventory_rules.specs.Common.{or_same, CanEach}
 use Rattle.inventory_rules.specs.Versions.{mark_gone, CanBeGone}
 use Rattle.inventory_laws.proofs.Facts.{first, rest}

@@ -9,22 +9,22 @@ use Rattle.std.specs.Map.{set_value}
 use Rattle.std.specs.Option.{option_map_or}
 use Rattle.kinds.specs.declared.refusal.Refusal.{Refusal}
 use Rattle.kinds.specs.declared.refusal.Refusal.TheVariants.{NotFound}
-use Rattle.inventory_rows.specs.version_groups.declared.copies.CopyRow.{CopyRow}
-use Rattle.inventory_rows.specs.version_groups.declared.group.Group.{Group}
-use Rattle.inventory_rows.specs.version_groups.declared.group.GroupChange.{GroupChange}
-use Rattle.inventory_rows.specs.version_groups.declared.group.GroupChange.TheVariants.{Gone, Remove, Rebind}
-use Rattle.inventory_rows.specs.version_groups.declared.groups.Filespace.{Filespace}
-use Rattle.inventory_rows.specs.version_groups.declared.versions.Version.{Version}
-use Rattle.inventory_rows.specs.version_groups.Entries.{all_later, on_ok, if_found}
-use Rattle.inventory_rows.specs.version_groups.Groups as grouped
-use Rattle.inventory_rows.specs.version_groups.Groups.{at_path, group_after, groups_after, versions_after, without_empty}
-use Rattle.inventory_rows.specs.version_groups.Versions.{are_distinct, has_object, retired, version_of, without_object}
-use Rattle.inventory_rows.proofs.of_version_groups.Lists.{version_of-object}
-use Rattle.inventory_rows.specs.object_rows.Filespaces.{at_number, filespace_after, filespace_at, filespaces_after, groups_in, versions_at}
-use Rattle.inventory_rows.proofs.of_object_rows.Splices.{Splices, splice_in, splice_same}
-use Rattle.inventory_rows.proofs.of_object_rows.VersionLists.{apart_behind, parted, version_of-behind, version_of-front}
-use Rattle.inventory_rows.specs.Search.{copies, version, versions}
-use Rattle.inventory_rows.specs.State.{Inv}
+use Rattle.inventory_rules.specs.inventory_rows.version_groups.declared.copies.CopyRow.{CopyRow}
+use Rattle.inventory_rules.specs.inventory_rows.version_groups.declared.group.Group.{Group}
+use Rattle.inventory_rules.specs.inventory_rows.version_groups.declared.group.GroupChange.{GroupChange}
+use Rattle.inventory_rules.specs.inventory_rows.version_groups.declared.group.GroupChange.TheVariants.{Gone, Remove, Rebind}
+use Rattle.inventory_rules.specs.inventory_rows.version_groups.declared.groups.Filespace.{Filespace}
+use Rattle.inventory_rules.specs.inventory_rows.version_groups.declared.versions.Version.{Version}
+use Rattle.inventory_rules.specs.inventory_rows.version_groups.Entries.{all_later, on_ok, if_found}
+use Rattle.inventory_rules.specs.inventory_rows.version_groups.Groups as grouped
+use Rattle.inventory_rules.specs.inventory_rows.version_groups.Groups.{at_path, group_after, groups_after, versions_after, without_empty}
+use Rattle.inventory_rules.specs.inventory_rows.version_groups.Versions.{are_distinct, has_object, retired, version_of, without_object}
+use Rattle.inventory_rules.proofs.of_inventory_rows.of_version_groups.Lists.{version_of-object}
+use Rattle.inventory_rules.specs.inventory_rows.object_rows.Filespaces.{at_number, filespace_after, filespace_at, filespaces_after, groups_in, versions_at}
+use Rattle.inventory_rules.proofs.of_inventory_rows.of_object_rows.Splices.{Splices, splice_in, splice_same}
+use Rattle.inventory_rules.proofs.of_inventory_rows.of_object_rows.VersionLists.{apart_behind, parted, version_of-behind, version_of-front}
+use Rattle.inventory_rules.specs.inventory_rows.Search.{copies, version, versions}
+use Rattle.inventory_rules.specs.inventory_rows.State.{Inv}
 use Rattle.inventory_rules.specs.Common.{or_same, with_filespaces}
 use Rattle.inventory_rules.specs.Versions.{change_group}
 use Rattle.inventory_rules.specs.Halfway.{VersionFacts}

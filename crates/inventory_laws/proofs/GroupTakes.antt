@@ -6,23 +6,23 @@ use Rattle.std.specs.Option.{option_map, unwrap_or}
 use Rattle.std.proofs.lemmas.Map.Entries.{sum_by-remove_entry}
 use Rattle.kinds.specs.declared.refusal.Refusal.{Refusal}
 use Rattle.kinds.specs.declared.refusal.Refusal.TheVariants.{NotFound}
-use Rattle.inventory_rows.specs.version_groups.declared.group.Group.{Group}
-use Rattle.inventory_rows.specs.version_groups.declared.group.GroupChange.{GroupChange}
-use Rattle.inventory_rows.specs.version_groups.declared.group.GroupChange.TheVariants as group
-use Rattle.inventory_rows.specs.version_groups.declared.groups.Filespace.{Filespace}
-use Rattle.inventory_rows.specs.version_groups.declared.versions.Version.{Version}
-use Rattle.inventory_rows.specs.version_groups.Entries.{changed_at, if_found, on_ok}
-use Rattle.inventory_rows.specs.version_groups.Groups.{at_path, class_after, group_after, groups_after, names_kept, versions_after, versions_at, without_empty}
-use Rattle.inventory_rows.specs.version_groups.Versions.{is_empty, retired, revived, undone}
-use Rattle.inventory_rows.specs.object_rows.declared.held_object.HeldRow.{HeldRow}
-use Rattle.inventory_rows.specs.object_rows.declared.place.Place.{Place}
-use Rattle.inventory_rows.specs.object_rows.Filespaces.{at_number, filespace_after, filespaces_after}
-use Rattle.inventory_rows.specs.object_rows.HeldRows.{has_row, has_under, held_without}
-use Rattle.inventory_rows.specs.object_rows.Items.{items_of_held, items_with}
-use Rattle.inventory_rows.specs.object_rows.Places.{listed}
-use Rattle.inventory_rows.specs.object_rows.Rows.{Rows, filespaces_cleared, rows_after, rows_cleared, rows_without, with_filespaces, with_held}
-use Rattle.inventory_rows.specs.Items.{items_of_filespace, items_of_group, items_of_version}
-use Rattle.inventory_rows.specs.State.{Inv}
+use Rattle.inventory_rules.specs.inventory_rows.version_groups.declared.group.Group.{Group}
+use Rattle.inventory_rules.specs.inventory_rows.version_groups.declared.group.GroupChange.{GroupChange}
+use Rattle.inventory_rules.specs.inventory_rows.version_groups.declared.group.GroupChange.TheVariants as group
+use Rattle.inventory_rules.specs.inventory_rows.version_groups.declared.groups.Filespace.{Filespace}
+use Rattle.inventory_rules.specs.inventory_rows.version_groups.declared.versions.Version.{Version}
+use Rattle.inventory_rules.specs.inventory_rows.version_groups.Entries.{changed_at, if_found, on_ok}
+use Rattle.inventory_rules.specs.inventory_rows.version_groups.Groups.{at_path, class_after, group_after, groups_after, names_kept, versions_after, versions_at, without_empty}
+use Rattle.inventory_rules.specs.inventory_rows.version_groups.Versions.{is_empty, retired, revived, undone}
+use Rattle.inventory_rules.specs.inventory_rows.object_rows.declared.held_object.HeldRow.{HeldRow}
+use Rattle.inventory_rules.specs.inventory_rows.object_rows.declared.place.Place.{Place}
+use Rattle.inventory_rules.specs.inventory_rows.object_rows.Filespaces.{at_number, filespace_after, filespaces_after}
+use Rattle.inventory_rules.specs.inventory_rows.object_rows.HeldRows.{has_row, has_under, held_without}
+use Rattle.inventory_rules.specs.inventory_rows.object_rows.Items.{items_of_held, items_with}
+use Rattle.inventory_rules.specs.inventory_rows.object_rows.Places.{listed}
+use Rattle.inventory_rules.specs.inventory_rows.object_rows.Rows.{Rows, filespaces_cleared, rows_after, rows_cleared, rows_without, with_filespaces, with_held}
+use Rattle.inventory_rules.specs.inventory_rows.Items.{items_of_filespace, items_of_group, items_of_version}
+use Rattle.inventory_rules.specs.inventory_rows.State.{Inv}
 use Rattle.inventory_rules.specs.Common.{or_same}
 use Rattle.inventory_rules.specs.Versions.{change_group, copies_at, take_versions}
 use Rattle.inventory_laws.specs.Kept.{clients_after}

@@ -7,19 +7,19 @@ use Rattle.std.specs.List.{list_all, AllByRecursion}
 use Rattle.std.specs.Map.{remove_entry, set_value}
 use Rattle.std.specs.Ordering.{nat_cmp}
 use Rattle.kinds.specs.declared.refusal.Refusal.{Refusal}
-use Rattle.inventory_rows.specs.version_groups.declared.group.Group.{Group}
-use Rattle.inventory_rows.specs.version_groups.declared.group.GroupChange.{GroupChange}
-use Rattle.inventory_rows.specs.version_groups.declared.groups.Filespace.{Filespace}
-use Rattle.inventory_rows.specs.version_groups.declared.versions.Version.{Version}
-use Rattle.inventory_rows.specs.version_groups.Groups as grouped
-use Rattle.inventory_rows.specs.version_groups.Groups.{AreByPath, at_path, class_after, group_with, groups_after, groups_with, versions_after, without_empty}
-use Rattle.inventory_rows.specs.version_groups.Versions.{is_empty, superseded}
-use Rattle.inventory_rows.proofs.of_version_groups.Laws.{AfterIs, after-is}
-use Rattle.inventory_rows.proofs.of_version_groups.Maps.{insert_present, lookup-set}
-use Rattle.inventory_rows.specs.object_rows.Filespaces.{at_number, filespace_at, filespaces_after, filespaces_with, groups_in, versions_at, versions_in, versions_of}
-use Rattle.inventory_rows.proofs.of_object_rows.Full.{all-insert_entry, all-lookup, all-remove_set, all-set_value}
-use Rattle.inventory_rows.proofs.of_object_rows.Splices.{Splices, splice_in, splice_set, splice_new, flatten-remove_entry, remove_entry-absent}
-use Rattle.inventory_rows.proofs.of_object_rows.Steps.{Within, within}
+use Rattle.inventory_rules.specs.inventory_rows.version_groups.declared.group.Group.{Group}
+use Rattle.inventory_rules.specs.inventory_rows.version_groups.declared.group.GroupChange.{GroupChange}
+use Rattle.inventory_rules.specs.inventory_rows.version_groups.declared.groups.Filespace.{Filespace}
+use Rattle.inventory_rules.specs.inventory_rows.version_groups.declared.versions.Version.{Version}
+use Rattle.inventory_rules.specs.inventory_rows.version_groups.Groups as grouped
+use Rattle.inventory_rules.specs.inventory_rows.version_groups.Groups.{AreByPath, at_path, class_after, group_with, groups_after, groups_with, versions_after, without_empty}
+use Rattle.inventory_rules.specs.inventory_rows.version_groups.Versions.{is_empty, superseded}
+use Rattle.inventory_rules.proofs.of_inventory_rows.of_version_groups.Laws.{AfterIs, after-is}
+use Rattle.inventory_rules.proofs.of_inventory_rows.of_version_groups.Maps.{insert_present, lookup-set}
+use Rattle.inventory_rules.specs.inventory_rows.object_rows.Filespaces.{at_number, filespace_at, filespaces_after, filespaces_with, groups_in, versions_at, versions_in, versions_of}
+use Rattle.inventory_rules.proofs.of_inventory_rows.of_object_rows.Full.{all-insert_entry, all-lookup, all-remove_set, all-set_value}
+use Rattle.inventory_rules.proofs.of_inventory_rows.of_object_rows.Splices.{Splices, splice_in, splice_set, splice_new, flatten-remove_entry, remove_entry-absent}
+use Rattle.inventory_rules.proofs.of_inventory_rows.of_object_rows.Steps.{Within, within}
 use Rattle.inventory_rules.specs.Valid.{is_orderly}
 use Rattle.inventory_laws.proofs.Frames.{frames, frames-set}
 use Rattle.inventory_laws.proofs.Kept.{are_orderly}

@@ -8,13 +8,13 @@ use Rattle.std.specs.Map.{lookup, remove_entry}
 use Rattle.std.specs.Ordering.{is_eq, match_ordering, nat_cmp}
 use Rattle.std.specs.declared.cmp.Ordering.{Ordering}
 use Rattle.std.specs.declared.cmp.Ordering.TheVariants.{Less, Equal, Greater}
-use Rattle.inventory_rows.specs.version_groups.declared.groups.Filespace.{Filespace}
-use Rattle.inventory_rows.specs.version_groups.Versions.{has_object}
-use Rattle.inventory_rows.specs.object_rows.declared.held_object.HeldObject.{HeldObject}
-use Rattle.inventory_rows.specs.object_rows.declared.held_object.HeldRow.{HeldRow}
-use Rattle.inventory_rows.specs.object_rows.Filespaces.{at_number, filespace_at}
-use Rattle.inventory_rows.specs.object_rows.HeldRows.{has_row, held_at, held_versions, held_with, held_without, is_held_row}
-use Rattle.inventory_rows.proofs.of_object_rows.Stands.{at-eqb, same_number}
+use Rattle.inventory_rules.specs.inventory_rows.version_groups.declared.groups.Filespace.{Filespace}
+use Rattle.inventory_rules.specs.inventory_rows.version_groups.Versions.{has_object}
+use Rattle.inventory_rules.specs.inventory_rows.object_rows.declared.held_object.HeldObject.{HeldObject}
+use Rattle.inventory_rules.specs.inventory_rows.object_rows.declared.held_object.HeldRow.{HeldRow}
+use Rattle.inventory_rules.specs.inventory_rows.object_rows.Filespaces.{at_number, filespace_at}
+use Rattle.inventory_rules.specs.inventory_rows.object_rows.HeldRows.{has_row, held_at, held_versions, held_with, held_without, is_held_row}
+use Rattle.inventory_rules.proofs.of_inventory_rows.of_object_rows.Stands.{at-eqb, same_number}
 use Rattle.inventory_laws.proofs.Kept.{is_held_there}
 
 -- ---- what each entry passes

@@ -8,11 +8,11 @@ use Rattle.std.proofs.lemmas.Bool.{ne_eqb}
 use Rattle.kinds.specs.declared.refusal.Refusal.{Refusal}
 use Rattle.kinds.specs.declared.refusal.Refusal.TheVariants.{NotFound}
 use Rattle.kinds.specs.declared.segment.Segment.{Segment}
-use Rattle.inventory_rows.specs.volume_rows.declared.held.HeldSegment.{HeldSegment}
-use Rattle.inventory_rows.specs.volume_rows.Held.{held_cmp, held_of}
-use Rattle.inventory_rows.specs.volume_rows.Holdings.{repeats_of, raised, with_segment, without_segment, is_bare, is_held}
-use Rattle.inventory_rows.proofs.of_volume_rows.Segments.{taken-with, held_from_taken}
-use Rattle.inventory_rows.specs.version_groups.Entries.{is_nil}
+use Rattle.inventory_rules.specs.inventory_rows.volume_rows.declared.held.HeldSegment.{HeldSegment}
+use Rattle.inventory_rules.specs.inventory_rows.volume_rows.Held.{held_cmp, held_of}
+use Rattle.inventory_rules.specs.inventory_rows.volume_rows.Holdings.{repeats_of, raised, with_segment, without_segment, is_bare, is_held}
+use Rattle.inventory_rules.proofs.of_inventory_rows.of_volume_rows.Segments.{taken-with, held_from_taken}
+use Rattle.inventory_rules.specs.inventory_rows.version_groups.Entries.{is_nil}
 use Rattle.inventory_rules.specs.Held.{holding}
 use Rattle.inventory_rules.specs.Reordered.{IsReordered}
 use Rattle.inventory_rules.proofs.HeldTurns.{at, with_segment-turns}

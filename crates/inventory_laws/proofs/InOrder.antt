@@ -2,19 +2,19 @@
 use Rattle.std.proofs.Common.{◌≡◌, ℕ, Bool, true, false, cond, List, [], ◌∷◌, Option, Some, None, Result, Ok, Err, refl, sym, ap, subst}
 use Rattle.std.specs.Map.{lookup}
 use Rattle.kinds.specs.declared.refusal.Refusal.{Refusal}
-use Rattle.entries.specs.change_items.declared.items.DiscardedVersion.{DiscardedVersion}
-use Rattle.entries.specs.change_items.declared.items.DroppedCopy.{DroppedCopy}
-use Rattle.entries.specs.change_items.declared.items.NamedVersion.{NamedVersion}
-use Rattle.entries.specs.declared.change.Change.{Change}
-use Rattle.inventory_rows.specs.version_groups.declared.group.GroupChange.TheVariants.{Remove}
-use Rattle.inventory_rows.specs.version_groups.declared.groups.Filespace.{Filespace}
-use Rattle.inventory_rows.specs.version_groups.Entries.{if_found}
-use Rattle.inventory_rows.specs.object_rows.declared.place.Place.{Place}
-use Rattle.inventory_rows.specs.object_rows.Filespaces.{at_number, filespaces_after}
-use Rattle.inventory_rows.specs.object_rows.HeldRows.{has_row, has_under, held_without}
-use Rattle.inventory_rows.specs.object_rows.Places.{listed}
-use Rattle.inventory_rows.specs.object_rows.Rows.{filespaces_cleared, rows_after, rows_cleared, rows_without, with_filespaces as rows_with_filespaces, with_held}
-use Rattle.inventory_rows.specs.State.{Inv}
+use Rattle.inventory_rules.specs.entries.change_items.declared.items.DiscardedVersion.{DiscardedVersion}
+use Rattle.inventory_rules.specs.entries.change_items.declared.items.DroppedCopy.{DroppedCopy}
+use Rattle.inventory_rules.specs.entries.change_items.declared.items.NamedVersion.{NamedVersion}
+use Rattle.inventory_rules.specs.entries.declared.change.Change.{Change}
+use Rattle.inventory_rules.specs.inventory_rows.version_groups.declared.group.GroupChange.TheVariants.{Remove}
+use Rattle.inventory_rules.specs.inventory_rows.version_groups.declared.groups.Filespace.{Filespace}
+use Rattle.inventory_rules.specs.inventory_rows.version_groups.Entries.{if_found}
+use Rattle.inventory_rules.specs.inventory_rows.object_rows.declared.place.Place.{Place}
+use Rattle.inventory_rules.specs.inventory_rows.object_rows.Filespaces.{at_number, filespaces_after}
+use Rattle.inventory_rules.specs.inventory_rows.object_rows.HeldRows.{has_row, has_under, held_without}
+use Rattle.inventory_rules.specs.inventory_rows.object_rows.Places.{listed}
+use Rattle.inventory_rules.specs.inventory_rows.object_rows.Rows.{filespaces_cleared, rows_after, rows_cleared, rows_without, with_filespaces as rows_with_filespaces, with_held}
+use Rattle.inventory_rules.specs.inventory_rows.State.{Inv}
 use Rattle.inventory_rules.specs.Common.{each, or_same, with_clients, with_filespaces}
 use Rattle.inventory_rules.specs.Copies.{change_copy, drop_copy, dropped}
 use Rattle.inventory_rules.specs.Transactions.{changed, effect}

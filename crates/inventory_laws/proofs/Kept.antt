@@ -6,18 +6,18 @@ use Rattle.std.proofs.lemmas.List.Folds.{list_all-map}
 use Rattle.std.specs.List.{list_all, flat_map}
 use Rattle.std.specs.Map.{lookup}
 use Rattle.std.specs.Option.{is_some, option_map_or}
-use Rattle.inventory_rows.specs.version_groups.declared.copies.CopyRow.{CopyRow}
-use Rattle.inventory_rows.specs.version_groups.declared.groups.Filespace.{Filespace}
-use Rattle.inventory_rows.specs.version_groups.declared.versions.Version.{Version}
-use Rattle.inventory_rows.specs.version_groups.Versions.{are_distinct, having_copies}
+use Rattle.inventory_rules.specs.inventory_rows.version_groups.declared.copies.CopyRow.{CopyRow}
+use Rattle.inventory_rules.specs.inventory_rows.version_groups.declared.groups.Filespace.{Filespace}
+use Rattle.inventory_rules.specs.inventory_rows.version_groups.declared.versions.Version.{Version}
+use Rattle.inventory_rules.specs.inventory_rows.version_groups.Versions.{are_distinct, having_copies}
 use Rattle.kinds.specs.Names.{is_same_name}
-use Rattle.inventory_rows.specs.object_rows.declared.held_object.HeldObject.{HeldObject}
-use Rattle.inventory_rows.specs.object_rows.declared.held_object.HeldRow.{HeldRow}
-use Rattle.inventory_rows.specs.object_rows.Filespaces.{at_number, filespace_at, versions_of}
-use Rattle.inventory_rows.specs.object_rows.HeldRows.{held_at, held_copied, held_versions, held_with, held_without, is_held_row, row_copied}
-use Rattle.inventory_rows.proofs.of_object_rows.Splices.{Splices, flatten, splice_behind, splice_new, splice_remove}
-use Rattle.inventory_rows.specs.Search.{pool, versions}
-use Rattle.inventory_rows.specs.State.{Inv}
+use Rattle.inventory_rules.specs.inventory_rows.object_rows.declared.held_object.HeldObject.{HeldObject}
+use Rattle.inventory_rules.specs.inventory_rows.object_rows.declared.held_object.HeldRow.{HeldRow}
+use Rattle.inventory_rules.specs.inventory_rows.object_rows.Filespaces.{at_number, filespace_at, versions_of}
+use Rattle.inventory_rules.specs.inventory_rows.object_rows.HeldRows.{held_at, held_copied, held_versions, held_with, held_without, is_held_row, row_copied}
+use Rattle.inventory_rules.proofs.of_inventory_rows.of_object_rows.Splices.{Splices, flatten, splice_behind, splice_new, splice_remove}
+use Rattle.inventory_rules.specs.inventory_rows.Search.{pool, versions}
+use Rattle.inventory_rules.specs.inventory_rows.State.{Inv}
 use Rattle.inventory_rules.specs.Common.{with_clients, with_filespaces}
 use Rattle.inventory_rules.specs.Valid.{is_copied, is_orderly, lie_in}
 use Rattle.inventory_rules.specs.Halfway.{VersionFacts}

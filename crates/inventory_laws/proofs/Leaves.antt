@@ -4,22 +4,22 @@ use Rattle.std.proofs.lemmas.Bool.{eqb-true, eq-eqb, ne_eqb, eqb-false}
 use Rattle.std.specs.Map.{lookup}
 use Rattle.std.specs.Option.{is_some, option_map_or}
 use Rattle.kinds.specs.declared.refusal.Refusal.{Refusal}
-use Rattle.inventory_rows.specs.version_groups.declared.group.GroupChange.TheVariants.{Remove}
-use Rattle.inventory_rows.specs.version_groups.declared.groups.Filespace.{Filespace}
-use Rattle.inventory_rows.specs.version_groups.declared.versions.Version.{Version}
-use Rattle.inventory_rows.specs.version_groups.Entries.{if_found}
-use Rattle.inventory_rows.specs.version_groups.Versions.{has_object}
-use Rattle.inventory_rows.proofs.of_version_groups.Lists.{version_of-object}
-use Rattle.inventory_rows.specs.object_rows.declared.held_object.HeldRow.{HeldRow}
-use Rattle.inventory_rows.specs.object_rows.declared.place.Place.{Place}
-use Rattle.inventory_rows.specs.object_rows.Filespaces.{at_number, filespaces_after, versions_at, versions_of}
-use Rattle.inventory_rows.specs.object_rows.HeldRows.{held_at, held_versions, held_without, is_under as row_under}
-use Rattle.inventory_rows.specs.object_rows.Places.{listed, place_of}
-use Rattle.inventory_rows.specs.object_rows.Rows.{Rows, filespaces_cleared, rows_after, rows_cleared, rows_without, with_filespaces as rows_with_filespaces, with_held}
-use Rattle.inventory_rows.proofs.of_object_rows.Splices.{Splices}
-use Rattle.inventory_rows.proofs.of_object_rows.Stands.{at-eqb, has-listed}
-use Rattle.inventory_rows.specs.Search.{copies, version, versions}
-use Rattle.inventory_rows.specs.State.{Inv}
+use Rattle.inventory_rules.specs.inventory_rows.version_groups.declared.group.GroupChange.TheVariants.{Remove}
+use Rattle.inventory_rules.specs.inventory_rows.version_groups.declared.groups.Filespace.{Filespace}
+use Rattle.inventory_rules.specs.inventory_rows.version_groups.declared.versions.Version.{Version}
+use Rattle.inventory_rules.specs.inventory_rows.version_groups.Entries.{if_found}
+use Rattle.inventory_rules.specs.inventory_rows.version_groups.Versions.{has_object}
+use Rattle.inventory_rules.proofs.of_inventory_rows.of_version_groups.Lists.{version_of-object}
+use Rattle.inventory_rules.specs.inventory_rows.object_rows.declared.held_object.HeldRow.{HeldRow}
+use Rattle.inventory_rules.specs.inventory_rows.object_rows.declared.place.Place.{Place}
+use Rattle.inventory_rules.specs.inventory_rows.object_rows.Filespaces.{at_number, filespaces_after, versions_at, versions_of}
+use Rattle.inventory_rules.specs.inventory_rows.object_rows.HeldRows.{held_at, held_versions, held_without, is_under as row_under}
+use Rattle.inventory_rules.specs.inventory_rows.object_rows.Places.{listed, place_of}
+use Rattle.inventory_rules.specs.inventory_rows.object_rows.Rows.{Rows, filespaces_cleared, rows_after, rows_cleared, rows_without, with_filespaces as rows_with_filespaces, with_held}
+use Rattle.inventory_rules.proofs.of_inventory_rows.of_object_rows.Splices.{Splices}
+use Rattle.inventory_rules.proofs.of_inventory_rows.of_object_rows.Stands.{at-eqb, has-listed}
+use Rattle.inventory_rules.specs.inventory_rows.Search.{copies, version, versions}
+use Rattle.inventory_rules.specs.inventory_rows.State.{Inv}
 use Rattle.inventory_rules.specs.Common.{or_same, with_clients, with_filespaces}
 use Rattle.inventory_rules.specs.Halfway.{VersionFacts}
 use Rattle.inventory_rules.specs.Ordered.{IsOrdered}

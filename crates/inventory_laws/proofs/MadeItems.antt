@@ -4,7 +4,7 @@ use Rattle.std.specs.Prelude.{eqb, ◌==◌}
 use Rattle.std.specs.List.{flat_map, list_all}
 use Rattle.std.proofs.lemmas.List.Folds.{list_all-map}
 use Rattle.kinds.specs.declared.refusal.Refusal.{Refusal}
-use Rattle.inventory_rows.specs.version_groups.Entries.{all_later}
+use Rattle.inventory_rules.specs.inventory_rows.version_groups.Entries.{all_later}
 use Rattle.inventory_laws.proofs.Facts.{both, first, rest}
 use Rattle.inventory_laws.proofs.Causes.{back_nil, front_nil, not_false}
 

@@ -15,17 +15,17 @@ use Rattle.kinds.specs.declared.change.PolicyChange.{PolicyChange}
 use Rattle.kinds.specs.declared.change.PoolChange.{PoolChange}
 use Rattle.kinds.specs.declared.change.PoolChange.TheVariants as store
 use Rattle.kinds.specs.declared.refusal.Refusal.TheVariants as refusal
-use Rattle.entries.specs.declared.change.Change.TheVariants as change
-use Rattle.inventory_rows.specs.policy_domains.Changes.{after, names_active}
-use Rattle.inventory_rows.specs.policy_domains.Rows.{row_of}
-use Rattle.inventory_rows.specs.object_rows.Changes.{rows_changed}
-use Rattle.inventory_rows.specs.pool_rows.Changed.{changed}
-use Rattle.inventory_rows.specs.pool_rows.Segments.{may_reuse_at}
-use Rattle.inventory_rows.specs.pool_tables.Rows.{row_at}
-use Rattle.inventory_rows.specs.pool_tables.Scratch.{is_scratch_name}
-use Rattle.inventory_rows.specs.volume_rows.declared.volume.Volume.{Volume}
-use Rattle.inventory_rows.specs.Search.{is_primary}
-use Rattle.inventory_rows.specs.State.{Inv}
+use Rattle.inventory_rules.specs.entries.declared.change.Change.TheVariants as change
+use Rattle.inventory_rules.specs.inventory_rows.policy_domains.Changes.{after, names_active}
+use Rattle.inventory_rules.specs.inventory_rows.policy_domains.Rows.{row_of}
+use Rattle.inventory_rules.specs.inventory_rows.object_rows.Changes.{rows_changed}
+use Rattle.inventory_rules.specs.inventory_rows.pool_rows.Changed.{changed}
+use Rattle.inventory_rules.specs.inventory_rows.pool_rows.Segments.{may_reuse_at}
+use Rattle.inventory_rules.specs.inventory_rows.pool_tables.Rows.{row_at}
+use Rattle.inventory_rules.specs.inventory_rows.pool_tables.Scratch.{is_scratch_name}
+use Rattle.inventory_rules.specs.inventory_rows.volume_rows.declared.volume.Volume.{Volume}
+use Rattle.inventory_rules.specs.inventory_rows.Search.{is_primary}
+use Rattle.inventory_rules.specs.inventory_rows.State.{Inv}
 use Rattle.inventory_rules.specs.Clients.{CanClients, client_bounds, client_refused}
 use Rattle.inventory_rules.specs.Policy.{CanPolicy, destination_refused, domain_used, policy_refused}
 use Rattle.inventory_rules.specs.Stores.{CanReuse, CanStores, capacity_fits, collocation_refused, store_bounds, store_refused}
@@ -35,7 +35,7 @@ use Rattle.inventory_laws.proofs.Facts.{first, rest}
 use Rattle.kinds.specs.Refusals.{bad_value, unless, refusal_of}
 use Rattle.inventory_rules.specs.Common.{file_bound, files_refused, full_at, is_free_file}
 use Rattle.inventory_rules.specs.Valid.{may_have}
-use Rattle.inventory_rows.specs.pool_rows.PoolRows.{pool_capacity}
+use Rattle.inventory_rules.specs.inventory_rows.pool_rows.PoolRows.{pool_capacity}
 use Rattle.inventory_laws.proofs.Causes.{back_nil, below, beyond, file_below, front_nil, holds, is_made, is_said, not_false, not_some}
 
 pub can_policy : (c : PolicyChange) (v : Inv) → policy_refused c v ≡ [] → CanPolicy c v

@@ -8,24 +8,24 @@ use Rattle.std.specs.declared.cmp.Ordering.TheVariants.{Less, Equal, Greater}
 use Rattle.std.proofs.lemmas.Bool.{lt-ltb, ltb-true}
 use Rattle.std.proofs.lemmas.List.Folds.{list_all-map}
 use Rattle.kinds.specs.declared.segment.Segment.{Segment}
-use Rattle.entries.specs.change_items.declared.items.ScratchVolume.{ScratchVolume}
-use Rattle.inventory_rows.proofs.of_object_rows.Stands.{at-eqb}
-use Rattle.inventory_rows.specs.pool_rows.PoolRows.{is_sequential, is_sequential_at}
-use Rattle.inventory_rows.specs.pool_rows.Segments.{with_volumes}
-use Rattle.inventory_rows.specs.pool_tables.RowChanges as table
-use Rattle.inventory_rows.specs.pool_tables.RowChanges.{scratch_volume}
-use Rattle.inventory_rows.specs.pool_tables.Rows.{changed, row_at, set_row, with_row}
-use Rattle.inventory_rows.specs.version_groups.Entries.{all_later}
-use Rattle.inventory_rows.specs.volume_rows.declared.held.HeldSegment.{HeldSegment}
-use Rattle.inventory_rows.specs.volume_rows.declared.volume.Volume.{Volume}
-use Rattle.inventory_rows.specs.volume_rows.Held.{held_of}
-use Rattle.inventory_rows.specs.volume_rows.Volumes.{put_on}
-use Rattle.inventory_rows.specs.State.{Inv}
-use Rattle.entries.specs.change_items.declared.items.MovedCopy.{MovedCopy}
+use Rattle.inventory_rules.specs.entries.change_items.declared.items.ScratchVolume.{ScratchVolume}
+use Rattle.inventory_rules.proofs.of_inventory_rows.of_object_rows.Stands.{at-eqb}
+use Rattle.inventory_rules.specs.inventory_rows.pool_rows.PoolRows.{is_sequential, is_sequential_at}
+use Rattle.inventory_rules.specs.inventory_rows.pool_rows.Segments.{with_volumes}
+use Rattle.inventory_rules.specs.inventory_rows.pool_tables.RowChanges as table
+use Rattle.inventory_rules.specs.inventory_rows.pool_tables.RowChanges.{scratch_volume}
+use Rattle.inventory_rules.specs.inventory_rows.pool_tables.Rows.{changed, row_at, set_row, with_row}
+use Rattle.inventory_rules.specs.inventory_rows.version_groups.Entries.{all_later}
+use Rattle.inventory_rules.specs.inventory_rows.volume_rows.declared.held.HeldSegment.{HeldSegment}
+use Rattle.inventory_rules.specs.inventory_rows.volume_rows.declared.volume.Volume.{Volume}
+use Rattle.inventory_rules.specs.inventory_rows.volume_rows.Held.{held_of}
+use Rattle.inventory_rules.specs.inventory_rows.volume_rows.Volumes.{put_on}
+use Rattle.inventory_rules.specs.inventory_rows.State.{Inv}
+use Rattle.inventory_rules.specs.entries.change_items.declared.items.MovedCopy.{MovedCopy}
 use Rattle.inventory_rules.specs.Common.{or_same, CanEach, file_bound, files_refused, is_free_file}
 use Rattle.inventory_rules.specs.Segments.{make_scratch, put, CanPut, CanScratch, has_room, put_step, are_clear, copy_fits_after, lies_rightly, scratch_fits, segment_fits_after, scratch_refused, leaves}
 use Rattle.inventory_laws.proofs.Facts.{both, first, rest}
-use Rattle.inventory_rows.specs.Search.{pool, segments_on}
+use Rattle.inventory_rules.specs.inventory_rows.Search.{pool, segments_on}
 use Rattle.kinds.specs.Refusals.{bad_value}
 use Rattle.inventory_laws.proofs.Causes.{back_nil, file_below, front_nil, holds, not_false}
 use Rattle.inventory_laws.proofs.MadeItems.{all_so, items_apart, none_refused}

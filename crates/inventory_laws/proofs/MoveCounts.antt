@@ -7,19 +7,19 @@ use Rattle.std.proofs.lemmas.Bool.{eqb-true, eqb-false, ne_eqb, ltb-true, not-tr
 use Rattle.std.proofs.lemmas.List.Sums.{sum_by-cons}
 use Rattle.kinds.specs.declared.refusal.Refusal.{Refusal}
 use Rattle.kinds.specs.declared.refusal.Refusal.TheVariants.{NotFound}
-use Rattle.entries.specs.change_items.declared.items.MovedCopy.{MovedCopy}
-use Rattle.entries.specs.change_items.declared.lists.MovedCopies.{MovedCopies}
-use Rattle.entries.specs.declared.change.Change.TheVariants as change
-use Rattle.inventory_rows.specs.version_groups.declared.copies.CopyChange.TheVariants as copy
-use Rattle.inventory_rows.specs.version_groups.declared.copies.CopyRow.{CopyRow}
-use Rattle.inventory_rows.specs.version_groups.declared.versions.Version.{Version}
-use Rattle.inventory_rows.specs.version_groups.Copies.{are_by_pool, copies_after, has_copy, with_copy, without_copy}
-use Rattle.inventory_rows.specs.version_groups.Entries.{is_nil}
-use Rattle.inventory_rows.specs.version_groups.Versions.{are_distinct, having_copies, version_of, with_copies}
-use Rattle.inventory_rows.specs.object_rows.Rows.{kept_of, rows_copied}
-use Rattle.inventory_rows.specs.Items.{count_items}
-use Rattle.inventory_rows.specs.Search.{copy_in, versions}
-use Rattle.inventory_rows.specs.State.{Inv}
+use Rattle.inventory_rules.specs.entries.change_items.declared.items.MovedCopy.{MovedCopy}
+use Rattle.inventory_rules.specs.entries.change_items.declared.lists.MovedCopies.{MovedCopies}
+use Rattle.inventory_rules.specs.entries.declared.change.Change.TheVariants as change
+use Rattle.inventory_rules.specs.inventory_rows.version_groups.declared.copies.CopyChange.TheVariants as copy
+use Rattle.inventory_rules.specs.inventory_rows.version_groups.declared.copies.CopyRow.{CopyRow}
+use Rattle.inventory_rules.specs.inventory_rows.version_groups.declared.versions.Version.{Version}
+use Rattle.inventory_rules.specs.inventory_rows.version_groups.Copies.{are_by_pool, copies_after, has_copy, with_copy, without_copy}
+use Rattle.inventory_rules.specs.inventory_rows.version_groups.Entries.{is_nil}
+use Rattle.inventory_rules.specs.inventory_rows.version_groups.Versions.{are_distinct, having_copies, version_of, with_copies}
+use Rattle.inventory_rules.specs.inventory_rows.object_rows.Rows.{kept_of, rows_copied}
+use Rattle.inventory_rules.specs.inventory_rows.Items.{count_items}
+use Rattle.inventory_rules.specs.inventory_rows.Search.{copy_in, versions}
+use Rattle.inventory_rules.specs.inventory_rows.State.{Inv}
 use Rattle.inventory_rules.specs.Common.{each}
 use Rattle.inventory_rules.specs.Copies.{move_copy, placed_now, put_moved, segments_in, take_moved, version_at, copy_refused, move_refused, moved_refused, placed_by, stale_copy, segments_left}
 use Rattle.inventory_rules.specs.Segments.{make_scratch, scratch_refused}

@@ -4,13 +4,13 @@ use Rattle.std.specs.Prelude.{nat_lt}
 use Rattle.std.specs.List.{AllByRecursion, filter, find, flat_map, list_all}
 use Rattle.std.specs.Option.{option_map_or}
 use Rattle.std.proofs.lemmas.Bool.{and_parts, eqb-true, ltb-true, ne_eqb, not-true}
-use Rattle.entries.specs.change_items.declared.items.MovedCopy.{MovedCopy}
-use Rattle.inventory_rows.specs.version_groups.declared.copies.CopyRow.{CopyRow}
-use Rattle.inventory_rows.specs.version_groups.declared.versions.Version.{Version}
-use Rattle.inventory_rows.specs.version_groups.Copies.{are_by_pool}
-use Rattle.inventory_rows.specs.version_groups.Entries.{all_later}
-use Rattle.inventory_rows.specs.version_groups.Versions.{are_distinct, version_of}
-use Rattle.inventory_rows.specs.Search.{copy_in}
+use Rattle.inventory_rules.specs.entries.change_items.declared.items.MovedCopy.{MovedCopy}
+use Rattle.inventory_rules.specs.inventory_rows.version_groups.declared.copies.CopyRow.{CopyRow}
+use Rattle.inventory_rules.specs.inventory_rows.version_groups.declared.versions.Version.{Version}
+use Rattle.inventory_rules.specs.inventory_rows.version_groups.Copies.{are_by_pool}
+use Rattle.inventory_rules.specs.inventory_rows.version_groups.Entries.{all_later}
+use Rattle.inventory_rules.specs.inventory_rows.version_groups.Versions.{are_distinct, version_of}
+use Rattle.inventory_rules.specs.inventory_rows.Search.{copy_in}
 use Rattle.inventory_rules.specs.Reordered.{IsReordered}
 use Rattle.inventory_rules.specs.Segments.{leaves}
 use Rattle.inventory_laws.proofs.Orders.{filter-append, reordered_back, reordered_behind, reordered_cons, reordered_front, reordered_itself, reordered_then}

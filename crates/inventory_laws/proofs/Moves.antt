@@ -6,21 +6,21 @@ use Rattle.std.specs.Option.{option_map_or}
 use Rattle.std.proofs.lemmas.Bool.{and_parts, and_from, eqb-true}
 use Rattle.std.proofs.lemmas.List.Concat.{flat_map-append}
 use Rattle.kinds.specs.declared.segment.Segment.{Segment}
-use Rattle.entries.specs.change_items.declared.items.MovedCopy.{MovedCopy}
-use Rattle.entries.specs.change_items.declared.lists.MovedCopies.{MovedCopies}
-use Rattle.entries.specs.declared.change.Change.TheVariants as change
-use Rattle.inventory_rows.specs.version_groups.declared.copies.CopyRow.{CopyRow}
-use Rattle.inventory_rows.specs.version_groups.declared.versions.Version.{Version}
-use Rattle.inventory_rows.specs.version_groups.Copies.{are_by_pool, has_copy, without_copy}
-use Rattle.inventory_rows.specs.version_groups.Entries.{all_later, is_nil}
-use Rattle.inventory_rows.specs.version_groups.Versions.{version_of}
-use Rattle.inventory_rows.specs.volume_rows.declared.volume.Volume.{Volume}
-use Rattle.inventory_rows.specs.object_rows.Rows.{Rows, kept_of, rows_altered}
-use Rattle.inventory_rows.specs.pool_tables.Rows.{row_at}
-use Rattle.inventory_rows.proofs.of_pool_tables.Counting.{each_there}
-use Rattle.inventory_rows.specs.pool_rows.PoolRows.{is_sequential, is_sequential_at}
-use Rattle.inventory_rows.specs.Search.{copies, copy_in, is_primary, pool, segments_on, version, versions}
-use Rattle.inventory_rows.specs.State.{Inv}
+use Rattle.inventory_rules.specs.entries.change_items.declared.items.MovedCopy.{MovedCopy}
+use Rattle.inventory_rules.specs.entries.change_items.declared.lists.MovedCopies.{MovedCopies}
+use Rattle.inventory_rules.specs.entries.declared.change.Change.TheVariants as change
+use Rattle.inventory_rules.specs.inventory_rows.version_groups.declared.copies.CopyRow.{CopyRow}
+use Rattle.inventory_rules.specs.inventory_rows.version_groups.declared.versions.Version.{Version}
+use Rattle.inventory_rules.specs.inventory_rows.version_groups.Copies.{are_by_pool, has_copy, without_copy}
+use Rattle.inventory_rules.specs.inventory_rows.version_groups.Entries.{all_later, is_nil}
+use Rattle.inventory_rules.specs.inventory_rows.version_groups.Versions.{version_of}
+use Rattle.inventory_rules.specs.inventory_rows.volume_rows.declared.volume.Volume.{Volume}
+use Rattle.inventory_rules.specs.inventory_rows.object_rows.Rows.{Rows, kept_of, rows_altered}
+use Rattle.inventory_rules.specs.inventory_rows.pool_tables.Rows.{row_at}
+use Rattle.inventory_rules.proofs.of_inventory_rows.of_pool_tables.Counting.{each_there}
+use Rattle.inventory_rules.specs.inventory_rows.pool_rows.PoolRows.{is_sequential, is_sequential_at}
+use Rattle.inventory_rules.specs.inventory_rows.Search.{copies, copy_in, is_primary, pool, segments_on, version, versions}
+use Rattle.inventory_rules.specs.inventory_rows.State.{Inv}
 use Rattle.inventory_rules.specs.Common.{each, or_same, this, with_clients}
 use Rattle.inventory_rules.specs.Copies.{change_copy, move_copy, moved, placed_as, placed_now, put_moved, segments_in, take_moved, copy_refused, move_refused, moved_refused, placed_by, stale_copy, moved_copy_fits, replaced_fits}
 use Rattle.inventory_rules.specs.Segments.{make_scratch, scratch_refused, take_away, are_all_clear, are_clear, copy_fits_after, items_fit, leaves, lies_rightly, scratch_fits, segment_fits_after}

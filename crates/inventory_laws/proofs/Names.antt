@@ -5,11 +5,11 @@ use Rattle.std.proofs.lemmas.Map.Text.{is_eq-slice_cmp}
 use Rattle.std.specs.Cmp.Lexicographic.{nat_list_eq_equiv}
 use Rattle.std.specs.List.{list_all}
 use Rattle.std.specs.Map.{lookup}
-use Rattle.inventory_rows.specs.version_groups.declared.groups.Filespace.{Filespace}
-use Rattle.inventory_rows.specs.object_rows.declared.place.Node.{Node}
-use Rattle.inventory_rows.specs.object_rows.Names.{at_name, filespace_named, filespace_of, first_number, named_of, node_named}
+use Rattle.inventory_rules.specs.inventory_rows.version_groups.declared.groups.Filespace.{Filespace}
+use Rattle.inventory_rules.specs.inventory_rows.object_rows.declared.place.Node.{Node}
+use Rattle.inventory_rules.specs.inventory_rows.object_rows.Names.{at_name, filespace_named, filespace_of, first_number, named_of, node_named}
 use Rattle.kinds.specs.Names.{is_same_name}
-use Rattle.inventory_rows.specs.pool_tables.Rows.{number_where}
+use Rattle.inventory_rules.specs.inventory_rows.pool_tables.Rows.{number_where}
 use Rattle.inventory_laws.proofs.Facts.{both}
 
 -- a name is found exactly where it is the same one

@@ -14,16 +14,16 @@ use Rattle.kinds.specs.declared.pool.Access.{Access}
 use Rattle.kinds.specs.declared.pool.PoolRule.{PoolRule}
 use Rattle.kinds.specs.declared.refusal.Refusal.{Refusal}
 use Rattle.kinds.specs.declared.refusal.Refusal.TheVariants.{BadHierarchy, Exists, NotFound}
-use Rattle.entries.specs.declared.change.Change.TheVariants as change
-use Rattle.inventory_rows.specs.pool_tables.declared.pool.Pool.{Pool}
-use Rattle.inventory_rows.specs.pool_tables.RowChanges.{with_settings}
-use Rattle.inventory_rows.specs.pool_tables.Rows.{edit_row, edited, named, row_at, with_row, without_row}
-use Rattle.inventory_rows.specs.pool_rows.Changed.{changed}
-use Rattle.inventory_rows.specs.pool_rows.ClassChanges.{class_gone, pool_of_class}
-use Rattle.inventory_rows.specs.pool_rows.Changes.{delete_filed, delete_numbered, is_bad_row, is_next_there, new_pool, new_volume, object_on, pool_before, unless_before, unless_filled, unless_held, update_filed, update_numbered, volume_of_pool}
-use Rattle.inventory_rows.specs.pool_rows.Hierarchy.{is_bad_hierarchy}
-use Rattle.inventory_rows.specs.pool_rows.PoolRows.{PoolRows, class_capacity, pool_named, volume_named}
-use Rattle.inventory_rows.specs.State.{Inv}
+use Rattle.inventory_rules.specs.entries.declared.change.Change.TheVariants as change
+use Rattle.inventory_rules.specs.inventory_rows.pool_tables.declared.pool.Pool.{Pool}
+use Rattle.inventory_rules.specs.inventory_rows.pool_tables.RowChanges.{with_settings}
+use Rattle.inventory_rules.specs.inventory_rows.pool_tables.Rows.{edit_row, edited, named, row_at, with_row, without_row}
+use Rattle.inventory_rules.specs.inventory_rows.pool_rows.Changed.{changed}
+use Rattle.inventory_rules.specs.inventory_rows.pool_rows.ClassChanges.{class_gone, pool_of_class}
+use Rattle.inventory_rules.specs.inventory_rows.pool_rows.Changes.{delete_filed, delete_numbered, is_bad_row, is_next_there, new_pool, new_volume, object_on, pool_before, unless_before, unless_filled, unless_held, update_filed, update_numbered, volume_of_pool}
+use Rattle.inventory_rules.specs.inventory_rows.pool_rows.Hierarchy.{is_bad_hierarchy}
+use Rattle.inventory_rules.specs.inventory_rows.pool_rows.PoolRows.{PoolRows, class_capacity, pool_named, volume_named}
+use Rattle.inventory_rules.specs.inventory_rows.State.{Inv}
 use Rattle.inventory_rules.specs.Common.{or_same, with_stores}
 use Rattle.inventory_rules.specs.Stores.{drawn_for_store}
 use Rattle.inventory_rules.specs.Transactions.{effect}

@@ -7,26 +7,26 @@ use Rattle.std.specs.List.Sorted.{IsStrictlySortedBy}
 use Rattle.std.specs.Map.{keys_of, remove_entry, set_value}
 use Rattle.std.specs.Ordering.{nat_cmp}
 use Rattle.kinds.specs.declared.refusal.Refusal.{Refusal}
-use Rattle.entries.specs.change_items.declared.items.NewHeldObject.{NewHeldObject}
-use Rattle.entries.specs.change_items.declared.items.NewVersion.{NewVersion}
-use Rattle.inventory_rows.specs.version_groups.declared.copies.CopyChange.{CopyChange}
-use Rattle.inventory_rows.specs.version_groups.declared.copies.CopyRow.{CopyRow}
-use Rattle.inventory_rows.specs.version_groups.declared.group.Group.{Group}
-use Rattle.inventory_rows.specs.version_groups.declared.group.GroupChange.{GroupChange}
-use Rattle.inventory_rows.specs.version_groups.declared.groups.Filespace.{Filespace}
-use Rattle.inventory_rows.specs.version_groups.declared.versions.Version.{Version}
-use Rattle.inventory_rows.specs.version_groups.Copies.{copies_after}
-use Rattle.inventory_rows.specs.version_groups.Entries.{on_ok, if_found}
-use Rattle.inventory_rows.specs.version_groups.Groups as grouped
-use Rattle.inventory_rows.specs.version_groups.Groups.{AreByPath, at_path, class_after, group_with, groups_after, groups_with, versions_after}
-use Rattle.inventory_rows.specs.version_groups.Versions.{is_empty}
-use Rattle.inventory_rows.proofs.of_version_groups.Laws.{AfterIs, after-is}
-use Rattle.inventory_rows.specs.object_rows.Filespaces.{at_number, filespaces_copied, filespaces_with, groups_copied}
-use Rattle.inventory_rows.specs.object_rows.Rows.{rows_copied}
-use Rattle.inventory_rows.proofs.of_object_rows.Steps.{Within, within}
-use Rattle.inventory_rows.proofs.of_policy_domains.Sorted.{sorted-insert, sorted-remove}
-use Rattle.inventory_rows.specs.Search.{version}
-use Rattle.inventory_rows.specs.State.{Inv}
+use Rattle.inventory_rules.specs.entries.change_items.declared.items.NewHeldObject.{NewHeldObject}
+use Rattle.inventory_rules.specs.entries.change_items.declared.items.NewVersion.{NewVersion}
+use Rattle.inventory_rules.specs.inventory_rows.version_groups.declared.copies.CopyChange.{CopyChange}
+use Rattle.inventory_rules.specs.inventory_rows.version_groups.declared.copies.CopyRow.{CopyRow}
+use Rattle.inventory_rules.specs.inventory_rows.version_groups.declared.group.Group.{Group}
+use Rattle.inventory_rules.specs.inventory_rows.version_groups.declared.group.GroupChange.{GroupChange}
+use Rattle.inventory_rules.specs.inventory_rows.version_groups.declared.groups.Filespace.{Filespace}
+use Rattle.inventory_rules.specs.inventory_rows.version_groups.declared.versions.Version.{Version}
+use Rattle.inventory_rules.specs.inventory_rows.version_groups.Copies.{copies_after}
+use Rattle.inventory_rules.specs.inventory_rows.version_groups.Entries.{on_ok, if_found}
+use Rattle.inventory_rules.specs.inventory_rows.version_groups.Groups as grouped
+use Rattle.inventory_rules.specs.inventory_rows.version_groups.Groups.{AreByPath, at_path, class_after, group_with, groups_after, groups_with, versions_after}
+use Rattle.inventory_rules.specs.inventory_rows.version_groups.Versions.{is_empty}
+use Rattle.inventory_rules.proofs.of_inventory_rows.of_version_groups.Laws.{AfterIs, after-is}
+use Rattle.inventory_rules.specs.inventory_rows.object_rows.Filespaces.{at_number, filespaces_copied, filespaces_with, groups_copied}
+use Rattle.inventory_rules.specs.inventory_rows.object_rows.Rows.{rows_copied}
+use Rattle.inventory_rules.proofs.of_inventory_rows.of_object_rows.Steps.{Within, within}
+use Rattle.inventory_rules.proofs.of_inventory_rows.of_policy_domains.Sorted.{sorted-insert, sorted-remove}
+use Rattle.inventory_rules.specs.inventory_rows.Search.{version}
+use Rattle.inventory_rules.specs.inventory_rows.State.{Inv}
 use Rattle.inventory_rules.specs.Common.{or_same, with_clients, with_filespaces}
 use Rattle.inventory_rules.specs.Copies.{change_copy}
 use Rattle.inventory_rules.specs.Versions.{change_group, held_too, inserted, new_version, AreGroupsOrdered}

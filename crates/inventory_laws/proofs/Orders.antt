@@ -3,7 +3,7 @@ use Rattle.std.proofs.Common.{◌≡◌, Bool, true, false, cond, ◌&&◌, List
 use Rattle.std.specs.List.{list_all, flat_map, filter}
 use Rattle.std.proofs.lemmas.List.{map-append}
 use Rattle.std.proofs.lemmas.List.Concat.{flat_map-append}
-use Rattle.inventory_rows.specs.version_groups.Entries.{all_later, is_nil}
+use Rattle.inventory_rules.specs.inventory_rows.version_groups.Entries.{all_later, is_nil}
 use Rattle.inventory_rules.specs.Reordered.{Picks, IsReordered}
 
 -- ---- one element

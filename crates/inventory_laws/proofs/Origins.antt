@@ -20,40 +20,40 @@ use Rattle.kinds.specs.declared.refusal.Refusal.{Refusal}
 use Rattle.kinds.specs.declared.refusal.Refusal.TheVariants as refusal
 use Rattle.kinds.specs.declared.segment.Digest.{Digest}
 use Rattle.kinds.specs.declared.segment.Segment.{Segment}
-use Rattle.entries.specs.change_items.declared.items.DiscardedVersion.{DiscardedVersion}
-use Rattle.entries.specs.change_items.declared.items.DroppedCopy.{DroppedCopy}
-use Rattle.entries.specs.change_items.declared.items.MovedCopy.{MovedCopy}
-use Rattle.entries.specs.change_items.declared.items.NamedVersion.{NamedVersion}
-use Rattle.entries.specs.change_items.declared.items.NewCopy.{NewCopy}
-use Rattle.entries.specs.change_items.declared.items.NewHeldObject.{NewHeldObject}
-use Rattle.entries.specs.change_items.declared.items.NewVersion.{NewVersion}
-use Rattle.entries.specs.change_items.declared.items.Rebinding.{Rebinding}
-use Rattle.entries.specs.change_items.declared.items.ScratchVolume.{ScratchVolume}
-use Rattle.entries.specs.declared.change.Change.{Change}
-use Rattle.entries.specs.declared.change.Change.TheVariants as change
-use Rattle.inventory_rows.specs.version_groups.declared.copies.CopyChange.{CopyChange}
-use Rattle.inventory_rows.specs.version_groups.declared.copies.CopyChange.TheVariants as copy
-use Rattle.inventory_rows.specs.version_groups.declared.copies.CopyRow.{CopyRow}
-use Rattle.inventory_rows.specs.version_groups.declared.group.Group.{Group}
-use Rattle.inventory_rows.specs.version_groups.declared.group.GroupChange.{GroupChange}
-use Rattle.inventory_rows.specs.version_groups.declared.group.GroupChange.TheVariants as group
-use Rattle.inventory_rows.specs.version_groups.declared.groups.Filespace.{Filespace}
-use Rattle.inventory_rows.specs.version_groups.declared.versions.Version.{Version}
-use Rattle.inventory_rows.specs.version_groups.Copies.{copies_after, has_copy, with_copy, without_copy}
-use Rattle.inventory_rows.specs.version_groups.Entries.{changed_at, on_ok}
-use Rattle.inventory_rows.specs.version_groups.Groups.{at_path, class_after, group_after, group_with, groups_after, groups_with, names_kept, versions_after, versions_at, without_empty}
-use Rattle.inventory_rows.specs.version_groups.Versions.{has_active, having_copies, is_empty, retired, revived, superseded, undone, version_of, with_copies}
-use Rattle.inventory_rows.specs.object_rows.declared.held_object.HeldRow.{HeldRow}
-use Rattle.inventory_rows.specs.object_rows.declared.place.Node.{Node}
-use Rattle.inventory_rows.specs.object_rows.declared.place.Place.{Place}
-use Rattle.inventory_rows.specs.object_rows.Changes.{filespaces_defined, filespaces_without, nodes_with, nodes_without, with_nodes}
-use Rattle.inventory_rows.specs.object_rows.Filespaces.{at_number, filespaces_after, filespaces_copied, filespaces_with, groups_copied, in_filespace, versions_in, versions_of}
-use Rattle.inventory_rows.specs.object_rows.HeldRows.{has_row, has_under, held_copied, held_versions, held_without}
-use Rattle.inventory_rows.specs.object_rows.Names.{filespace_named}
-use Rattle.inventory_rows.specs.object_rows.Places.{listed}
-use Rattle.inventory_rows.specs.object_rows.Rows.{Rows, filespaces_cleared, kept_of, rows_after, rows_altered, rows_cleared, rows_copied, rows_without, with_filespaces, with_held}
-use Rattle.inventory_rows.specs.Search.{copies, versions}
-use Rattle.inventory_rows.specs.State.{Inv}
+use Rattle.inventory_rules.specs.entries.change_items.declared.items.DiscardedVersion.{DiscardedVersion}
+use Rattle.inventory_rules.specs.entries.change_items.declared.items.DroppedCopy.{DroppedCopy}
+use Rattle.inventory_rules.specs.entries.change_items.declared.items.MovedCopy.{MovedCopy}
+use Rattle.inventory_rules.specs.entries.change_items.declared.items.NamedVersion.{NamedVersion}
+use Rattle.inventory_rules.specs.entries.change_items.declared.items.NewCopy.{NewCopy}
+use Rattle.inventory_rules.specs.entries.change_items.declared.items.NewHeldObject.{NewHeldObject}
+use Rattle.inventory_rules.specs.entries.change_items.declared.items.NewVersion.{NewVersion}
+use Rattle.inventory_rules.specs.entries.change_items.declared.items.Rebinding.{Rebinding}
+use Rattle.inventory_rules.specs.entries.change_items.declared.items.ScratchVolume.{ScratchVolume}
+use Rattle.inventory_rules.specs.entries.declared.change.Change.{Change}
+use Rattle.inventory_rules.specs.entries.declared.change.Change.TheVariants as change
+use Rattle.inventory_rules.specs.inventory_rows.version_groups.declared.copies.CopyChange.{CopyChange}
+use Rattle.inventory_rules.specs.inventory_rows.version_groups.declared.copies.CopyChange.TheVariants as copy
+use Rattle.inventory_rules.specs.inventory_rows.version_groups.declared.copies.CopyRow.{CopyRow}
+use Rattle.inventory_rules.specs.inventory_rows.version_groups.declared.group.Group.{Group}
+use Rattle.inventory_rules.specs.inventory_rows.version_groups.declared.group.GroupChange.{GroupChange}
+use Rattle.inventory_rules.specs.inventory_rows.version_groups.declared.group.GroupChange.TheVariants as group
+use Rattle.inventory_rules.specs.inventory_rows.version_groups.declared.groups.Filespace.{Filespace}
+use Rattle.inventory_rules.specs.inventory_rows.version_groups.declared.versions.Version.{Version}
+use Rattle.inventory_rules.specs.inventory_rows.version_groups.Copies.{copies_after, has_copy, with_copy, without_copy}
+use Rattle.inventory_rules.specs.inventory_rows.version_groups.Entries.{changed_at, on_ok}
+use Rattle.inventory_rules.specs.inventory_rows.version_groups.Groups.{at_path, class_after, group_after, group_with, groups_after, groups_with, names_kept, versions_after, versions_at, without_empty}
+use Rattle.inventory_rules.specs.inventory_rows.version_groups.Versions.{has_active, having_copies, is_empty, retired, revived, superseded, undone, version_of, with_copies}
+use Rattle.inventory_rules.specs.inventory_rows.object_rows.declared.held_object.HeldRow.{HeldRow}
+use Rattle.inventory_rules.specs.inventory_rows.object_rows.declared.place.Node.{Node}
+use Rattle.inventory_rules.specs.inventory_rows.object_rows.declared.place.Place.{Place}
+use Rattle.inventory_rules.specs.inventory_rows.object_rows.Changes.{filespaces_defined, filespaces_without, nodes_with, nodes_without, with_nodes}
+use Rattle.inventory_rules.specs.inventory_rows.object_rows.Filespaces.{at_number, filespaces_after, filespaces_copied, filespaces_with, groups_copied, in_filespace, versions_in, versions_of}
+use Rattle.inventory_rules.specs.inventory_rows.object_rows.HeldRows.{has_row, has_under, held_copied, held_versions, held_without}
+use Rattle.inventory_rules.specs.inventory_rows.object_rows.Names.{filespace_named}
+use Rattle.inventory_rules.specs.inventory_rows.object_rows.Places.{listed}
+use Rattle.inventory_rules.specs.inventory_rows.object_rows.Rows.{Rows, filespaces_cleared, kept_of, rows_after, rows_altered, rows_cleared, rows_copied, rows_without, with_filespaces, with_held}
+use Rattle.inventory_rules.specs.inventory_rows.Search.{copies, versions}
+use Rattle.inventory_rules.specs.inventory_rows.State.{Inv}
 use Rattle.inventory_rules.specs.Clients.{client_changed}
 use Rattle.inventory_rules.specs.Common.{each, or_same, this}
 use Rattle.inventory_rules.specs.Copies.{add_copy, change_copy, drop_copy, move_copy, placed_now, put_moved, segments_in, version_at}

@@ -5,28 +5,28 @@ use Rattle.std.specs.List.{list_all, AllByRecursion}
 use Rattle.std.specs.Map.{lookup}
 use Rattle.std.specs.Option.{is_some}
 use Rattle.std.specs.Ordering.{nat_cmp}
-use Rattle.entries.specs.change_items.declared.items.NewVersion.{NewVersion}
-use Rattle.inventory_rows.specs.version_groups.declared.copies.CopyChange.{CopyChange}
-use Rattle.inventory_rows.specs.version_groups.declared.copies.CopyRow.{CopyRow}
-use Rattle.inventory_rows.specs.version_groups.declared.group.Group.{Group}
-use Rattle.inventory_rows.specs.version_groups.declared.group.GroupChange.{GroupChange}
-use Rattle.inventory_rows.specs.version_groups.declared.group.GroupChange.TheVariants.{Remove}
-use Rattle.inventory_rows.specs.version_groups.declared.groups.Filespace.{Filespace}
-use Rattle.inventory_rows.specs.version_groups.declared.versions.Version.{Version}
-use Rattle.inventory_rows.specs.version_groups.Groups.{AreByPath}
-use Rattle.inventory_rows.specs.version_groups.Versions.{are_distinct, has_object, is_empty, superseded, version_of, with_copies, without_object}
-use Rattle.inventory_rows.specs.object_rows.declared.place.Place.{Place}
-use Rattle.inventory_rows.specs.object_rows.Filespaces.{at_number, filespace_at, filespaces_after, filespaces_copied, filespaces_with, versions_at, versions_of}
-use Rattle.inventory_rows.specs.object_rows.HeldRows.{held_versions}
-use Rattle.inventory_rows.specs.object_rows.Index.{AreDistinct}
-use Rattle.inventory_rows.specs.object_rows.Places.{AreAllOrderly, are_full, listed, listed_at, place_of}
-use Rattle.inventory_rows.proofs.of_object_rows.ByNumber.{versions-there}
-use Rattle.inventory_rows.proofs.of_object_rows.Splices.{Splices}
-use Rattle.inventory_rows.proofs.of_object_rows.Stands.{Stands, at-eqb, listed-distinct, same_number, stands}
-use Rattle.inventory_rows.proofs.of_object_rows.Steps.{change_of}
-use Rattle.inventory_rows.proofs.of_object_rows.VersionLists.{parted}
-use Rattle.inventory_rows.specs.Search.{version, versions}
-use Rattle.inventory_rows.specs.State.{Inv}
+use Rattle.inventory_rules.specs.entries.change_items.declared.items.NewVersion.{NewVersion}
+use Rattle.inventory_rules.specs.inventory_rows.version_groups.declared.copies.CopyChange.{CopyChange}
+use Rattle.inventory_rules.specs.inventory_rows.version_groups.declared.copies.CopyRow.{CopyRow}
+use Rattle.inventory_rules.specs.inventory_rows.version_groups.declared.group.Group.{Group}
+use Rattle.inventory_rules.specs.inventory_rows.version_groups.declared.group.GroupChange.{GroupChange}
+use Rattle.inventory_rules.specs.inventory_rows.version_groups.declared.group.GroupChange.TheVariants.{Remove}
+use Rattle.inventory_rules.specs.inventory_rows.version_groups.declared.groups.Filespace.{Filespace}
+use Rattle.inventory_rules.specs.inventory_rows.version_groups.declared.versions.Version.{Version}
+use Rattle.inventory_rules.specs.inventory_rows.version_groups.Groups.{AreByPath}
+use Rattle.inventory_rules.specs.inventory_rows.version_groups.Versions.{are_distinct, has_object, is_empty, superseded, version_of, with_copies, without_object}
+use Rattle.inventory_rules.specs.inventory_rows.object_rows.declared.place.Place.{Place}
+use Rattle.inventory_rules.specs.inventory_rows.object_rows.Filespaces.{at_number, filespace_at, filespaces_after, filespaces_copied, filespaces_with, versions_at, versions_of}
+use Rattle.inventory_rules.specs.inventory_rows.object_rows.HeldRows.{held_versions}
+use Rattle.inventory_rules.specs.inventory_rows.object_rows.Index.{AreDistinct}
+use Rattle.inventory_rules.specs.inventory_rows.object_rows.Places.{AreAllOrderly, are_full, listed, listed_at, place_of}
+use Rattle.inventory_rules.proofs.of_inventory_rows.of_object_rows.ByNumber.{versions-there}
+use Rattle.inventory_rules.proofs.of_inventory_rows.of_object_rows.Splices.{Splices}
+use Rattle.inventory_rules.proofs.of_inventory_rows.of_object_rows.Stands.{Stands, at-eqb, listed-distinct, same_number, stands}
+use Rattle.inventory_rules.proofs.of_inventory_rows.of_object_rows.Steps.{change_of}
+use Rattle.inventory_rules.proofs.of_inventory_rows.of_object_rows.VersionLists.{parted}
+use Rattle.inventory_rules.specs.inventory_rows.Search.{version, versions}
+use Rattle.inventory_rules.specs.inventory_rows.State.{Inv}
 use Rattle.inventory_rules.specs.Common.{or_same, with_filespaces}
 use Rattle.inventory_rules.specs.Copies.{change_copy}
 use Rattle.inventory_rules.specs.Versions.{change_group, inserted, new_version}

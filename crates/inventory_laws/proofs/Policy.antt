@@ -8,14 +8,14 @@ use Rattle.kinds.specs.declared.change.PolicyChange.TheVariants as policy
 use Rattle.kinds.specs.declared.change.Verb.TheVariants as verb
 use Rattle.kinds.specs.declared.refusal.By.TheVariants as by
 use Rattle.kinds.specs.declared.refusal.Refusal.TheVariants as refusal
-use Rattle.entries.specs.declared.change.Change.TheVariants as change
-use Rattle.inventory_rows.specs.policy_domains.Changes.{after, names_active}
-use Rattle.inventory_rows.specs.policy_domains.Rows.{DomainRow, row_of}
-use Rattle.inventory_rows.specs.object_rows.declared.place.Node.{Node}
-use Rattle.inventory_rows.specs.pool_tables.declared.pool.Pool.{Pool}
+use Rattle.inventory_rules.specs.entries.declared.change.Change.TheVariants as change
+use Rattle.inventory_rules.specs.inventory_rows.policy_domains.Changes.{after, names_active}
+use Rattle.inventory_rules.specs.inventory_rows.policy_domains.Rows.{DomainRow, row_of}
+use Rattle.inventory_rules.specs.inventory_rows.object_rows.declared.place.Node.{Node}
+use Rattle.inventory_rules.specs.inventory_rows.pool_tables.declared.pool.Pool.{Pool}
 use Rattle.kinds.specs.Names.{is_same_name}
-use Rattle.inventory_rows.specs.Search.{is_primary, is_primary_kind, node_in, versions}
-use Rattle.inventory_rows.specs.State.{Inv}
+use Rattle.inventory_rules.specs.inventory_rows.Search.{is_primary, is_primary_kind, node_in, versions}
+use Rattle.inventory_rules.specs.inventory_rows.State.{Inv}
 use Rattle.inventory_rules.specs.Transactions.{effect, causes, sizes_refused}
 use Rattle.inventory_rules.specs.Held.{IsTied}
 use Rattle.inventory_rules.specs.Journal.{Journal}

@@ -12,14 +12,14 @@ use Rattle.kinds.specs.declared.change.PolicyChange.TheVariants as policy
 use Rattle.kinds.specs.declared.change.Verb.TheVariants as verb
 use Rattle.kinds.specs.declared.refusal.Refusal.{Refusal}
 use Rattle.kinds.specs.declared.refusal.Refusal.TheVariants.{NotFound, Exists, NoDefaultClass}
-use Rattle.entries.specs.declared.change.Change.TheVariants as change
-use Rattle.inventory_rows.specs.policy_domains.declared.classes.ManagementClass.{ManagementClass}
-use Rattle.inventory_rows.specs.policy_domains.Changes.{after, names_active}
-use Rattle.inventory_rows.specs.policy_domains.Rows.{SetRow, DomainRow, active_set, row_of, with_row, with_value, without_row, within, defined, deleted, changed, changed_row}
-use Rattle.inventory_rows.specs.policy_domains.Sets.{bare_class, empty_set, empty_domain, in_sets, set_changed, class_changed, activated, to_activate}
-use Rattle.inventory_rows.proofs.of_version_groups.Maps.{insert_present}
-use Rattle.inventory_rows.specs.Items.{count_items, items_of_domain}
-use Rattle.inventory_rows.specs.State.{Inv}
+use Rattle.inventory_rules.specs.entries.declared.change.Change.TheVariants as change
+use Rattle.inventory_rules.specs.inventory_rows.policy_domains.declared.classes.ManagementClass.{ManagementClass}
+use Rattle.inventory_rules.specs.inventory_rows.policy_domains.Changes.{after, names_active}
+use Rattle.inventory_rules.specs.inventory_rows.policy_domains.Rows.{SetRow, DomainRow, active_set, row_of, with_row, with_value, without_row, within, defined, deleted, changed, changed_row}
+use Rattle.inventory_rules.specs.inventory_rows.policy_domains.Sets.{bare_class, empty_set, empty_domain, in_sets, set_changed, class_changed, activated, to_activate}
+use Rattle.inventory_rules.proofs.of_inventory_rows.of_version_groups.Maps.{insert_present}
+use Rattle.inventory_rules.specs.inventory_rows.Items.{count_items, items_of_domain}
+use Rattle.inventory_rules.specs.inventory_rows.State.{Inv}
 use Rattle.inventory_rules.specs.Transactions.{effect}
 use Rattle.inventory_rules.specs.Common as effects
 use Rattle.kinds.specs.Refusals.{refusal_of, bad_value, unless}

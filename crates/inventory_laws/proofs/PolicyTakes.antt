@@ -6,13 +6,13 @@ use Rattle.kinds.specs.declared.change.PolicyChange.TheVariants as policy
 use Rattle.kinds.specs.declared.change.Verb.TheVariants as verb
 use Rattle.kinds.specs.declared.refusal.Refusal.{Refusal}
 use Rattle.kinds.specs.declared.refusal.Refusal.TheVariants.{NotFound}
-use Rattle.entries.specs.declared.change.Change.TheVariants as change
-use Rattle.inventory_rows.specs.policy_domains.declared.classes.ManagementClass.{ManagementClass}
-use Rattle.inventory_rows.specs.policy_domains.Changes.{after}
-use Rattle.inventory_rows.specs.policy_domains.Rows.{SetRow, DomainRow, row_of, deleted, changed}
-use Rattle.inventory_rows.specs.policy_domains.Sets.{in_sets, set_changed, class_changed, assigned, other_default}
-use Rattle.inventory_rows.specs.Items.{count_items, items_of_domain}
-use Rattle.inventory_rows.specs.State.{Inv}
+use Rattle.inventory_rules.specs.entries.declared.change.Change.TheVariants as change
+use Rattle.inventory_rules.specs.inventory_rows.policy_domains.declared.classes.ManagementClass.{ManagementClass}
+use Rattle.inventory_rules.specs.inventory_rows.policy_domains.Changes.{after}
+use Rattle.inventory_rules.specs.inventory_rows.policy_domains.Rows.{SetRow, DomainRow, row_of, deleted, changed}
+use Rattle.inventory_rules.specs.inventory_rows.policy_domains.Sets.{in_sets, set_changed, class_changed, assigned, other_default}
+use Rattle.inventory_rules.specs.inventory_rows.Items.{count_items, items_of_domain}
+use Rattle.inventory_rules.specs.inventory_rows.State.{Inv}
 use Rattle.inventory_rules.specs.Common.{or_same}
 use Rattle.inventory_rules.specs.Transactions.{effect}
 use Rattle.inventory_rules.specs.Policy.{is_new_policy}

@@ -10,19 +10,19 @@ use Rattle.kinds.specs.declared.pool.PoolRule.{PoolRule}
 use Rattle.kinds.specs.declared.refusal.By.TheVariants as by
 use Rattle.kinds.specs.declared.refusal.Refusal.{Refusal}
 use Rattle.kinds.specs.declared.refusal.Refusal.TheVariants.{BadHierarchy, Exists, InUse, InventoryFull, NotFound}
-use Rattle.entries.specs.declared.change.Change.TheVariants as change
-use Rattle.inventory_rows.specs.version_groups.declared.copies.CopyRow.{CopyRow}
-use Rattle.inventory_rows.specs.volume_rows.declared.volume.Volume.{Volume}
-use Rattle.inventory_rows.specs.pool_tables.declared.pool.Pool.{Pool}
-use Rattle.inventory_rows.specs.pool_tables.Names.{pool_name}
+use Rattle.inventory_rules.specs.entries.declared.change.Change.TheVariants as change
+use Rattle.inventory_rules.specs.inventory_rows.version_groups.declared.copies.CopyRow.{CopyRow}
+use Rattle.inventory_rules.specs.inventory_rows.volume_rows.declared.volume.Volume.{Volume}
+use Rattle.inventory_rules.specs.inventory_rows.pool_tables.declared.pool.Pool.{Pool}
+use Rattle.inventory_rules.specs.inventory_rows.pool_tables.Names.{pool_name}
 use Rattle.kinds.specs.Names.{is_same_name}
-use Rattle.inventory_rows.specs.pool_tables.Rows.{named, row_at, with_row, without_row}
-use Rattle.inventory_rows.proofs.of_pool_tables.Ascending.{none_from}
-use Rattle.inventory_rows.specs.pool_rows.Changes.{define_pool, delete_numbered, delete_pool, is_next_there, is_pool, new_pool, pool_before, unless_before, unless_filled, volume_of_pool}
-use Rattle.inventory_rows.specs.pool_rows.Hierarchy.{is_bad_hierarchy}
-use Rattle.inventory_rows.specs.pool_rows.PoolRows.{PoolRows, pool_named}
-use Rattle.inventory_rows.specs.Search.{copies, destinations, holds_copy, is_destination}
-use Rattle.inventory_rows.specs.State.{Inv}
+use Rattle.inventory_rules.specs.inventory_rows.pool_tables.Rows.{named, row_at, with_row, without_row}
+use Rattle.inventory_rules.proofs.of_inventory_rows.of_pool_tables.Ascending.{none_from}
+use Rattle.inventory_rules.specs.inventory_rows.pool_rows.Changes.{define_pool, delete_numbered, delete_pool, is_next_there, is_pool, new_pool, pool_before, unless_before, unless_filled, volume_of_pool}
+use Rattle.inventory_rules.specs.inventory_rows.pool_rows.Hierarchy.{is_bad_hierarchy}
+use Rattle.inventory_rules.specs.inventory_rows.pool_rows.PoolRows.{PoolRows, pool_named}
+use Rattle.inventory_rules.specs.inventory_rows.Search.{copies, destinations, holds_copy, is_destination}
+use Rattle.inventory_rules.specs.inventory_rows.State.{Inv}
 use Rattle.inventory_rules.specs.Common.{or_same, full_at}
 use Rattle.inventory_rules.specs.Transactions.{effect, causes, sizes_refused, parts_fit}
 use Rattle.inventory_rules.specs.Held.{IsTied}

@@ -5,18 +5,18 @@ use Rattle.std.specs.List.{list_all, list_any, AllByRecursion}
 use Rattle.std.specs.Map.{keys_of}
 use Rattle.std.specs.Option.{option_map_or}
 use Rattle.std.proofs.lemmas.Bool.{and_parts, and_from, eqb-false, le-leb, lt-ltb, ltb-true, ne_eqb, not-true, not_from_false}
-use Rattle.inventory_rows.specs.version_groups.declared.copies.CopyRow.{CopyRow}
-use Rattle.inventory_rows.specs.volume_rows.declared.volume.Volume.{Volume}
-use Rattle.inventory_rows.specs.pool_tables.declared.pool.Pool.{Pool}
+use Rattle.inventory_rules.specs.inventory_rows.version_groups.declared.copies.CopyRow.{CopyRow}
+use Rattle.inventory_rules.specs.inventory_rows.volume_rows.declared.volume.Volume.{Volume}
+use Rattle.inventory_rules.specs.inventory_rows.pool_tables.declared.pool.Pool.{Pool}
 use Rattle.kinds.specs.Names.{is_same_name}
-use Rattle.inventory_rows.specs.pool_tables.Rows.{named, row_at, with_row, without_row}
-use Rattle.inventory_rows.proofs.of_pool_tables.Counting.{apart_at, each_there}
-use Rattle.inventory_rows.proofs.of_pool_tables.Names.{same_flips}
-use Rattle.inventory_rows.specs.pool_rows.Changes.{is_next_there, is_pool}
-use Rattle.inventory_rows.specs.pool_rows.Hierarchy.{chain, comes_to, next_in}
-use Rattle.inventory_rows.specs.pool_rows.PoolRows.{PoolRows, pool_class_capacity, pool_named}
-use Rattle.inventory_rows.specs.Search.{copies, destinations, is_primary_kind, pool}
-use Rattle.inventory_rows.specs.State.{Inv}
+use Rattle.inventory_rules.specs.inventory_rows.pool_tables.Rows.{named, row_at, with_row, without_row}
+use Rattle.inventory_rules.proofs.of_inventory_rows.of_pool_tables.Counting.{apart_at, each_there}
+use Rattle.inventory_rules.proofs.of_inventory_rows.of_pool_tables.Names.{same_flips}
+use Rattle.inventory_rules.specs.inventory_rows.pool_rows.Changes.{is_next_there, is_pool}
+use Rattle.inventory_rules.specs.inventory_rows.pool_rows.Hierarchy.{chain, comes_to, next_in}
+use Rattle.inventory_rules.specs.inventory_rows.pool_rows.PoolRows.{PoolRows, pool_class_capacity, pool_named}
+use Rattle.inventory_rules.specs.inventory_rows.Search.{copies, destinations, is_primary_kind, pool}
+use Rattle.inventory_rules.specs.inventory_rows.State.{Inv}
 use Rattle.inventory_rules.specs.Held.{IsTied}
 use Rattle.inventory_rules.specs.Valid.{lie_in, next_is_there}
 use Rattle.inventory_rules.specs.Facts.{Facts}

@@ -5,19 +5,19 @@ use Rattle.std.specs.List.{list_all}
 use Rattle.std.specs.Map.{set_value}
 use Rattle.std.specs.Option.{is_some}
 use Rattle.kinds.specs.declared.refusal.Refusal.{Refusal}
-use Rattle.entries.specs.change_items.declared.items.NewHeldObject.{NewHeldObject}
-use Rattle.entries.specs.change_items.declared.items.NewVersion.{NewVersion}
-use Rattle.inventory_rows.specs.version_groups.declared.groups.Filespace.{Filespace}
-use Rattle.inventory_rows.specs.version_groups.declared.versions.Version.{Version}
-use Rattle.inventory_rows.specs.version_groups.Entries.{on_ok, if_found}
-use Rattle.inventory_rows.specs.version_groups.Groups.{groups_with}
-use Rattle.inventory_rows.specs.version_groups.Versions.{has_active, has_object, retired, superseded}
-use Rattle.inventory_rows.specs.object_rows.declared.held_object.HeldRow.{HeldRow}
-use Rattle.inventory_rows.specs.object_rows.Filespaces.{at_number, filespace_after, filespace_at, filespaces_with, versions_at, versions_of}
-use Rattle.inventory_rows.specs.object_rows.HeldRows.{held_at, held_versions, held_with}
-use Rattle.inventory_rows.proofs.of_object_rows.Splices.{Splices}
-use Rattle.inventory_rows.specs.Search.{versions}
-use Rattle.inventory_rows.specs.State.{Inv}
+use Rattle.inventory_rules.specs.entries.change_items.declared.items.NewHeldObject.{NewHeldObject}
+use Rattle.inventory_rules.specs.entries.change_items.declared.items.NewVersion.{NewVersion}
+use Rattle.inventory_rules.specs.inventory_rows.version_groups.declared.groups.Filespace.{Filespace}
+use Rattle.inventory_rules.specs.inventory_rows.version_groups.declared.versions.Version.{Version}
+use Rattle.inventory_rules.specs.inventory_rows.version_groups.Entries.{on_ok, if_found}
+use Rattle.inventory_rules.specs.inventory_rows.version_groups.Groups.{groups_with}
+use Rattle.inventory_rules.specs.inventory_rows.version_groups.Versions.{has_active, has_object, retired, superseded}
+use Rattle.inventory_rules.specs.inventory_rows.object_rows.declared.held_object.HeldRow.{HeldRow}
+use Rattle.inventory_rules.specs.inventory_rows.object_rows.Filespaces.{at_number, filespace_after, filespace_at, filespaces_with, versions_at, versions_of}
+use Rattle.inventory_rules.specs.inventory_rows.object_rows.HeldRows.{held_at, held_versions, held_with}
+use Rattle.inventory_rules.proofs.of_inventory_rows.of_object_rows.Splices.{Splices}
+use Rattle.inventory_rules.specs.inventory_rows.Search.{versions}
+use Rattle.inventory_rules.specs.inventory_rows.State.{Inv}
 use Rattle.inventory_rules.specs.Common.{or_same, with_filespaces}
 use Rattle.inventory_rules.specs.Valid.{is_copied}
 use Rattle.inventory_rules.specs.Versions.{after_object, held_too, inserted, new_held, new_version, AreGroupsOrdered}

@@ -2,9 +2,9 @@
 use Rattle.std.proofs.Common.{◌≡◌, ℕ, ◌+◌, ◌^◌, Bool, true, false, ltb, leb, List, [], ◌∷◌, ◌++◌, Option, Some, None, Result, Ok, Err, refl}
 use Rattle.kinds.specs.declared.refusal.Refusal.{Refusal}
 use Rattle.kinds.specs.declared.refusal.Refusal.TheVariants as refusal
-use Rattle.entries.specs.declared.change.Change.{Change}
-use Rattle.inventory_rows.specs.Items.{count_items, most_items}
-use Rattle.inventory_rows.specs.State.{Inv}
+use Rattle.inventory_rules.specs.entries.declared.change.Change.{Change}
+use Rattle.inventory_rules.specs.inventory_rows.Items.{count_items, most_items}
+use Rattle.inventory_rules.specs.inventory_rows.State.{Inv}
 use Rattle.inventory_rules.specs.Common.{or_same, full_at}
 use Rattle.inventory_rules.specs.Transactions.{effect, sizes_refused}
 use Rattle.kinds.specs.Refusals.{refusal_of, used_by, unless}

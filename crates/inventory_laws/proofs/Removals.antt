@@ -6,29 +6,29 @@ use Rattle.std.specs.Option.{option_map_or}
 use Rattle.std.proofs.lemmas.Bool.{false≢true, le-leb, leb-true, or_left, or_right}
 use Rattle.kinds.specs.declared.refusal.Refusal.{Refusal}
 use Rattle.kinds.specs.Refusals.{bad_value, unless}
-use Rattle.entries.specs.change_items.declared.items.DiscardedVersion.{DiscardedVersion}
-use Rattle.entries.specs.change_items.declared.items.DroppedCopy.{DroppedCopy}
-use Rattle.entries.specs.change_items.declared.items.NamedVersion.{NamedVersion}
-use Rattle.entries.specs.change_items.declared.reasons.DiscardReason.{DiscardReason}
-use Rattle.entries.specs.change_items.declared.reasons.DropReason.{DropReason}
-use Rattle.entries.specs.change_items.declared.lists.DiscardedVersions.{DiscardedVersions}
-use Rattle.entries.specs.change_items.declared.lists.DroppedCopies.{DroppedCopies}
-use Rattle.entries.specs.change_items.declared.lists.NamedVersions.{NamedVersions}
-use Rattle.entries.specs.declared.change.Change.TheVariants.{Discard, DropCopies, Expire}
-use Rattle.inventory_rows.specs.version_groups.declared.copies.CopyRow.{CopyRow}
-use Rattle.inventory_rows.specs.version_groups.declared.group.GroupChange.TheVariants.{Remove}
-use Rattle.inventory_rows.specs.version_groups.declared.groups.Filespace.{Filespace}
-use Rattle.inventory_rows.specs.version_groups.declared.versions.Version.{Version}
-use Rattle.inventory_rows.specs.version_groups.Versions.{has_object}
-use Rattle.inventory_rows.specs.object_rows.declared.held_object.HeldRow.{HeldRow}
-use Rattle.inventory_rows.specs.object_rows.Filespaces.{filespaces_after, versions_at, versions_of}
-use Rattle.inventory_rows.specs.object_rows.HeldRows.{has_under, held_at, held_versions, is_under as row_under}
-use Rattle.inventory_rows.specs.object_rows.Places.{place_of}
-use Rattle.inventory_rows.specs.object_rows.Rows.{Rows, rows_cleared, rows_without}
-use Rattle.inventory_rows.proofs.of_object_rows.Splices.{Splices}
-use Rattle.inventory_rows.specs.Search.{copy_in, version, versions}
-use Rattle.inventory_rows.specs.State.{Inv}
-use Rattle.inventory_rows.specs.Items.{count_items}
+use Rattle.inventory_rules.specs.entries.change_items.declared.items.DiscardedVersion.{DiscardedVersion}
+use Rattle.inventory_rules.specs.entries.change_items.declared.items.DroppedCopy.{DroppedCopy}
+use Rattle.inventory_rules.specs.entries.change_items.declared.items.NamedVersion.{NamedVersion}
+use Rattle.inventory_rules.specs.entries.change_items.declared.reasons.DiscardReason.{DiscardReason}
+use Rattle.inventory_rules.specs.entries.change_items.declared.reasons.DropReason.{DropReason}
+use Rattle.inventory_rules.specs.entries.change_items.declared.lists.DiscardedVersions.{DiscardedVersions}
+use Rattle.inventory_rules.specs.entries.change_items.declared.lists.DroppedCopies.{DroppedCopies}
+use Rattle.inventory_rules.specs.entries.change_items.declared.lists.NamedVersions.{NamedVersions}
+use Rattle.inventory_rules.specs.entries.declared.change.Change.TheVariants.{Discard, DropCopies, Expire}
+use Rattle.inventory_rules.specs.inventory_rows.version_groups.declared.copies.CopyRow.{CopyRow}
+use Rattle.inventory_rules.specs.inventory_rows.version_groups.declared.group.GroupChange.TheVariants.{Remove}
+use Rattle.inventory_rules.specs.inventory_rows.version_groups.declared.groups.Filespace.{Filespace}
+use Rattle.inventory_rules.specs.inventory_rows.version_groups.declared.versions.Version.{Version}
+use Rattle.inventory_rules.specs.inventory_rows.version_groups.Versions.{has_object}
+use Rattle.inventory_rules.specs.inventory_rows.object_rows.declared.held_object.HeldRow.{HeldRow}
+use Rattle.inventory_rules.specs.inventory_rows.object_rows.Filespaces.{filespaces_after, versions_at, versions_of}
+use Rattle.inventory_rules.specs.inventory_rows.object_rows.HeldRows.{has_under, held_at, held_versions, is_under as row_under}
+use Rattle.inventory_rules.specs.inventory_rows.object_rows.Places.{place_of}
+use Rattle.inventory_rules.specs.inventory_rows.object_rows.Rows.{Rows, rows_cleared, rows_without}
+use Rattle.inventory_rules.proofs.of_inventory_rows.of_object_rows.Splices.{Splices}
+use Rattle.inventory_rules.specs.inventory_rows.Search.{copy_in, version, versions}
+use Rattle.inventory_rules.specs.inventory_rows.State.{Inv}
+use Rattle.inventory_rules.specs.inventory_rows.Items.{count_items}
 use Rattle.inventory_rules.specs.Journal.{Journal}
 use Rattle.inventory_rules.specs.Copies.{dropped_refused, lies_elsewhere, named_drop_refused, placed_by, stale_copy, version_drop_refused, change_copy, drop_copy, dropped}
 use Rattle.inventory_rules.specs.Versions.{discarded_refused, expired_refused, is_under, of_version, discard, expire, name_once, take_versions}

@@ -1,6 +1,6 @@
 -- Lists with the same elements: an element that is passed over, one relation after another, and what comes and goes in the midst of a list.
 use Rattle.std.proofs.Common.{◌≡◌, List, [], ◌∷◌, ◌++◌, refl, sym, ap, subst, ◌∙◌, append_assoc}
-use Rattle.inventory_rows.proofs.of_object_rows.Splices.{Splices}
+use Rattle.inventory_rules.proofs.of_inventory_rows.of_object_rows.Splices.{Splices}
 use Rattle.inventory_rules.specs.Reordered.{Picks, IsReordered}
 
 -- ---- an element that is taken out

@@ -1,16 +1,16 @@
 -- Paths that are bound to other classes, and versions that become inactive: no copy comes or goes.
 use Rattle.std.proofs.Common.{◌≡◌, ℕ, ◌+◌, true, List, [], refl, sym, ap, subst, ◌≤◌}
-use Rattle.entries.specs.change_items.declared.items.NamedVersion.{NamedVersion}
-use Rattle.entries.specs.change_items.declared.lists.NamedVersions.{NamedVersions}
-use Rattle.entries.specs.change_items.declared.items.Rebinding.{Rebinding}
-use Rattle.entries.specs.change_items.declared.lists.Rebindings.{Rebindings}
-use Rattle.entries.specs.declared.change.Change.TheVariants.{Gone, Rebind}
-use Rattle.inventory_rows.specs.version_groups.declared.copies.CopyRow.{CopyRow}
-use Rattle.inventory_rows.specs.version_groups.declared.group.GroupChange.{GroupChange}
-use Rattle.inventory_rows.specs.version_groups.declared.group.GroupChange.TheVariants as group
-use Rattle.inventory_rows.specs.Search.{copies}
-use Rattle.inventory_rows.specs.State.{Inv}
-use Rattle.inventory_rows.specs.Items.{count_items}
+use Rattle.inventory_rules.specs.entries.change_items.declared.items.NamedVersion.{NamedVersion}
+use Rattle.inventory_rules.specs.entries.change_items.declared.lists.NamedVersions.{NamedVersions}
+use Rattle.inventory_rules.specs.entries.change_items.declared.items.Rebinding.{Rebinding}
+use Rattle.inventory_rules.specs.entries.change_items.declared.lists.Rebindings.{Rebindings}
+use Rattle.inventory_rules.specs.entries.declared.change.Change.TheVariants.{Gone, Rebind}
+use Rattle.inventory_rules.specs.inventory_rows.version_groups.declared.copies.CopyRow.{CopyRow}
+use Rattle.inventory_rules.specs.inventory_rows.version_groups.declared.group.GroupChange.{GroupChange}
+use Rattle.inventory_rules.specs.inventory_rows.version_groups.declared.group.GroupChange.TheVariants as group
+use Rattle.inventory_rules.specs.inventory_rows.Search.{copies}
+use Rattle.inventory_rules.specs.inventory_rows.State.{Inv}
+use Rattle.inventory_rules.specs.inventory_rows.Items.{count_items}
 use Rattle.inventory_rules.specs.Transactions.{effect, sizes_refused}
 use Rattle.inventory_rules.specs.Versions.{change_group, mark_gone, rebind}
 use Rattle.inventory_rules.specs.Held.{IsTied}

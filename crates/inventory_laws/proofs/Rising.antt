@@ -24,33 +24,33 @@ use Rattle.kinds.specs.declared.pool.PoolRule.{PoolRule}
 use Rattle.kinds.specs.declared.refusal.Refusal.{Refusal}
 use Rattle.kinds.specs.declared.refusal.Refusal.TheVariants as refusal
 use Rattle.kinds.specs.declared.segment.Segment.{Segment}
-use Rattle.entries.specs.change_items.declared.items.DiscardedVersion.{DiscardedVersion}
-use Rattle.entries.specs.change_items.declared.items.NamedVersion.{NamedVersion}
-use Rattle.entries.specs.change_items.declared.items.NewHeldObject.{NewHeldObject}
-use Rattle.entries.specs.change_items.declared.items.NewVersion.{NewVersion}
-use Rattle.entries.specs.change_items.declared.items.ScratchVolume.{ScratchVolume}
-use Rattle.entries.specs.declared.change.Change.{Change}
-use Rattle.entries.specs.declared.change.Change.TheVariants as change
-use Rattle.inventory_rows.specs.version_groups.Entries.{all_later}
-use Rattle.inventory_rows.specs.version_groups.declared.copies.CopyRow.{CopyRow}
-use Rattle.inventory_rows.specs.volume_rows.Held.{held_of}
-use Rattle.inventory_rows.specs.volume_rows.Holdings.{is_held}
-use Rattle.inventory_rows.specs.volume_rows.Volumes.{put_on, reset, take_from}
-use Rattle.inventory_rows.specs.volume_rows.declared.held.HeldSegment.{HeldSegment}
-use Rattle.inventory_rows.specs.volume_rows.declared.volume.Volume.{Volume}
-use Rattle.inventory_rows.specs.pool_tables.declared.pool.Pool.{Pool}
-use Rattle.inventory_rows.specs.pool_tables.RowChanges as row
-use Rattle.inventory_rows.specs.pool_tables.RowChanges.{is_scratch_row, reuse_volume, scratch_volume, with_access, with_settings}
-use Rattle.inventory_rows.specs.pool_tables.Rows.{change_row, changed as row_changed, edit_row, edited, named, row_at, row_set, set_row, with_row, without_row}
-use Rattle.inventory_rows.proofs.of_pool_tables.Counting.{apart_at, at_is, each_there}
-use Rattle.inventory_rows.specs.pool_rows.Changed as stores
-use Rattle.inventory_rows.specs.pool_rows.Changes.{change_pool, change_volume, define_volume, delete_filed, delete_numbered, is_bad_row, is_next_there, new_pool, new_volume, object_on, pool_before, unless_before, unless_filled, unless_held, update_filed, update_numbered, volume_of_pool}
-use Rattle.inventory_rows.specs.pool_rows.ClassChanges.{change_class, class_gone, pool_of_class}
-use Rattle.inventory_rows.specs.pool_rows.Hierarchy.{is_bad_hierarchy}
-use Rattle.inventory_rows.specs.pool_rows.PoolRows.{PoolRows, capacity_there, class_capacity, is_sequential, is_sequential_at, pool_capacity, pool_class_capacity, pool_named, volume_named}
-use Rattle.inventory_rows.specs.pool_rows.Segments.{put_segment, take_segment, with_volumes}
-use Rattle.inventory_rows.specs.Search.{is_primary_kind, pool, segments_on}
-use Rattle.inventory_rows.specs.State.{Inv}
+use Rattle.inventory_rules.specs.entries.change_items.declared.items.DiscardedVersion.{DiscardedVersion}
+use Rattle.inventory_rules.specs.entries.change_items.declared.items.NamedVersion.{NamedVersion}
+use Rattle.inventory_rules.specs.entries.change_items.declared.items.NewHeldObject.{NewHeldObject}
+use Rattle.inventory_rules.specs.entries.change_items.declared.items.NewVersion.{NewVersion}
+use Rattle.inventory_rules.specs.entries.change_items.declared.items.ScratchVolume.{ScratchVolume}
+use Rattle.inventory_rules.specs.entries.declared.change.Change.{Change}
+use Rattle.inventory_rules.specs.entries.declared.change.Change.TheVariants as change
+use Rattle.inventory_rules.specs.inventory_rows.version_groups.Entries.{all_later}
+use Rattle.inventory_rules.specs.inventory_rows.version_groups.declared.copies.CopyRow.{CopyRow}
+use Rattle.inventory_rules.specs.inventory_rows.volume_rows.Held.{held_of}
+use Rattle.inventory_rules.specs.inventory_rows.volume_rows.Holdings.{is_held}
+use Rattle.inventory_rules.specs.inventory_rows.volume_rows.Volumes.{put_on, reset, take_from}
+use Rattle.inventory_rules.specs.inventory_rows.volume_rows.declared.held.HeldSegment.{HeldSegment}
+use Rattle.inventory_rules.specs.inventory_rows.volume_rows.declared.volume.Volume.{Volume}
+use Rattle.inventory_rules.specs.inventory_rows.pool_tables.declared.pool.Pool.{Pool}
+use Rattle.inventory_rules.specs.inventory_rows.pool_tables.RowChanges as row
+use Rattle.inventory_rules.specs.inventory_rows.pool_tables.RowChanges.{is_scratch_row, reuse_volume, scratch_volume, with_access, with_settings}
+use Rattle.inventory_rules.specs.inventory_rows.pool_tables.Rows.{change_row, changed as row_changed, edit_row, edited, named, row_at, row_set, set_row, with_row, without_row}
+use Rattle.inventory_rules.proofs.of_inventory_rows.of_pool_tables.Counting.{apart_at, at_is, each_there}
+use Rattle.inventory_rules.specs.inventory_rows.pool_rows.Changed as stores
+use Rattle.inventory_rules.specs.inventory_rows.pool_rows.Changes.{change_pool, change_volume, define_volume, delete_filed, delete_numbered, is_bad_row, is_next_there, new_pool, new_volume, object_on, pool_before, unless_before, unless_filled, unless_held, update_filed, update_numbered, volume_of_pool}
+use Rattle.inventory_rules.specs.inventory_rows.pool_rows.ClassChanges.{change_class, class_gone, pool_of_class}
+use Rattle.inventory_rules.specs.inventory_rows.pool_rows.Hierarchy.{is_bad_hierarchy}
+use Rattle.inventory_rules.specs.inventory_rows.pool_rows.PoolRows.{PoolRows, capacity_there, class_capacity, is_sequential, is_sequential_at, pool_capacity, pool_class_capacity, pool_named, volume_named}
+use Rattle.inventory_rules.specs.inventory_rows.pool_rows.Segments.{put_segment, take_segment, with_volumes}
+use Rattle.inventory_rules.specs.inventory_rows.Search.{is_primary_kind, pool, segments_on}
+use Rattle.inventory_rules.specs.inventory_rows.State.{Inv}
 use Rattle.inventory_rules.specs.Clients.{client_changed}
 use Rattle.inventory_rules.specs.Common.{each, file_bound, files_refused, is_free_file, or_same, with_stores}
 use Rattle.inventory_rules.specs.Copies.{add_copy, added, change_copy, copy_list_refused, drop_copy, move_copy, move_refused, put_moved, segments_in, version_at}

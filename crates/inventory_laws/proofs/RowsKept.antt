@@ -7,8 +7,8 @@ use Rattle.std.specs.List.{list_all, flat_map}
 use Rattle.std.specs.Map.{keys_of, lookup, remove_entry, set_value}
 use Rattle.std.specs.Ordering.{is_eq, match_ordering, nat_cmp}
 use Rattle.std.specs.declared.cmp.Ordering.TheVariants.{Less, Equal, Greater}
-use Rattle.inventory_rows.specs.version_groups.Entries.{all_later}
-use Rattle.inventory_rows.proofs.of_object_rows.Stands.{at_itself, same_number}
+use Rattle.inventory_rules.specs.inventory_rows.version_groups.Entries.{all_later}
+use Rattle.inventory_rules.proofs.of_inventory_rows.of_object_rows.Stands.{at_itself, same_number}
 use Rattle.inventory_laws.proofs.Facts.{both, first, rest}
 
 -- ---- tests

@@ -2,8 +2,8 @@
 use Rattle.std.proofs.Common.{◌≡◌, Bool, true, false, cond, Option, None, Some, Result, Ok, Err, IfOk, refl}
 use Rattle.kinds.specs.declared.refusal.By.{By}
 use Rattle.kinds.specs.declared.refusal.Refusal.{Refusal}
-use Rattle.inventory_rows.specs.version_groups.Entries.{if_found, on_ok}
-use Rattle.inventory_rows.specs.object_rows.Changes.{unless_used}
+use Rattle.inventory_rules.specs.inventory_rows.version_groups.Entries.{if_found, on_ok}
+use Rattle.inventory_rules.specs.inventory_rows.object_rows.Changes.{unless_used}
 use Rattle.inventory_rules.specs.Common.{or_same}
 
 -- one step on

@@ -9,19 +9,19 @@ use Rattle.std.specs.Ordering.{nat_cmp}
 use Rattle.std.proofs.lemmas.Bool.{and_parts, and_from, eq-eqb, ne_eqb, le-leb, leb-true, lt-ltb, ltb-true, not_from_false, false≢true}
 use Rattle.std.proofs.lemmas.Cmp.{nat_eq_equiv}
 use Rattle.kinds.specs.declared.segment.Segment.{Segment}
-use Rattle.entries.specs.change_items.declared.items.ScratchVolume.{ScratchVolume}
-use Rattle.inventory_rows.specs.volume_rows.declared.volume.Volume.{Volume}
-use Rattle.inventory_rows.specs.pool_tables.declared.pool.Pool.{Pool}
+use Rattle.inventory_rules.specs.entries.change_items.declared.items.ScratchVolume.{ScratchVolume}
+use Rattle.inventory_rules.specs.inventory_rows.volume_rows.declared.volume.Volume.{Volume}
+use Rattle.inventory_rules.specs.inventory_rows.pool_tables.declared.pool.Pool.{Pool}
 use Rattle.kinds.specs.Names.{is_same_name}
-use Rattle.inventory_rows.specs.pool_tables.Rows.{row_at, with_row}
-use Rattle.inventory_rows.specs.pool_tables.RowChanges.{scratch_volume}
-use Rattle.inventory_rows.specs.pool_tables.Scratch.{scratch_name, is_scratch_name}
-use Rattle.inventory_rows.proofs.of_pool_tables.Counting.{apart_at, each_insert}
-use Rattle.inventory_rows.proofs.of_pool_tables.Names.{same_flips, same_is, same_itself}
-use Rattle.inventory_rows.proofs.of_pool_tables.ScratchNames.{scratch_apart, scratch_is_scratch}
-use Rattle.inventory_rows.specs.pool_rows.PoolRows.{PoolRows, is_sequential, pool_capacity, pool_class_capacity}
-use Rattle.inventory_rows.specs.declared.backup.Backup.{Backup}
-use Rattle.inventory_rows.specs.State.{Inv}
+use Rattle.inventory_rules.specs.inventory_rows.pool_tables.Rows.{row_at, with_row}
+use Rattle.inventory_rules.specs.inventory_rows.pool_tables.RowChanges.{scratch_volume}
+use Rattle.inventory_rules.specs.inventory_rows.pool_tables.Scratch.{scratch_name, is_scratch_name}
+use Rattle.inventory_rules.proofs.of_inventory_rows.of_pool_tables.Counting.{apart_at, each_insert}
+use Rattle.inventory_rules.proofs.of_inventory_rows.of_pool_tables.Names.{same_flips, same_is, same_itself}
+use Rattle.inventory_rules.proofs.of_inventory_rows.of_pool_tables.ScratchNames.{scratch_apart, scratch_is_scratch}
+use Rattle.inventory_rules.specs.inventory_rows.pool_rows.PoolRows.{PoolRows, is_sequential, pool_capacity, pool_class_capacity}
+use Rattle.inventory_rules.specs.inventory_rows.declared.backup.Backup.{Backup}
+use Rattle.inventory_rules.specs.inventory_rows.State.{Inv}
 use Rattle.inventory_rules.specs.Segments.{make_scratch}
 use Rattle.inventory_rules.specs.Common.{is_free_file}
 use Rattle.inventory_rules.specs.Valid.{is_named_soundly, names_apart}

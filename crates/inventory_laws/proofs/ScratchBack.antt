@@ -7,14 +7,14 @@ use Rattle.std.specs.Ordering.{is_eq, match_ordering, nat_cmp}
 use Rattle.std.specs.declared.cmp.Ordering.TheVariants.{Less, Equal, Greater}
 use Rattle.std.proofs.lemmas.Bool.{and_parts, and_from, leb-true}
 use Rattle.std.proofs.lemmas.Option.{same_Some}
-use Rattle.entries.specs.change_items.declared.items.ScratchVolume.{ScratchVolume}
-use Rattle.inventory_rows.specs.version_groups.Entries.{all_later}
-use Rattle.inventory_rows.specs.volume_rows.declared.volume.Volume.{Volume}
-use Rattle.inventory_rows.specs.pool_tables.RowChanges.{scratch_volume}
-use Rattle.inventory_rows.specs.pool_tables.Rows.{row_at, with_row}
-use Rattle.inventory_rows.proofs.of_pool_tables.Counting.{each_there}
-use Rattle.inventory_rows.specs.pool_rows.PoolRows.{is_sequential, pool_capacity}
-use Rattle.inventory_rows.specs.State.{Inv}
+use Rattle.inventory_rules.specs.entries.change_items.declared.items.ScratchVolume.{ScratchVolume}
+use Rattle.inventory_rules.specs.inventory_rows.version_groups.Entries.{all_later}
+use Rattle.inventory_rules.specs.inventory_rows.volume_rows.declared.volume.Volume.{Volume}
+use Rattle.inventory_rules.specs.inventory_rows.pool_tables.RowChanges.{scratch_volume}
+use Rattle.inventory_rules.specs.inventory_rows.pool_tables.Rows.{row_at, with_row}
+use Rattle.inventory_rules.proofs.of_inventory_rows.of_pool_tables.Counting.{each_there}
+use Rattle.inventory_rules.specs.inventory_rows.pool_rows.PoolRows.{is_sequential, pool_capacity}
+use Rattle.inventory_rules.specs.inventory_rows.State.{Inv}
 use Rattle.inventory_rules.specs.Common.{each, file_bound, files_refused, is_free_file}
 use Rattle.inventory_rules.specs.Segments.{make_scratch, scratch_fits, scratch_refused}
 use Rattle.inventory_rules.specs.Valid.{is_format_size, is_sized, is_volume, volumes_are}

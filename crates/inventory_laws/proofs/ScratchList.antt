@@ -8,15 +8,15 @@ use Rattle.std.proofs.lemmas.Bool.{and_parts, and_from, eq-eqb, eqb-true, lt-ltb
 use Rattle.std.proofs.lemmas.List.{append-nil}
 use Rattle.kinds.specs.declared.refusal.Refusal.{Refusal}
 use Rattle.kinds.specs.declared.segment.Segment.{Segment}
-use Rattle.entries.specs.change_items.declared.items.ScratchVolume.{ScratchVolume}
-use Rattle.inventory_rows.specs.version_groups.declared.copies.CopyRow.{CopyRow}
-use Rattle.inventory_rows.specs.version_groups.Entries.{all_later}
-use Rattle.inventory_rows.specs.volume_rows.declared.volume.Volume.{Volume}
-use Rattle.inventory_rows.specs.pool_tables.Rows.{row_at}
-use Rattle.inventory_rows.proofs.of_pool_tables.Counting.{apart_at}
-use Rattle.inventory_rows.specs.pool_rows.PoolRows.{is_sequential}
-use Rattle.inventory_rows.specs.Search.{copies, pool, segments_on}
-use Rattle.inventory_rows.specs.State.{Inv}
+use Rattle.inventory_rules.specs.entries.change_items.declared.items.ScratchVolume.{ScratchVolume}
+use Rattle.inventory_rules.specs.inventory_rows.version_groups.declared.copies.CopyRow.{CopyRow}
+use Rattle.inventory_rules.specs.inventory_rows.version_groups.Entries.{all_later}
+use Rattle.inventory_rules.specs.inventory_rows.volume_rows.declared.volume.Volume.{Volume}
+use Rattle.inventory_rules.specs.inventory_rows.pool_tables.Rows.{row_at}
+use Rattle.inventory_rules.proofs.of_inventory_rows.of_pool_tables.Counting.{apart_at}
+use Rattle.inventory_rules.specs.inventory_rows.pool_rows.PoolRows.{is_sequential}
+use Rattle.inventory_rules.specs.inventory_rows.Search.{copies, pool, segments_on}
+use Rattle.inventory_rules.specs.inventory_rows.State.{Inv}
 use Rattle.inventory_rules.specs.Common.{each, file_bound, files_refused, is_free_file}
 use Rattle.inventory_rules.specs.Segments.{make_scratch, scratch_refused, scratch_fits}
 use Rattle.kinds.specs.Refusals.{unless}

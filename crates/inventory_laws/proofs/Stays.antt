@@ -10,19 +10,19 @@ use Rattle.std.proofs.lemmas.Bool.{eqb-false, not-true}
 use Rattle.std.proofs.lemmas.Map.Lookups.{exact_unsigned}
 use Rattle.kinds.specs.declared.refusal.Refusal.{Refusal}
 use Rattle.kinds.specs.declared.segment.Segment.{Segment}
-use Rattle.entries.specs.change_items.declared.items.ScratchVolume.{ScratchVolume}
-use Rattle.inventory_rows.specs.version_groups.declared.copies.CopyRow.{CopyRow}
-use Rattle.inventory_rows.specs.version_groups.Entries.{all_later}
-use Rattle.inventory_rows.specs.volume_rows.declared.volume.Volume.{Volume}
-use Rattle.inventory_rows.specs.volume_rows.Held.{held_of}
-use Rattle.inventory_rows.specs.pool_tables.RowChanges as row
-use Rattle.inventory_rows.specs.pool_tables.Rows.{change_row, changed, row_at, row_set, with_row}
-use Rattle.inventory_rows.proofs.of_pool_tables.Counting.{apart_at}
-use Rattle.inventory_rows.specs.pool_rows.PoolRows.{PoolRows, is_sequential_at, pool_capacity}
-use Rattle.inventory_rows.specs.pool_rows.Segments.{with_volumes}
-use Rattle.inventory_rows.specs.object_rows.Items.{items_of_held}
-use Rattle.inventory_rows.specs.Items.{count_items, items_of_filespace}
-use Rattle.inventory_rows.specs.State.{Inv}
+use Rattle.inventory_rules.specs.entries.change_items.declared.items.ScratchVolume.{ScratchVolume}
+use Rattle.inventory_rules.specs.inventory_rows.version_groups.declared.copies.CopyRow.{CopyRow}
+use Rattle.inventory_rules.specs.inventory_rows.version_groups.Entries.{all_later}
+use Rattle.inventory_rules.specs.inventory_rows.volume_rows.declared.volume.Volume.{Volume}
+use Rattle.inventory_rules.specs.inventory_rows.volume_rows.Held.{held_of}
+use Rattle.inventory_rules.specs.inventory_rows.pool_tables.RowChanges as row
+use Rattle.inventory_rules.specs.inventory_rows.pool_tables.Rows.{change_row, changed, row_at, row_set, with_row}
+use Rattle.inventory_rules.proofs.of_inventory_rows.of_pool_tables.Counting.{apart_at}
+use Rattle.inventory_rules.specs.inventory_rows.pool_rows.PoolRows.{PoolRows, is_sequential_at, pool_capacity}
+use Rattle.inventory_rules.specs.inventory_rows.pool_rows.Segments.{with_volumes}
+use Rattle.inventory_rules.specs.inventory_rows.object_rows.Items.{items_of_held}
+use Rattle.inventory_rules.specs.inventory_rows.Items.{count_items, items_of_filespace}
+use Rattle.inventory_rules.specs.inventory_rows.State.{Inv}
 use Rattle.inventory_rules.specs.Common.{each, or_same, file_bound, files_refused, is_free_file}
 use Rattle.inventory_rules.specs.Segments.{make_scratch, put, take_all, take_away, scratch_refused}
 use Rattle.inventory_rules.specs.Transactions.{OnlyData}

@@ -14,17 +14,17 @@ use Rattle.kinds.specs.declared.pool.Access.{Access}
 use Rattle.kinds.specs.declared.refusal.Refusal.{Refusal}
 use Rattle.kinds.specs.declared.refusal.Refusal.TheVariants.{Exists, NotFound}
 use Rattle.kinds.specs.Refusals.{refusal_of}
-use Rattle.entries.specs.declared.change.Change.TheVariants as change
-use Rattle.inventory_rows.specs.version_groups.declared.copies.CopyRow.{CopyRow}
-use Rattle.inventory_rows.specs.volume_rows.declared.volume.Volume.{Volume}
-use Rattle.inventory_rows.specs.pool_tables.declared.pool.Pool.{Pool}
-use Rattle.inventory_rows.specs.pool_tables.Rows.{row_at, with_row, without_row}
-use Rattle.inventory_rows.specs.pool_tables.Scratch.{is_scratch_name}
-use Rattle.inventory_rows.proofs.of_pool_tables.Counting.{apart_at, at_is, each_there}
-use Rattle.inventory_rows.specs.pool_rows.Changes.{define_volume, delete_numbered, delete_pool, new_volume, volume_of_pool}
-use Rattle.inventory_rows.specs.pool_rows.PoolRows.{PoolRows, is_sequential, pool_capacity, pool_named, volume_named}
-use Rattle.inventory_rows.specs.Search.{copies, holds_copy, is_primary, is_primary_kind, pool, segments_on}
-use Rattle.inventory_rows.specs.State.{Inv}
+use Rattle.inventory_rules.specs.entries.declared.change.Change.TheVariants as change
+use Rattle.inventory_rules.specs.inventory_rows.version_groups.declared.copies.CopyRow.{CopyRow}
+use Rattle.inventory_rules.specs.inventory_rows.volume_rows.declared.volume.Volume.{Volume}
+use Rattle.inventory_rules.specs.inventory_rows.pool_tables.declared.pool.Pool.{Pool}
+use Rattle.inventory_rules.specs.inventory_rows.pool_tables.Rows.{row_at, with_row, without_row}
+use Rattle.inventory_rules.specs.inventory_rows.pool_tables.Scratch.{is_scratch_name}
+use Rattle.inventory_rules.proofs.of_inventory_rows.of_pool_tables.Counting.{apart_at, at_is, each_there}
+use Rattle.inventory_rules.specs.inventory_rows.pool_rows.Changes.{define_volume, delete_numbered, delete_pool, new_volume, volume_of_pool}
+use Rattle.inventory_rules.specs.inventory_rows.pool_rows.PoolRows.{PoolRows, is_sequential, pool_capacity, pool_named, volume_named}
+use Rattle.inventory_rules.specs.inventory_rows.Search.{copies, holds_copy, is_primary, is_primary_kind, pool, segments_on}
+use Rattle.inventory_rules.specs.inventory_rows.State.{Inv}
 use Rattle.inventory_rules.specs.Common.{file_bound, files_refused, or_same}
 use Rattle.inventory_rules.specs.Facts.{Facts}
 use Rattle.inventory_rules.specs.Stores.{capacity_fits, destination_used, store_fits, store_refused, volume_fits}

@@ -14,21 +14,21 @@ use Rattle.kinds.specs.declared.pool.PoolKind.{PoolKind}
 use Rattle.kinds.specs.declared.pool.PoolRule.{PoolRule}
 use Rattle.kinds.specs.declared.refusal.Refusal.{Refusal}
 use Rattle.kinds.specs.declared.refusal.Refusal.TheVariants.{BadHierarchy, Exists, NotFound}
-use Rattle.entries.specs.declared.change.Change.TheVariants as change
-use Rattle.inventory_rows.specs.volume_rows.declared.volume.Volume.{Volume}
-use Rattle.inventory_rows.specs.volume_rows.Volumes.{reset}
-use Rattle.inventory_rows.specs.pool_tables.declared.pool.Pool.{Pool}
-use Rattle.inventory_rows.specs.pool_tables.RowChanges.{is_scratch_row, reuse_volume, with_access, with_settings}
-use Rattle.inventory_rows.specs.pool_tables.Rows.{edit_row, edited, named, row_at, with_row, without_row}
-use Rattle.inventory_rows.specs.pool_rows.Changed.{changed}
-use Rattle.inventory_rows.specs.pool_rows.Changes.{define_pool, define_volume, delete_filed, delete_numbered, delete_pool, delete_volume, is_bad_row, is_next_there, new_pool, new_volume, object_on, pool_before, unless_before, unless_filled, unless_held, update_filed, update_numbered, update_pool, update_volume, volume_of_pool}
-use Rattle.inventory_rows.specs.pool_rows.ClassChanges.{class_gone, define_class, delete_class, pool_of_class}
-use Rattle.inventory_rows.specs.pool_rows.Hierarchy.{is_bad_hierarchy}
-use Rattle.inventory_rows.specs.pool_rows.PoolRows.{PoolRows, class_capacity, pool_named, volume_named}
-use Rattle.inventory_rows.specs.Delays.{lowered}
-use Rattle.inventory_rows.specs.declared.backup.Backup.{Backup}
-use Rattle.inventory_rows.specs.Items.{count_items}
-use Rattle.inventory_rows.specs.State.{Inv}
+use Rattle.inventory_rules.specs.entries.declared.change.Change.TheVariants as change
+use Rattle.inventory_rules.specs.inventory_rows.volume_rows.declared.volume.Volume.{Volume}
+use Rattle.inventory_rules.specs.inventory_rows.volume_rows.Volumes.{reset}
+use Rattle.inventory_rules.specs.inventory_rows.pool_tables.declared.pool.Pool.{Pool}
+use Rattle.inventory_rules.specs.inventory_rows.pool_tables.RowChanges.{is_scratch_row, reuse_volume, with_access, with_settings}
+use Rattle.inventory_rules.specs.inventory_rows.pool_tables.Rows.{edit_row, edited, named, row_at, with_row, without_row}
+use Rattle.inventory_rules.specs.inventory_rows.pool_rows.Changed.{changed}
+use Rattle.inventory_rules.specs.inventory_rows.pool_rows.Changes.{define_pool, define_volume, delete_filed, delete_numbered, delete_pool, delete_volume, is_bad_row, is_next_there, new_pool, new_volume, object_on, pool_before, unless_before, unless_filled, unless_held, update_filed, update_numbered, update_pool, update_volume, volume_of_pool}
+use Rattle.inventory_rules.specs.inventory_rows.pool_rows.ClassChanges.{class_gone, define_class, delete_class, pool_of_class}
+use Rattle.inventory_rules.specs.inventory_rows.pool_rows.Hierarchy.{is_bad_hierarchy}
+use Rattle.inventory_rules.specs.inventory_rows.pool_rows.PoolRows.{PoolRows, class_capacity, pool_named, volume_named}
+use Rattle.inventory_rules.specs.inventory_rows.Delays.{lowered}
+use Rattle.inventory_rules.specs.inventory_rows.declared.backup.Backup.{Backup}
+use Rattle.inventory_rules.specs.inventory_rows.Items.{count_items}
+use Rattle.inventory_rules.specs.inventory_rows.State.{Inv}
 use Rattle.inventory_rules.specs.Common.{or_same, file_bound, files_refused, one_if}
 use Rattle.inventory_rules.specs.Stores.{backups_lowered, store_bounds, store_refused, is_new_store}
 use Rattle.inventory_rules.specs.Transactions.{effect}

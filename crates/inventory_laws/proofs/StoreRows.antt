@@ -7,9 +7,9 @@ use Rattle.std.proofs.lemmas.Bool.{and_from, false≢true, not_from_false}
 use Rattle.std.proofs.lemmas.Option.{same_Some}
 use Rattle.inventory_rules.specs.Reordered.{Picks}
 use Rattle.kinds.specs.Names.{is_same_name}
-use Rattle.inventory_rows.specs.pool_tables.Rows.{row_at, with_row, without_row, set_row, number_where}
-use Rattle.inventory_rows.proofs.of_pool_tables.Counting.{at_is, apart_at, each_set, each_there}
-use Rattle.inventory_rows.proofs.of_pool_tables.Names.{same_flips}
+use Rattle.inventory_rules.specs.inventory_rows.pool_tables.Rows.{row_at, with_row, without_row, set_row, number_where}
+use Rattle.inventory_rules.proofs.of_inventory_rows.of_pool_tables.Counting.{at_is, apart_at, each_set, each_there}
+use Rattle.inventory_rules.proofs.of_inventory_rows.of_pool_tables.Names.{same_flips}
 use Rattle.inventory_laws.proofs.Lists.{all_of, all_from, came, went, lookup_left}
 
 pub row_came : {V : Type 0} (k : ℕ) (v : V) (rows : List (ℕ × V)) → row_at k rows ≡ None → Picks (k, v) (with_row k v rows) rows

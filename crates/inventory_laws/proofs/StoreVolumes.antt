@@ -11,25 +11,25 @@ use Rattle.std.proofs.lemmas.Bool.{and_parts, and_from, eqb-false, false≢true,
 use Rattle.std.proofs.lemmas.List.Folds.{list_all-append}
 use Rattle.kinds.specs.declared.pool.Access.{Access}
 use Rattle.kinds.specs.declared.segment.Segment.{Segment}
-use Rattle.inventory_rows.specs.version_groups.declared.copies.CopyRow.{CopyRow}
-use Rattle.inventory_rows.specs.volume_rows.declared.held.HeldSegment.{HeldSegment}
-use Rattle.inventory_rows.specs.volume_rows.declared.volume.Volume.{Volume}
-use Rattle.inventory_rows.specs.volume_rows.Held.{held_of}
-use Rattle.inventory_rows.specs.volume_rows.Holdings.{least_object, weight_of, with_segment}
-use Rattle.inventory_rows.specs.volume_rows.Volumes.{reset}
-use Rattle.inventory_rows.proofs.of_volume_rows.Segments.{weight_of-with}
-use Rattle.inventory_rows.specs.pool_tables.declared.pool.Pool.{Pool}
-use Rattle.inventory_rows.specs.pool_tables.RowChanges.{with_access}
+use Rattle.inventory_rules.specs.inventory_rows.version_groups.declared.copies.CopyRow.{CopyRow}
+use Rattle.inventory_rules.specs.inventory_rows.volume_rows.declared.held.HeldSegment.{HeldSegment}
+use Rattle.inventory_rules.specs.inventory_rows.volume_rows.declared.volume.Volume.{Volume}
+use Rattle.inventory_rules.specs.inventory_rows.volume_rows.Held.{held_of}
+use Rattle.inventory_rules.specs.inventory_rows.volume_rows.Holdings.{least_object, weight_of, with_segment}
+use Rattle.inventory_rules.specs.inventory_rows.volume_rows.Volumes.{reset}
+use Rattle.inventory_rules.proofs.of_inventory_rows.of_volume_rows.Segments.{weight_of-with}
+use Rattle.inventory_rules.specs.inventory_rows.pool_tables.declared.pool.Pool.{Pool}
+use Rattle.inventory_rules.specs.inventory_rows.pool_tables.RowChanges.{with_access}
 use Rattle.kinds.specs.Least.{lesser}
 use Rattle.kinds.specs.Names.{is_same_name}
-use Rattle.inventory_rows.specs.pool_tables.Rows.{named, row_at, set_row, with_row, without_row}
-use Rattle.inventory_rows.specs.pool_tables.Scratch.{is_scratch_name, scratch_name}
-use Rattle.inventory_rows.proofs.of_pool_tables.Counting.{each_set, each_there}
-use Rattle.inventory_rows.proofs.of_pool_tables.Names.{same_flips}
-use Rattle.inventory_rows.specs.pool_rows.Changes.{new_volume}
-use Rattle.inventory_rows.specs.pool_rows.PoolRows.{PoolRows, is_sequential, pool_capacity, pool_class_capacity, volume_named}
-use Rattle.inventory_rows.specs.Search.{copies, is_primary, pool, segments_on}
-use Rattle.inventory_rows.specs.State.{Inv}
+use Rattle.inventory_rules.specs.inventory_rows.pool_tables.Rows.{named, row_at, set_row, with_row, without_row}
+use Rattle.inventory_rules.specs.inventory_rows.pool_tables.Scratch.{is_scratch_name, scratch_name}
+use Rattle.inventory_rules.proofs.of_inventory_rows.of_pool_tables.Counting.{each_set, each_there}
+use Rattle.inventory_rules.proofs.of_inventory_rows.of_pool_tables.Names.{same_flips}
+use Rattle.inventory_rules.specs.inventory_rows.pool_rows.Changes.{new_volume}
+use Rattle.inventory_rules.specs.inventory_rows.pool_rows.PoolRows.{PoolRows, is_sequential, pool_capacity, pool_class_capacity, volume_named}
+use Rattle.inventory_rules.specs.inventory_rows.Search.{copies, is_primary, pool, segments_on}
+use Rattle.inventory_rules.specs.inventory_rows.State.{Inv}
 use Rattle.inventory_rules.specs.Held.{IsTied, holding}
 use Rattle.inventory_rules.specs.Valid.{are_apart, are_disjoint, is_emptied_rightly, is_format_size, is_named_soundly, is_of_pool, is_placed, is_sized, is_volume, lie_in, may_have, names_apart, next_is_there}
 use Rattle.inventory_rules.specs.Facts.{Facts}

@@ -8,19 +8,19 @@ use Rattle.std.proofs.lemmas.Bool.{and_parts, le-leb, leb-true}
 use Rattle.kinds.specs.declared.refusal.Refusal.{Refusal}
 use Rattle.kinds.specs.declared.refusal.Refusal.TheVariants.{InventoryFull}
 use Rattle.kinds.specs.declared.segment.Segment.{Segment}
-use Rattle.entries.specs.declared.change.Change.{Change}
-use Rattle.inventory_rows.specs.version_groups.declared.copies.CopyRow.{CopyRow}
-use Rattle.inventory_rows.specs.version_groups.declared.versions.Version.{Version}
-use Rattle.inventory_rows.specs.version_groups.Copies.{are_by_pool}
-use Rattle.inventory_rows.specs.version_groups.Entries.{is_nil}
-use Rattle.inventory_rows.specs.volume_rows.declared.volume.Volume.{Volume}
-use Rattle.inventory_rows.specs.pool_tables.declared.pool.Pool.{Pool}
-use Rattle.inventory_rows.specs.pool_tables.Rows.{row_at}
-use Rattle.inventory_rows.specs.pool_rows.PoolRows.{PoolRows, is_sequential, pool_capacity, pool_class_capacity}
-use Rattle.inventory_rows.specs.declared.backup.Backup.{Backup}
-use Rattle.inventory_rows.specs.Items.{count_items, most_items}
-use Rattle.inventory_rows.specs.Search.{copies, destinations, is_primary_kind, pool, segments_on, versions}
-use Rattle.inventory_rows.specs.State.{Inv}
+use Rattle.inventory_rules.specs.entries.declared.change.Change.{Change}
+use Rattle.inventory_rules.specs.inventory_rows.version_groups.declared.copies.CopyRow.{CopyRow}
+use Rattle.inventory_rules.specs.inventory_rows.version_groups.declared.versions.Version.{Version}
+use Rattle.inventory_rules.specs.inventory_rows.version_groups.Copies.{are_by_pool}
+use Rattle.inventory_rules.specs.inventory_rows.version_groups.Entries.{is_nil}
+use Rattle.inventory_rules.specs.inventory_rows.volume_rows.declared.volume.Volume.{Volume}
+use Rattle.inventory_rules.specs.inventory_rows.pool_tables.declared.pool.Pool.{Pool}
+use Rattle.inventory_rules.specs.inventory_rows.pool_tables.Rows.{row_at}
+use Rattle.inventory_rules.specs.inventory_rows.pool_rows.PoolRows.{PoolRows, is_sequential, pool_capacity, pool_class_capacity}
+use Rattle.inventory_rules.specs.inventory_rows.declared.backup.Backup.{Backup}
+use Rattle.inventory_rules.specs.inventory_rows.Items.{count_items, most_items}
+use Rattle.inventory_rules.specs.inventory_rows.Search.{copies, destinations, is_primary_kind, pool, segments_on, versions}
+use Rattle.inventory_rules.specs.inventory_rows.State.{Inv}
 use Rattle.inventory_rules.specs.Common.{or_same, full_at}
 use Rattle.inventory_rules.specs.Transactions.{effect, sizes_refused}
 use Rattle.inventory_rules.specs.Held.{IsTied}

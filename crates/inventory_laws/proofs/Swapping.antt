@@ -5,11 +5,11 @@ use Rattle.std.specs.List.{flat_map, filter, AllByRecursion}
 use Rattle.std.specs.Map.{keys_of}
 use Rattle.std.proofs.lemmas.List.Concat.{flat_map-append}
 use Rattle.kinds.specs.declared.segment.Segment.{Segment}
-use Rattle.inventory_rows.specs.version_groups.declared.copies.CopyRow.{CopyRow}
-use Rattle.inventory_rows.specs.volume_rows.declared.volume.Volume.{Volume}
-use Rattle.inventory_rows.specs.pool_rows.PoolRows.{PoolRows}
-use Rattle.inventory_rows.specs.Search.{copies}
-use Rattle.inventory_rows.specs.State.{Inv}
+use Rattle.inventory_rules.specs.inventory_rows.version_groups.declared.copies.CopyRow.{CopyRow}
+use Rattle.inventory_rules.specs.inventory_rows.volume_rows.declared.volume.Volume.{Volume}
+use Rattle.inventory_rules.specs.inventory_rows.pool_rows.PoolRows.{PoolRows}
+use Rattle.inventory_rules.specs.inventory_rows.Search.{copies}
+use Rattle.inventory_rules.specs.inventory_rows.State.{Inv}
 use Rattle.inventory_rules.specs.Halfway.{lying, pending_on, segments_of, VolumeFacts}
 use Rattle.inventory_rules.specs.Reordered.{IsReordered}
 use Rattle.inventory_laws.proofs.VolumeFacts.{without_volumes, IsRow, IsRowOf, IsTable, facts_from, files_of, names_of, row_reordered, rows_of, table_of}

@@ -4,7 +4,7 @@ use Rattle.std.specs.Prelude.{nat_le}
 use Rattle.std.specs.List.{list_all, flat_map}
 use Rattle.std.proofs.lemmas.Bool.{and_from, eqb-false, le-leb, ne_eqb, not-true}
 use Rattle.kinds.specs.declared.refusal.Refusal.{Refusal}
-use Rattle.inventory_rows.specs.version_groups.Entries.{all_later}
+use Rattle.inventory_rules.specs.inventory_rows.version_groups.Entries.{all_later}
 use Rattle.kinds.specs.Refusals.{unless}
 use Rattle.inventory_rules.specs.Versions.{name_once}
 use Rattle.inventory_laws.proofs.Spliced.{all_later-map}

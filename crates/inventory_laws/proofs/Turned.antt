@@ -6,17 +6,17 @@ use Rattle.std.specs.Ordering.{nat_cmp}
 use Rattle.std.proofs.lemmas.Bool.{eq-eqb, ne_eqb}
 use Rattle.std.proofs.lemmas.Option.{same_Some}
 use Rattle.kinds.specs.declared.segment.Segment.{Segment}
-use Rattle.entries.specs.change_items.declared.items.MovedCopy.{MovedCopy}
-use Rattle.inventory_rows.specs.volume_rows.declared.held.HeldSegment.{HeldSegment}
-use Rattle.inventory_rows.specs.volume_rows.declared.volume.Volume.{Volume}
-use Rattle.inventory_rows.specs.volume_rows.Held.{end_of, held_of}
-use Rattle.inventory_rows.specs.volume_rows.Holdings.{is_bare, is_held, with_segment, without_segment}
-use Rattle.inventory_rows.specs.volume_rows.Volumes.{put_on, take_from}
-use Rattle.inventory_rows.specs.pool_tables.Rows.{row_at, set_row}
-use Rattle.inventory_rows.proofs.of_pool_tables.Counting.{at_is}
-use Rattle.inventory_rows.proofs.of_pool_tables.Sound.{put_keeps}
-use Rattle.inventory_rows.specs.pool_rows.PoolRows.{PoolRows, is_sequential}
-use Rattle.inventory_rows.specs.State.{Inv}
+use Rattle.inventory_rules.specs.entries.change_items.declared.items.MovedCopy.{MovedCopy}
+use Rattle.inventory_rules.specs.inventory_rows.volume_rows.declared.held.HeldSegment.{HeldSegment}
+use Rattle.inventory_rules.specs.inventory_rows.volume_rows.declared.volume.Volume.{Volume}
+use Rattle.inventory_rules.specs.inventory_rows.volume_rows.Held.{end_of, held_of}
+use Rattle.inventory_rules.specs.inventory_rows.volume_rows.Holdings.{is_bare, is_held, with_segment, without_segment}
+use Rattle.inventory_rules.specs.inventory_rows.volume_rows.Volumes.{put_on, take_from}
+use Rattle.inventory_rules.specs.inventory_rows.pool_tables.Rows.{row_at, set_row}
+use Rattle.inventory_rules.proofs.of_inventory_rows.of_pool_tables.Counting.{at_is}
+use Rattle.inventory_rules.proofs.of_inventory_rows.of_pool_tables.Sound.{put_keeps}
+use Rattle.inventory_rules.specs.inventory_rows.pool_rows.PoolRows.{PoolRows, is_sequential}
+use Rattle.inventory_rules.specs.inventory_rows.State.{Inv}
 use Rattle.inventory_rules.specs.Common.{each}
 use Rattle.inventory_rules.specs.Copies.{put_moved}
 use Rattle.inventory_rules.specs.Held.{holding}

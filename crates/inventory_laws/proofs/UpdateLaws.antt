@@ -8,16 +8,16 @@ use Rattle.kinds.specs.declared.pool.PoolKind.{PoolKind}
 use Rattle.kinds.specs.declared.pool.PoolRule.{PoolRule}
 use Rattle.kinds.specs.declared.refusal.Refusal.{Refusal}
 use Rattle.kinds.specs.declared.refusal.Refusal.TheVariants.{BadHierarchy, NotFound}
-use Rattle.entries.specs.declared.change.Change.TheVariants as change
-use Rattle.inventory_rows.specs.pool_tables.declared.pool.Pool.{Pool}
-use Rattle.inventory_rows.specs.pool_tables.Names.{pool_name}
-use Rattle.inventory_rows.specs.pool_tables.RowChanges.{with_settings}
+use Rattle.inventory_rules.specs.entries.declared.change.Change.TheVariants as change
+use Rattle.inventory_rules.specs.inventory_rows.pool_tables.declared.pool.Pool.{Pool}
+use Rattle.inventory_rules.specs.inventory_rows.pool_tables.Names.{pool_name}
+use Rattle.inventory_rules.specs.inventory_rows.pool_tables.RowChanges.{with_settings}
 use Rattle.kinds.specs.Names.{is_same_name}
-use Rattle.inventory_rows.specs.pool_tables.Rows.{edit_row, edited, row_at, set_row}
-use Rattle.inventory_rows.specs.pool_rows.Changes.{is_bad_row, is_next_there, update_numbered, update_pool}
-use Rattle.inventory_rows.specs.pool_rows.Hierarchy.{comes_to, is_bad_copy_pool, is_bad_next}
-use Rattle.inventory_rows.specs.pool_rows.PoolRows.{PoolRows, class_capacity, pool_named}
-use Rattle.inventory_rows.specs.State.{Inv}
+use Rattle.inventory_rules.specs.inventory_rows.pool_tables.Rows.{edit_row, edited, row_at, set_row}
+use Rattle.inventory_rules.specs.inventory_rows.pool_rows.Changes.{is_bad_row, is_next_there, update_numbered, update_pool}
+use Rattle.inventory_rules.specs.inventory_rows.pool_rows.Hierarchy.{comes_to, is_bad_copy_pool, is_bad_next}
+use Rattle.inventory_rules.specs.inventory_rows.pool_rows.PoolRows.{PoolRows, class_capacity, pool_named}
+use Rattle.inventory_rules.specs.inventory_rows.State.{Inv}
 use Rattle.inventory_rules.specs.Common.{or_same}
 use Rattle.inventory_rules.specs.Stores.{backups_lowered, collocation_refused, pool_by_name, stays}
 use Rattle.inventory_rules.specs.Transactions.{effect, causes, sizes_refused}

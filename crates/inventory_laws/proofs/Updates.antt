@@ -10,18 +10,18 @@ use Rattle.std.proofs.lemmas.Bool.{and_parts, and_from, cases_eq, eqb-false, not
 use Rattle.std.proofs.lemmas.List.Folds.{list_all-map}
 use Rattle.std.proofs.lemmas.Map.{length-set_value}
 use Rattle.kinds.specs.declared.pool.PoolRule.{PoolRule}
-use Rattle.inventory_rows.specs.pool_tables.declared.pool.Pool.{Pool}
-use Rattle.inventory_rows.specs.pool_tables.RowChanges.{with_settings}
-use Rattle.inventory_rows.specs.pool_tables.Rows.{named, row_at, set_row}
-use Rattle.inventory_rows.proofs.of_pool_tables.Counting.{apart_at, each_set, row_at-set_other}
-use Rattle.inventory_rows.proofs.of_pool_tables.Tables.{lookup-set}
-use Rattle.inventory_rows.specs.pool_rows.Changes.{is_next_there}
-use Rattle.inventory_rows.specs.pool_rows.Hierarchy.{comes_to, next_in}
-use Rattle.inventory_rows.specs.pool_rows.PoolRows.{pool_class_capacity}
-use Rattle.inventory_rows.specs.declared.backup.Backup.{Backup}
-use Rattle.inventory_rows.specs.Delays.{lowered}
-use Rattle.inventory_rows.specs.Search.{is_primary_kind, pool}
-use Rattle.inventory_rows.specs.State.{Inv}
+use Rattle.inventory_rules.specs.inventory_rows.pool_tables.declared.pool.Pool.{Pool}
+use Rattle.inventory_rules.specs.inventory_rows.pool_tables.RowChanges.{with_settings}
+use Rattle.inventory_rules.specs.inventory_rows.pool_tables.Rows.{named, row_at, set_row}
+use Rattle.inventory_rules.proofs.of_inventory_rows.of_pool_tables.Counting.{apart_at, each_set, row_at-set_other}
+use Rattle.inventory_rules.proofs.of_inventory_rows.of_pool_tables.Tables.{lookup-set}
+use Rattle.inventory_rules.specs.inventory_rows.pool_rows.Changes.{is_next_there}
+use Rattle.inventory_rules.specs.inventory_rows.pool_rows.Hierarchy.{comes_to, next_in}
+use Rattle.inventory_rules.specs.inventory_rows.pool_rows.PoolRows.{pool_class_capacity}
+use Rattle.inventory_rules.specs.inventory_rows.declared.backup.Backup.{Backup}
+use Rattle.inventory_rules.specs.inventory_rows.Delays.{lowered}
+use Rattle.inventory_rules.specs.inventory_rows.Search.{is_primary_kind, pool}
+use Rattle.inventory_rules.specs.inventory_rows.State.{Inv}
 use Rattle.inventory_rules.specs.Stores.{backups_lowered}
 use Rattle.inventory_rules.specs.Valid.{are_apart, is_valid, lie_in, names_apart, next_is_there, no_ring}
 use Rattle.inventory_rules.specs.Facts.{Facts}

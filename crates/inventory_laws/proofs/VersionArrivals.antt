@@ -6,18 +6,18 @@ use Rattle.std.proofs.lemmas.Bool.{and_parts, and_from, lt-ltb, ltb-true, not-tr
 use Rattle.std.proofs.lemmas.List.Folds.{list_all-map}
 use Rattle.kinds.specs.declared.refusal.Refusal.TheVariants as refusal
 use Rattle.kinds.specs.declared.segment.Segment.{Segment}
-use Rattle.entries.specs.change_items.declared.items.NewHeldObject.{NewHeldObject}
-use Rattle.entries.specs.change_items.declared.items.NewVersion.{NewVersion}
-use Rattle.entries.specs.change_items.declared.lists.NewHeldObjects.{NewHeldObjects}
-use Rattle.entries.specs.change_items.declared.lists.NewVersions.{NewVersions}
-use Rattle.entries.specs.declared.change.Change.TheVariants as change
-use Rattle.inventory_rows.specs.version_groups.declared.copies.CopyRow.{CopyRow}
-use Rattle.inventory_rows.specs.version_groups.Entries.{all_later}
-use Rattle.inventory_rows.specs.version_groups.Versions.{has_object}
-use Rattle.inventory_rows.specs.object_rows.Filespaces.{filespace_at}
-use Rattle.inventory_rows.specs.object_rows.Rows.{Rows, kept_of, most_kept}
-use Rattle.inventory_rows.specs.Search.{copies, pool, versions}
-use Rattle.inventory_rows.specs.State.{Inv}
+use Rattle.inventory_rules.specs.entries.change_items.declared.items.NewHeldObject.{NewHeldObject}
+use Rattle.inventory_rules.specs.entries.change_items.declared.items.NewVersion.{NewVersion}
+use Rattle.inventory_rules.specs.entries.change_items.declared.lists.NewHeldObjects.{NewHeldObjects}
+use Rattle.inventory_rules.specs.entries.change_items.declared.lists.NewVersions.{NewVersions}
+use Rattle.inventory_rules.specs.entries.declared.change.Change.TheVariants as change
+use Rattle.inventory_rules.specs.inventory_rows.version_groups.declared.copies.CopyRow.{CopyRow}
+use Rattle.inventory_rules.specs.inventory_rows.version_groups.Entries.{all_later}
+use Rattle.inventory_rules.specs.inventory_rows.version_groups.Versions.{has_object}
+use Rattle.inventory_rules.specs.inventory_rows.object_rows.Filespaces.{filespace_at}
+use Rattle.inventory_rules.specs.inventory_rows.object_rows.Rows.{Rows, kept_of, most_kept}
+use Rattle.inventory_rules.specs.inventory_rows.Search.{copies, pool, versions}
+use Rattle.inventory_rules.specs.inventory_rows.State.{Inv}
 use Rattle.inventory_rules.specs.Common.{each, this}
 use Rattle.inventory_rules.specs.Segments.{make_scratch, put, scratch_refused, are_all_clear, copy_fits, items_fit, scratch_fits, segment_fits}
 use Rattle.inventory_rules.specs.Transactions.{effect, causes, sizes_refused, parts_fit}

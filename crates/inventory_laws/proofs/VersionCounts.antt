@@ -12,32 +12,32 @@ use Rattle.std.proofs.lemmas.List.Folds.{list_all-map}
 use Rattle.std.proofs.lemmas.List.Sums.{sum_by-cons}
 use Rattle.std.proofs.lemmas.Map.Lookups.{exact_bytes}
 use Rattle.kinds.specs.declared.refusal.Refusal.TheVariants as refusal
-use Rattle.entries.specs.change_items.declared.items.NewHeldObject.{NewHeldObject}
-use Rattle.entries.specs.change_items.declared.items.NewVersion.{NewVersion}
-use Rattle.entries.specs.change_items.declared.lists.NewHeldObjects.{NewHeldObjects}
-use Rattle.entries.specs.change_items.declared.lists.NewVersions.{NewVersions}
-use Rattle.entries.specs.declared.change.Change.TheVariants as change
+use Rattle.inventory_rules.specs.entries.change_items.declared.items.NewHeldObject.{NewHeldObject}
+use Rattle.inventory_rules.specs.entries.change_items.declared.items.NewVersion.{NewVersion}
+use Rattle.inventory_rules.specs.entries.change_items.declared.lists.NewHeldObjects.{NewHeldObjects}
+use Rattle.inventory_rules.specs.entries.change_items.declared.lists.NewVersions.{NewVersions}
+use Rattle.inventory_rules.specs.entries.declared.change.Change.TheVariants as change
 use Rattle.kinds.specs.Names.{is_same_name}
-use Rattle.inventory_rows.specs.version_groups.declared.copies.CopyRow.{CopyRow}
-use Rattle.inventory_rows.specs.version_groups.declared.group.Group.{Group}
-use Rattle.inventory_rows.specs.version_groups.declared.groups.Filespace.{Filespace}
-use Rattle.inventory_rows.specs.version_groups.declared.versions.Version.{Version}
-use Rattle.inventory_rows.specs.version_groups.Entries.{all_later, if_found, on_ok}
-use Rattle.inventory_rows.specs.version_groups.Groups.{AreByPath, at_path, group_at, group_with, groups_with}
-use Rattle.inventory_rows.specs.version_groups.Versions.{has_active, has_object, retired, superseded}
-use Rattle.inventory_rows.proofs.of_version_groups.Maps.{insert_present, lookup-set}
-use Rattle.inventory_rows.specs.object_rows.Filespaces.{at_number, filespace_after, filespace_at, groups_in}
-use Rattle.inventory_rows.proofs.of_pool_tables.Names.{at_name}
-use Rattle.inventory_rows.proofs.of_policy_domains.Sorted.{sorted-insert}
-use Rattle.inventory_rows.specs.object_rows.declared.held_object.HeldObject.{HeldObject}
-use Rattle.inventory_rows.specs.object_rows.declared.held_object.HeldRow.{HeldRow}
-use Rattle.inventory_rows.specs.object_rows.HeldRows.{held_versions, held_with}
-use Rattle.inventory_rows.specs.object_rows.Items.{items_of_held}
-use Rattle.inventory_rows.specs.object_rows.Rows.{Rows, kept_of}
-use Rattle.inventory_rows.proofs.of_object_rows.Splices.{Splices}
-use Rattle.inventory_rows.specs.Items.{count_items, items_of_filespace, items_of_group, items_of_version}
-use Rattle.inventory_rows.specs.Search as search
-use Rattle.inventory_rows.specs.State.{Inv}
+use Rattle.inventory_rules.specs.inventory_rows.version_groups.declared.copies.CopyRow.{CopyRow}
+use Rattle.inventory_rules.specs.inventory_rows.version_groups.declared.group.Group.{Group}
+use Rattle.inventory_rules.specs.inventory_rows.version_groups.declared.groups.Filespace.{Filespace}
+use Rattle.inventory_rules.specs.inventory_rows.version_groups.declared.versions.Version.{Version}
+use Rattle.inventory_rules.specs.inventory_rows.version_groups.Entries.{all_later, if_found, on_ok}
+use Rattle.inventory_rules.specs.inventory_rows.version_groups.Groups.{AreByPath, at_path, group_at, group_with, groups_with}
+use Rattle.inventory_rules.specs.inventory_rows.version_groups.Versions.{has_active, has_object, retired, superseded}
+use Rattle.inventory_rules.proofs.of_inventory_rows.of_version_groups.Maps.{insert_present, lookup-set}
+use Rattle.inventory_rules.specs.inventory_rows.object_rows.Filespaces.{at_number, filespace_after, filespace_at, groups_in}
+use Rattle.inventory_rules.proofs.of_inventory_rows.of_pool_tables.Names.{at_name}
+use Rattle.inventory_rules.proofs.of_inventory_rows.of_policy_domains.Sorted.{sorted-insert}
+use Rattle.inventory_rules.specs.inventory_rows.object_rows.declared.held_object.HeldObject.{HeldObject}
+use Rattle.inventory_rules.specs.inventory_rows.object_rows.declared.held_object.HeldRow.{HeldRow}
+use Rattle.inventory_rules.specs.inventory_rows.object_rows.HeldRows.{held_versions, held_with}
+use Rattle.inventory_rules.specs.inventory_rows.object_rows.Items.{items_of_held}
+use Rattle.inventory_rules.specs.inventory_rows.object_rows.Rows.{Rows, kept_of}
+use Rattle.inventory_rules.proofs.of_inventory_rows.of_object_rows.Splices.{Splices}
+use Rattle.inventory_rules.specs.inventory_rows.Items.{count_items, items_of_filespace, items_of_group, items_of_version}
+use Rattle.inventory_rules.specs.inventory_rows.Search as search
+use Rattle.inventory_rules.specs.inventory_rows.State.{Inv}
 use Rattle.inventory_rules.specs.Common.{each, or_same, this}
 use Rattle.inventory_rules.specs.Segments.{make_scratch, scratch_refused}
 use Rattle.inventory_rules.specs.Transactions.{effect}

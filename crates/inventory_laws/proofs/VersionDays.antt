@@ -5,12 +5,12 @@ use Rattle.std.proofs.lemmas.Bool.{false≢true, and_parts, and_from}
 use Rattle.std.proofs.lemmas.List.Folds.{list_all-map}
 use Rattle.std.specs.List.{list_all}
 use Rattle.std.specs.Option.{is_some, option_map_or}
-use Rattle.inventory_rows.specs.version_groups.declared.copies.CopyRow.{CopyRow}
-use Rattle.inventory_rows.specs.version_groups.declared.group.Group.{Group}
-use Rattle.inventory_rows.specs.version_groups.declared.versions.Version.{Version}
-use Rattle.inventory_rows.specs.version_groups.Entries.{all_later}
-use Rattle.inventory_rows.specs.version_groups.Versions.{is_empty, retired, superseded, with_copies, without_object}
-use Rattle.inventory_rows.proofs.of_version_groups.Lists.{all_later-filter, list_all-filter}
+use Rattle.inventory_rules.specs.inventory_rows.version_groups.declared.copies.CopyRow.{CopyRow}
+use Rattle.inventory_rules.specs.inventory_rows.version_groups.declared.group.Group.{Group}
+use Rattle.inventory_rules.specs.inventory_rows.version_groups.declared.versions.Version.{Version}
+use Rattle.inventory_rules.specs.inventory_rows.version_groups.Entries.{all_later}
+use Rattle.inventory_rules.specs.inventory_rows.version_groups.Versions.{is_empty, retired, superseded, with_copies, without_object}
+use Rattle.inventory_rules.proofs.of_inventory_rows.of_version_groups.Lists.{all_later-filter, list_all-filter}
 use Rattle.inventory_rules.specs.Valid.{is_orderly}
 use Rattle.inventory_laws.proofs.Spliced.{all_later-map}
 

@@ -2,15 +2,15 @@
 use Rattle.std.proofs.Common.{ℕ, List, [], ◌∷◌, Result, Ok, Err, refl, ◌∙◌}
 use Rattle.kinds.specs.declared.refusal.Refusal.{Refusal}
 use Rattle.kinds.specs.declared.segment.Segment.{Segment}
-use Rattle.entries.specs.change_items.declared.items.ScratchVolume.{ScratchVolume}
-use Rattle.inventory_rows.specs.version_groups.declared.copies.CopyRow.{CopyRow}
-use Rattle.inventory_rows.specs.volume_rows.Held.{held_of}
-use Rattle.inventory_rows.specs.volume_rows.declared.volume.Volume.{Volume}
-use Rattle.inventory_rows.specs.pool_tables.RowChanges as row
-use Rattle.inventory_rows.specs.pool_tables.Rows.{change_row}
-use Rattle.inventory_rows.specs.pool_rows.PoolRows.{is_sequential_at}
-use Rattle.inventory_rows.specs.pool_rows.Segments.{with_volumes}
-use Rattle.inventory_rows.specs.State.{Inv}
+use Rattle.inventory_rules.specs.entries.change_items.declared.items.ScratchVolume.{ScratchVolume}
+use Rattle.inventory_rules.specs.inventory_rows.version_groups.declared.copies.CopyRow.{CopyRow}
+use Rattle.inventory_rules.specs.inventory_rows.volume_rows.Held.{held_of}
+use Rattle.inventory_rules.specs.inventory_rows.volume_rows.declared.volume.Volume.{Volume}
+use Rattle.inventory_rules.specs.inventory_rows.pool_tables.RowChanges as row
+use Rattle.inventory_rules.specs.inventory_rows.pool_tables.Rows.{change_row}
+use Rattle.inventory_rules.specs.inventory_rows.pool_rows.PoolRows.{is_sequential_at}
+use Rattle.inventory_rules.specs.inventory_rows.pool_rows.Segments.{with_volumes}
+use Rattle.inventory_rules.specs.inventory_rows.State.{Inv}
 use Rattle.inventory_rules.specs.Common.{each, or_same, with_stores}
 use Rattle.inventory_rules.specs.Segments.{make_scratch, put, take_all, take_away}
 use Rattle.inventory_rules.specs.Halfway.{VersionFacts}

@@ -5,12 +5,12 @@ use Rattle.std.specs.List.{list_all}
 use Rattle.std.specs.Option.{option_map_or}
 use Rattle.std.proofs.lemmas.Bool.{and_parts, and_from, leb-true, le-leb, ne_eqb, not_from_false}
 use Rattle.kinds.specs.declared.segment.Segment.{Segment}
-use Rattle.inventory_rows.specs.version_groups.Entries.{is_nil}
-use Rattle.inventory_rows.specs.volume_rows.declared.volume.Volume.{Volume}
-use Rattle.inventory_rows.specs.volume_rows.declared.held.HeldSegment.{HeldSegment}
-use Rattle.inventory_rows.specs.volume_rows.Held.{held_of}
-use Rattle.inventory_rows.specs.volume_rows.Holdings.{is_bare, with_segment, without_segment}
-use Rattle.inventory_rows.specs.volume_rows.Volumes.{put_on, take_from}
+use Rattle.inventory_rules.specs.inventory_rows.version_groups.Entries.{is_nil}
+use Rattle.inventory_rules.specs.inventory_rows.volume_rows.declared.volume.Volume.{Volume}
+use Rattle.inventory_rules.specs.inventory_rows.volume_rows.declared.held.HeldSegment.{HeldSegment}
+use Rattle.inventory_rules.specs.inventory_rows.volume_rows.Held.{held_of}
+use Rattle.inventory_rules.specs.inventory_rows.volume_rows.Holdings.{is_bare, with_segment, without_segment}
+use Rattle.inventory_rules.specs.inventory_rows.volume_rows.Volumes.{put_on, take_from}
 use Rattle.inventory_rules.specs.Held.{holding}
 use Rattle.inventory_rules.specs.Valid.{are_disjoint, high_of, low_of, is_emptied_rightly, is_format_size, is_placed, may_have}
 use Rattle.inventory_rules.specs.Segments.{are_clear}

@@ -5,20 +5,20 @@ use Rattle.std.specs.Option.{option_map_or}
 use Rattle.std.proofs.lemmas.Bool.{and_parts}
 use Rattle.kinds.specs.declared.refusal.Refusal.{Refusal}
 use Rattle.kinds.specs.declared.segment.Segment.{Segment}
-use Rattle.entries.specs.change_items.declared.items.DroppedCopy.{DroppedCopy}
-use Rattle.entries.specs.change_items.declared.items.MovedCopy.{MovedCopy}
-use Rattle.entries.specs.change_items.declared.items.NewCopy.{NewCopy}
-use Rattle.inventory_rows.specs.version_groups.declared.copies.CopyRow.{CopyRow}
-use Rattle.inventory_rows.specs.version_groups.declared.versions.Version.{Version}
-use Rattle.inventory_rows.specs.object_rows.Rows.{Rows, rows_altered}
-use Rattle.inventory_rows.specs.Search.{copies, copy_in, version}
-use Rattle.inventory_rows.specs.State.{Inv}
+use Rattle.inventory_rules.specs.entries.change_items.declared.items.DroppedCopy.{DroppedCopy}
+use Rattle.inventory_rules.specs.entries.change_items.declared.items.MovedCopy.{MovedCopy}
+use Rattle.inventory_rules.specs.entries.change_items.declared.items.NewCopy.{NewCopy}
+use Rattle.inventory_rules.specs.inventory_rows.version_groups.declared.copies.CopyRow.{CopyRow}
+use Rattle.inventory_rules.specs.inventory_rows.version_groups.declared.versions.Version.{Version}
+use Rattle.inventory_rules.specs.inventory_rows.object_rows.Rows.{Rows, rows_altered}
+use Rattle.inventory_rules.specs.inventory_rows.Search.{copies, copy_in, version}
+use Rattle.inventory_rules.specs.inventory_rows.State.{Inv}
 use Rattle.inventory_rules.specs.Common.{each, or_same, with_clients}
 use Rattle.inventory_rules.specs.Copies.{added, add_copy, change_copy, drop_copy, dropped, move_copy, moved, placed_now, put_moved, segments_in, take_moved}
 use Rattle.inventory_rules.specs.Segments.{put, take_all, take_away, lies_rightly}
 use Rattle.inventory_rules.specs.Versions.{copies_of, take_versions}
-use Rattle.inventory_rows.specs.pool_tables.Rows.{row_at}
-use Rattle.inventory_rows.specs.pool_rows.PoolRows.{is_sequential_at}
+use Rattle.inventory_rules.specs.inventory_rows.pool_tables.Rows.{row_at}
+use Rattle.inventory_rules.specs.inventory_rows.pool_rows.PoolRows.{is_sequential_at}
 use Rattle.inventory_rules.specs.Halfway.{segments_of, VersionFacts, VolumeFacts}
 use Rattle.inventory_rules.specs.Reordered.{IsReordered}
 use Rattle.inventory_laws.specs.Coming.{Came, in_pool, in_pools, is_clear_there, MayCome, of_object}

@@ -8,21 +8,21 @@ use Rattle.kinds.specs.declared.change.Verb.TheVariants as verb
 use Rattle.kinds.specs.declared.pool.Access.{Access}
 use Rattle.kinds.specs.declared.refusal.Refusal.{Refusal}
 use Rattle.kinds.specs.declared.refusal.Refusal.TheVariants.{Exists, InventoryFull, NotFound}
-use Rattle.entries.specs.declared.change.Change.TheVariants as change
-use Rattle.inventory_rows.specs.volume_rows.declared.volume.Volume.{Volume}
-use Rattle.inventory_rows.specs.volume_rows.Holdings.{least_object}
-use Rattle.inventory_rows.specs.volume_rows.Volumes.{may_reuse, reset, reuse_unless_used}
-use Rattle.inventory_rows.specs.pool_tables.declared.pool.Pool.{Pool}
-use Rattle.inventory_rows.specs.pool_tables.RowChanges.{is_scratch_row, reuse_volume, with_access}
+use Rattle.inventory_rules.specs.entries.declared.change.Change.TheVariants as change
+use Rattle.inventory_rules.specs.inventory_rows.volume_rows.declared.volume.Volume.{Volume}
+use Rattle.inventory_rules.specs.inventory_rows.volume_rows.Holdings.{least_object}
+use Rattle.inventory_rules.specs.inventory_rows.volume_rows.Volumes.{may_reuse, reset, reuse_unless_used}
+use Rattle.inventory_rules.specs.inventory_rows.pool_tables.declared.pool.Pool.{Pool}
+use Rattle.inventory_rules.specs.inventory_rows.pool_tables.RowChanges.{is_scratch_row, reuse_volume, with_access}
 use Rattle.kinds.specs.Names.{is_same_name}
-use Rattle.inventory_rows.specs.pool_tables.Rows.{edited, row_at, set_row, with_row, without_row}
-use Rattle.inventory_rows.specs.pool_tables.Scratch.{is_scratch_name, volume_name}
-use Rattle.inventory_rows.proofs.of_pool_tables.Ascending.{none_from}
-use Rattle.inventory_rows.specs.pool_rows.Changes.{define_volume, delete_filed, delete_volume, new_volume, object_on, unless_held, update_filed, update_volume}
-use Rattle.inventory_rows.specs.pool_rows.PoolRows.{PoolRows, is_sequential, is_sequential_at, is_sequential_row, pool_capacity, volume_named}
-use Rattle.inventory_rows.specs.pool_rows.Segments.{delay_of, reuse_row}
-use Rattle.inventory_rows.specs.Search.{is_primary, is_primary_kind, pool}
-use Rattle.inventory_rows.specs.State.{Inv}
+use Rattle.inventory_rules.specs.inventory_rows.pool_tables.Rows.{edited, row_at, set_row, with_row, without_row}
+use Rattle.inventory_rules.specs.inventory_rows.pool_tables.Scratch.{is_scratch_name, volume_name}
+use Rattle.inventory_rules.proofs.of_inventory_rows.of_pool_tables.Ascending.{none_from}
+use Rattle.inventory_rules.specs.inventory_rows.pool_rows.Changes.{define_volume, delete_filed, delete_volume, new_volume, object_on, unless_held, update_filed, update_volume}
+use Rattle.inventory_rules.specs.inventory_rows.pool_rows.PoolRows.{PoolRows, is_sequential, is_sequential_at, is_sequential_row, pool_capacity, volume_named}
+use Rattle.inventory_rules.specs.inventory_rows.pool_rows.Segments.{delay_of, reuse_row}
+use Rattle.inventory_rules.specs.inventory_rows.Search.{is_primary, is_primary_kind, pool}
+use Rattle.inventory_rules.specs.inventory_rows.State.{Inv}
 use Rattle.inventory_rules.specs.Common.{or_same, file_bound, files_refused, is_free_file}
 use Rattle.inventory_rules.specs.Transactions.{effect, causes, sizes_refused, parts_fit}
 use Rattle.inventory_rules.specs.Held.{IsTied}

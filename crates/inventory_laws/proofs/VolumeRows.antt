@@ -8,9 +8,9 @@ use Rattle.std.specs.Ordering.{nat_cmp, is_eq, match_ordering}
 use Rattle.std.specs.declared.cmp.Ordering.TheVariants.{Less, Equal, Greater}
 use Rattle.std.proofs.lemmas.Bool.{and_parts, and_from, not-true, eqb-false, false≢true}
 use Rattle.std.proofs.lemmas.Option.{same_Some}
-use Rattle.inventory_rows.specs.version_groups.Entries.{all_later}
-use Rattle.inventory_rows.specs.pool_tables.Rows.{row_at, with_row, set_row}
-use Rattle.inventory_rows.proofs.of_pool_tables.Counting.{at_is}
+use Rattle.inventory_rules.specs.inventory_rows.version_groups.Entries.{all_later}
+use Rattle.inventory_rules.specs.inventory_rows.pool_tables.Rows.{row_at, with_row, set_row}
+use Rattle.inventory_rules.proofs.of_inventory_rows.of_pool_tables.Counting.{at_is}
 
 -- ---- a test of each element, and what holds of each
 

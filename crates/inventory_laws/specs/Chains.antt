@@ -2,18 +2,18 @@
 use Rattle.std.specs.Prelude.{◌≡◌, ⊤, ℕ, true, is_some, List, [], ◌∷◌, ◌++◌, map, Result, Some}
 use Rattle.kinds.specs.declared.refusal.Refusal.{Refusal}
 use Rattle.kinds.specs.declared.segment.Segment.{Segment}
-use Rattle.entries.specs.change_items.declared.items.DiscardedVersion.{DiscardedVersion}
-use Rattle.entries.specs.change_items.declared.items.DroppedCopy.{DroppedCopy}
-use Rattle.entries.specs.change_items.declared.items.MovedCopy.{MovedCopy}
-use Rattle.entries.specs.change_items.declared.items.NamedVersion.{NamedVersion}
-use Rattle.entries.specs.change_items.declared.items.NewCopy.{NewCopy}
-use Rattle.entries.specs.change_items.declared.items.NewHeldObject.{NewHeldObject}
-use Rattle.entries.specs.change_items.declared.items.NewVersion.{NewVersion}
-use Rattle.inventory_rows.specs.version_groups.declared.copies.CopyRow.{CopyRow}
-use Rattle.inventory_rows.specs.version_groups.declared.versions.Version.{Version}
-use Rattle.inventory_rows.specs.object_rows.Rows.{Rows, rows_cleared, rows_without}
-use Rattle.inventory_rows.specs.Search.{copies, copy_in, pool, version}
-use Rattle.inventory_rows.specs.State.{Inv}
+use Rattle.inventory_rules.specs.entries.change_items.declared.items.DiscardedVersion.{DiscardedVersion}
+use Rattle.inventory_rules.specs.entries.change_items.declared.items.DroppedCopy.{DroppedCopy}
+use Rattle.inventory_rules.specs.entries.change_items.declared.items.MovedCopy.{MovedCopy}
+use Rattle.inventory_rules.specs.entries.change_items.declared.items.NamedVersion.{NamedVersion}
+use Rattle.inventory_rules.specs.entries.change_items.declared.items.NewCopy.{NewCopy}
+use Rattle.inventory_rules.specs.entries.change_items.declared.items.NewHeldObject.{NewHeldObject}
+use Rattle.inventory_rules.specs.entries.change_items.declared.items.NewVersion.{NewVersion}
+use Rattle.inventory_rules.specs.inventory_rows.version_groups.declared.copies.CopyRow.{CopyRow}
+use Rattle.inventory_rules.specs.inventory_rows.version_groups.declared.versions.Version.{Version}
+use Rattle.inventory_rules.specs.inventory_rows.object_rows.Rows.{Rows, rows_cleared, rows_without}
+use Rattle.inventory_rules.specs.inventory_rows.Search.{copies, copy_in, pool, version}
+use Rattle.inventory_rules.specs.inventory_rows.State.{Inv}
 use Rattle.inventory_rules.specs.Copies.{added, change_copy, dropped, moved, placed_now}
 use Rattle.inventory_rules.specs.Versions.{held_too, inserted}
 use Rattle.inventory_rules.specs.Halfway.{VersionFacts}

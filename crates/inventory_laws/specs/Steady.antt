@@ -1,7 +1,7 @@
 -- A database within a transaction on data: what has to hold of it after each step.
 use Rattle.std.specs.Prelude.{◌≡◌, ℕ, true, List}
 use Rattle.kinds.specs.declared.segment.Segment.{Segment}
-use Rattle.inventory_rows.specs.State.{Inv}
+use Rattle.inventory_rules.specs.inventory_rows.State.{Inv}
 use Rattle.inventory_rules.specs.Valid.{copies_cite}
 use Rattle.inventory_rules.specs.Halfway.{VersionFacts, VolumeFacts}
 

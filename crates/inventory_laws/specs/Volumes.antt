@@ -1,6 +1,6 @@
 -- What a change of volumes leaves as it was.
 use Rattle.std.specs.Prelude.{◌≡◌}
-use Rattle.inventory_rows.specs.State.{Inv}
+use Rattle.inventory_rules.specs.inventory_rows.State.{Inv}
 
 -- the number of the last transaction, the day, the clients with their versions, the pools, and the numbers of filespaces and objects are as they were
 pub record OnlyVolumes (old new : Inv) : Type 0 where

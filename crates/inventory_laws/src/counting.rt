@@ -1,8 +1,8 @@
 // What the definitions mean, as laws. Each stands on a function that does nothing.
 ghost use Rattle.std.specs.Prelude.{◌≡◌, ◌+◌, ◌≤◌, true, false, nat_le, []};
-ghost use Rattle.entries.specs.declared.change.Change.{Change};
-ghost use Rattle.inventory_rows.specs.Items.{count_items, most_items};
-ghost use Rattle.inventory_rows.specs.State.{Inv};
+ghost use Rattle.inventory_rules.specs.entries.declared.change.Change.{Change};
+ghost use Rattle.inventory_rules.specs.inventory_rows.Items.{count_items, most_items};
+ghost use Rattle.inventory_rules.specs.inventory_rows.State.{Inv};
 ghost use Rattle.inventory_rules.specs.Transactions.{effect, causes, brings_items, items_added, items_gone, AreRowsOrdered as IsOrdered, IsOrderedFor};
 ghost use Rattle.inventory_rules.specs.Journal.{Journal};
 ghost use Rattle.inventory_rules.specs.Valid.{is_valid};

@@ -1,8 +1,8 @@
 // What a legal transaction leaves, and that what leaves a valid database is legal, as laws. Each stands on a function that does nothing.
 ghost use Rattle.std.specs.Prelude.{◌≡◌, true, []};
 ghost use Rattle.std.specs.Map.{keys_of};
-ghost use Rattle.entries.specs.declared.change.Change.{Change};
-ghost use Rattle.inventory_rows.specs.State.{Inv};
+ghost use Rattle.inventory_rules.specs.entries.declared.change.Change.{Change};
+ghost use Rattle.inventory_rules.specs.inventory_rows.State.{Inv};
 ghost use Rattle.inventory_rules.specs.Transactions.{effect, causes, sizes_refused, parts_fit, IsDayOf};
 ghost use Rattle.inventory_rules.specs.Held.{IsTied};
 ghost use Rattle.inventory_rules.specs.Journal.{Journal};

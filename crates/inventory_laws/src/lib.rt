@@ -12,3 +12,6 @@ pub mod validity;
 pub mod version_steps;
 pub mod volume_ends;
 pub mod volume_steps;
+
+pub use inventory_rules;
+pub use inventory_rules::{entries, inventory_rows};

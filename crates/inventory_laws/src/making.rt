@@ -1,8 +1,8 @@
 // What the definitions mean, as laws. Each stands on a function that does nothing.
 ghost use Rattle.std.specs.Prelude.{◌≡◌, true, []};
-ghost use Rattle.entries.specs.declared.change.Change.{Change};
-ghost use Rattle.inventory_rows.specs.object_rows.Places.{AreAllOrderly};
-ghost use Rattle.inventory_rows.specs.State.{Inv};
+ghost use Rattle.inventory_rules.specs.entries.declared.change.Change.{Change};
+ghost use Rattle.inventory_rules.specs.inventory_rows.object_rows.Places.{AreAllOrderly};
+ghost use Rattle.inventory_rules.specs.inventory_rows.State.{Inv};
 ghost use Rattle.inventory_rules.specs.Transactions.{CanMake, parts_fit, causes};
 ghost use Rattle.inventory_rules.specs.Facts.{Facts};
 ghost use Rattle.inventory_rules.specs.Journal.{Journal};

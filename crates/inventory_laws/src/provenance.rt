@@ -1,8 +1,8 @@
 // Where what is kept after a transaction comes from, as laws. Each stands on a function that does nothing.
 ghost use Rattle.std.specs.List.{AllByRecursion};
-ghost use Rattle.entries.specs.declared.change.Change.{Change};
-ghost use Rattle.inventory_rows.specs.Search.{versions};
-ghost use Rattle.inventory_rows.specs.State.{Inv};
+ghost use Rattle.inventory_rules.specs.entries.declared.change.Change.{Change};
+ghost use Rattle.inventory_rules.specs.inventory_rows.Search.{versions};
+ghost use Rattle.inventory_rules.specs.inventory_rows.State.{Inv};
 ghost use Rattle.inventory_rules.specs.Transactions.{effect};
 ghost use Rattle.inventory_laws.specs.Origins.{ComesFrom, HasOldOrNew};
 

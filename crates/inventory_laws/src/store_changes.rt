@@ -2,8 +2,8 @@
 ghost use Rattle.std.specs.Prelude.{◌≡◌, ℕ, true, []};
 ghost use Rattle.std.specs.Map.{keys_of};
 ghost use Rattle.kinds.specs.declared.change.PoolChange.{PoolChange};
-ghost use Rattle.entries.specs.declared.change.Change.TheVariants.{Pool, Reuse};
-ghost use Rattle.inventory_rows.specs.State.{Inv};
+ghost use Rattle.inventory_rules.specs.entries.declared.change.Change.TheVariants.{Pool, Reuse};
+ghost use Rattle.inventory_rules.specs.inventory_rows.State.{Inv};
 ghost use Rattle.inventory_rules.specs.Transactions.{effect, causes, sizes_refused, parts_fit};
 ghost use Rattle.inventory_rules.specs.Held.{IsTied};
 ghost use Rattle.inventory_rules.specs.Journal.{Journal};

@@ -1,6 +1,6 @@
 // What the definitions mean, as laws. Each stands on a function that does nothing.
 ghost use Rattle.std.specs.Prelude.{◌≡◌, true};
-ghost use Rattle.inventory_rows.specs.State.{Inv};
+ghost use Rattle.inventory_rules.specs.inventory_rows.State.{Inv};
 ghost use Rattle.inventory_rules.specs.Valid.{is_valid};
 ghost use Rattle.inventory_rules.specs.Facts.{Facts};
 

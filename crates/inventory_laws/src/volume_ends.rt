@@ -1,12 +1,12 @@
 // What only rises from one transaction to the next, as laws. Each stands on a function that does nothing.
 ghost use Rattle.std.specs.Prelude.{◌≡◌, ℕ, ◌+◌, ◌≤◌, true, false, [], Some};
 ghost use Rattle.std.specs.List.{AllByRecursion};
-ghost use Rattle.entries.specs.declared.change.Change.{Change};
-ghost use Rattle.inventory_rows.specs.volume_rows.declared.volume.Volume.{Volume};
-ghost use Rattle.inventory_rows.specs.pool_tables.Rows.{row_at};
-ghost use Rattle.inventory_rows.specs.pool_rows.PoolRows.{is_sequential};
-ghost use Rattle.inventory_rows.specs.Search.{segments_on};
-ghost use Rattle.inventory_rows.specs.State.{Inv};
+ghost use Rattle.inventory_rules.specs.entries.declared.change.Change.{Change};
+ghost use Rattle.inventory_rules.specs.inventory_rows.volume_rows.declared.volume.Volume.{Volume};
+ghost use Rattle.inventory_rules.specs.inventory_rows.pool_tables.Rows.{row_at};
+ghost use Rattle.inventory_rules.specs.inventory_rows.pool_rows.PoolRows.{is_sequential};
+ghost use Rattle.inventory_rules.specs.inventory_rows.Search.{segments_on};
+ghost use Rattle.inventory_rules.specs.inventory_rows.State.{Inv};
 ghost use Rattle.inventory_rules.specs.Journal.{Journal};
 ghost use Rattle.inventory_rules.specs.Transactions.{causes, effect};
 ghost use Rattle.inventory_rules.specs.Valid.{is_valid};

@@ -2,9 +2,9 @@
 use Rattle.std.specs.Prelude.{ℕ, ◌+◌, ◌*◌, ◌^◌, List, length}
 use Rattle.std.specs.List.{sum_by}
 use Rattle.policy_domains.specs.Rows.{DomainRow}
-use Rattle.version_groups.specs.declared.group.Group.{Group}
-use Rattle.version_groups.specs.declared.groups.Filespace.{Filespace}
-use Rattle.version_groups.specs.declared.versions.Version.{Version}
+use Rattle.object_rows.specs.version_groups.declared.group.Group.{Group}
+use Rattle.object_rows.specs.version_groups.declared.groups.Filespace.{Filespace}
+use Rattle.object_rows.specs.version_groups.declared.versions.Version.{Version}
 use Rattle.object_rows.specs.Items as object
 use Rattle.inventory_rows.specs.declared.backup.Backup.{Backup}
 use Rattle.inventory_rows.specs.State.{Inv}

@@ -11,11 +11,11 @@ use Rattle.kinds.specs.Names.{is_same_name}
 use Rattle.policy_domains.specs.declared.classes.ManagementClass.{ManagementClass}
 use Rattle.policy_domains.specs.Rows.{SetRow, DomainRow}
 use Rattle.policy_domains.specs.Rules.{rule_of}
-use Rattle.version_groups.specs.declared.copies.CopyRow.{CopyRow}
-use Rattle.version_groups.specs.declared.group.Group.{Group}
-use Rattle.version_groups.specs.declared.groups.Filespace.{Filespace}
-use Rattle.version_groups.specs.declared.versions.Version.{Version}
-use Rattle.version_groups.specs.Versions.{version_of}
+use Rattle.object_rows.specs.version_groups.declared.copies.CopyRow.{CopyRow}
+use Rattle.object_rows.specs.version_groups.declared.group.Group.{Group}
+use Rattle.object_rows.specs.version_groups.declared.groups.Filespace.{Filespace}
+use Rattle.object_rows.specs.version_groups.declared.versions.Version.{Version}
+use Rattle.object_rows.specs.version_groups.Versions.{version_of}
 use Rattle.object_rows.specs.declared.place.Node.{Node}
 use Rattle.object_rows.specs.declared.held_object.HeldRow.{HeldRow}
 use Rattle.object_rows.specs.Filespaces.{at_number, filespace_at, group_at}
@@ -23,9 +23,9 @@ use Rattle.object_rows.specs.Held.{copies_in}
 use Rattle.object_rows.specs.Held as held_copies
 use Rattle.object_rows.specs.HeldRows.{held_at}
 use Rattle.object_rows.specs.Rows.{Rows, kept_of, filespace_of_kept}
-use Rattle.pool_tables.specs.declared.pool.Pool.{Pool}
+use Rattle.pool_rows.specs.pool_tables.declared.pool.Pool.{Pool}
 use Rattle.pool_rows.specs.PoolRows.{PoolRows}
-use Rattle.pool_tables.specs.Rows.{row_at, number_where}
+use Rattle.pool_rows.specs.pool_tables.Rows.{row_at, number_where}
 use Rattle.inventory_rows.specs.State.{Inv}
 
 -- what is kept of each object: the versions of all paths, and, as a version that is never inactive, each held object

@@ -1,3 +1,7 @@
+pub use Rattle.entries.specs as entries
+pub use Rattle.inventory_rows.specs as inventory_rows
+pub use Rattle.copy_groups.specs as copy_groups
+pub use Rattle.entries.specs.change_items as change_items
 pub mod Backups
 pub mod Clients
 pub mod Common

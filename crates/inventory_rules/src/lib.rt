@@ -6,4 +6,8 @@
 pub mod laws;
 mod volumes;
 
+pub use copy_groups;
+pub use entries;
+pub use entries::change_items;
+pub use inventory_rows;
 pub use volumes::{is_format_size, may_have};

@@ -12,7 +12,9 @@ mod volume_copies;
 mod volumes;
 
 pub use copies::{missing, on_pool};
+pub use copy_groups;
 pub use expiring::unretained;
+pub use inventory_rows;
 pub use lines::{ClassRule, CopyLine, MissingLine, Rules, UnretainedLine};
 pub use listed::Listed;
 pub use rules::rules_of;

@@ -1,7 +1,7 @@
 -- Numbers that are drawn.
 use Rattle.std.proofs.Common.{◌≡◌, ℕ, true, false, ◌&&◌, [], ◌∷◌, refl}
 use Rattle.kinds.specs.Refusals.{foremost, unless, bad_value}
-use Rattle.inventory_rows.specs.State.{Inv}
+use Rattle.inventory_rules.specs.inventory_rows.State.{Inv}
 use Rattle.inventory_rules.specs.Common.{is_free_file, files_refused}
 
 pub one_file : (file : ℕ) (v : Inv) → foremost (files_refused (file ∷ []) v) ≡ foremost (unless (is_free_file v file) bad_value)

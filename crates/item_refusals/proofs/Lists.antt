@@ -4,8 +4,8 @@ use Rattle.std.proofs.Math.Path.{fun_ext}
 use Rattle.std.specs.List.{flat_map, list_all}
 use Rattle.std.proofs.lemmas.List.{drop_all}
 use Rattle.std.proofs.lemmas.List.Folds.{list_all-map}
-use Rattle.inventory_rows.specs.version_groups.Entries.{all_later}
-use Rattle.inventory_rows.proofs.of_version_groups.Lists.{drop_at}
+use Rattle.inventory_rules.specs.inventory_rows.version_groups.Entries.{all_later}
+use Rattle.inventory_rules.proofs.of_inventory_rows.of_version_groups.Lists.{drop_at}
 
 -- what is said of parts of the items
 pub all_later_map : {X Y : Type 0} (r : Y → Y → Bool) (f : X → Y) (xs : List X) → all_later r (map f xs) ≡ all_later (λ a b. r (f a) (f b)) xs

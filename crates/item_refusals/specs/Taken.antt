@@ -1,8 +1,8 @@
 -- A pool in which a copy lies already.
 use Rattle.std.specs.Prelude.{ℕ, not, is_some, List}
 use Rattle.kinds.specs.declared.refusal.Refusal.{Refusal}
-use Rattle.inventory_rows.specs.version_groups.declared.versions.Version.{Version}
-use Rattle.inventory_rows.specs.Search.{copy_in}
+use Rattle.inventory_rules.specs.inventory_rows.version_groups.declared.versions.Version.{Version}
+use Rattle.inventory_rules.specs.inventory_rows.Search.{copy_in}
 use Rattle.inventory_rules.specs.Journal.{Journal}
 use Rattle.kinds.specs.Refusals.{unless}
 use Rattle.inventory_rules.specs.Copies.{stale_copy}

@@ -2,10 +2,10 @@
 
 ghost use Rattle.std.specs.Prelude.{◌≡◌, ◌==◌, Bool, not};
 ghost use Rattle.std.specs.List.{list_all};
-ghost use Rattle.inventory_rows.specs.version_groups.Entries.{all_later};
+ghost use Rattle.inventory_rules.specs.inventory_rows.version_groups.Entries.{all_later};
 ghost use Rattle.kinds.specs.Names.{is_same_name};
 
-use change_items::{
+use inventory_rules::change_items::{
     DiscardedVersion, DroppedCopy, MovedCopy, NamedVersion, NewCopy, NewHeldObject, NewVersion,
     Rebinding, ScratchVolume,
 };

@@ -2,14 +2,14 @@
 
 ghost use Rattle.std.specs.Prelude.{◌≡◌, ◌==◌, ℕ, not, map};
 ghost use Rattle.kinds.specs.Refusals.{foremost};
-ghost use Rattle.inventory_rows.specs.State.{inv_of};
+ghost use Rattle.inventory_rules.specs.inventory_rows.State.{inv_of};
 ghost use Rattle.inventory_rules.specs.Versions.{filespace_there, arrivals_refused, new_refused, object_refused, objects_refused};
 
 use crate::apart::Apart;
 use crate::causes::once;
 use crate::room::has_room;
-use change_items::{NewHeldObject, NewVersion};
-use inventory_rows::Tables;
+use inventory_rules::change_items::{NewHeldObject, NewVersion};
+use inventory_rules::inventory_rows::Tables;
 use kinds::{Refusal, bad_value, sooner_of, unless};
 
 /// An item of a list that brings a new object.

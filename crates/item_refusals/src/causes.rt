@@ -2,7 +2,7 @@
 
 ghost use Rattle.std.specs.Prelude.{◌≡◌};
 ghost use Rattle.kinds.specs.Refusals.{foremost, unless, bad_value};
-ghost use Rattle.inventory_rows.specs.version_groups.Entries.{all_later};
+ghost use Rattle.inventory_rules.specs.inventory_rows.version_groups.Entries.{all_later};
 ghost use Rattle.inventory_rules.specs.Versions.{gone_or_unknown};
 
 use crate::apart::{Apart, are_apart};

@@ -4,15 +4,15 @@ ghost use Rattle.std.specs.Prelude.{◌≡◌};
 ghost use Rattle.item_refusals.specs.Taken.{taken_refused};
 ghost use Rattle.std.specs.Option.{option_copied};
 ghost use Rattle.kinds.specs.Refusals.{foremost};
-ghost use Rattle.inventory_rows.specs.State.{inv_of};
-ghost use Rattle.inventory_rows.specs.Search.{copy_in};
+ghost use Rattle.inventory_rules.specs.inventory_rows.State.{inv_of};
+ghost use Rattle.inventory_rules.specs.inventory_rows.Search.{copy_in};
 ghost use Rattle.inventory_rules.specs.Copies.{placed_by, stale_copy, copy_refused, moved_refused, move_refused, copied_refused, copy_list_refused};
 
 use crate::causes::{gone_or_unknown, once};
 use crate::past::Past;
-use change_items::{MovedCopy, NewCopy};
-use inventory_rows::Tables;
-use inventory_rows::version_groups::{CopyRow, Version};
+use inventory_rules::change_items::{MovedCopy, NewCopy};
+use inventory_rules::inventory_rows::Tables;
+use inventory_rules::inventory_rows::version_groups::{CopyRow, Version};
 use kinds::{Refusal, sooner_of};
 
 /// The copy of a version in a pool.

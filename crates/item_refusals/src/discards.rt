@@ -2,15 +2,15 @@
 
 ghost use Rattle.std.specs.Prelude.{◌≡◌};
 ghost use Rattle.kinds.specs.Refusals.{foremost};
-ghost use Rattle.inventory_rows.specs.Search.{lies_on, filespace_of};
-ghost use Rattle.inventory_rows.specs.State.{inv_of};
+ghost use Rattle.inventory_rules.specs.inventory_rows.Search.{lies_on, filespace_of};
+ghost use Rattle.inventory_rules.specs.inventory_rows.State.{inv_of};
 ghost use Rattle.inventory_rules.specs.Versions.{all_lie_on, primary_lies_on, in_use, is_in, discard_reason_refused, discarded_refused, discard_refused};
 
 use crate::causes::{gone_or_unknown, once};
 use crate::past::Past;
-use change_items::{DiscardReason, DiscardedVersion};
-use inventory_rows::version_groups::{CopyRow, Version};
-use inventory_rows::{Tables, is_primary};
+use inventory_rules::change_items::{DiscardReason, DiscardedVersion};
+use inventory_rules::inventory_rows::version_groups::{CopyRow, Version};
+use inventory_rules::inventory_rows::{Tables, is_primary};
 use kinds::{By, Digest, Refusal, bad_value, sooner_of, unless};
 
 /// Whether one of the copy's segments lies on the volume.

@@ -5,8 +5,8 @@ ghost use Rattle.std.specs.List.{list_any};
 ghost use Rattle.std.specs.Option.{option_copied};
 ghost use Rattle.kinds.specs.Refusals.{foremost, unless};
 ghost use Rattle.kinds.specs.declared.refusal.Refusal.TheVariants.{NotFound};
-ghost use Rattle.inventory_rows.specs.Search.{copy_in};
-ghost use Rattle.inventory_rows.specs.State.{inv_of};
+ghost use Rattle.inventory_rules.specs.inventory_rows.Search.{copy_in};
+ghost use Rattle.inventory_rules.specs.inventory_rows.State.{inv_of};
 ghost use Rattle.inventory_rules.specs.Copies.{file_of, drop_reason_refused, lies_elsewhere, lies_there, named_drop_refused, version_drop_refused, dropped_refused, drop_refused};
 ghost use Rattle.inventory_rules.specs.Versions.{in_use};
 
@@ -14,9 +14,9 @@ use crate::causes::{gone_or_unknown, once};
 use crate::copies::{copy_in, placed_by, stale_copy};
 use crate::discards::{in_use, lies_on};
 use crate::past::Past;
-use change_items::{DropReason, DroppedCopy};
-use inventory_rows::version_groups::{CopyRow, Version};
-use inventory_rows::{Tables, is_primary};
+use inventory_rules::change_items::{DropReason, DroppedCopy};
+use inventory_rules::inventory_rows::version_groups::{CopyRow, Version};
+use inventory_rules::inventory_rows::{Tables, is_primary};
 use kinds::{Digest, Refusal, bad_value, sooner_of, unless};
 
 fn file_of(reason: DropReason) -> u32

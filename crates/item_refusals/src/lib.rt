@@ -19,6 +19,7 @@ pub use arrivals::{Arrival, new_refused, objects_refused};
 pub use copies::{copy_list_refused, move_refused};
 pub use discards::discard_refused;
 pub use drops::drop_refused;
+pub use inventory_rules;
 pub use numbers::{file_bound, file_refusal, full_at};
 pub use past::{NoPast, Past};
 pub use scratch::scratch_refused;

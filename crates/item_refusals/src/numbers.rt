@@ -2,10 +2,10 @@
 
 ghost use Rattle.std.specs.Prelude.{◌≡◌, ◌+◌, ◌^◌, ◌<◌, ◌∷◌, [], nat_lt, max};
 ghost use Rattle.kinds.specs.Refusals.{foremost};
-ghost use Rattle.inventory_rows.specs.State.{inv_of};
+ghost use Rattle.inventory_rules.specs.inventory_rows.State.{inv_of};
 ghost use Rattle.inventory_rules.specs.Common.{full_at, is_free_file, files_refused, file_bound};
 
-use inventory_rows::Tables;
+use inventory_rules::inventory_rows::Tables;
 use kinds::{Refusal, bad_value, unless};
 
 /// The next number would reach its bound.

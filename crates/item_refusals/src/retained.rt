@@ -2,14 +2,14 @@
 
 ghost use Rattle.std.specs.Prelude.{◌≡◌, false};
 ghost use Rattle.std.specs.Option.{option_copied, option_map_or};
-ghost use Rattle.inventory_rows.specs.State.{inv_of};
-ghost use Rattle.inventory_rows.specs.object_rows.HeldRows.{held_at};
-ghost use Rattle.copy_groups.specs.Retention.{is_held_on};
+ghost use Rattle.inventory_rules.specs.inventory_rows.State.{inv_of};
+ghost use Rattle.inventory_rules.specs.inventory_rows.object_rows.HeldRows.{held_at};
+ghost use Rattle.inventory_rules.specs.copy_groups.Retention.{is_held_on};
 ghost use Rattle.inventory_rules.specs.Owed.{is_owed_in, is_owed_of, is_retained};
 
-use copy_groups::{is_held_on, is_owed};
-use inventory_rows::version_groups::{Group, Versions};
-use inventory_rows::{Tables, rule_in};
+use inventory_rules::copy_groups::{is_held_on, is_owed};
+use inventory_rules::inventory_rows::version_groups::{Group, Versions};
+use inventory_rules::inventory_rows::{Tables, rule_in};
 use kinds::{Day, Path, RuleFound};
 
 /// Whether one of a path's versions is the object's, and is retained today by the rule that was found for the path.

@@ -1,11 +1,11 @@
 //! Room for more objects.
 
 ghost use Rattle.std.specs.Prelude.{◌≡◌, ◌+◌, length, nat_le};
-ghost use Rattle.inventory_rows.specs.object_rows.Rows.{most_kept};
-ghost use Rattle.inventory_rows.specs.Search.{versions};
-ghost use Rattle.inventory_rows.specs.State.{inv_of};
+ghost use Rattle.inventory_rules.specs.inventory_rows.object_rows.Rows.{most_kept};
+ghost use Rattle.inventory_rules.specs.inventory_rows.Search.{versions};
+ghost use Rattle.inventory_rules.specs.inventory_rows.State.{inv_of};
 
-use inventory_rows::Tables;
+use inventory_rules::inventory_rows::Tables;
 
 /// How many objects may be kept.
 const MOST_KEPT: usize = 1 << 20;

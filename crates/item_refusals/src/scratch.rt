@@ -1,17 +1,17 @@
 //! Scratch volumes that a transaction makes.
 
 ghost use Rattle.std.specs.Prelude.{◌≡◌, ◌==◌, ◌&&◌, not, map};
-ghost use Rattle.inventory_rows.specs.version_groups.Entries.{all_later};
+ghost use Rattle.inventory_rules.specs.inventory_rows.version_groups.Entries.{all_later};
 ghost use Rattle.std.specs.List.{list_all, flat_map};
 ghost use Rattle.kinds.specs.Refusals.{foremost, unless};
-ghost use Rattle.inventory_rows.specs.State.{inv_of};
+ghost use Rattle.inventory_rules.specs.inventory_rows.State.{inv_of};
 ghost use Rattle.inventory_rules.specs.Common.{is_free_file, files_refused, file_bound};
 ghost use Rattle.inventory_rules.specs.Segments.{scratch_refused};
 
 use crate::apart::are_apart;
 use crate::numbers::{file_bound, is_free_file};
-use change_items::ScratchVolume;
-use inventory_rows::Tables;
+use inventory_rules::change_items::ScratchVolume;
+use inventory_rules::inventory_rows::Tables;
 use kinds::{Refusal, bad_value, sooner_of, unless};
 
 /// Whether the file number of each scratch volume is free.

@@ -2,14 +2,14 @@
 
 ghost use Rattle.std.specs.Prelude.{◌≡◌};
 ghost use Rattle.kinds.specs.Refusals.{foremost};
-ghost use Rattle.inventory_rows.specs.State.{inv_of};
+ghost use Rattle.inventory_rules.specs.inventory_rows.State.{inv_of};
 ghost use Rattle.inventory_rules.specs.Versions.{is_under, rebinding_refused, rebind_refused, stale_version, named_gone_refused, gone_refused, expired_refused, expire_refused};
 
 use crate::causes::{gone_or_unknown, once};
 use crate::past::Past;
 use crate::retained::is_retained;
-use change_items::{NamedVersion, Rebinding};
-use inventory_rows::Tables;
+use inventory_rules::change_items::{NamedVersion, Rebinding};
+use inventory_rules::inventory_rows::Tables;
 use kinds::{By, Path, Refusal, sooner_of, unless};
 
 fn rebinding_refusal<J: Past>(

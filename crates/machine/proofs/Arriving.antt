@@ -10,25 +10,25 @@ use Rattle.std.specs.Map.{lookup, set_value}
 use Rattle.std.specs.Ordering.{is_eq, match_ordering, nat_cmp}
 use Rattle.std.specs.declared.cmp.Ordering.TheVariants.{Less, Equal, Greater}
 use Rattle.kinds.specs.declared.segment.Segment.{Segment}
-use Rattle.entries.specs.change_items.declared.items.NewHeldObject.{NewHeldObject}
-use Rattle.entries.specs.change_items.declared.items.NewVersion.{NewVersion}
-use Rattle.entries.specs.change_items.declared.items.ScratchVolume.{ScratchVolume}
-use Rattle.inventory_rows.specs.version_groups.Entries.{if_found, on_ok}
-use Rattle.inventory_rows.specs.version_groups.Groups.{group_at, group_with, groups_with}
-use Rattle.inventory_rows.specs.version_groups.Versions.{has_object, superseded}
-use Rattle.inventory_rows.specs.version_groups.declared.group.Group.{Group}
-use Rattle.inventory_rows.specs.version_groups.declared.groups.Filespace.{Filespace}
-use Rattle.inventory_rows.specs.version_groups.declared.versions.Version.{Version}
-use Rattle.inventory_rows.specs.object_rows.declared.held_object.HeldObject.{HeldObject}
-use Rattle.inventory_rows.specs.object_rows.declared.held_object.HeldRow.{HeldRow}
-use Rattle.inventory_rows.specs.object_rows.Filespaces.{at_number, filespace_after, filespace_at, filespaces_with, versions_in, versions_of}
-use Rattle.inventory_rows.specs.object_rows.HeldRows.{held_versions, held_with}
-use Rattle.inventory_rows.specs.object_rows.Rows.{Rows}
-use Rattle.inventory_rows.specs.Search.{version, versions}
-use Rattle.inventory_rows.specs.State.{Inv}
-use Rattle.inventory_rules.specs.Common.{each, or_same}
-use Rattle.inventory_rules.specs.Segments.{make_scratch, put}
-use Rattle.inventory_rules.specs.Versions.{back_up, held_too, hold, inserted, new_held, new_version}
+use Rattle.steps.specs.entries.change_items.declared.items.NewHeldObject.{NewHeldObject}
+use Rattle.steps.specs.entries.change_items.declared.items.NewVersion.{NewVersion}
+use Rattle.steps.specs.entries.change_items.declared.items.ScratchVolume.{ScratchVolume}
+use Rattle.steps.specs.inventory_rows.version_groups.Entries.{if_found, on_ok}
+use Rattle.steps.specs.inventory_rows.version_groups.Groups.{group_at, group_with, groups_with}
+use Rattle.steps.specs.inventory_rows.version_groups.Versions.{has_object, superseded}
+use Rattle.steps.specs.inventory_rows.version_groups.declared.group.Group.{Group}
+use Rattle.steps.specs.inventory_rows.version_groups.declared.groups.Filespace.{Filespace}
+use Rattle.steps.specs.inventory_rows.version_groups.declared.versions.Version.{Version}
+use Rattle.steps.specs.inventory_rows.object_rows.declared.held_object.HeldObject.{HeldObject}
+use Rattle.steps.specs.inventory_rows.object_rows.declared.held_object.HeldRow.{HeldRow}
+use Rattle.steps.specs.inventory_rows.object_rows.Filespaces.{at_number, filespace_after, filespace_at, filespaces_with, versions_in, versions_of}
+use Rattle.steps.specs.inventory_rows.object_rows.HeldRows.{held_versions, held_with}
+use Rattle.steps.specs.inventory_rows.object_rows.Rows.{Rows}
+use Rattle.steps.specs.inventory_rows.Search.{version, versions}
+use Rattle.steps.specs.inventory_rows.State.{Inv}
+use Rattle.item_refusals.specs.inventory_rules.Common.{each, or_same}
+use Rattle.item_refusals.specs.inventory_rules.Segments.{make_scratch, put}
+use Rattle.item_refusals.specs.inventory_rules.Versions.{back_up, held_too, hold, inserted, new_held, new_version}
 use Rattle.steps.specs.declared.asked.HeldItem.{HeldItem}
 use Rattle.steps.specs.declared.asked.Item.{Item}
 use Rattle.machine.specs.Changes.{held_from, paired, version_from}

@@ -10,11 +10,11 @@ use Rattle.kinds.specs.declared.refusal.Refusal.TheVariants as refusal
 use Rattle.kinds.specs.declared.change.PoolChange.{PoolChange}
 use Rattle.kinds.specs.declared.change.PoolChange.TheVariants as store
 use Rattle.kinds.specs.declared.change.Verb.TheVariants as verb
-use Rattle.entries.specs.declared.change.Change.{Change}
-use Rattle.entries.specs.declared.change.Change.TheVariants as change
-use Rattle.inventory_rows.specs.pool_rows.PoolRows.{pool_named, volume_named}
-use Rattle.space.specs.declared.aim.Aim.{Aim}
-use Rattle.space.specs.declared.aim.Aim.TheVariants as aim
+use Rattle.steps.specs.entries.declared.change.Change.{Change}
+use Rattle.steps.specs.entries.declared.change.Change.TheVariants as change
+use Rattle.steps.specs.inventory_rows.pool_rows.PoolRows.{pool_named, volume_named}
+use Rattle.steps.specs.space.declared.aim.Aim.{Aim}
+use Rattle.steps.specs.space.declared.aim.Aim.TheVariants as aim
 use Rattle.steps.specs.declared.image.ImageKind.{ImageKind}
 use Rattle.steps.specs.declared.image.ImageKind.TheVariants as image
 use Rattle.steps.specs.declared.image.ImageReply.{ImageReply}

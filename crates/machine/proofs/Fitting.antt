@@ -7,14 +7,14 @@ use Rattle.std.proofs.lemmas.Option.{slice_get-get_or}
 use Rattle.std.specs.List.{slice_get}
 use Rattle.kinds.specs.Refusals.{bad_value, foremost, unless}
 use Rattle.kinds.specs.declared.refusal.Refusal.{Refusal}
-use Rattle.entries.specs.declared.change.Change.{Change}
-use Rattle.entries.specs.declared.entry.Entry.{Entry}
-use Rattle.inventory_rows.specs.version_groups.declared.versions.Version.{Version}
-use Rattle.inventory_rows.specs.Search.{version}
-use Rattle.inventory_rows.specs.State.{Inv}
-use Rattle.inventory_rules.specs.Journal.{Journal}
-use Rattle.inventory_rules.specs.Run.{journal_of}
-use Rattle.inventory_rules.specs.Versions.{of_version}
+use Rattle.steps.specs.entries.declared.change.Change.{Change}
+use Rattle.steps.specs.entries.declared.entry.Entry.{Entry}
+use Rattle.steps.specs.inventory_rows.version_groups.declared.versions.Version.{Version}
+use Rattle.steps.specs.inventory_rows.Search.{version}
+use Rattle.steps.specs.inventory_rows.State.{Inv}
+use Rattle.item_refusals.specs.inventory_rules.Journal.{Journal}
+use Rattle.item_refusals.specs.inventory_rules.Run.{journal_of}
+use Rattle.item_refusals.specs.inventory_rules.Versions.{of_version}
 use Rattle.steps.specs.Events.{Deed, Event}
 use Rattle.steps.specs.Events.Deed.{OpenNew, OpenCopy, WritePiece, CopyPiece, Seal, Commit, DropTicket, ReadPiece, Ask, Image, Reuse, Force}
 use Rattle.machine.specs.Causes.{copying_refused, most_bytes, object_gone, of_ticket, ticket_in_use}

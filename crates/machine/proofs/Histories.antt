@@ -3,10 +3,10 @@ use Rattle.std.proofs.Common.{◌≡◌, ℕ, ◌+◌, ◌-◌, ◌<◌, ◌≤�
 use Rattle.std.proofs.lemmas.List.{take_more}
 use Rattle.std.proofs.lemmas.Option.{slice_get_within, get_or_from_slice_get}
 use Rattle.std.specs.List.{slice_get}
-use Rattle.entries.specs.declared.change.Change.{Change}
-use Rattle.entries.specs.declared.entry.Entry.{Entry}
-use Rattle.inventory_rows.specs.State.{Inv}
-use Rattle.inventory_rules.specs.Transactions.{effect}
+use Rattle.steps.specs.entries.declared.change.Change.{Change}
+use Rattle.steps.specs.entries.declared.entry.Entry.{Entry}
+use Rattle.steps.specs.inventory_rows.State.{Inv}
+use Rattle.item_refusals.specs.inventory_rules.Transactions.{effect}
 use Rattle.machine.specs.Fits.{History, inv}
 use Rattle.machine.specs.State.{after}
 

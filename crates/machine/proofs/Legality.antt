@@ -1,11 +1,11 @@
 -- What joins is legal where it joins.
 use Rattle.std.proofs.Common.{◌≡◌, ℕ, ◌&&◌, nat_le, List, [], length, Option, Some, None, Ok, refl, subst}
 use Rattle.kinds.specs.Refusals.{foremost, unless, bad_value}
-use Rattle.entries.specs.declared.change.Change.{Change}
-use Rattle.entries.specs.declared.change.Change.TheVariants as change
-use Rattle.inventory_rules.specs.Run.{journal_of}
-use Rattle.inventory_rules.specs.Transactions.{refused}
-use Rattle.inventory_rules.specs.Versions.{name_once}
+use Rattle.steps.specs.entries.declared.change.Change.{Change}
+use Rattle.steps.specs.entries.declared.change.Change.TheVariants as change
+use Rattle.item_refusals.specs.inventory_rules.Run.{journal_of}
+use Rattle.item_refusals.specs.inventory_rules.Transactions.{refused}
+use Rattle.item_refusals.specs.inventory_rules.Versions.{name_once}
 use Rattle.steps.specs.declared.asked.Asked.{Asked}
 use Rattle.steps.specs.Events.{event}
 use Rattle.steps.specs.Events.Deed.{Commit, Reuse}

@@ -4,10 +4,10 @@ use Rattle.std.specs.List.{AllByRecursion}
 use Rattle.kinds.specs.Refusals.{bad_value, foremost, unless}
 use Rattle.kinds.specs.declared.refusal.Refusal.{Refusal}
 use Rattle.kinds.specs.declared.refusal.Refusal.TheVariants as refusal
-use Rattle.inventory_rows.specs.version_groups.declared.versions.Version.{Version}
-use Rattle.inventory_rows.specs.Search.{version}
-use Rattle.inventory_rules.specs.Journal.{Journal}
-use Rattle.inventory_rules.specs.Versions.{gone_or_unknown, of_version}
+use Rattle.steps.specs.inventory_rows.version_groups.declared.versions.Version.{Version}
+use Rattle.steps.specs.inventory_rows.Search.{version}
+use Rattle.item_refusals.specs.inventory_rules.Journal.{Journal}
+use Rattle.item_refusals.specs.inventory_rules.Versions.{gone_or_unknown, of_version}
 use Rattle.machine.specs.Causes.{copying_refused, most_bytes, object_gone, of_ticket, seal_refused, ticket_in_use, write_refused}
 use Rattle.machine.specs.Fits.{drops_image, is_write_fault}
 use Rattle.machine.specs.Machine.{ended}

@@ -5,14 +5,14 @@ use Rattle.kinds.specs.Refusals.{foremost}
 use Rattle.kinds.specs.declared.refusal.Refusal.{Refusal}
 use Rattle.kinds.specs.declared.refusal.Refusal.TheVariants as refusal
 use Rattle.kinds.specs.declared.segment.Digest.{Digest}
-use Rattle.entries.specs.declared.change.Change.{Change}
-use Rattle.entries.specs.declared.change.Change.TheVariants as change
-use Rattle.entries.specs.declared.entry.Entry.{Entry}
-use Rattle.inventory_answers.specs.declared.query.Query.{Query}
-use Rattle.inventory_answers.specs.declared.reply.Answer.{Answer}
-use Rattle.inventory_rows.specs.State.{Inv}
-use Rattle.space.specs.declared.aim.Aim.{Aim}
-use Rattle.space.specs.Placing.{walked}
+use Rattle.steps.specs.entries.declared.change.Change.{Change}
+use Rattle.steps.specs.entries.declared.change.Change.TheVariants as change
+use Rattle.steps.specs.entries.declared.entry.Entry.{Entry}
+use Rattle.steps.specs.inventory_answers.declared.query.Query.{Query}
+use Rattle.steps.specs.inventory_answers.declared.reply.Answer.{Answer}
+use Rattle.steps.specs.inventory_rows.State.{Inv}
+use Rattle.steps.specs.space.declared.aim.Aim.{Aim}
+use Rattle.steps.specs.space.Placing.{walked}
 use Rattle.steps.specs.declared.asked.Asked.{Asked}
 use Rattle.steps.specs.declared.image.ImageKind.{ImageKind}
 use Rattle.steps.specs.declared.image.ImageKind.TheVariants as image

@@ -1,7 +1,7 @@
 -- Events of one actor that fit a history, one after the other.
 use Rattle.std.proofs.Common.{◌≡◌, ℕ, ◌-◌, ◌<◌, ◌≤◌, List, [], ◌∷◌, ◌++◌, length, Option, Some, None, refl, sym, ap, subst, arith}
 use Rattle.std.proofs.lemmas.Option.{slice_get_within}
-use Rattle.entries.specs.declared.change.Change.{Change}
+use Rattle.steps.specs.entries.declared.change.Change.{Change}
 use Rattle.steps.specs.Events.{Event}
 use Rattle.machine.specs.Fits.{Fits, History, JoinsAt, Own, Step, last, number_after}
 

@@ -4,10 +4,10 @@ use Rattle.std.proofs.lemmas.List.{append-nil}
 use Rattle.std.specs.Prelude.{replicate}
 use Rattle.kinds.specs.declared.refusal.Refusal.{Refusal}
 use Rattle.kinds.specs.declared.segment.Digest.{Digest}
-use Rattle.entries.specs.declared.change.Change.TheVariants as change
-use Rattle.inventory_answers.specs.declared.query.Query.{Query}
-use Rattle.inventory_answers.specs.declared.reply.Answer.{Answer}
-use Rattle.space.specs.declared.aim.Aim.{Aim}
+use Rattle.steps.specs.entries.declared.change.Change.TheVariants as change
+use Rattle.steps.specs.inventory_answers.declared.query.Query.{Query}
+use Rattle.steps.specs.inventory_answers.declared.reply.Answer.{Answer}
+use Rattle.steps.specs.space.declared.aim.Aim.{Aim}
 use Rattle.steps.specs.declared.asked.Asked.{Asked}
 use Rattle.steps.specs.declared.image.ImageKind.{ImageKind}
 use Rattle.steps.specs.declared.image.ImageKind.TheVariants as image

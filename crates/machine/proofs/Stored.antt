@@ -6,21 +6,21 @@ use Rattle.std.specs.Option.{option_map_or}
 use Rattle.kinds.specs.Refusals.{bad_value, foremost, unless}
 use Rattle.kinds.specs.declared.refusal.Refusal.{Refusal}
 use Rattle.kinds.specs.declared.refusal.Refusal.TheVariants as refusal
-use Rattle.entries.specs.change_items.declared.items.NewVersion.{NewVersion}
-use Rattle.entries.specs.declared.change.Change.{Change}
-use Rattle.entries.specs.declared.change.Change.TheVariants as change
-use Rattle.entries.specs.declared.entry.Entry.{Entry}
-use Rattle.inventory_rows.specs.version_groups.Entries.{is_nil}
-use Rattle.inventory_rows.specs.object_rows.Filespaces.{filespace_at}
-use Rattle.inventory_rows.specs.object_rows.Rows.{Rows}
-use Rattle.inventory_rows.specs.Search.{version}
-use Rattle.inventory_rows.specs.State.{Inv}
-use Rattle.inventory_rules.specs.Common.{each}
-use Rattle.inventory_rules.specs.Journal.{Journal}
-use Rattle.inventory_rules.specs.Segments.{make_scratch, scratch_refused}
-use Rattle.inventory_rules.specs.Transactions.{causes, effect, refused, sizes_refused, then_valid}
-use Rattle.inventory_rules.specs.Valid.{is_valid}
-use Rattle.inventory_rules.specs.Versions.{arrivals_refused, back_up, filespace_there, hold, name_once, new_refused, objects_refused}
+use Rattle.steps.specs.entries.change_items.declared.items.NewVersion.{NewVersion}
+use Rattle.steps.specs.entries.declared.change.Change.{Change}
+use Rattle.steps.specs.entries.declared.change.Change.TheVariants as change
+use Rattle.steps.specs.entries.declared.entry.Entry.{Entry}
+use Rattle.steps.specs.inventory_rows.version_groups.Entries.{is_nil}
+use Rattle.steps.specs.inventory_rows.object_rows.Filespaces.{filespace_at}
+use Rattle.steps.specs.inventory_rows.object_rows.Rows.{Rows}
+use Rattle.steps.specs.inventory_rows.Search.{version}
+use Rattle.steps.specs.inventory_rows.State.{Inv}
+use Rattle.item_refusals.specs.inventory_rules.Common.{each}
+use Rattle.item_refusals.specs.inventory_rules.Journal.{Journal}
+use Rattle.item_refusals.specs.inventory_rules.Segments.{make_scratch, scratch_refused}
+use Rattle.item_refusals.specs.inventory_rules.Transactions.{causes, effect, refused, sizes_refused, then_valid}
+use Rattle.item_refusals.specs.inventory_rules.Valid.{is_valid}
+use Rattle.item_refusals.specs.inventory_rules.Versions.{arrivals_refused, back_up, filespace_there, hold, name_once, new_refused, objects_refused}
 use Rattle.steps.specs.declared.asked.Asked.{Asked}
 use Rattle.steps.specs.declared.asked.Asked.TheVariants as asked
 use Rattle.steps.specs.declared.asked.HeldItem.{HeldItem}

@@ -8,21 +8,21 @@ use Rattle.kinds.specs.declared.refusal.By.TheVariants as by
 use Rattle.kinds.specs.declared.refusal.Refusal.{Refusal}
 use Rattle.kinds.specs.declared.refusal.Refusal.TheVariants as refusal
 use Rattle.kinds.specs.declared.segment.Digest.{Digest}
-use Rattle.entries.specs.EntryForm.{entry as entry_form}
-use Rattle.entries.specs.declared.change.Change.{Change}
-use Rattle.entries.specs.declared.change.Change.TheVariants as change
-use Rattle.inventory_rows.specs.version_groups.Entries.{is_nil}
-use Rattle.inventory_rows.specs.version_groups.declared.copies.CopyRow.{CopyRow}
-use Rattle.inventory_rows.specs.version_groups.declared.versions.Version.{Version}
-use Rattle.inventory_rows.specs.Search.{copy_in, is_primary, is_primary_kind, pool, version}
-use Rattle.inventory_rules.specs.Backups.{backup_at, is_done}
-use Rattle.inventory_rules.specs.Copies.{copy_refused}
-use Rattle.inventory_rules.specs.Transactions.{refused}
-use Rattle.inventory_rules.specs.Versions.{name_once, of_version}
-use Rattle.inventory_answers.specs.Answered.{answered}
-use Rattle.inventory_answers.specs.declared.query.Query.{Query}
-use Rattle.space.specs.declared.aim.Aim.{Aim}
-use Rattle.space.specs.declared.aim.Aim.TheVariants as aim
+use Rattle.steps.specs.entries.EntryForm.{entry as entry_form}
+use Rattle.steps.specs.entries.declared.change.Change.{Change}
+use Rattle.steps.specs.entries.declared.change.Change.TheVariants as change
+use Rattle.steps.specs.inventory_rows.version_groups.Entries.{is_nil}
+use Rattle.steps.specs.inventory_rows.version_groups.declared.copies.CopyRow.{CopyRow}
+use Rattle.steps.specs.inventory_rows.version_groups.declared.versions.Version.{Version}
+use Rattle.steps.specs.inventory_rows.Search.{copy_in, is_primary, is_primary_kind, pool, version}
+use Rattle.item_refusals.specs.inventory_rules.Backups.{backup_at, is_done}
+use Rattle.item_refusals.specs.inventory_rules.Copies.{copy_refused}
+use Rattle.item_refusals.specs.inventory_rules.Transactions.{refused}
+use Rattle.item_refusals.specs.inventory_rules.Versions.{name_once, of_version}
+use Rattle.steps.specs.inventory_answers.Answered.{answered}
+use Rattle.steps.specs.inventory_answers.declared.query.Query.{Query}
+use Rattle.steps.specs.space.declared.aim.Aim.{Aim}
+use Rattle.steps.specs.space.declared.aim.Aim.TheVariants as aim
 use Rattle.steps.specs.declared.asked.Asked.{Asked}
 use Rattle.steps.specs.declared.asked.Asked.TheVariants as asked
 use Rattle.steps.specs.declared.image.ImageKind.{ImageKind}

@@ -6,18 +6,18 @@ use Rattle.kinds.specs.declared.change.DefineOrDelete.TheVariants as two
 use Rattle.kinds.specs.declared.change.ObjectChange.TheVariants as client
 use Rattle.kinds.specs.declared.change.PoolChange.TheVariants as store
 use Rattle.kinds.specs.declared.change.Verb.TheVariants as verb
-use Rattle.entries.specs.change_items.declared.items.MovedCopy.{MovedCopy}
-use Rattle.entries.specs.change_items.declared.items.NewCopy.{NewCopy}
-use Rattle.entries.specs.change_items.declared.items.NewHeldObject.{NewHeldObject}
-use Rattle.entries.specs.change_items.declared.items.NewVersion.{NewVersion}
-use Rattle.entries.specs.change_items.declared.items.ScratchVolume.{ScratchVolume}
-use Rattle.entries.specs.declared.change.Change.{Change}
-use Rattle.entries.specs.declared.change.Change.TheVariants as change
-use Rattle.inventory_rows.specs.version_groups.Entries.{is_nil}
-use Rattle.inventory_rows.specs.pool_tables.Rows.{row_at}
-use Rattle.inventory_rows.specs.State.{Inv}
-use Rattle.space.specs.declared.aim.Aim.{Aim}
-use Rattle.space.specs.declared.aim.Aim.TheVariants as aim
+use Rattle.steps.specs.entries.change_items.declared.items.MovedCopy.{MovedCopy}
+use Rattle.steps.specs.entries.change_items.declared.items.NewCopy.{NewCopy}
+use Rattle.steps.specs.entries.change_items.declared.items.NewHeldObject.{NewHeldObject}
+use Rattle.steps.specs.entries.change_items.declared.items.NewVersion.{NewVersion}
+use Rattle.steps.specs.entries.change_items.declared.items.ScratchVolume.{ScratchVolume}
+use Rattle.steps.specs.entries.declared.change.Change.{Change}
+use Rattle.steps.specs.entries.declared.change.Change.TheVariants as change
+use Rattle.steps.specs.inventory_rows.version_groups.Entries.{is_nil}
+use Rattle.steps.specs.inventory_rows.pool_tables.Rows.{row_at}
+use Rattle.steps.specs.inventory_rows.State.{Inv}
+use Rattle.steps.specs.space.declared.aim.Aim.{Aim}
+use Rattle.steps.specs.space.declared.aim.Aim.TheVariants as aim
 use Rattle.steps.specs.declared.asked.Asked.{Asked}
 use Rattle.steps.specs.declared.asked.Asked.TheVariants as asked
 use Rattle.steps.specs.declared.asked.HeldItem.{HeldItem}

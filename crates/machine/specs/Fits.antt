@@ -3,13 +3,13 @@ use Rattle.std.specs.Prelude.{◌≡◌, ◌⊎◌, ℕ, ◌+◌, ◌-◌, ◌�
 use Rattle.std.specs.List.{slice_get}
 use Rattle.kinds.specs.declared.refusal.Refusal.{Refusal}
 use Rattle.kinds.specs.Refusals.{number_of}
-use Rattle.entries.specs.declared.change.Change.{Change}
-use Rattle.entries.specs.declared.change.Change.TheVariants as change
-use Rattle.entries.specs.declared.entry.Entry.{Entry}
-use Rattle.inventory_rows.specs.State.{Inv}
-use Rattle.inventory_rules.specs.Run.{journal_of}
-use Rattle.space.specs.declared.aim.Aim.{Aim}
-use Rattle.space.specs.Placing.{walked}
+use Rattle.steps.specs.entries.declared.change.Change.{Change}
+use Rattle.steps.specs.entries.declared.change.Change.TheVariants as change
+use Rattle.steps.specs.entries.declared.entry.Entry.{Entry}
+use Rattle.steps.specs.inventory_rows.State.{Inv}
+use Rattle.item_refusals.specs.inventory_rules.Run.{journal_of}
+use Rattle.steps.specs.space.declared.aim.Aim.{Aim}
+use Rattle.steps.specs.space.Placing.{walked}
 use Rattle.steps.specs.declared.asked.Asked.{Asked}
 use Rattle.steps.specs.declared.image.ImageKind.{ImageKind}
 use Rattle.steps.specs.declared.image.ImageKind.TheVariants as image

@@ -1,9 +1,9 @@
 -- What is asked of placing, and runs of the machine.
 use Rattle.std.specs.Prelude.{◌≡◌, ℕ, true, Contains, Ok, Err}
 use Rattle.kinds.specs.declared.refusal.Refusal.{Refusal}
-use Rattle.inventory_rows.specs.State.{Inv}
-use Rattle.space.specs.declared.aim.Aim.{Aim}
-use Rattle.space.specs.Placing.{walked}
+use Rattle.steps.specs.inventory_rows.State.{Inv}
+use Rattle.steps.specs.space.declared.aim.Aim.{Aim}
+use Rattle.steps.specs.space.Placing.{walked}
 use Rattle.machine.specs.Machine.{Places, Space}
 use Rattle.machine.specs.Says.{is_elsewhere}
 use Rattle.machine.specs.State.{Place}

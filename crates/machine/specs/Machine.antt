@@ -2,7 +2,7 @@
 use Rattle.std.specs.Prelude.{◌≡◌, ◌⊎◌, ℕ, ◌+◌, ◌-◌, ◌%◌, ◌^◌, ◌<◌, ◌≤◌, ◌==◌, max, nat_lt, Bool, true, false, not, ◌&&◌, is_some, List, [], ◌∷◌, ◌++◌, map, filter, length, drop, take, replicate, Option, None, Some, Result, Ok, Err}
 use Rattle.std.specs.List.{find, flat_map, list_any}
 use Rattle.std.specs.Option.{option_map_or}
-use Rattle.store_api.specs.Cause.{NoneFell}
+use Rattle.contents.specs.store_api.Cause.{NoneFell}
 use Rattle.kinds.specs.Refusals.{foremost, unless, refusal_of}
 use Rattle.kinds.specs.declared.change.PoolChange.TheVariants as store
 use Rattle.kinds.specs.declared.change.Verb.TheVariants as verb
@@ -11,23 +11,23 @@ use Rattle.kinds.specs.declared.refusal.Refusal.{Refusal}
 use Rattle.kinds.specs.declared.refusal.Refusal.TheVariants as refusal
 use Rattle.kinds.specs.declared.segment.Digest.{Digest}
 use Rattle.kinds.specs.declared.segment.Segment.{Segment}
-use Rattle.entries.specs.EntryForm.{entry as entry_form}
-use Rattle.entries.specs.declared.change.Change.{Change}
-use Rattle.entries.specs.declared.change.Change.TheVariants as change
-use Rattle.entries.specs.declared.entry.Entry.{Entry}
-use Rattle.inventory_rows.specs.version_groups.Entries.{is_nil}
-use Rattle.inventory_rows.specs.version_groups.declared.versions.Version.{Version}
-use Rattle.inventory_rows.specs.pool_rows.PoolRows.{pool_named, volume_named}
-use Rattle.inventory_rows.specs.Search.{copies, pool, version}
-use Rattle.inventory_rows.specs.State.{Inv}
-use Rattle.inventory_rules.specs.Transactions.{effect, refused}
-use Rattle.inventory_answers.specs.Answered.{answered}
-use Rattle.inventory_answers.specs.declared.query.Query.{Query}
-use Rattle.inventory_answers.specs.declared.query.Query.TheVariants as query
-use Rattle.inventory_answers.specs.declared.reply.Answer.{Answer}
-use Rattle.inventory_answers.specs.declared.reply.Rows.TheVariants as rows
-use Rattle.space.specs.declared.aim.Aim.{Aim}
-use Rattle.space.specs.declared.aim.Aim.TheVariants as aim
+use Rattle.steps.specs.entries.EntryForm.{entry as entry_form}
+use Rattle.steps.specs.entries.declared.change.Change.{Change}
+use Rattle.steps.specs.entries.declared.change.Change.TheVariants as change
+use Rattle.steps.specs.entries.declared.entry.Entry.{Entry}
+use Rattle.steps.specs.inventory_rows.version_groups.Entries.{is_nil}
+use Rattle.steps.specs.inventory_rows.version_groups.declared.versions.Version.{Version}
+use Rattle.steps.specs.inventory_rows.pool_rows.PoolRows.{pool_named, volume_named}
+use Rattle.steps.specs.inventory_rows.Search.{copies, pool, version}
+use Rattle.steps.specs.inventory_rows.State.{Inv}
+use Rattle.item_refusals.specs.inventory_rules.Transactions.{effect, refused}
+use Rattle.steps.specs.inventory_answers.Answered.{answered}
+use Rattle.steps.specs.inventory_answers.declared.query.Query.{Query}
+use Rattle.steps.specs.inventory_answers.declared.query.Query.TheVariants as query
+use Rattle.steps.specs.inventory_answers.declared.reply.Answer.{Answer}
+use Rattle.steps.specs.inventory_answers.declared.reply.Rows.TheVariants as rows
+use Rattle.steps.specs.space.declared.aim.Aim.{Aim}
+use Rattle.steps.specs.space.declared.aim.Aim.TheVariants as aim
 use Rattle.steps.specs.declared.asked.Asked.{Asked}
 use Rattle.steps.specs.declared.image.ImageKind.{ImageKind}
 use Rattle.steps.specs.declared.image.ImageKind.TheVariants as image

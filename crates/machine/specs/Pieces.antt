@@ -1,11 +1,11 @@
 -- When a piece of an object can't be read.
 use Rattle.std.specs.Prelude.{◌≡◌, ◌⊎◌, ℕ, ◌-◌, ◌==◌, min, false, List, filter, take, drop, Contains, if◌then◌else◌}
 use Rattle.std.specs.List.{AllByRecursion}
-use Rattle.store_api.specs.Cause.{Rose}
+use Rattle.contents.specs.store_api.Cause.{Rose}
 use Rattle.kinds.specs.declared.segment.Segment.{Segment}
-use Rattle.inventory_rows.specs.version_groups.declared.copies.CopyRow.{CopyRow}
-use Rattle.inventory_rows.specs.version_groups.declared.versions.Version.{Version}
-use Rattle.inventory_rows.specs.State.{Inv}
+use Rattle.steps.specs.inventory_rows.version_groups.declared.copies.CopyRow.{CopyRow}
+use Rattle.steps.specs.inventory_rows.version_groups.declared.versions.Version.{Version}
+use Rattle.steps.specs.inventory_rows.State.{Inv}
 use Rattle.contents.specs.Reading.{segments_in}
 use Rattle.placing.specs.Placing.{is_readable}
 

@@ -5,12 +5,12 @@ use Rattle.sha2.specs.Sha256.{sha256}
 use Rattle.kinds.specs.ValueForms.{digest_with}
 use Rattle.kinds.specs.declared.segment.Digest.{Digest}
 use Rattle.kinds.specs.declared.segment.Segment.{Segment}
-use Rattle.entries.specs.declared.entry.Entry.{Entry}
-use Rattle.inventory_rows.specs.State.{Inv}
-use Rattle.inventory_rules.specs.Journal.{Journal}
-use Rattle.inventory_rules.specs.Run.{journal_of}
-use Rattle.inventory_rules.specs.Transactions.{effect}
-use Rattle.space.specs.declared.aim.Aim.{Aim}
+use Rattle.steps.specs.entries.declared.entry.Entry.{Entry}
+use Rattle.steps.specs.inventory_rows.State.{Inv}
+use Rattle.item_refusals.specs.inventory_rules.Journal.{Journal}
+use Rattle.item_refusals.specs.inventory_rules.Run.{journal_of}
+use Rattle.item_refusals.specs.inventory_rules.Transactions.{effect}
+use Rattle.steps.specs.space.declared.aim.Aim.{Aim}
 
 -- ---- tickets
 

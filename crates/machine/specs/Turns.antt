@@ -1,7 +1,7 @@
 -- Runs of the machine, of any actors in one order, and what of them is one actor's.
 use Rattle.std.specs.Prelude.{◌≡◌, ℕ, ◌==◌, true, is_some, List, [], ◌∷◌, ◌++◌, if◌then◌else◌}
-use Rattle.entries.specs.declared.entry.Entry.{Entry}
-use Rattle.inventory_rows.specs.Search.{version}
+use Rattle.steps.specs.entries.declared.entry.Entry.{Entry}
+use Rattle.steps.specs.inventory_rows.Search.{version}
 use Rattle.steps.specs.Events.{Event}
 use Rattle.machine.specs.Fits.{History, Own}
 use Rattle.machine.specs.Machine.{Made, Places}

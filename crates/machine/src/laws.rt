@@ -1,11 +1,11 @@
 // What the definitions mean, as laws. Each stands on a function that does nothing.
 ghost use Rattle.std.specs.Prelude.{◌≡◌, ◌≤◌, ℕ, ◌+◌, ◌-◌, List, ◌++◌, None, Some, Ok};
 ghost use Rattle.std.specs.List.{slice_get};
-ghost use Rattle.entries.specs.declared.change.Change.{Change};
-ghost use Rattle.entries.specs.declared.change.Change.TheVariants as change;
-ghost use Rattle.entries.specs.declared.entry.Entry.{Entry};
-ghost use Rattle.inventory_rules.specs.Run.{journal_of};
-ghost use Rattle.inventory_rules.specs.Transactions.{effect, refused};
+ghost use Rattle.steps.specs.entries.declared.change.Change.{Change};
+ghost use Rattle.steps.specs.entries.declared.change.Change.TheVariants as change;
+ghost use Rattle.steps.specs.entries.declared.entry.Entry.{Entry};
+ghost use Rattle.item_refusals.specs.inventory_rules.Run.{journal_of};
+ghost use Rattle.item_refusals.specs.inventory_rules.Transactions.{effect, refused};
 ghost use Rattle.steps.specs.declared.asked.Asked.{Asked};
 ghost use Rattle.steps.specs.Events.{Deed, Event, event};
 ghost use Rattle.steps.specs.Events.Deed.{Commit, Reuse};

@@ -1,8 +1,8 @@
 -- What a change answers: nothing happened, or what is said.
 use Rattle.std.proofs.Common.{◌≡◌, ◌⊎◌, inl, inr, Result, Ok, Err, subst}
 use Rattle.std.specs.Result.{OnOk}
-use Rattle.kinds.specs.Answers.{Becomes, Makes}
-use Rattle.kinds.specs.declared.refusal.Refusal.{Refusal}
+use Rattle.version_groups.specs.kinds.Answers.{Becomes, Makes}
+use Rattle.version_groups.specs.kinds.declared.refusal.Refusal.{Refusal}
 use Rattle.version_groups.specs.declared.copies.CopyChange.{CopyChange}
 use Rattle.version_groups.specs.declared.copies.CopyChange.TheVariants.{Add, Replace, Drop}
 use Rattle.version_groups.specs.Copies.{Alters}

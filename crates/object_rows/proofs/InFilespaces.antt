@@ -2,8 +2,8 @@
 use Rattle.std.proofs.Common.{◌≡◌, ℕ, Bool, List, Some, Result, sym, ap, subst}
 use Rattle.std.proofs.lemmas.Map.Steps.{set_value_same}
 use Rattle.std.specs.Map.{lookup, set_value}
-use Rattle.kinds.specs.Answers.{Becomes, Makes}
-use Rattle.kinds.specs.declared.refusal.Refusal.{Refusal}
+use Rattle.version_groups.specs.kinds.Answers.{Becomes, Makes}
+use Rattle.version_groups.specs.kinds.declared.refusal.Refusal.{Refusal}
 use Rattle.version_groups.specs.declared.copies.CopyChange.{CopyChange}
 use Rattle.version_groups.specs.declared.copies.CopyChange.TheVariants.{Drop}
 use Rattle.version_groups.specs.declared.group.Group.{Group}

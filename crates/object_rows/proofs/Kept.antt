@@ -6,7 +6,7 @@ use Rattle.std.specs.List.Sorted.{IsStrictlySortedBy}
 use Rattle.std.specs.Map.{keys_of, lookup}
 use Rattle.std.specs.Option.{is_some}
 use Rattle.std.specs.Ordering.{nat_cmp}
-use Rattle.kinds.specs.declared.refusal.Refusal.{Refusal}
+use Rattle.version_groups.specs.kinds.declared.refusal.Refusal.{Refusal}
 use Rattle.version_groups.specs.declared.copies.CopyChange.{CopyChange}
 use Rattle.version_groups.specs.declared.group.Group.{Group}
 use Rattle.version_groups.specs.declared.group.GroupChange.{GroupChange}

@@ -4,8 +4,8 @@ use Rattle.std.proofs.lemmas.List.{map-append}
 use Rattle.version_groups.specs.declared.group.Group.{Group}
 use Rattle.version_groups.specs.declared.versions.Version.{Version}
 use Rattle.version_groups.proofs.Lists.{drop_at}
-use Rattle.kinds.specs.Least.{lesser}
-use Rattle.kinds.proofs.LeastLaws.{lesser_assoc}
+use Rattle.version_groups.specs.kinds.Least.{lesser}
+use Rattle.version_groups.proofs.of_kinds.LeastLaws.{lesser_assoc}
 use Rattle.object_rows.specs.Changes.{least, least_object}
 use Rattle.object_rows.specs.Filespaces.{versions_in}
 

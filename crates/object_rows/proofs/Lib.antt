@@ -1,3 +1,4 @@
+pub use Rattle.version_groups.proofs as of_version_groups
 pub mod Answered
 pub mod Apart
 pub mod Builds

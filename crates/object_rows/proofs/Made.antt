@@ -4,15 +4,15 @@ use Rattle.std.specs.BTreeMap.{insert_entry}
 use Rattle.std.specs.Map.{lookup, remove_entry}
 use Rattle.std.specs.Ordering.{nat_cmp}
 use Rattle.std.specs.Result.{result_err}
-use Rattle.kinds.specs.declared.change.DefineOrDelete.TheVariants.{Define, Delete}
-use Rattle.kinds.specs.declared.change.ObjectChange.{ObjectChange}
-use Rattle.kinds.specs.declared.change.ObjectChange.TheVariants as changes
-use Rattle.kinds.specs.declared.refusal.By.{By}
-use Rattle.kinds.specs.declared.refusal.Refusal.{Refusal}
-use Rattle.kinds.specs.declared.refusal.Refusal.TheVariants.{Exists}
+use Rattle.version_groups.specs.kinds.declared.change.DefineOrDelete.TheVariants.{Define, Delete}
+use Rattle.version_groups.specs.kinds.declared.change.ObjectChange.{ObjectChange}
+use Rattle.version_groups.specs.kinds.declared.change.ObjectChange.TheVariants as changes
+use Rattle.version_groups.specs.kinds.declared.refusal.By.{By}
+use Rattle.version_groups.specs.kinds.declared.refusal.Refusal.{Refusal}
+use Rattle.version_groups.specs.kinds.declared.refusal.Refusal.TheVariants.{Exists}
 use Rattle.version_groups.specs.declared.groups.Filespace.{Filespace}
 use Rattle.version_groups.specs.Entries.{on_ok, if_found}
-use Rattle.kinds.specs.Least.{lesser}
+use Rattle.version_groups.specs.kinds.Least.{lesser}
 use Rattle.object_rows.specs.declared.held_object.HeldRow.{HeldRow}
 use Rattle.object_rows.specs.declared.place.Node.{Node}
 use Rattle.object_rows.specs.Changes.{Changes, by_filespace, by_object, filespaces_defined, filespaces_without, least_in, least_object, nodes_with, nodes_without, unless_used}

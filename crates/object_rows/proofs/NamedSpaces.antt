@@ -6,8 +6,8 @@ use Rattle.std.specs.Map.{lookup, remove_entry, set_value}
 use Rattle.std.specs.Option.{is_some}
 use Rattle.std.specs.Ordering.{nat_cmp}
 use Rattle.std.specs.Result.{IfErr}
-use Rattle.kinds.specs.declared.refusal.Refusal.{Refusal}
-use Rattle.kinds.specs.declared.refusal.Refusal.TheVariants.{Memory}
+use Rattle.version_groups.specs.kinds.declared.refusal.Refusal.{Refusal}
+use Rattle.version_groups.specs.kinds.declared.refusal.Refusal.TheVariants.{Memory}
 use Rattle.version_groups.specs.declared.copies.CopyChange.{CopyChange}
 use Rattle.version_groups.specs.declared.copies.CopyRow.{CopyRow}
 use Rattle.version_groups.specs.declared.group.Group.{Group}

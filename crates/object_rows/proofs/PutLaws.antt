@@ -5,8 +5,8 @@ use Rattle.std.proofs.lemmas.Map.Steps.{set_value_same}
 use Rattle.std.specs.Cmp.{nat_cmp_total}
 use Rattle.std.specs.Map.{lookup, set_value}
 use Rattle.std.specs.Result.{OnOk}
-use Rattle.kinds.specs.Answers.{Becomes}
-use Rattle.kinds.specs.declared.refusal.Refusal.{Refusal}
+use Rattle.version_groups.specs.kinds.Answers.{Becomes}
+use Rattle.version_groups.specs.kinds.declared.refusal.Refusal.{Refusal}
 use Rattle.version_groups.specs.declared.group.Group.{Group}
 use Rattle.version_groups.specs.declared.group.GroupChange.TheVariants.{Undo}
 use Rattle.version_groups.specs.declared.groups.Filespace.{Filespace}

@@ -12,7 +12,7 @@ use Rattle.std.specs.List.Sorted.{IsStrictlySortedBy}
 use Rattle.std.specs.Map.{keys_of, remove_entry, set_value}
 use Rattle.std.specs.Option.{option_map, unwrap_or}
 use Rattle.std.specs.Ordering.{eq_by_cmp, nat_cmp}
-use Rattle.kinds.specs.declared.refusal.Refusal.{Refusal}
+use Rattle.version_groups.specs.kinds.declared.refusal.Refusal.{Refusal}
 use Rattle.version_groups.specs.declared.copies.CopyChange.{CopyChange}
 use Rattle.version_groups.specs.declared.copies.CopyRow.{CopyRow}
 use Rattle.version_groups.specs.declared.group.Group.{Group}

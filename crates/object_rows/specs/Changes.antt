@@ -4,15 +4,15 @@ use Rattle.std.specs.Prelude.{◌≡◌, ⊤, ℕ, ◌==◌, false, List, [], �
 use Rattle.std.specs.BTreeMap.{insert_entry}
 use Rattle.std.specs.Map.{lookup, remove_entry}
 use Rattle.std.specs.Ordering.{nat_cmp}
-use Rattle.kinds.specs.Answers.{Becomes, Makes}
-use Rattle.kinds.specs.declared.change.DefineOrDelete.TheVariants.{Define, Delete}
-use Rattle.kinds.specs.Least.{lesser}
-use Rattle.kinds.specs.declared.change.ObjectChange.{ObjectChange}
-use Rattle.kinds.specs.declared.change.ObjectChange.TheVariants as change
-use Rattle.kinds.specs.declared.refusal.By.{By}
-use Rattle.kinds.specs.declared.refusal.By.TheVariants as by
-use Rattle.kinds.specs.declared.refusal.Refusal.{Refusal}
-use Rattle.kinds.specs.declared.refusal.Refusal.TheVariants.{Exists, InUse}
+use Rattle.version_groups.specs.kinds.Answers.{Becomes, Makes}
+use Rattle.version_groups.specs.kinds.declared.change.DefineOrDelete.TheVariants.{Define, Delete}
+use Rattle.version_groups.specs.kinds.Least.{lesser}
+use Rattle.version_groups.specs.kinds.declared.change.ObjectChange.{ObjectChange}
+use Rattle.version_groups.specs.kinds.declared.change.ObjectChange.TheVariants as change
+use Rattle.version_groups.specs.kinds.declared.refusal.By.{By}
+use Rattle.version_groups.specs.kinds.declared.refusal.By.TheVariants as by
+use Rattle.version_groups.specs.kinds.declared.refusal.Refusal.{Refusal}
+use Rattle.version_groups.specs.kinds.declared.refusal.Refusal.TheVariants.{Exists, InUse}
 use Rattle.version_groups.specs.declared.group.Group.{Group}
 use Rattle.version_groups.specs.declared.groups.Filespace.{Filespace}
 use Rattle.version_groups.specs.Entries.{on_ok, if_found}

@@ -1,3 +1,4 @@
+pub use Rattle.version_groups.specs as version_groups
 pub mod Build
 pub mod Changes
 pub mod Filespaces

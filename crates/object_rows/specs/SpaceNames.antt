@@ -3,8 +3,8 @@ use Rattle.std.specs.Prelude.{◌≡◌, ℕ, ◌+◌, Bool, true, false, is_som
 use Rattle.std.specs.Cmp.Lexicographic.{slice_cmp}
 use Rattle.std.specs.Map.{lookup}
 use Rattle.std.specs.Ordering.{nat_cmp}
-use Rattle.kinds.specs.declared.refusal.Refusal.{Refusal}
-use Rattle.kinds.specs.declared.refusal.Refusal.TheVariants.{Memory}
+use Rattle.version_groups.specs.kinds.declared.refusal.Refusal.{Refusal}
+use Rattle.version_groups.specs.kinds.declared.refusal.Refusal.TheVariants.{Memory}
 use Rattle.version_groups.specs.declared.groups.Filespace.{Filespace}
 use Rattle.object_rows.specs.Build.{Builds}
 use Rattle.object_rows.specs.Filespaces.{at_number}

@@ -10,9 +10,9 @@ use crate::held_object::HeldRow;
 use crate::place::{Node, Place};
 use crate::space_names;
 use crate::space_names::SpaceNames;
-use kinds::{NodeName, Path, Refusal};
 use std::alloc::Global;
 use std::collections::BTreeMap;
+use version_groups::kinds::{NodeName, Path, Refusal};
 use version_groups::{Filespace, Group, Version};
 
 /// Puts each node's name into the index; false where two nodes have one.

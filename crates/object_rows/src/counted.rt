@@ -1,6 +1,6 @@
 //! Changes of the filespaces with the counts that are kept beside them.
 ghost use Rattle.std.specs.Prelude.{◌≡◌, false, true, IsTrue};
-ghost use Rattle.kinds.specs.Answers.{Becomes, Makes};
+ghost use Rattle.version_groups.specs.kinds.Answers.{Becomes, Makes};
 ghost use Rattle.version_groups.specs.Copies.{takes_free_pool, Alters};
 ghost use Rattle.version_groups.specs.Groups.{versions_after};
 ghost use Rattle.version_groups.specs.Versions.{are_distinct, has_object, copies_of};
@@ -10,8 +10,8 @@ ghost use Rattle.object_rows.specs.Tally.{Exchanges, IsCounted};
 
 use crate::filespaces;
 use crate::tally::Tally;
-use kinds::{Name, Path, Refusal};
 use std::collections::BTreeMap;
+use version_groups::kinds::{Name, Path, Refusal};
 use version_groups::{CopyChange, Filespace, GroupChange, Version};
 
 /// Puts a version in front of those of a path of a filespace, which has to be there.

@@ -1,12 +1,12 @@
 ghost use Rattle.std.specs.Prelude.{◌≡◌, false, IsTrue};
-ghost use Rattle.kinds.specs.Answers.{Becomes, Makes};
+ghost use Rattle.version_groups.specs.kinds.Answers.{Becomes, Makes};
 ghost use Rattle.version_groups.specs.Copies.{takes_free_pool, Alters};
 ghost use Rattle.version_groups.specs.Versions.{has_object, copies_of};
 ghost use Rattle.object_rows.specs.Filespaces.{filespaces_after, filespaces_altered_at, filespaces_with, versions_at};
 ghost use Rattle.object_rows.specs.Places.{AreAllOrderly};
 
-use kinds::{Name, Path, Refusal};
 use std::collections::BTreeMap;
+use version_groups::kinds::{Name, Path, Refusal};
 use version_groups::{CopyChange, Filespace, GroupChange, Version};
 
 /// Puts a version in front of those of a path of a filespace, which has to be there.

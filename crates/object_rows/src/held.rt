@@ -4,8 +4,8 @@ ghost use Rattle.std.specs.Prelude.{◌≡◌};
 ghost use Rattle.object_rows.specs.Held.{versions_hold, groups_hold, filespaces_hold, held_hold};
 
 use crate::held_object::HeldRow;
-use kinds::Path;
 use std::collections::BTreeMap;
+use version_groups::kinds::Path;
 use version_groups::{Filespace, Group, Version};
 
 /// Whether one of the versions has a copy in the pool.

@@ -1,8 +1,8 @@
 ghost use Rattle.std.specs.Prelude.{◌≡◌};
 
-use kinds::{Path, Text};
 use std::alloc::AllocError;
 use version_groups::Version;
+use version_groups::kinds::{Path, Text};
 
 /// An object that a client archived: what the server keeps of it.
 #[derive(Drop)]

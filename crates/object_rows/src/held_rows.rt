@@ -3,7 +3,7 @@ ghost use Rattle.std.specs.List.Sorted.{IsStrictlySortedBy};
 ghost use Rattle.std.specs.Map.{keys_of};
 ghost use Rattle.std.specs.Option.{option_copied};
 ghost use Rattle.std.specs.Ordering.{nat_cmp};
-ghost use Rattle.kinds.specs.Answers.{Becomes};
+ghost use Rattle.version_groups.specs.kinds.Answers.{Becomes};
 ghost use Rattle.version_groups.specs.Copies.{takes_free_pool, Alters};
 ghost use Rattle.version_groups.specs.Versions.{copies_of, version_of};
 ghost use Rattle.object_rows.specs.Changes.{least_in};
@@ -14,10 +14,10 @@ ghost use Rattle.object_rows.specs.Tally.{IsCountedHeld};
 
 use crate::held_object::{HeldObject, HeldRow};
 use crate::tally::Tally;
-use kinds::{Path, Refusal, lesser};
 use std::alloc::{AllocError, Global};
 use std::collections::BTreeMap;
 use std::marker::Model;
+use version_groups::kinds::{Path, Refusal, lesser};
 use version_groups::{CopyChange, Version};
 
 /// The held objects, each with its filespace, in ascending order of their numbers. Contracts see them as these rows.

@@ -1,7 +1,7 @@
 ghost use Rattle.std.specs.Prelude.{◌≡◌, ◌<◌, ◌∷◌, false, true, IsTrue, Ok, Err, [], length};
 ghost use Rattle.std.specs.Option.{option_copied};
-ghost use Rattle.kinds.specs.Answers.{Becomes, Makes};
-ghost use Rattle.kinds.specs.declared.refusal.Refusal.TheVariants.{NotFound};
+ghost use Rattle.version_groups.specs.kinds.Answers.{Becomes, Makes};
+ghost use Rattle.version_groups.specs.kinds.declared.refusal.Refusal.TheVariants.{NotFound};
 ghost use Rattle.version_groups.specs.Copies.{takes_free_pool, Alters};
 ghost use Rattle.version_groups.specs.Versions.{are_distinct, has_object, copies_of, version_of};
 ghost use Rattle.version_groups.specs.declared.group.GroupChange.TheVariants.{Gone, Remove, Rebind, Undo};
@@ -15,8 +15,8 @@ ghost use Rattle.object_rows.specs.Tally.{IsCounted};
 use crate::place::Place;
 use crate::tally::Tally;
 use crate::{counted, filespaces};
-use kinds::{Day, Name, Path, Refusal};
 use std::collections::BTreeMap;
+use version_groups::kinds::{Day, Name, Path, Refusal};
 use version_groups::{CopyChange, Filespace, GroupChange, Version};
 
 /// The version of the object.

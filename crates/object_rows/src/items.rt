@@ -4,8 +4,8 @@ ghost use Rattle.std.specs.List.{sum_by};
 ghost use Rattle.object_rows.specs.Items.{items_of_version, items_of_group, items_of_filespace, items_of_filespaces, items_of_held, items_with, left};
 
 use crate::held_object::HeldRow;
-use kinds::Path;
 use std::collections::BTreeMap;
+use version_groups::kinds::Path;
 use version_groups::{CopyRow, Filespace, Group, Version};
 
 /// What is left of a room once so many things are in it; none where they have no room.

@@ -24,3 +24,4 @@ pub use held_rows::HeldRows;
 pub use items::{left_by, left_by_many};
 pub use objects::Objects;
 pub use place::Node;
+pub use version_groups;

@@ -1,15 +1,15 @@
 ghost use Rattle.std.specs.Prelude.{◌≡◌, ℕ, false, is_some, List, Some, None, Ok};
 ghost use Rattle.std.specs.Map.{lookup, remove_entry};
 ghost use Rattle.std.specs.Result.{result_err};
-ghost use Rattle.kinds.specs.Answers.{Becomes};
+ghost use Rattle.version_groups.specs.kinds.Answers.{Becomes};
 ghost use Rattle.version_groups.specs.declared.groups.Filespace.{Filespace};
 ghost use Rattle.object_rows.specs.Changes.{nodes_with, nodes_without};
 ghost use Rattle.object_rows.specs.Filespaces.{at_number};
 ghost use Rattle.object_rows.specs.Names.{node_named, NodesIndexed};
 
 use crate::place::Node;
-use kinds::{Name, NodeName, Refusal};
 use std::collections::BTreeMap;
+use version_groups::kinds::{Name, NodeName, Refusal};
 
 /// The number of the node with this name.
 pub(crate) fn named(

@@ -5,8 +5,8 @@ ghost use Rattle.std.specs.Map.{keys_of};
 ghost use Rattle.std.specs.Option.{option_copied, option_map};
 ghost use Rattle.std.specs.Ordering.{nat_cmp};
 ghost use Rattle.std.specs.Result.{result_err};
-ghost use Rattle.kinds.specs.Answers.{Becomes, Makes};
-ghost use Rattle.kinds.specs.declared.refusal.Refusal.TheVariants.{Memory};
+ghost use Rattle.version_groups.specs.kinds.Answers.{Becomes, Makes};
+ghost use Rattle.version_groups.specs.kinds.declared.refusal.Refusal.TheVariants.{Memory};
 ghost use Rattle.version_groups.specs.Versions.{copies_of, has_object, is_active, are_distinct, superseded, version_of};
 ghost use Rattle.version_groups.specs.declared.group.GroupChange.TheVariants.{Gone, Rebind, Undo};
 ghost use Rattle.version_groups.specs.declared.copies.CopyChange.TheVariants.{Add, Replace, Drop};
@@ -26,10 +26,12 @@ use crate::place::{Node, Place};
 use crate::space_names::SpaceNames;
 use crate::tally::Tally;
 use crate::{build, indexed, items, nodes, refusals, spaces};
-use kinds::{Day, DefineOrDelete, FilespaceName, Name, NodeName, ObjectChange, Path, Refusal};
 use std::alloc::{AllocError, Global};
 use std::collections::BTreeMap;
 use std::marker::Model;
+use version_groups::kinds::{
+    Day, DefineOrDelete, FilespaceName, Name, NodeName, ObjectChange, Path, Refusal,
+};
 use version_groups::{CopyChange, CopyRow, Filespace, Group, Version};
 
 /// How many objects may be kept.

@@ -1,7 +1,7 @@
 ghost use Rattle.std.specs.Prelude.{◌≡◌};
 
-use kinds::{Name, NodeName, Path};
 use std::alloc::AllocError;
+use version_groups::kinds::{Name, NodeName, Path};
 
 /// A client node.
 #[derive(Drop)]

@@ -6,10 +6,10 @@ ghost use Rattle.object_rows.specs.HeldRows.{weigh_held};
 ghost use Rattle.object_rows.specs.Tally.{kept_at, one_in, placed_in, weigh, weigh_filespaces, weigh_groups};
 
 use crate::held_object::HeldRow;
-use kinds::Path;
 use std::alloc::{AllocError, Global};
 use std::collections::BTreeMap;
 use std::marker::Model;
+use version_groups::kinds::Path;
 use version_groups::{CopyRow, Filespace, Group, Version};
 
 /// How many copies lie in each pool in which one has lain, by the pools' numbers.

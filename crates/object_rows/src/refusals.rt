@@ -5,7 +5,9 @@ ghost use Rattle.object_rows.specs.Changes.{nodes_with, nodes_without, filespace
 
 use crate::objects::Objects;
 use crate::spaces::least_object;
-use kinds::{By, DefineOrDelete, FilespaceName, NodeName, ObjectChange, Refusal, lesser};
+use version_groups::kinds::{
+    By, DefineOrDelete, FilespaceName, NodeName, ObjectChange, Refusal, lesser,
+};
 
 fn node_define(objects: &Objects, name: &NodeName) -> Option<Refusal>
     ensures { (domain : List ℕ) (number : ℕ) → result ≡ result_err (nodes_with name.now domain number objects.now.nodes) }

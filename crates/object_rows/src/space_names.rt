@@ -3,15 +3,15 @@
 
 ghost use Rattle.std.specs.Prelude.{◌≡◌, ℕ, false, is_some, [], IsTrue, IfErr, OnOk, length, ◌↔◌};
 ghost use Rattle.std.specs.Map.{lookup};
-ghost use Rattle.kinds.specs.declared.refusal.Refusal.TheVariants.{Memory};
+ghost use Rattle.version_groups.specs.kinds.declared.refusal.Refusal.TheVariants.{Memory};
 ghost use Rattle.object_rows.specs.Filespaces.{at_number};
 ghost use Rattle.object_rows.specs.Names.{at_name, names_at};
 ghost use Rattle.object_rows.specs.SpaceNames.{NamePut, NameTaken, Puts, Takes};
 
-use kinds::{FilespaceName, Refusal};
 use std::alloc::{AllocError, Global};
 use std::collections::BTreeMap;
 use std::marker::Model;
+use version_groups::kinds::{FilespaceName, Refusal};
 
 /// The number of each filespace of one node, by its name.
 #[derive(Drop)]

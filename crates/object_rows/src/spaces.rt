@@ -1,7 +1,7 @@
 ghost use Rattle.std.specs.Prelude.{◌≡◌, ℕ, false, is_some, ◌∷◌, ◌==◌, List, Some, None, map, length, Ok};
 ghost use Rattle.std.specs.Map.{lookup, remove_entry};
 ghost use Rattle.std.specs.Result.{result_err};
-ghost use Rattle.kinds.specs.Answers.{Becomes};
+ghost use Rattle.version_groups.specs.kinds.Answers.{Becomes};
 ghost use Rattle.object_rows.specs.Changes.{least, least_object, filespaces_defined, filespaces_without};
 ghost use Rattle.object_rows.specs.declared.place.Node.{Node};
 ghost use Rattle.object_rows.specs.Filespaces.{at_number, filespace_at};
@@ -14,9 +14,9 @@ use crate::held_rows::HeldRows;
 use crate::place::Place;
 use crate::space_names;
 use crate::space_names::SpaceNames;
-use kinds::{FilespaceName, Path, Refusal, lesser};
 use std::alloc::Global;
 use std::collections::BTreeMap;
+use version_groups::kinds::{FilespaceName, Path, Refusal, lesser};
 use version_groups::{Filespace, Group, Groups, Version};
 
 /// The number of the node's filespace with this name. It takes no memory.

@@ -12,9 +12,9 @@ use crate::held::{filespaces_hold, held_hold};
 use crate::held_object::HeldRow;
 use crate::items::{left_by_filespaces, left_by_held, left_by_many, left_by_version};
 use crate::pool_counts::PoolCounts;
-use kinds::Path;
 use std::alloc::{AllocError, Global};
 use std::collections::BTreeMap;
+use version_groups::kinds::Path;
 use version_groups::{Filespace, Group, Version};
 
 /// What is counted beside rows, so that it needs no walk: of the filespaces, or of the held objects.

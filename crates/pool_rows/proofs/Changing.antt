@@ -3,15 +3,15 @@ use Rattle.std.proofs.Common.{◌≡◌, ◌⊎◌, inl, inr, ℕ, Bool, true, f
 use Rattle.std.specs.Result.{OnOk}
 use Rattle.std.specs.BTreeMap.{is_at}
 use Rattle.std.specs.Ordering.{nat_cmp}
-use Rattle.kinds.specs.declared.refusal.Refusal.{Refusal}
-use Rattle.kinds.specs.declared.refusal.Refusal.TheVariants.{Memory}
-use Rattle.kinds.specs.declared.segment.Segment.{Segment}
-use Rattle.kinds.specs.Answers.{Becomes, Makes}
-use Rattle.volume_rows.specs.declared.volume.Volume.{Volume}
-use Rattle.volume_rows.specs.declared.held.HeldSegment.{HeldSegment}
+use Rattle.pool_tables.specs.kinds.declared.refusal.Refusal.{Refusal}
+use Rattle.pool_tables.specs.kinds.declared.refusal.Refusal.TheVariants.{Memory}
+use Rattle.pool_tables.specs.kinds.declared.segment.Segment.{Segment}
+use Rattle.pool_tables.specs.kinds.Answers.{Becomes, Makes}
+use Rattle.pool_tables.specs.volume_rows.declared.volume.Volume.{Volume}
+use Rattle.pool_tables.specs.volume_rows.declared.held.HeldSegment.{HeldSegment}
 use Rattle.std.proofs.lemmas.Bool.{leb-true}
-use Rattle.volume_rows.specs.Held.{held_of, end_of}
-use Rattle.volume_rows.specs.Volumes.{put_on, undo_on}
+use Rattle.pool_tables.specs.volume_rows.Held.{held_of, end_of}
+use Rattle.pool_tables.specs.volume_rows.Volumes.{put_on, undo_on}
 use Rattle.pool_tables.specs.Rows.{row_at, set_row, edit_row, changed, change_row}
 use Rattle.pool_rows.specs.PoolRows.{PoolRows, is_sequential, is_sequential_row, is_sequential_at}
 use Rattle.pool_tables.specs.RowChanges.{put, end_of_row, emptied_of_row}

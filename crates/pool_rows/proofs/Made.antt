@@ -5,11 +5,11 @@ use Rattle.std.specs.BTreeMap.{insert_entry, is_at}
 use Rattle.std.specs.Cmp.Lexicographic.{slice_cmp}
 use Rattle.std.specs.Ordering.{nat_cmp}
 use Rattle.std.specs.Result.{result_err}
-use Rattle.kinds.specs.declared.pool.Access.{Access}
-use Rattle.kinds.specs.declared.pool.PoolKind.{PoolKind}
-use Rattle.kinds.specs.declared.pool.PoolRule.{PoolRule}
-use Rattle.kinds.specs.declared.refusal.Refusal.{Refusal}
-use Rattle.kinds.specs.declared.refusal.Refusal.TheVariants.{NotFound, Exists, BadHierarchy}
+use Rattle.pool_tables.specs.kinds.declared.pool.Access.{Access}
+use Rattle.pool_tables.specs.kinds.declared.pool.PoolKind.{PoolKind}
+use Rattle.pool_tables.specs.kinds.declared.pool.PoolRule.{PoolRule}
+use Rattle.pool_tables.specs.kinds.declared.refusal.Refusal.{Refusal}
+use Rattle.pool_tables.specs.kinds.declared.refusal.Refusal.TheVariants.{NotFound, Exists, BadHierarchy}
 use Rattle.pool_tables.specs.Rows.{named, row_at, with_row, without_row, edit_row}
 use Rattle.pool_tables.specs.RowChanges.{with_settings}
 use Rattle.pool_rows.specs.PoolRows.{PoolRows, class_capacity, pool_named, volume_named}

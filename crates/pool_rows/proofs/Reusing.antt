@@ -1,7 +1,7 @@
 -- Whether a volume that is found may be reused.
 use Rattle.std.proofs.Common.{◌≡◌, ℕ, Bool, Some, ap, ◌∙◌}
-use Rattle.volume_rows.specs.declared.volume.Volume.{Volume}
-use Rattle.volume_rows.specs.Volumes.{may_reuse}
+use Rattle.pool_tables.specs.volume_rows.declared.volume.Volume.{Volume}
+use Rattle.pool_tables.specs.volume_rows.Volumes.{may_reuse}
 use Rattle.pool_tables.specs.Rows.{row_at}
 use Rattle.pool_rows.specs.PoolRows.{PoolRows, is_sequential_at}
 use Rattle.pool_rows.specs.Segments.{delay_of, reuse_row, may_reuse_at}

@@ -1,10 +1,10 @@
 -- A change of device classes, storage pools and volumes as a whole.
 use Rattle.std.specs.Prelude.{ℕ, Bool, true, not, is_none, ◌&&◌, List, Result}
-use Rattle.kinds.specs.declared.change.Verb.{Verb}
-use Rattle.kinds.specs.declared.change.Verb.TheVariants.{Define, Update, Delete}
-use Rattle.kinds.specs.declared.change.PoolChange.{PoolChange}
-use Rattle.kinds.specs.declared.change.PoolChange.TheVariants.{DevClass, Pool, Volume}
-use Rattle.kinds.specs.declared.refusal.Refusal.{Refusal}
+use Rattle.pool_tables.specs.kinds.declared.change.Verb.{Verb}
+use Rattle.pool_tables.specs.kinds.declared.change.Verb.TheVariants.{Define, Update, Delete}
+use Rattle.pool_tables.specs.kinds.declared.change.PoolChange.{PoolChange}
+use Rattle.pool_tables.specs.kinds.declared.change.PoolChange.TheVariants.{DevClass, Pool, Volume}
+use Rattle.pool_tables.specs.kinds.declared.refusal.Refusal.{Refusal}
 use Rattle.pool_tables.specs.Rows.{row_at}
 use Rattle.pool_tables.specs.Scratch.{is_scratch_name}
 use Rattle.pool_rows.specs.PoolRows.{PoolRows}

@@ -1,14 +1,14 @@
 -- The changes that an administrator makes, each with the least of the refusals that hold.
 use Rattle.std.specs.Prelude.{ℕ, Bool, true, false, ◌==◌, ◌&&◌, is_some, Option, Some, None, Result, Ok, Err, List, [], if◌then◌else◌}
-use Rattle.kinds.specs.declared.change.Verb.{Verb}
-use Rattle.kinds.specs.declared.change.Verb.TheVariants.{Define, Update, Delete}
-use Rattle.kinds.specs.declared.pool.Access.{Access}
-use Rattle.kinds.specs.declared.pool.PoolKind.{PoolKind}
-use Rattle.kinds.specs.declared.pool.PoolRule.{PoolRule}
-use Rattle.kinds.specs.declared.refusal.Refusal.{Refusal}
-use Rattle.kinds.specs.declared.refusal.Refusal.TheVariants.{NotFound, Exists, BadHierarchy}
-use Rattle.volume_rows.specs.declared.volume.Volume.{Volume}
-use Rattle.volume_rows.specs.Holdings.{least_object}
+use Rattle.pool_tables.specs.kinds.declared.change.Verb.{Verb}
+use Rattle.pool_tables.specs.kinds.declared.change.Verb.TheVariants.{Define, Update, Delete}
+use Rattle.pool_tables.specs.kinds.declared.pool.Access.{Access}
+use Rattle.pool_tables.specs.kinds.declared.pool.PoolKind.{PoolKind}
+use Rattle.pool_tables.specs.kinds.declared.pool.PoolRule.{PoolRule}
+use Rattle.pool_tables.specs.kinds.declared.refusal.Refusal.{Refusal}
+use Rattle.pool_tables.specs.kinds.declared.refusal.Refusal.TheVariants.{NotFound, Exists, BadHierarchy}
+use Rattle.pool_tables.specs.volume_rows.declared.volume.Volume.{Volume}
+use Rattle.pool_tables.specs.volume_rows.Holdings.{least_object}
 use Rattle.pool_tables.specs.declared.pool.Pool.{Pool}
 use Rattle.pool_tables.specs.Rows.{named, row_at, with_row, without_row, edit_row, number_where}
 use Rattle.pool_rows.specs.PoolRows.{PoolRows, pool_named, volume_named}

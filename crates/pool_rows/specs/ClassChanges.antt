@@ -4,11 +4,11 @@ use Rattle.std.specs.Map.{remove_entry}
 use Rattle.std.specs.BTreeMap.{insert_entry, is_at}
 use Rattle.std.specs.Cmp.Lexicographic.{slice_cmp}
 use Rattle.std.specs.Ordering.{nat_cmp}
-use Rattle.kinds.specs.declared.change.DefineOrDelete.{DefineOrDelete}
-use Rattle.kinds.specs.declared.change.DefineOrDelete.TheVariants.{Define, Delete}
-use Rattle.kinds.specs.declared.refusal.Refusal.{Refusal}
-use Rattle.kinds.specs.declared.refusal.Refusal.TheVariants.{NotFound, Exists}
-use Rattle.kinds.specs.Names.{is_same_name}
+use Rattle.pool_tables.specs.kinds.declared.change.DefineOrDelete.{DefineOrDelete}
+use Rattle.pool_tables.specs.kinds.declared.change.DefineOrDelete.TheVariants.{Define, Delete}
+use Rattle.pool_tables.specs.kinds.declared.refusal.Refusal.{Refusal}
+use Rattle.pool_tables.specs.kinds.declared.refusal.Refusal.TheVariants.{NotFound, Exists}
+use Rattle.pool_tables.specs.kinds.Names.{is_same_name}
 use Rattle.pool_tables.specs.Rows.{named, number_where}
 use Rattle.pool_rows.specs.PoolRows.{PoolRows, class_capacity}
 use Rattle.pool_rows.specs.Users.{used_by_pool}

@@ -1,8 +1,8 @@
 -- Which pools may follow one another.
 use Rattle.std.specs.Prelude.{ℕ, zero, suc, Bool, true, false, not, ◌==◌, ◌&&◌, ◌||◌, is_some, Option, Some, None, List, [], ◌∷◌, length}
 use Rattle.std.specs.List.{list_any}
-use Rattle.kinds.specs.declared.pool.PoolKind.{PoolKind}
-use Rattle.kinds.specs.declared.pool.PoolKind.TheVariants.{Primary, Copy}
+use Rattle.pool_tables.specs.kinds.declared.pool.PoolKind.{PoolKind}
+use Rattle.pool_tables.specs.kinds.declared.pool.PoolKind.TheVariants.{Primary, Copy}
 use Rattle.pool_tables.specs.declared.pool.Pool.{Pool}
 use Rattle.pool_tables.specs.Rows.{row_at}
 use Rattle.pool_rows.specs.PoolRows.{PoolRows, is_sequential, class_capacity}

@@ -1,10 +1,10 @@
 use Rattle.std.specs.Prelude.{ℕ, Bool, false, is_some, Option, Some, None, List, [], ◌∷◌, codes, ◌&&◌, if◌then◌else◌}
 use Rattle.std.specs.Option.{option_map}
-use Rattle.kinds.specs.declared.pool.PoolKind.TheVariants.{Primary}
-use Rattle.kinds.specs.declared.pool.SizeLimit.TheVariants.{NoLimit}
-use Rattle.volume_rows.specs.declared.status.Status.{Status}
-use Rattle.volume_rows.specs.declared.volume.Volume.{Volume}
-use Rattle.volume_rows.specs.Volumes.{status_of, is_reclaimable}
+use Rattle.pool_tables.specs.kinds.declared.pool.PoolKind.TheVariants.{Primary}
+use Rattle.pool_tables.specs.kinds.declared.pool.SizeLimit.TheVariants.{NoLimit}
+use Rattle.pool_tables.specs.volume_rows.declared.status.Status.{Status}
+use Rattle.pool_tables.specs.volume_rows.declared.volume.Volume.{Volume}
+use Rattle.pool_tables.specs.volume_rows.Volumes.{status_of, is_reclaimable}
 use Rattle.pool_tables.specs.declared.pool.Pool.{Pool}
 use Rattle.pool_tables.specs.Rows.{named, row_at}
 use Rattle.pool_tables.specs.Names.{pool_name, row_named, are_apart}

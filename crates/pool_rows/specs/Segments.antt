@@ -1,13 +1,13 @@
 -- The changes of one volume: segments that come and go, its reuse, and scratch volumes.
 use Rattle.std.specs.Prelude.{ℕ, Bool, true, false, Option, Some, None, Result, Ok, Err, List, if◌then◌else◌, nat_le}
-use Rattle.kinds.specs.declared.refusal.Refusal.{Refusal}
-use Rattle.kinds.specs.declared.refusal.Refusal.TheVariants.{NotFound}
-use Rattle.kinds.specs.declared.segment.Segment.{Segment}
-use Rattle.volume_rows.specs.declared.held.HeldSegment.{HeldSegment}
-use Rattle.volume_rows.specs.declared.volume.Volume.{Volume}
-use Rattle.volume_rows.specs.Held.{held_of, end_of}
-use Rattle.volume_rows.specs.Holdings.{is_held, is_bare}
-use Rattle.volume_rows.specs.Volumes.{may_reuse, undo_on}
+use Rattle.pool_tables.specs.kinds.declared.refusal.Refusal.{Refusal}
+use Rattle.pool_tables.specs.kinds.declared.refusal.Refusal.TheVariants.{NotFound}
+use Rattle.pool_tables.specs.kinds.declared.segment.Segment.{Segment}
+use Rattle.pool_tables.specs.volume_rows.declared.held.HeldSegment.{HeldSegment}
+use Rattle.pool_tables.specs.volume_rows.declared.volume.Volume.{Volume}
+use Rattle.pool_tables.specs.volume_rows.Held.{held_of, end_of}
+use Rattle.pool_tables.specs.volume_rows.Holdings.{is_held, is_bare}
+use Rattle.pool_tables.specs.volume_rows.Volumes.{may_reuse, undo_on}
 use Rattle.pool_tables.specs.declared.pool.Pool.{Pool}
 use Rattle.pool_tables.specs.Rows.{row_at, with_row, edit_row, change_row}
 use Rattle.pool_tables.specs.RowChanges.{put, take, end_of_row, emptied_of_row, reuse_volume, scratch_volume}

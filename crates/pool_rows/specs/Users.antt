@@ -1,7 +1,7 @@
 use Rattle.std.specs.Prelude.{ℕ}
-use Rattle.kinds.specs.declared.refusal.By.TheVariants.{Pool, Volume, Object}
-use Rattle.kinds.specs.declared.refusal.Refusal.{Refusal}
-use Rattle.kinds.specs.declared.refusal.Refusal.TheVariants.{InUse}
+use Rattle.pool_tables.specs.kinds.declared.refusal.By.TheVariants.{Pool, Volume, Object}
+use Rattle.pool_tables.specs.kinds.declared.refusal.Refusal.{Refusal}
+use Rattle.pool_tables.specs.kinds.declared.refusal.Refusal.TheVariants.{InUse}
 
 -- the refusals that name what stands in the way
 abbrev pub used_by_pool : ℕ → Refusal

@@ -2,7 +2,7 @@
 
 ghost use Rattle.std.specs.Prelude.{◌≡◌, IsTrue, None, Ok, false};
 ghost use Rattle.std.specs.Result.{result_err};
-ghost use Rattle.kinds.specs.Answers.{Becomes};
+ghost use Rattle.pool_tables.specs.kinds.Answers.{Becomes};
 ghost use Rattle.pool_tables.specs.Rows.{row_at};
 ghost use Rattle.pool_tables.specs.Scratch.{is_scratch_name};
 ghost use Rattle.pool_rows.specs.ClassChanges.{define_class, delete_class, change_class};
@@ -10,11 +10,11 @@ ghost use Rattle.pool_rows.specs.Changes.{define_pool, update_pool, delete_pool,
 ghost use Rattle.pool_rows.specs.Changed.{changed, is_pool_free, is_volume_free, is_free};
 
 use crate::pools::Pools;
-use kinds::{
+use pool_tables::kinds::{
     Access, Capacity, DefineOrDelete, Name, PoolChange, PoolKind, PoolSettings, Refusal, Verb,
 };
+use pool_tables::volume_rows::{Holdings, Volume};
 use pool_tables::{Pool, is_scratch_name};
-use volume_rows::{Holdings, Volume};
 
 impl Pools {
     #[tactic(auto, using(crate::proofs::Made::class_comes))]

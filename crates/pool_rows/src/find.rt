@@ -1,14 +1,14 @@
 //! Searches for the first row that has some property.
 
 ghost use Rattle.std.specs.Prelude.{◌≡◌, ◌==◌};
-ghost use Rattle.kinds.specs.Names.{is_same_name};
+ghost use Rattle.pool_tables.specs.kinds.Names.{is_same_name};
 ghost use Rattle.pool_tables.specs.Rows.{number_where};
 ghost use Rattle.pool_rows.specs.Changes.{is_pool};
 
-use kinds::Name;
 use pool_tables::Pool;
+use pool_tables::kinds::Name;
+use pool_tables::volume_rows::Volume;
 use std::collections::BTreeMap;
-use volume_rows::Volume;
 
 /// The least number of a pool of this device class.
 pub fn pool_of_class(pools: &BTreeMap<u32, Pool>, class: &Name) -> Option<u32>

@@ -1,11 +1,11 @@
 //! What a new server has.
 
 ghost use Rattle.std.specs.Prelude.{◌≡◌, codes};
-ghost use Rattle.kinds.specs.Answers.{AnswersBy};
+ghost use Rattle.pool_tables.specs.kinds.Answers.{AnswersBy};
 ghost use Rattle.pool_rows.specs.PoolRows.{backup_pool};
 
-use kinds::{Days, Name, PoolKind, PoolRule, PoolSettings, Refusal, SizeLimit};
 use pool_tables::Pool;
+use pool_tables::kinds::{Days, Name, PoolKind, PoolRule, PoolSettings, Refusal, SizeLimit};
 use std::alloc::Global;
 
 /// The name of the device class of random access.

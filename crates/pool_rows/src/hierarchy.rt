@@ -4,8 +4,8 @@ ghost use Rattle.std.specs.Prelude.{◌≡◌};
 ghost use Rattle.pool_tables.specs.Rows.{row_at};
 ghost use Rattle.pool_rows.specs.Hierarchy.{next_in, comes_to, is_copy, is_copy_row};
 
-use kinds::PoolKind;
 use pool_tables::Pool;
+use pool_tables::kinds::PoolKind;
 use std::collections::BTreeMap;
 
 pub fn is_copy(kind: PoolKind) -> bool

@@ -10,5 +10,6 @@ mod refusals;
 mod segments;
 mod shares;
 
-pub use pool_tables::Pool;
+pub use pool_tables;
+pub use pool_tables::{Pool, volume_rows};
 pub use pools::Pools;

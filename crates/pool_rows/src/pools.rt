@@ -1,13 +1,13 @@
 ghost use Rattle.std.specs.Prelude.{◌≡◌, true, IsSome, Some, None};
-ghost use Rattle.kinds.specs.Answers.{AnswersBy};
+ghost use Rattle.pool_tables.specs.kinds.Answers.{AnswersBy};
 
 use crate::fresh::{backup_pool, disk};
-use kinds::{Capacity, Name, Refusal};
+use pool_tables::kinds::{Capacity, Name, Refusal};
+use pool_tables::volume_rows::{Status, Volume};
 use pool_tables::{Pool, PoolTable, VolumeTable};
 use std::alloc::{AllocError, Global};
 use std::collections::BTreeMap;
 use std::marker::Model;
-use volume_rows::{Status, Volume};
 
 /// The device classes by name, each with how many bytes its volumes have (none for DISK, whose volumes are of random access
 /// and have sizes of their own), the storage pools by number, and the volumes by file number. Contracts see the lists of

@@ -2,7 +2,7 @@
 
 ghost use Rattle.std.specs.Prelude.{◌≡◌, ◌&&◌, ℕ, is_some};
 ghost use Rattle.std.specs.Result.{result_err};
-ghost use Rattle.kinds.specs.declared.pool.Access.{Access};
+ghost use Rattle.pool_tables.specs.kinds.declared.pool.Access.{Access};
 ghost use Rattle.pool_tables.specs.Rows.{named, row_at};
 ghost use Rattle.pool_rows.specs.ClassChanges.{pool_of_class, define_class, delete_class, change_class};
 ghost use Rattle.pool_rows.specs.Hierarchy.{comes_to, is_bad_copy_pool, is_bad_next, is_bad_hierarchy};
@@ -12,7 +12,9 @@ ghost use Rattle.pool_rows.specs.Changed.{changed};
 use crate::hierarchy::{is_copy, is_copy_pool};
 use crate::pools::Pools;
 use crate::{find, hierarchy};
-use kinds::{By, DefineOrDelete, Name, PoolChange, PoolKind, PoolSettings, Refusal, Verb};
+use pool_tables::kinds::{
+    By, DefineOrDelete, Name, PoolChange, PoolKind, PoolSettings, Refusal, Verb,
+};
 
 /// Whether a copy pool would be of random access or have a next pool.
 fn is_bad_copy_pool(sequential: bool, kind: PoolKind, next: Option<u32>) -> bool

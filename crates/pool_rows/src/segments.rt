@@ -1,14 +1,14 @@
 //! Segments that come and go, the reuse of volumes, and scratch volumes.
 
 ghost use Rattle.std.specs.Prelude.{◌≡◌, IsTrue, None, OnOk, Ok};
-ghost use Rattle.kinds.specs.Answers.{Becomes, Makes};
-ghost use Rattle.volume_rows.specs.Held.{held_of, end_of};
+ghost use Rattle.pool_tables.specs.kinds.Answers.{Becomes, Makes};
+ghost use Rattle.pool_tables.specs.volume_rows.Held.{held_of, end_of};
 ghost use Rattle.pool_tables.specs.Rows.{row_at, without_row};
 ghost use Rattle.pool_rows.specs.Segments.{put_segment, take_segment, undo_segment, fits, is_there, end_at, emptied_at, delay_of, may_reuse_at, reuse, add_scratch, is_bare_scratch};
 
 use crate::pools::Pools;
-use kinds::{Day, Days, Refusal, Segment};
-use volume_rows::HeldSegment;
+use pool_tables::kinds::{Day, Days, Refusal, Segment};
+use pool_tables::volume_rows::HeldSegment;
 
 fn no_days() -> Days
     ensures { result ≡ 0 }

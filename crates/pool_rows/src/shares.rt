@@ -5,7 +5,7 @@ ghost use Rattle.pool_tables.specs.Rows.{row_at};
 ghost use Rattle.pool_rows.specs.Shares.{scratch_limit, used_of, whole_of, reaches, stays_within, rounded, percent_at_least, percent_at_most, percent_of};
 
 use crate::pools::Pools;
-use kinds::Capacity;
+use pool_tables::kinds::Capacity;
 
 fn reaches(percent: u8, used: u128, whole: u128) -> bool
     requires used { used ≤ 2 ^ 119 }

@@ -7,9 +7,9 @@ use Rattle.std.specs.List.Sorted.{IsStrictlySortedBy}
 use Rattle.std.specs.Map.{keys_of}
 use Rattle.std.specs.Ordering.{nat_cmp, is_eq, match_ordering}
 use Rattle.std.specs.declared.cmp.Ordering.TheVariants.{Less, Greater}
-use Rattle.kinds.specs.declared.refusal.Refusal.{Refusal}
+use Rattle.volume_rows.specs.kinds.declared.refusal.Refusal.{Refusal}
 use Rattle.volume_rows.specs.declared.volume.Volume.{Volume}
-use Rattle.kinds.specs.Names.{is_same_name}
+use Rattle.volume_rows.specs.kinds.Names.{is_same_name}
 use Rattle.pool_tables.specs.Rows.{row_at, with_row, number_where}
 use Rattle.pool_tables.specs.Names.{row_named, are_apart}
 use Rattle.pool_tables.specs.Scratch.{is_rightly_named, are_rightly_named}

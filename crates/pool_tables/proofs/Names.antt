@@ -8,7 +8,7 @@ use Rattle.std.specs.Cmp.Lexicographic.{slice_cmp, nat_list_eq_equiv, texts_ties
 use Rattle.std.specs.Ordering.{is_eq, match_ordering, nat_cmp}
 use Rattle.std.specs.declared.cmp.Ordering.{Ordering}
 use Rattle.std.specs.declared.cmp.Ordering.TheVariants.{Less, Equal, Greater}
-use Rattle.kinds.specs.Names.{is_same_name}
+use Rattle.volume_rows.specs.kinds.Names.{is_same_name}
 use Rattle.pool_tables.specs.Rows.{named, row_at, with_row, without_row, set_row, edited, edit_row, number_where}
 use Rattle.pool_tables.specs.Names.{row_named, are_apart, IsIndex}
 

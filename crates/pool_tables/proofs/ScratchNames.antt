@@ -13,7 +13,7 @@ use Rattle.std.proofs.lemmas.Fmt.{digits_decimal, digits_value-decimal}
 use Rattle.std.proofs.lemmas.List.{length-replicate}
 use Rattle.std.proofs.lemmas.Str.Parse.{numerals_by_value, tells_digits, tells_all_ascii_digits}
 use Rattle.volume_rows.specs.declared.volume.Volume.{Volume}
-use Rattle.kinds.specs.Names.{is_same_name}
+use Rattle.volume_rows.specs.kinds.Names.{is_same_name}
 use Rattle.pool_tables.specs.Rows.{row_at}
 use Rattle.pool_tables.specs.Names.{row_named}
 use Rattle.pool_tables.specs.Scratch.{eight_digits, scratch_name, is_scratch_name, volume_name}

@@ -6,14 +6,14 @@ use Rattle.std.specs.BTreeMap.{is_at}
 use Rattle.std.specs.Cmp.Lexicographic.{slice_cmp}
 use Rattle.std.specs.Map.{keys_of}
 use Rattle.std.specs.Ordering.{nat_cmp}
-use Rattle.kinds.specs.declared.refusal.Refusal.{Refusal}
-use Rattle.kinds.specs.declared.refusal.Refusal.TheVariants.{NotFound}
+use Rattle.volume_rows.specs.kinds.declared.refusal.Refusal.{Refusal}
+use Rattle.volume_rows.specs.kinds.declared.refusal.Refusal.TheVariants.{NotFound}
 use Rattle.volume_rows.specs.declared.volume.Volume.{Volume}
 use Rattle.volume_rows.specs.declared.held.HeldSegment.{HeldSegment}
 use Rattle.volume_rows.specs.Holdings.{is_held}
 use Rattle.volume_rows.specs.Volumes.{put_on, take_from, undo_on}
 use Rattle.pool_tables.specs.declared.totals.Totals.{Totals}
-use Rattle.kinds.specs.Names.{is_same_name}
+use Rattle.volume_rows.specs.kinds.Names.{is_same_name}
 use Rattle.pool_tables.specs.Rows.{named, row_at, with_row, without_row, set_row, edit_row, edited, row_set, changed, change_row}
 use Rattle.pool_tables.specs.Names.{row_named}
 use Rattle.pool_tables.specs.Scratch.{volume_name, scratch_name, is_scratch_name, is_rightly_named}

@@ -5,9 +5,9 @@ use Rattle.std.specs.Map.{lookup, set_value}
 use Rattle.std.specs.BTreeMap.{is_at}
 use Rattle.std.specs.Ordering.{nat_cmp}
 use Rattle.std.proofs.lemmas.Map.Steps.{set_value_same}
-use Rattle.kinds.specs.declared.refusal.Refusal.{Refusal}
-use Rattle.kinds.specs.declared.refusal.Refusal.TheVariants.{Memory}
-use Rattle.kinds.specs.Answers.{Becomes, Makes}
+use Rattle.volume_rows.specs.kinds.declared.refusal.Refusal.{Refusal}
+use Rattle.volume_rows.specs.kinds.declared.refusal.Refusal.TheVariants.{Memory}
+use Rattle.volume_rows.specs.kinds.Answers.{Becomes, Makes}
 use Rattle.pool_tables.specs.Rows.{row_at, set_row, edited, edit_row, row_set, changed, change_row}
 
 said_or_memory : {S T : Type 0} (e : Refusal) (said : Result S Refusal) (other : Result T Refusal) → (said ≡ Err e → other ≡ Err e)

@@ -1,7 +1,7 @@
 -- Names of rows: each row's is its own, and an index leads from it to the row's number.
 use Rattle.std.specs.Prelude.{◌≡◌, ℕ, Bool, true, is_none, ◌&&◌, Option, List, [], ◌∷◌}
 use Rattle.pool_tables.specs.declared.pool.Pool.{Pool}
-use Rattle.kinds.specs.Names.{is_same_name}
+use Rattle.volume_rows.specs.kinds.Names.{is_same_name}
 use Rattle.pool_tables.specs.Rows.{named, number_where}
 
 abbrev pub pool_name : Pool → List ℕ

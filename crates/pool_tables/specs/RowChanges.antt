@@ -1,10 +1,10 @@
 -- Changes of one row: of a volume's segments, its reuse and its access, and of a pool's settings.
 use Rattle.std.specs.Prelude.{ℕ, Bool, true, false, Option, Some, None, Result, Ok, Err, List, [], if◌then◌else◌}
-use Rattle.kinds.specs.declared.pool.Access.{Access}
-use Rattle.kinds.specs.declared.pool.Access.TheVariants.{ReadWrite}
-use Rattle.kinds.specs.declared.pool.PoolRule.{PoolRule}
-use Rattle.kinds.specs.declared.refusal.Refusal.{Refusal}
-use Rattle.kinds.specs.declared.refusal.Refusal.TheVariants.{NotFound}
+use Rattle.volume_rows.specs.kinds.declared.pool.Access.{Access}
+use Rattle.volume_rows.specs.kinds.declared.pool.Access.TheVariants.{ReadWrite}
+use Rattle.volume_rows.specs.kinds.declared.pool.PoolRule.{PoolRule}
+use Rattle.volume_rows.specs.kinds.declared.refusal.Refusal.{Refusal}
+use Rattle.volume_rows.specs.kinds.declared.refusal.Refusal.TheVariants.{NotFound}
 use Rattle.volume_rows.specs.declared.held.HeldSegment.{HeldSegment}
 use Rattle.volume_rows.specs.declared.volume.Volume.{Volume}
 use Rattle.volume_rows.specs.Holdings.{is_held}

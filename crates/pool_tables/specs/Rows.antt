@@ -4,9 +4,9 @@ use Rattle.std.specs.Map.{lookup, set_value, remove_entry}
 use Rattle.std.specs.BTreeMap.{insert_entry, is_at}
 use Rattle.std.specs.Cmp.Lexicographic.{pointwise, slice_cmp}
 use Rattle.std.specs.Ordering.{nat_cmp}
-use Rattle.kinds.specs.Names.{is_same_name}
-use Rattle.kinds.specs.declared.refusal.Refusal.{Refusal}
-use Rattle.kinds.specs.declared.refusal.Refusal.TheVariants.{NotFound}
+use Rattle.volume_rows.specs.kinds.Names.{is_same_name}
+use Rattle.volume_rows.specs.kinds.declared.refusal.Refusal.{Refusal}
+use Rattle.volume_rows.specs.kinds.declared.refusal.Refusal.TheVariants.{NotFound}
 
 -- what stands under this name
 abbrev pub named : {V : Type 0} → List ℕ → List (List ℕ × V) → Option V

@@ -12,4 +12,6 @@ pub use pool::Pool;
 pub use pool_table::PoolTable;
 pub use scratch::{is_scratch_name, scratch_name};
 pub use totals::Totals;
+pub use volume_rows;
+pub use volume_rows::kinds;
 pub use volume_table::VolumeTable;

@@ -2,15 +2,15 @@
 
 ghost use Rattle.std.specs.Prelude.{◌≡◌, ◌≤◌, OnOk};
 ghost use Rattle.std.specs.Option.{ForSome};
-ghost use Rattle.kinds.specs.Answers.{Becomes, Makes};
+ghost use Rattle.volume_rows.specs.kinds.Answers.{Becomes, Makes};
 ghost use Rattle.volume_rows.specs.Held.{end_of};
 ghost use Rattle.volume_rows.specs.Volumes.{undo_on, reset};
 ghost use Rattle.pool_tables.specs.Rows.{row_at, edit_row, change_row};
 ghost use Rattle.pool_tables.specs.RowChanges.{put, take, end_of_row, emptied_of_row, with_access, with_settings};
 
 use crate::pool::Pool;
-use kinds::{Access, Day, PoolSettings, Refusal};
 use std::collections::BTreeMap;
+use volume_rows::kinds::{Access, Day, PoolSettings, Refusal};
 use volume_rows::{HeldSegment, Volume};
 
 /// Puts a segment on the volume with this file number.

@@ -1,7 +1,7 @@
 ghost use Rattle.std.specs.Prelude.{◌≡◌};
 
-use kinds::{Name, PoolKind, PoolSettings};
 use std::alloc::AllocError;
+use volume_rows::kinds::{Name, PoolKind, PoolSettings};
 
 /// A storage pool.
 #[derive(Drop)]

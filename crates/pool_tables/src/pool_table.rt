@@ -2,17 +2,17 @@
 
 ghost use Rattle.std.specs.Prelude.{◌≡◌, true, [], Some, None, Ok, if◌then◌else◌};
 ghost use Rattle.std.specs.Option.{option_copied};
-ghost use Rattle.kinds.specs.Answers.{AnswersBy, Becomes};
+ghost use Rattle.volume_rows.specs.kinds.Answers.{AnswersBy, Becomes};
 ghost use Rattle.pool_tables.specs.Rows.{row_at, with_row, without_row, edit_row};
 ghost use Rattle.pool_tables.specs.Names.{pool_name, row_named, are_apart};
 ghost use Rattle.pool_tables.specs.RowChanges.{with_settings};
 
 use crate::on_rows;
 use crate::pool::Pool;
-use kinds::{Name, PoolSettings, Refusal};
 use std::alloc::{AllocError, Global};
 use std::collections::BTreeMap;
 use std::marker::Model;
+use volume_rows::kinds::{Name, PoolSettings, Refusal};
 
 /// Storage pools by number. Contracts see the list of their rows in ascending order of the numbers.
 #[derive(Drop)]

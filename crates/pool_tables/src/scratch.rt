@@ -1,14 +1,14 @@
 ghost use Rattle.std.specs.Prelude.{◌≡◌, ◌++◌, ◌&&◌, nat_le, length, OnOk, IfErr, replicate};
 ghost use Rattle.std.specs.Char.{is_ascii_digit};
 ghost use Rattle.std.specs.List.{list_all};
-ghost use Rattle.kinds.specs.declared.refusal.Refusal.TheVariants.{Memory};
-ghost use Rattle.kinds.specs.Answers.{AnswersBy};
+ghost use Rattle.volume_rows.specs.kinds.declared.refusal.Refusal.TheVariants.{Memory};
+ghost use Rattle.volume_rows.specs.kinds.Answers.{AnswersBy};
 ghost use Rattle.pool_tables.specs.Scratch.{scratch_name, is_scratch_name, is_rightly_named};
 ghost use Rattle.pool_tables.specs.RowChanges.{scratch_volume};
 
 use itoa::Buffer;
-use kinds::{Access, Capacity, Name, Refusal};
 use std::alloc::Global;
+use volume_rows::kinds::{Access, Capacity, Name, Refusal};
 use volume_rows::{Holdings, Volume};
 
 /// The name of the scratch volume with this file number: SCR and the number in eight or more decimal digits.

@@ -2,8 +2,8 @@
 
 ghost use Rattle.std.specs.Prelude.{◌≡◌, ◌<◌, ◌≤◌, ◌^◌, ℕ, true, [], IsSome, Some, None, if◌then◌else◌, Ok, OnOk, IfErr};
 ghost use Rattle.std.specs.Option.{option_copied, ForSome};
-ghost use Rattle.kinds.specs.declared.refusal.Refusal.TheVariants.{Memory};
-ghost use Rattle.kinds.specs.Answers.{AnswersBy, Becomes, Makes};
+ghost use Rattle.volume_rows.specs.kinds.declared.refusal.Refusal.TheVariants.{Memory};
+ghost use Rattle.volume_rows.specs.kinds.Answers.{AnswersBy, Becomes, Makes};
 ghost use Rattle.volume_rows.specs.Held.{end_of};
 ghost use Rattle.volume_rows.specs.Volumes.{undo_on};
 ghost use Rattle.pool_tables.specs.Rows.{row_at, with_row, without_row, edit_row, change_row};
@@ -15,10 +15,10 @@ ghost use Rattle.pool_tables.specs.RowChanges.{put, take, end_of_row, emptied_of
 use crate::on_rows;
 use crate::scratch::{is_rightly_named, scratch_volume};
 use crate::totals::Totals;
-use kinds::{Access, Capacity, Day, Name, Refusal};
 use std::alloc::{AllocError, Global};
 use std::collections::BTreeMap;
 use std::marker::Model;
+use volume_rows::kinds::{Access, Capacity, Day, Name, Refusal};
 use volume_rows::{HeldSegment, Volume};
 
 /// Volumes by file number. Contracts see the list of their rows in ascending order of the numbers.

@@ -6,7 +6,7 @@ use Rattle.std.proofs.lemmas.Option.{slice_get-get_or, slice_get_within, get_or_
 use Rattle.std.proofs.lemmas.Bool.{cases_lt, eqb-true, leb-true, leb-false}
 use Rattle.std.proofs.lemmas.Bool.{false≢true}
 use Rattle.kinds.specs.declared.segment.Segment.{Segment}
-use Rattle.volume_rows.specs.declared.volume.Volume.{Volume}
+use Rattle.pool_rows.specs.volume_rows.declared.volume.Volume.{Volume}
 use Rattle.extent_map.specs.declared.extents.Run.{Run}
 use Rattle.extent_map.specs.Bits.{is_between}
 use Rattle.extent_map.specs.Blocks.{end_of, room_in, total_room, free_runs, first_of, marked, AllAre, AreFree}

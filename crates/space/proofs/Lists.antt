@@ -6,8 +6,8 @@ use Rattle.std.proofs.lemmas.List.{append-nil, drop_more}
 use Rattle.std.proofs.lemmas.Bool.{eq-eqb, ne_eqb, le-leb, lt-leb}
 use Rattle.kinds.specs.declared.refusal.Refusal.{Refusal}
 use Rattle.kinds.specs.declared.refusal.Refusal.TheVariants.{InventoryFull}
-use Rattle.pool_tables.specs.declared.pool.Pool.{Pool}
-use Rattle.pool_tables.specs.Rows.{row_at}
+use Rattle.pool_rows.specs.pool_tables.declared.pool.Pool.{Pool}
+use Rattle.pool_rows.specs.pool_tables.Rows.{row_at}
 use Rattle.pool_rows.specs.Hierarchy.{next_in, chain}
 use Rattle.pool_rows.specs.PoolRows.{PoolRows}
 use Rattle.space.specs.declared.piece.Piece.{Piece}

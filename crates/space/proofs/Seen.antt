@@ -3,9 +3,9 @@ use Rattle.std.proofs.Common.{◌≡◌, ℕ, List, [], ◌∷◌, ◌++◌, ref
 use Rattle.std.specs.List.Sorted.{IsStrictlySortedBy}
 use Rattle.std.specs.Map.{keys_of}
 use Rattle.std.specs.Ordering.{nat_cmp}
-use Rattle.volume_rows.specs.declared.volume.Volume.{Volume}
-use Rattle.pool_tables.specs.Rows.{with_row}
-use Rattle.pool_tables.proofs.Ascending.{last_row}
+use Rattle.pool_rows.specs.volume_rows.declared.volume.Volume.{Volume}
+use Rattle.pool_rows.specs.pool_tables.Rows.{with_row}
+use Rattle.pool_rows.proofs.of_pool_tables.Ascending.{last_row}
 use Rattle.space.specs.declared.site.Site.{Site}
 use Rattle.space.specs.Volumes.{site_of, seen}
 

@@ -2,7 +2,7 @@
 use Rattle.std.specs.Prelude.{ℕ, ◌+◌, ◌==◌, max, List, [], ◌∷◌, if◌then◌else◌}
 use Rattle.std.specs.List.{flat_map}
 use Rattle.kinds.specs.declared.segment.Segment.{Segment}
-use Rattle.pool_tables.specs.Rows.{with_row, without_row}
+use Rattle.pool_rows.specs.pool_tables.Rows.{with_row, without_row}
 use Rattle.space.specs.declared.places.Placed.{Placed}
 use Rattle.space.specs.declared.claims.Claim.{Claim}
 use Rattle.space.specs.declared.counted.Counted.{Counted}

@@ -2,7 +2,7 @@
 use Rattle.std.specs.Prelude.{◌≡◌, ◌≤◌, ◌+◌, ◌*◌, ◌/◌, ◌⊎◌, ℕ, Some, List, slice_get}
 use Rattle.std.specs.List.{AllByRecursion}
 use Rattle.kinds.specs.declared.segment.Segment.{Segment}
-use Rattle.volume_rows.specs.declared.volume.Volume.{Volume}
+use Rattle.pool_rows.specs.volume_rows.declared.volume.Volume.{Volume}
 use Rattle.space.specs.declared.counted.Counted.{Counted}
 use Rattle.space.specs.declared.piece.Piece.{Piece}
 use Rattle.space.specs.Pieces.{cut, segments_on}

@@ -2,9 +2,9 @@
 use Rattle.std.specs.Prelude.{ℕ, ◌+◌, ◌-◌, ◌*◌, ◌/◌, ◌==◌, ◌&&◌, ◌||◌, not, zero, suc, Bool, nat_le, Option, Some, None, List, [], ◌∷◌, ◌++◌, map, if◌then◌else◌}
 use Rattle.std.specs.List.{flat_map, list_any, range_with_len}
 use Rattle.kinds.specs.declared.segment.Segment.{Segment}
-use Rattle.volume_rows.specs.declared.volume.Volume.{Volume}
-use Rattle.pool_tables.specs.Rows.{row_at}
-use Rattle.pool_tables.specs.declared.pool.Pool.{Pool}
+use Rattle.pool_rows.specs.volume_rows.declared.volume.Volume.{Volume}
+use Rattle.pool_rows.specs.pool_tables.Rows.{row_at}
+use Rattle.pool_rows.specs.pool_tables.declared.pool.Pool.{Pool}
 use Rattle.pool_rows.specs.PoolRows.{PoolRows, pool_capacity}
 use Rattle.extent_map.specs.declared.extents.Run.{Run}
 use Rattle.extent_map.specs.Bits.{is_between}

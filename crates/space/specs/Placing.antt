@@ -8,8 +8,8 @@ use Rattle.kinds.specs.declared.refusal.Holder.{Holder}
 use Rattle.kinds.specs.declared.refusal.Holder.TheVariants.{Ticket, Unforced}
 use Rattle.kinds.specs.declared.refusal.Refusal.{Refusal}
 use Rattle.kinds.specs.declared.refusal.Refusal.TheVariants.{NoSpace, Busy, InventoryFull}
-use Rattle.pool_tables.specs.Rows.{row_at}
-use Rattle.pool_tables.specs.declared.pool.Pool.{Pool}
+use Rattle.pool_rows.specs.pool_tables.Rows.{row_at}
+use Rattle.pool_rows.specs.pool_tables.declared.pool.Pool.{Pool}
 use Rattle.pool_rows.specs.PoolRows.{PoolRows, is_sequential}
 use Rattle.pool_rows.specs.Hierarchy.{chain}
 use Rattle.space.specs.declared.aim.Aim.{Aim}

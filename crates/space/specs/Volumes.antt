@@ -4,9 +4,9 @@ use Rattle.std.specs.List.{list_any}
 use Rattle.kinds.specs.declared.pool.Access.{Access}
 use Rattle.kinds.specs.declared.pool.Access.TheVariants.{ReadWrite, ReadOnly, Unavailable, Offsite, Destroyed}
 use Rattle.kinds.specs.declared.segment.Segment.{Segment}
-use Rattle.volume_rows.specs.declared.volume.Volume.{Volume}
-use Rattle.volume_rows.specs.Holdings.{is_bare}
-use Rattle.pool_tables.specs.Rows.{row_at, with_row}
+use Rattle.pool_rows.specs.volume_rows.declared.volume.Volume.{Volume}
+use Rattle.pool_rows.specs.volume_rows.Holdings.{is_bare}
+use Rattle.pool_rows.specs.pool_tables.Rows.{row_at, with_row}
 use Rattle.pool_rows.specs.PoolRows.{PoolRows, pool_capacity}
 use Rattle.space.specs.declared.places.Placed.{Placed}
 use Rattle.space.specs.declared.site.Site.{Site}

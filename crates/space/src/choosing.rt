@@ -4,7 +4,7 @@ ghost use Rattle.std.specs.List.{find, list_any};
 ghost use Rattle.std.specs.Option.{option_map};
 ghost use Rattle.kinds.specs.Answers.{Answers};
 ghost use Rattle.kinds.specs.declared.refusal.Holder.TheVariants.{Ticket, Unforced};
-ghost use Rattle.pool_tables.specs.Rows.{row_at};
+ghost use Rattle.pool_rows.specs.pool_tables.Rows.{row_at};
 ghost use Rattle.pool_rows.specs.Hierarchy.{next_in};
 ghost use Rattle.space.specs.Pieces.{pieces, room, cut, filled};
 ghost use Rattle.space.specs.Placing.{goes_to, hierarchy, walked, is_allowed, may_take, has_place, pool_for, lies_in, holds_in, ticket_in, unforced_in, if_random, random_among, busy_or_full, no_place, is_last, placed, placed_in, choose};

@@ -1,7 +1,7 @@
 // What the definitions of free space come to, as laws. Each stands on a function that does nothing.
 ghost use Rattle.std.specs.Prelude.{◌≡◌, ◌≤◌, ℕ, List};
 ghost use Rattle.std.specs.List.{AllByRecursion};
-ghost use Rattle.volume_rows.specs.declared.volume.Volume.{Volume};
+ghost use Rattle.pool_rows.specs.volume_rows.declared.volume.Volume.{Volume};
 ghost use Rattle.space.specs.declared.counted.Counted.{Counted};
 ghost use Rattle.space.specs.declared.piece.Piece.{Piece};
 ghost use Rattle.space.specs.Pieces.{free_pieces, filled, room};

@@ -14,8 +14,8 @@ use crate::volumes::site_of;
 use extent_map::{Extents, Run};
 use kinds::Segment;
 use pool_rows::Pools;
+use pool_rows::volume_rows::{HeldSegment, Holdings, Volume};
 use std::alloc::{AllocError, Global};
-use volume_rows::{HeldSegment, Holdings, Volume};
 
 fn segment_of(file: u32, held: &HeldSegment) -> Segment
     ensures { result ≡ record { file = file; offset = held.now.offset; len = held.now.len } }

@@ -1,6 +1,6 @@
 // The free space of sequential pools.
 ghost use Rattle.std.specs.Prelude.{◌≡◌, ◌+◌, ◌-◌, ◌^◌, ◌<◌, ◌≤◌, ◌++◌, IfOk, OnOk};
-ghost use Rattle.pool_tables.specs.Rows.{row_at};
+ghost use Rattle.pool_rows.specs.pool_tables.Rows.{row_at};
 ghost use Rattle.space.specs.Pieces.{tail_piece, is_in_turn, tail_in, tails_in, scratch_pieces, max_scratch, scratch_left, sequential_pieces};
 
 use crate::counted::Counted;

@@ -8,9 +8,9 @@ use crate::places::Placed;
 use crate::site::Site;
 use kinds::{Access, Segment};
 use pool_rows::Pools;
+use pool_rows::volume_rows::Volume;
 use std::alloc::{AllocError, Global};
 use std::collections::BTreeMap;
-use volume_rows::Volume;
 
 /// Whether a volume with this access may be written: READWRITE.
 pub fn is_writable(access: &Access) -> bool

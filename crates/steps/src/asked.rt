@@ -1,7 +1,7 @@
 //! What is to be committed.
 
 use entries::Change;
-use inventory_work::Listed;
+use inventory_answers::inventory_work::Listed;
 use kinds::{Digest, Name, Path, Text};
 
 /// A file that becomes a version of its path. Its bytes, their number and where they lie are those of a ticket.

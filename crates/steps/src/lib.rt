@@ -10,6 +10,10 @@ mod step;
 mod stepper;
 
 pub use asked::{Asked, HeldItem, Item};
+pub use entries;
 pub use image::{ImageKind, ImageReply};
+pub use inventory_answers;
+pub use inventory_answers::inventory_rows;
+pub use space;
 pub use step::{Reply, Step};
 pub use stepper::Stepper;

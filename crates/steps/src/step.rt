@@ -2,8 +2,8 @@
 
 use crate::asked::Asked;
 use crate::image::{ImageKind, ImageReply};
+use inventory_answers::inventory_work::Listed;
 use inventory_answers::{Answer, Query};
-use inventory_work::Listed;
 use kinds::{Digest, Refusal};
 use space::Aim;
 

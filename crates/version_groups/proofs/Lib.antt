@@ -1,3 +1,4 @@
+pub use Rattle.kinds.proofs as of_kinds
 pub mod Altered
 pub mod Laws
 pub mod Lists

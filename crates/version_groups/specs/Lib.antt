@@ -1,3 +1,4 @@
+pub use Rattle.kinds.specs as kinds
 pub mod Copies
 pub mod Entries
 pub mod Groups

@@ -10,4 +10,5 @@ mod versions;
 pub use copies::{Copies, CopyChange, CopyRow};
 pub use group::{Group, GroupChange};
 pub use groups::{Filespace, Groups};
+pub use kinds;
 pub use versions::{Version, Versions};

@@ -1,2 +1,3 @@
+pub use Rattle.kinds.proofs as of_kinds
 pub mod Entries
 pub mod Segments

@@ -1,3 +1,4 @@
+pub use Rattle.kinds.specs as kinds
 pub mod Held
 pub mod Holdings
 pub mod Volumes

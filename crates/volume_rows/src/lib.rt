@@ -10,5 +10,6 @@ mod volume;
 
 pub use held::HeldSegment;
 pub use holdings::Holdings;
+pub use kinds;
 pub use status::Status;
 pub use volume::Volume;

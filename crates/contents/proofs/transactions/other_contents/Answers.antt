@@ -1,4 +1,4 @@
-use Rattle.inventory_rows.specs.Search.{versions}
+use Rattle.inventory_laws.specs.inventory_rows.Search.{versions}
 use Rattle.contents.specs.Contents.{InImage, InStore}
 use Rattle.contents.proofs.Brought.{have_one_more, have_same}
 use Rattle.contents.proofs.transactions.other_contents.Goals as goal

@@ -1,5 +1,5 @@
 use Rattle.std.proofs.Common.{List, subst, sym}
-use Rattle.inventory_rows.specs.version_groups.declared.versions.Version.{Version}
+use Rattle.inventory_laws.specs.inventory_rows.version_groups.declared.versions.Version.{Version}
 use Rattle.contents.specs.Contents.{HaveAll, InImage, InStore}
 use Rattle.contents.proofs.transactions.same_versions.Goals as goal
 

@@ -1,5 +1,5 @@
 use Rattle.std.proofs.Common.{◌≡◌, ◌++◌}
-use Rattle.inventory_rows.specs.State.{inv_of}
+use Rattle.inventory_work.specs.inventory_rows.State.{inv_of}
 use Rattle.inventory_answers.specs.Clients.{version_lines}
 use Rattle.inventory_answers.proofs.clients.version_lines.Given as goal
 

@@ -1,6 +1,6 @@
 use Rattle.std.proofs.Common.{◌≡◌, ◌++◌}
 use Rattle.std.specs.Prelude.{map}
-use Rattle.inventory_rows.specs.State.{inv_of}
+use Rattle.inventory_work.specs.inventory_rows.State.{inv_of}
 use Rattle.inventory_answers.specs.Content.{content_line, content_lines}
 use Rattle.inventory_answers.proofs.content.content_lines.Given as goal
 

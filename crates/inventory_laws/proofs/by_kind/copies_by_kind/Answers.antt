@@ -1,7 +1,7 @@
 use Rattle.std.proofs.Common.{ℕ, ◌+◌, [], refl}
-use Rattle.entries.specs.change_items.declared.items.NewCopy.{NewCopy}
-use Rattle.entries.specs.declared.change.Change.TheVariants as change
-use Rattle.inventory_rows.specs.State.{Inv}
+use Rattle.inventory_rules.specs.entries.change_items.declared.items.NewCopy.{NewCopy}
+use Rattle.inventory_rules.specs.entries.declared.change.Change.TheVariants as change
+use Rattle.inventory_rules.specs.inventory_rows.State.{Inv}
 use Rattle.inventory_rules.specs.Common.{each}
 use Rattle.inventory_rules.specs.Copies.{add_copy, drop_copy, put_moved}
 use Rattle.inventory_rules.specs.Segments.{make_scratch}

@@ -1,4 +1,4 @@
-use Rattle.inventory_rows.specs.object_rows.Rows.{rows_cleared, rows_without}
+use Rattle.inventory_rules.specs.inventory_rows.object_rows.Rows.{rows_cleared, rows_without}
 use Rattle.inventory_laws.proofs.GroupSteps.{gone, rebound}
 use Rattle.inventory_laws.proofs.Leaves.{cleared, facts_after, order_after, without}
 use Rattle.inventory_laws.proofs.version_steps.groups_change.Goals as goal

@@ -1,4 +1,4 @@
-use Rattle.inventory_rows.specs.object_rows.Rows.{rows_cleared, rows_without}
+use Rattle.inventory_rules.specs.inventory_rows.object_rows.Rows.{rows_cleared, rows_without}
 use Rattle.inventory_laws.proofs.Leaves.{cleared, ordered_after, without}
 use Rattle.inventory_laws.proofs.Ordered.{ordered_change, ordered_copy, ordered_held, ordered_inserted}
 use Rattle.inventory_laws.proofs.version_steps.order_stays.Goals as goal

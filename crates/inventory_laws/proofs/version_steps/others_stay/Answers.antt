@@ -1,4 +1,4 @@
-use Rattle.inventory_rows.specs.object_rows.Rows.{rows_cleared, rows_without}
+use Rattle.inventory_rules.specs.inventory_rows.object_rows.Rows.{rows_cleared, rows_without}
 use Rattle.inventory_laws.proofs.Leaves.{cleared, other_after, without}
 use Rattle.inventory_laws.proofs.Others.{objects_copied, other_copied, place_stays}
 use Rattle.inventory_laws.proofs.version_steps.others_stay.Goals as goal

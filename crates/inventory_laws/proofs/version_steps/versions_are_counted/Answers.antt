@@ -1,10 +1,10 @@
 use Rattle.std.proofs.Common.{not}
 use Rattle.std.specs.Prelude.{nat_le}
 use Rattle.std.proofs.lemmas.Bool.{and_parts, not-true}
-use Rattle.inventory_rows.specs.version_groups.declared.group.GroupChange.TheVariants.{Gone}
-use Rattle.inventory_rows.specs.version_groups.Versions.{has_object}
-use Rattle.inventory_rows.specs.object_rows.Rows.{rows_cleared, rows_without}
-use Rattle.inventory_rows.specs.Search.{versions}
+use Rattle.inventory_rules.specs.inventory_rows.version_groups.declared.group.GroupChange.TheVariants.{Gone}
+use Rattle.inventory_rules.specs.inventory_rows.version_groups.Versions.{has_object}
+use Rattle.inventory_rules.specs.inventory_rows.object_rows.Rows.{rows_cleared, rows_without}
+use Rattle.inventory_rules.specs.inventory_rows.Search.{versions}
 use Rattle.inventory_rules.specs.Versions.{change_group, held_too, inserted}
 use Rattle.inventory_laws.proofs.Arriving.{length_arrived}
 use Rattle.inventory_laws.proofs.GroupSteps.{gone}

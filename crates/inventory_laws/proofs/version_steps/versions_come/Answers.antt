@@ -1,8 +1,8 @@
 use Rattle.std.proofs.Common.{not}
 use Rattle.std.specs.Prelude.{nat_le}
 use Rattle.std.proofs.lemmas.Bool.{and_parts, not-true}
-use Rattle.inventory_rows.specs.version_groups.Versions.{has_object}
-use Rattle.inventory_rows.specs.Search.{versions}
+use Rattle.inventory_rules.specs.inventory_rows.version_groups.Versions.{has_object}
+use Rattle.inventory_rules.specs.inventory_rows.Search.{versions}
 use Rattle.inventory_rules.specs.Versions.{held_too, inserted}
 use Rattle.inventory_laws.proofs.Arriving.{arrived, copies_more, other_arrived}
 use Rattle.inventory_laws.proofs.Others.{other_inserted}

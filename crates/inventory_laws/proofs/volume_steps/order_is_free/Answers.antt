@@ -1,5 +1,5 @@
 use Rattle.std.proofs.Common.{ℕ, map}
-use Rattle.inventory_rows.specs.version_groups.declared.copies.CopyRow.{CopyRow}
+use Rattle.inventory_rules.specs.inventory_rows.version_groups.declared.copies.CopyRow.{CopyRow}
 use Rattle.inventory_laws.proofs.Holding.{holding-reordered}
 use Rattle.inventory_laws.proofs.Orders.{reordered_itself, reordered_back, reordered_then, reordered_before, reordered_behind, reordered_swap, reordered-flat_map}
 use Rattle.inventory_laws.proofs.Volume.{disjoint-reordered}

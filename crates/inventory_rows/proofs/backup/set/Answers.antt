@@ -1,7 +1,7 @@
 use Rattle.std.proofs.Common.{sym}
 use Rattle.std.specs.BTreeMap.{is_at}
 use Rattle.std.specs.Ordering.{nat_cmp}
-use Rattle.volume_rows.proofs.Entries.{set_value-absent}
+use Rattle.pool_rows.proofs.of_volume_rows.Entries.{set_value-absent}
 use Rattle.inventory_rows.proofs.backup.set.Goals as goal
 
 pub returns-in_default : goal.returns-in_default

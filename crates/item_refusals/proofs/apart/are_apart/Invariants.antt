@@ -1,5 +1,5 @@
 use Rattle.std.proofs.Common.{◌≡◌, drop}
-use Rattle.inventory_rows.specs.version_groups.Entries.{all_later}
+use Rattle.inventory_rules.specs.inventory_rows.version_groups.Entries.{all_later}
 use Rattle.item_refusals.proofs.apart.are_apart.Given as goal
 
 abbrev pub invariant-items : goal.invariant-items

@@ -4,10 +4,10 @@ use Rattle.std.proofs.lemmas.List.{length-map}
 use Rattle.kinds.specs.declared.refusal.Refusal.{Refusal}
 use Rattle.kinds.specs.declared.refusal.Refusal.TheVariants.{InventoryFull}
 use Rattle.kinds.specs.Refusals.{foremost, sooner_of, unless, bad_value}
-use Rattle.inventory_rows.specs.version_groups.Entries.{all_later}
-use Rattle.inventory_rows.specs.object_rows.Rows.{most_kept}
-use Rattle.inventory_rows.specs.Search.{versions}
-use Rattle.inventory_rows.specs.State.{inv_of}
+use Rattle.inventory_rules.specs.inventory_rows.version_groups.Entries.{all_later}
+use Rattle.inventory_rules.specs.inventory_rows.object_rows.Rows.{most_kept}
+use Rattle.inventory_rules.specs.inventory_rows.Search.{versions}
+use Rattle.inventory_rules.specs.inventory_rows.State.{inv_of}
 use Rattle.inventory_rules.specs.Versions.{name_once, filespace_there}
 use Rattle.item_refusals.proofs.Foremost.{foremost_append, foremost_joined}
 use Rattle.item_refusals.proofs.Lists.{apart_by}

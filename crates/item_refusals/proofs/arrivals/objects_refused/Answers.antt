@@ -1,6 +1,6 @@
 use Rattle.std.proofs.Common.{[], ap, sym, ◌∙◌}
 use Rattle.kinds.specs.Refusals.{foremost, sooner_of}
-use Rattle.inventory_rows.specs.State.{inv_of}
+use Rattle.inventory_rules.specs.inventory_rows.State.{inv_of}
 use Rattle.inventory_rules.specs.Versions.{object_refused}
 use Rattle.item_refusals.proofs.Foremost.{foremost_done, foremost_next}
 use Rattle.item_refusals.proofs.Lists.{flat_map_named}

@@ -1,7 +1,7 @@
 use Rattle.std.proofs.Common.{◌≡◌, take}
 use Rattle.std.specs.List.{flat_map}
 use Rattle.kinds.specs.Refusals.{foremost}
-use Rattle.inventory_rows.specs.State.{inv_of}
+use Rattle.inventory_rules.specs.inventory_rows.State.{inv_of}
 use Rattle.inventory_rules.specs.Versions.{object_refused}
 use Rattle.item_refusals.proofs.arrivals.objects_refused.Given as goal
 

@@ -1,8 +1,8 @@
 use Rattle.std.proofs.Common.{◌≡◌, ◌++◌, map, take}
 use Rattle.std.specs.List.{flat_map}
 use Rattle.kinds.specs.Refusals.{foremost, unless, bad_value}
-use Rattle.change_items.specs.declared.items.MovedCopy.{MovedCopy}
-use Rattle.inventory_rows.specs.State.{inv_of}
+use Rattle.inventory_rules.specs.change_items.declared.items.MovedCopy.{MovedCopy}
+use Rattle.inventory_rules.specs.inventory_rows.State.{inv_of}
 use Rattle.inventory_rules.specs.Copies.{moved_refused}
 use Rattle.inventory_rules.specs.Versions.{name_once}
 use Rattle.item_refusals.proofs.copies.move_refused.Given as goal

@@ -1,7 +1,7 @@
 use Rattle.std.proofs.Common.{◌≡◌, drop}
 use Rattle.std.specs.List.{list_all}
-use Rattle.change_items.specs.declared.items.ScratchVolume.{ScratchVolume}
-use Rattle.inventory_rows.specs.State.{inv_of}
+use Rattle.inventory_rules.specs.change_items.declared.items.ScratchVolume.{ScratchVolume}
+use Rattle.inventory_rules.specs.inventory_rows.State.{inv_of}
 use Rattle.inventory_rules.specs.Common.{is_free_file}
 use Rattle.item_refusals.proofs.scratch.are_free.Given as goal
 

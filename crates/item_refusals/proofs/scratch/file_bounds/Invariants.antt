@@ -1,8 +1,8 @@
 use Rattle.std.proofs.Common.{◌≡◌, take}
 use Rattle.std.specs.List.{flat_map}
 use Rattle.kinds.specs.Refusals.{foremost}
-use Rattle.change_items.specs.declared.items.ScratchVolume.{ScratchVolume}
-use Rattle.inventory_rows.specs.State.{inv_of}
+use Rattle.inventory_rules.specs.change_items.declared.items.ScratchVolume.{ScratchVolume}
+use Rattle.inventory_rules.specs.inventory_rows.State.{inv_of}
 use Rattle.inventory_rules.specs.Common.{file_bound}
 use Rattle.item_refusals.proofs.scratch.file_bounds.Given as goal
 

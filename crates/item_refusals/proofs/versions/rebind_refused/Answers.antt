@@ -1,9 +1,9 @@
 use Rattle.std.proofs.Common.{not, map, ap, ◌∙◌}
 use Rattle.kinds.specs.Names.{is_same_name}
 use Rattle.kinds.specs.Refusals.{sooner_of, unless, bad_value}
-use Rattle.change_items.specs.declared.items.Rebinding.{Rebinding}
-use Rattle.inventory_rows.specs.version_groups.Entries.{all_later}
-use Rattle.inventory_rows.specs.State.{inv_of}
+use Rattle.inventory_rules.specs.change_items.declared.items.Rebinding.{Rebinding}
+use Rattle.inventory_rules.specs.inventory_rows.version_groups.Entries.{all_later}
+use Rattle.inventory_rules.specs.inventory_rows.State.{inv_of}
 use Rattle.inventory_rules.specs.Versions.{paths_once, rebinding_refused}
 use Rattle.item_refusals.proofs.Foremost.{foremost_first, foremost_next, foremost_done}
 use Rattle.item_refusals.proofs.Lists.{all_later_map}

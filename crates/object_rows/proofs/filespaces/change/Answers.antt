@@ -1,5 +1,5 @@
 use Rattle.std.proofs.Common.{List, ℕ, sym, subst}
-use Rattle.kinds.specs.Answers.{Makes}
+use Rattle.version_groups.specs.kinds.Answers.{Makes}
 use Rattle.version_groups.specs.Groups as grouped
 use Rattle.version_groups.specs.declared.groups.Filespace.{Filespace}
 use Rattle.object_rows.specs.Filespaces.{filespaces_after}

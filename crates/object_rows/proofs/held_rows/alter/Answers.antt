@@ -1,6 +1,6 @@
 use Rattle.std.proofs.Common.{ℕ, List, Result, sym, subst, ⊎_elim}
 use Rattle.std.specs.Bool.{IsTrue}
-use Rattle.kinds.specs.declared.refusal.Refusal.{Refusal}
+use Rattle.version_groups.specs.kinds.declared.refusal.Refusal.{Refusal}
 use Rattle.version_groups.specs.declared.copies.CopyRow.{CopyRow}
 use Rattle.version_groups.specs.Copies.{Alters, takes_free_pool}
 use Rattle.object_rows.specs.declared.held_object.HeldRow.{HeldRow}

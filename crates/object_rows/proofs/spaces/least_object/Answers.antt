@@ -1,7 +1,7 @@
 use Rattle.std.proofs.Common.{List, ℕ, map, Option, sym, ap, ◌∙◌}
 use Rattle.version_groups.specs.declared.group.Group.{Group}
 use Rattle.version_groups.specs.declared.versions.Version.{Version}
-use Rattle.kinds.specs.Least.{lesser}
+use Rattle.version_groups.specs.kinds.Least.{lesser}
 use Rattle.object_rows.specs.Changes.{least, least_object}
 use Rattle.object_rows.proofs.Least.{least_group_more}
 use Rattle.object_rows.proofs.spaces.least_object.Goals as goal

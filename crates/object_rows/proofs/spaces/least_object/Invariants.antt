@@ -1,5 +1,5 @@
 use Rattle.std.proofs.Common.{◌≡◌}
-use Rattle.kinds.specs.Least.{lesser}
+use Rattle.version_groups.specs.kinds.Least.{lesser}
 use Rattle.object_rows.specs.Changes.{least_object}
 use Rattle.object_rows.proofs.spaces.least_object.Given as goal
 

@@ -1,6 +1,6 @@
 use Rattle.std.proofs.Common.{◌≡◌, drop, map}
 use Rattle.version_groups.specs.declared.versions.Version.{Version}
-use Rattle.kinds.specs.Least.{lesser}
+use Rattle.version_groups.specs.kinds.Least.{lesser}
 use Rattle.object_rows.specs.Changes.{least}
 use Rattle.object_rows.proofs.spaces.least_of.Given as goal
 

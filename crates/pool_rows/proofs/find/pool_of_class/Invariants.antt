@@ -1,5 +1,5 @@
 use Rattle.std.proofs.Common.{◌≡◌}
-use Rattle.kinds.specs.Names.{is_same_name}
+use Rattle.pool_tables.specs.kinds.Names.{is_same_name}
 use Rattle.pool_tables.specs.Rows.{number_where}
 use Rattle.pool_rows.proofs.find.pool_of_class.Given as goal
 

@@ -1,5 +1,5 @@
 use Rattle.std.proofs.Common.{◌∙◌, ap}
-use Rattle.pool_tables.specs.Rows.{with_row}
+use Rattle.pool_rows.specs.pool_tables.Rows.{with_row}
 use Rattle.space.specs.declared.site.Site.{Site}
 use Rattle.space.proofs.Seen.{seen_next}
 use Rattle.space.proofs.volumes.row_sites.Goals as goal

@@ -1,6 +1,6 @@
 use Rattle.std.proofs.Common.{◌≡◌, ℕ, List, Result, false, sym, subst, ◌∙◌}
 use Rattle.std.specs.Bool.{IsTrue}
-use Rattle.kinds.specs.declared.refusal.Refusal.{Refusal}
+use Rattle.version_groups.specs.kinds.declared.refusal.Refusal.{Refusal}
 use Rattle.version_groups.specs.declared.copies.CopyRow.{CopyRow}
 use Rattle.version_groups.specs.Copies.{Alters, takes_free_pool}
 use Rattle.version_groups.specs.Versions.{has_object}

@@ -2,7 +2,7 @@ use Rattle.std.proofs.Common.{◌≡◌, ℕ, List, ◌∷◌, true, false, inr,
 use Rattle.std.specs.Prelude.{nat_le}
 use Rattle.std.specs.Option.{is_some}
 use Rattle.std.specs.Result.{OnOk}
-use Rattle.kinds.specs.Answers.{Becomes}
+use Rattle.version_groups.specs.kinds.Answers.{Becomes}
 use Rattle.version_groups.specs.Versions.{has_object, superseded}
 use Rattle.object_rows.specs.Filespaces.{filespace_at, filespaces_with, versions_at, versions_of}
 use Rattle.object_rows.specs.HeldRows.{has_row}
