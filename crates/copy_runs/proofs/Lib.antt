@@ -9,6 +9,7 @@ pub mod Passing
 pub mod Returning
 pub mod Risen
 pub mod Running
+pub mod Tickets
 pub mod Told
 pub mod Unheld
 pub mod Whole

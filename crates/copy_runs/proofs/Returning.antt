@@ -70,10 +70,10 @@ copied-by-pool : (v : Inv) (w : Version) → is_copied v w ≡ true → are_by_p
 copied-by-pool v w t = first (are_by_pool w.copies) _ (rest _ _ (rest _ _ t))
 
 -- each copy of a valid database is that of its object in its pool
-abbrev IsHeld : Inv → ℕ × CopyRow → Type 0
+abbrev pub IsHeld : Inv → ℕ × CopyRow → Type 0
 IsHeld v e = Holds e.0 e.1 v
 
-all-held : (v : Inv) → is_valid v ≡ true → AllByRecursion (IsHeld v) (copies v)
+pub all-held : (v : Inv) → is_valid v ≡ true → AllByRecursion (IsHeld v) (copies v)
 all-held v valid =
     let facts = facts_of v valid in
     each_flat (IsHeld v) (λ (w : Version). map (λ (c : CopyRow). (w.object, c)) w.copies) (versions v)

@@ -35,7 +35,7 @@ use Rattle.line_results.specs.Bounds.{HasReason, IsReasoned, IsUnfollowed, IsUnm
 use Rattle.line_results.specs.Commands.{Does, DoesOn, DoesOwn, DoesThere, EndsSo, IsStill, Processes, Ran, Tells, Works, WorksWith, drawn}
 use Rattle.line_results.specs.Files.{Gets, GetsNot, GetsOf, GetsUnder, Puts, PutsBy, PutsHome, PutsOf, PutsUnder, Shows, ShowsFound, Stores, StoresAt, StoresBy, active_at, why_no_place}
 use Rattle.line_results.specs.Migrating.{IsAllMigration, IsPoolMigration}
-use Rattle.line_results.specs.Moving.{ComesToBound, ComesToMissing, HasCopyReason, HasMoveReason, IsBackup, IsCopyReasoned, IsDataMove, IsReclamation, IsStuck, IsUncopied}
+use Rattle.line_results.specs.Moving.{ComesToBound, HasCopyReason, HasMoveReason, IsBackup, IsCopyReasoned, IsDataMove, IsReclamation, IsStuck, IsUncopied}
 use Rattle.line_results.specs.Resting.{Breaks, EndsRun, RoseFrom, database}
 use Rattle.line_results.specs.Returning.{RestoresPool, RestoresVolume}
 use Rattle.line_results.specs.Trees.{IsRefusedSo}
@@ -181,17 +181,8 @@ module _ (trusted : Type 0) (places : Places) (k : Client) (result : Result Outc
   uncopied-as primary copy e (inl kinds) = inl kinds
   uncopied-as primary copy e (inr (full, bound)) = inr (full, bound-as (IsBackup primary copy) bound)
 
-  missing-as : (Did : List Event → Type 0) → ComesToMissing places Did (later_of old mid) → ComesToMissing places Did old
-  missing-as Did (e, m, comes, missing) = (
-    e,
-    m,
-    record { start = comes.start; first = comes.first; later = comes.later; did = comes.did; core = comes.core; onward = onward-then old (later_of old mid) comes.start (on-later old mid b) comes.onward; made = comes.made },
-    missing,
-  )
-
   stuck-as : (Did : List Event → Type 0) (e : Refusal) → IsStuck places Did (later_of old mid) e → IsStuck places Did old e
-  stuck-as Did e (inl (is, missing)) = inl (is, missing-as Did missing)
-  stuck-as Did e (inr (full, bound)) = inr (full, bound-as Did bound)
+  stuck-as Did e stuck = λ valid. (let s = stuck valid in (s.0, bound-as Did s.1))
 
   move-reason-as : (numbers : List ℕ) (mover : Mover) (e : Refusal) → HasMoveReason places numbers mover (later_of old mid) e → HasMoveReason places numbers mover old e
   move-reason-as numbers data_mover e (inl none) = inl none

@@ -279,7 +279,7 @@ commit-goes P asked numbers old new (Err e) so h = elim h [
   | inr f ↦ joined-goes P f.1.0 old.core new.core (so f.1.0 old.core f.1.3) (legal-commit asked numbers _ old f.1.0 f.1.3 f.0) (ap (λ (c : Core). c.base) f.1.6.0) (ap (λ (c : Core). c.journal) f.1.6.0)
 ]
 
-listed-none : {A : Type 0} (o : Option A) → listed o ≡ [] → o ≡ None
+pub listed-none : {A : Type 0} (o : Option A) → listed o ≡ [] → o ≡ None
 listed-none None h = refl
 listed-none (Some x) h = absurd cc
 

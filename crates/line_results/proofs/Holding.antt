@@ -665,8 +665,7 @@ module _ (old between mid : Machine) (on : IsBehind between mid) (rose : NoneRos
   copied-so places primary copy (inr halts) may = some-not f halts.0 mild halts.1
 
   stuck-so : (places : Places) (Did : List Event → Type 0) → IsStuck places Did old f → IsOpen places Did old → ⊥
-  stuck-so places Did (inl (is, missing)) may = may.0 missing
-  stuck-so places Did (inr (full, bound)) may = may.1 bound
+  stuck-so places Did stuck may = may.1 (stuck may.0).1
 
   lost-so : (file : ℕ) → CannotBeLost file old f → CanBeLost file old → ⊥
   lost-so file (inl none) may = (let odd : ◌≡◌ {A = Result Change Refusal} (Err f) (Ok may.0) = sym none ∙ may.1 in cc)

@@ -82,6 +82,7 @@ pub mod Settling
 pub mod Since
 pub mod Spent
 pub mod Stopping
+pub mod Ticketed
 pub mod Told
 pub mod Treed
 pub mod Trying

@@ -19,16 +19,20 @@ use Rattle.inventory_answers.specs.declared.reply.Rows.TheVariants as rows
 use Rattle.inventory_rows.proofs.of_object_rows.Stands.{at-eqb, at_itself, lookup-behind}
 use Rattle.inventory_rows.proofs.of_pool_tables.Ascending.{row_absent}
 use Rattle.inventory_rows.specs.pool_rows.PoolRows.{PoolRows}
-use Rattle.inventory_rows.specs.pool_tables.Rows.{row_at}
+use Rattle.inventory_rows.specs.pool_tables.Rows.{named, row_at}
 use Rattle.inventory_rows.specs.pool_tables.declared.pool.Pool.{Pool}
 use Rattle.inventory_rows.specs.Search.{is_primary_kind, pool}
 use Rattle.inventory_rows.specs.State.{Inv}
 use Rattle.inventory_rows.specs.version_groups.Entries.{on_ok}
+use Rattle.inventory_rules.specs.Valid.{is_valid, next_is_there}
+use Rattle.inventory_laws.proofs.Facts.{facts_of}
+use Rattle.inventory_laws.proofs.Lists.{all_of}
 use Rattle.inventory_work.specs.declared.lines.CopyLine.{CopyLine}
 use Rattle.inventory_work.specs.Copies.{copies_where, has_pool}
 use Rattle.command_steps.specs.copy_attempts.Outcomes.{MetBy}
+use Rattle.command_steps.specs.copy_runs.Tickets.{GotNoTicket}
 use Rattle.command_steps.specs.migration.Marks.{has_reached, is_within, onward, target, target_of}
-use Rattle.command_steps.specs.migration.Migrating.{IsBarred, IsMigration, Migration, TellsWhy}
+use Rattle.command_steps.specs.migration.Migrating.{IsBarred, IsMigration, Migration, TellsNext, TellsWhy}
 use Rattle.command_steps.specs.migration.Sweeping.{AllMigration, IsBarredIn, IsSweep, TellsDue, due_at, due_of, is_behind, is_due}
 use Rattle.space.specs.declared.aim.Aim.TheVariants as aim
 use Rattle.steps.specs.Events.{Deed, Event}
@@ -47,7 +51,8 @@ use Rattle.line_results.proofs.Types.{Due}
 use Rattle.line_results.proofs.CopiesStay.{grew-pools}
 use Rattle.line_results.proofs.CopyReason.{NotTen, answer_in, ended-not, ten-is, told-pools}
 use Rattle.line_results.proofs.Cutting.{CutAt}
-use Rattle.line_results.proofs.MoveReason.{stuck-at, stuck-by}
+use Rattle.line_results.proofs.MoveReason.{stuck-by}
+use Rattle.line_results.proofs.Ticketed.{no-target}
 use Rattle.line_results.proofs.Trying.{AreTrying, IsTrying, cut-of, grew-at}
 
 -- ---- a pool that isn't there, or has no next one
@@ -75,6 +80,22 @@ target-why number low s (p ∷ pools) e h =
       | true ↦ λ one. onward-why (is_within low (pool_line s p)) p.1 p.1.settings.next e refl one
       | false ↦ λ more. target-why number low s pools e more
     ] h)
+
+-- where copies are to go from a pool is there, where each names a next one that is
+onward-is : (within : Bool) (next : Option ℕ) (to : ℕ) → onward within next ≡ Ok (Some to) → next ≡ Some to
+onward-is within None to h = absurd cc
+onward-is true (Some n) to h = (let odd : ◌≡◌ {A = Result (Option ℕ) Refusal} (Ok None) (Ok (Some to)) = h in cc)
+onward-is false (Some n) to h = (let same : ◌≡◌ {A = Result (Option ℕ) Refusal} (Ok (Some n)) (Ok (Some to)) = h in cc)
+
+next-there : (number low : ℕ) (s : PoolRows) (v : Inv) (pools : List (ℕ × Pool)) (to : ℕ) → AllByRecursion (λ (p : ℕ × Pool). (is_some (named p.1.class v.stores.classes) && next_is_there p.1.settings.next v) ≡ true) pools
+    → target_of low (find (λ (l : PoolLine). l.number == number) (map (pool_line s) pools)) ≡ Ok (Some to) → has_pool to v ≡ true
+next-there number low s v [] to cites h = (let odd : ◌≡◌ {A = Result (Option ℕ) Refusal} (Err refused.NotFound) (Ok (Some to)) = h in cc)
+next-there number low s v (p ∷ pools) to cites h =
+    elim (p.0 == number) as (λ b. target_of low (if b then Some (pool_line s p) else find (λ (l : PoolLine). l.number == number) (map (pool_line s) pools)) ≡ Ok (Some to) → has_pool to v ≡ true) [
+      | true ↦ λ one. subst (λ (o : Option ℕ). next_is_there o v ≡ true) (onward-is (is_within low (pool_line s p)) p.1.settings.next to one)
+          (and_parts (is_some (named p.1.class v.stores.classes)) (next_is_there p.1.settings.next v) cites.0).1
+      | false ↦ λ more. next-there number low s v pools to cites.1 more
+    ] h
 
 listed-not : (v : Inv) (b : Bool) (xs : List CopyLine) (m : Machine) (e : Refusal) → (number_of e == 10) ≡ true
     → foremost (ended m ++ refusal_of {S = Answer} (on_ok (answer_in v) (on_ok rows.OnPool (if b then Ok xs else Err refused.NotFound)))) ≡ Some e → b ≡ false
@@ -161,13 +182,26 @@ module _ (trusted : Type 0) (places : Places) (nobody : NobodyHolds places) (law
       subst (λ (ps : List (ℕ × Pool)). is_some (row_at number ps) ≡ false) (pools-at Is c)
       (not-listed number c.m c.next e ten (subst (λ (x : Deed). Case places 0 x c.m c.next) c.is c.step))
 
+  -- the pool is there to which copies are to go
+  never-gone : (number low object placed to : ℕ) → (number_of e == 10) ≡ true → MetBy (TellsNext number low to) events → GotNoTicket object number placed to true 0 events e → is_valid (database old) ≡ true → ⊥
+  never-gone number low object placed to ten next none valid =
+      let t = no-target trusted places lawful events e old new rest tries f ten object number placed to true 0 valid none in
+      let c = cut (TellsNext number low to) next in
+      let w = c.is in
+      let s : PoolRows = (database c.m).stores in
+      let lines : w.1 ≡ pool_lines None s = told-pools c.m c.next w.0 w.1 w.3 (subst (λ (x : Deed). Case places 0 x c.m c.next) w.2 c.step) in
+      let so : target_of low (find (λ (l : PoolLine). l.number == number) (map (pool_line s) s.pools)) ≡ Ok (Some to) = sym (ap (λ (ls : List PoolLine). target number low ls) lines) ∙ w.4 in
+      let cites : AllByRecursion (λ (p : ℕ × Pool). (is_some (named p.1.class (database old).stores.classes) && next_is_there p.1.settings.next (database old)) ≡ true) s.pools =
+      subst (λ (ps : List (ℕ × Pool)). AllByRecursion (λ (p : ℕ × Pool). (is_some (named p.1.class (database old).stores.classes) && next_is_there p.1.settings.next (database old)) ≡ true) ps) (sym (pools-at (TellsNext number low to) c))
+      (all_of (λ (p : ℕ × Pool). is_some (named p.1.class (database old).stores.classes) && next_is_there p.1.settings.next (database old)) (database old).stores.pools (facts_of (database old) valid).pools_cite) in
+      true≢false (sym (next-there number low s (database old) s.pools to cites so) ∙ t.0)
+
   -- ---- MIGRATE STGPOOL
 
   barred : (number low : ℕ) → Migration first_picks number low events (Err e) → IsBarred number low events e → IsWithoutNext number (database old) e ⊎ IsStuck places (IsPoolMigration number low) old e
   barred number low did (inl (so, told)) = inl (why-at number low told)
   barred number low did (inr (inl (ten, met))) = inl (inl (ten-is e ten, there-not number ten met))
-  barred number low did (inr (inr (ten, (object, placed, to, met)))) =
-      inr (stuck-at trusted places nobody lawful events e old new mild rest tries f (IsPoolMigration number low) (Err e, did) ten object (aim.Move number placed to true) 0 met)
+  barred number low did (inr (inr (ten, (object, placed, to, next, none)))) = inr (λ valid. absurd (never-gone number low object placed to ten next none valid))
 
   pub migrate-reason : (number low : ℕ) → Migration first_picks number low events (Err e) → IsWithoutNext number (database old) e ⊎ IsStuck places (IsPoolMigration number low) old e
   migrate-reason number low did = elim did.came.cause as (λ _. IsWithoutNext number (database old) e ⊎ IsStuck places (IsPoolMigration number low) old e) [
@@ -188,8 +222,7 @@ module _ (trusted : Type 0) (places : Places) (nobody : NobodyHolds places) (law
   all-barred : AllMigration first_picks events (Err e) → StandByNumber (database old) → IsBarredIn events e → IsStuck places IsAllMigration old e
   all-barred did sorted (t, due, inl (so, told)) = absurd (has-one t.pool (database old) e sorted (due-at t due) (why-at t.pool t.low told))
   all-barred did sorted (t, due, inr (inl (ten, met))) = absurd (has-one t.pool (database old) e sorted (due-at t due) (inl (ten-is e ten, there-not t.pool ten met)))
-  all-barred did sorted (t, due, inr (inr (ten, (object, placed, to, met)))) =
-      stuck-at trusted places nobody lawful events e old new mild rest tries f IsAllMigration (Err e, did) ten object (aim.Move t.pool placed to true) 0 met
+  all-barred did sorted (t, due, inr (inr (ten, (object, placed, to, next, none)))) = λ valid. absurd (never-gone t.pool t.low object placed to ten next none valid)
 
   pub all-reason : AllMigration first_picks events (Err e) → StandByNumber (database old) → IsStuck places IsAllMigration old e
   all-reason did sorted = elim did.came.cause as (λ _. IsStuck places IsAllMigration old e) [

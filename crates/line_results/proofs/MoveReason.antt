@@ -1,7 +1,12 @@
 -- Why MOVE DATA and RECLAIM STGPOOL are refused where one actor has the machine alone, if no run ends.
-use Rattle.std.proofs.Common.{◌≡◌, ◌⊎◌, inl, inr, ℕ, ◌+◌, ◌^◌, ◌==◌, nat_lt, is_some, if◌then◌else◌, Bool, true, false, List, [], ◌∷◌, ◌++◌, map, None, Some, Result, Ok, Err, refl, sym, ap, ap₂, subst, ◌∙◌}
+use Rattle.std.proofs.Common.{◌≡◌, ◌⊎◌, inl, inr, ℕ, ◌==◌, is_some, if◌then◌else◌, Bool, true, false, true≢false, List, [], ◌∷◌, ◌++◌, map, Option, None, Some, Result, Ok, Err, refl, sym, ap, ap₂, subst, ◌∙◌}
+use Rattle.std.proofs.lemmas.Bool.{eq-eqb, eqb-true, false≢true}
+use Rattle.std.proofs.lemmas.Option.{same_Some}
 use Rattle.std.specs.List.{AllByRecursion, find}
+use Rattle.std.specs.Option.{option_map}
+use Rattle.kinds.specs.Names.{is_same_name}
 use Rattle.kinds.specs.Refusals.{foremost, number_of, refusal_of}
+use Rattle.kinds.specs.declared.pool.PoolKind.{PoolKind}
 use Rattle.kinds.specs.declared.refusal.Holder.{Holder}
 use Rattle.kinds.specs.declared.refusal.Refusal.{Refusal}
 use Rattle.kinds.specs.declared.refusal.Refusal.TheVariants as refused
@@ -16,35 +21,37 @@ use Rattle.inventory_rows.proofs.of_object_rows.Stands.{at-eqb}
 use Rattle.inventory_rows.specs.pool_rows.PoolRows.{PoolRows}
 use Rattle.inventory_rows.specs.pool_tables.Rows.{row_at}
 use Rattle.inventory_rows.specs.pool_tables.declared.pool.Pool.{Pool}
+use Rattle.inventory_rows.specs.Search.{pool}
 use Rattle.inventory_rows.specs.State.{Inv}
 use Rattle.inventory_rows.specs.version_groups.Entries.{on_ok}
+use Rattle.inventory_rules.specs.Valid.{is_valid}
 use Rattle.inventory_work.specs.Copies.{has_pool, has_volume}
 use Rattle.inventory_work.specs.Volumes.{eligible_in}
 use Rattle.command_steps.specs.copy_attempts.Outcomes.{Met, MetBy}
+use Rattle.command_steps.specs.copy_pools.Backups.{kind_of}
 use Rattle.command_steps.specs.copy_runs.Ends.{AreAsking, IsStopped, IsUnheld}
-use Rattle.command_steps.specs.copy_runs.Wanting.{IsIn}
-use Rattle.command_steps.specs.reclamation.Moving.{DataMove, IsBarred, IsMoving, TellsSo, goes, into}
+use Rattle.command_steps.specs.reclamation.Moving.{DataMove, IsBarred, IsMoving, TellsSo, both_primary, goes, goes_from, home_if, home_of, into, pool_called, pool_if, volume_with}
 use Rattle.command_steps.specs.reclamation.Reclaiming.{IsNotThere, IsReclaiming, Reclamation, TellsOtherwise, is_sequential_in, is_sequential_line}
+use Rattle.command_steps.proofs.of_copy_pools.Missing.{kind-is}
 use Rattle.command_steps.proofs.of_reclamation.Listing.{told-volumes}
-use Rattle.space.specs.declared.aim.Aim.{Aim}
 use Rattle.space.specs.declared.aim.Aim.TheVariants as aim
 use Rattle.steps.specs.Events.{Deed, Event}
-use Rattle.steps.specs.Events.Deed.{Ask, OpenCopy}
+use Rattle.steps.specs.Events.Deed.{Ask}
 use Rattle.machine.specs.Alone.{Alone}
-use Rattle.machine.specs.Causes.{copy_refused_by}
 use Rattle.machine.specs.Laws.{RefusesElsewhere}
-use Rattle.machine.specs.Machine.{Asks, Case, OpensCopy, Places, can_place_copy, ended, placing_refused, size_of, space}
-use Rattle.machine.specs.State.{Machine, inventory, sight}
-use Rattle.machine.proofs.Elsewhere.{append-all, foremost-all, unless-all}
+use Rattle.machine.specs.Machine.{Asks, Case, Places, ended}
+use Rattle.machine.specs.State.{Machine, inventory}
+use Rattle.machine.proofs.Elsewhere.{append-all, foremost-all}
 use Rattle.command_steps.specs.Answers.{halt_by}
-use Rattle.line_results.specs.Moving.{ComesBy, IsDataMove, IsMissingAt, IsReclamation, IsStuck, IsUnmoved, IsUnreclaimed, goes_in, is_sequential_there}
+use Rattle.line_results.specs.Moving.{ComesBy, IsDataMove, IsReclamation, IsStuck, IsUnmoved, IsUnreclaimed, goes_in, is_sequential_there}
 use Rattle.line_results.specs.Resting.{IsAtRest, NobodyHolds, database}
-use Rattle.line_results.proofs.CopyReason.{NotTen, answer_in, elsewhere-not, ended-not, placed-not, ten-is, told-pools}
+use Rattle.line_results.proofs.CopyReason.{NotTen, answer_in, ended-not, ten-is, told-pools}
 use Rattle.line_results.proofs.Cutting.{CutAt, all-first}
 use Rattle.line_results.proofs.Reasons.{stopping-mild, volume-missing}
 use Rattle.line_results.proofs.Runs.{onward-none}
 use Rattle.line_results.proofs.Spent.{HasTickets, ticket-step}
 use Rattle.line_results.proofs.Stopping.{Ends, ends-halt}
+use Rattle.line_results.proofs.Ticketed.{no-target}
 use Rattle.line_results.proofs.Trying.{AreTrying, IsTrying, Refuses, cut-of, full-at-step, never-held}
 
 -- ---- questions change nothing
@@ -66,42 +73,6 @@ pub at-start : (places : Places) (Is : Deed → Type 0) (events : List Event) (o
 at-start places Is events old asks c =
     ap inventory (asks-core places c.first old c.m (all-first _ c.first (c.at ∷ c.later) (subst AreAsking c.cut asks)) c.made)
 
--- ---- a ticket that isn't given
-
-all-in : (whole part : List Refusal) → ((x : Refusal) → IsIn x part → IsIn x whole) → AllByRecursion (λ x. IsIn x whole) part
-all-in whole [] h = tt
-all-in whole (x ∷ part) h = (h x (inl refl), all-in whole part (λ y i. h y (inr i)))
-
-module _ (places : Places) (lawful : RefusesElsewhere places) (object : ℕ) (a : Aim) (avoid : ℕ) (m next : Machine) (e : Refusal) (ten : (number_of e == 10) ≡ true) where
-  abbrev own : List Refusal
-  own = copy_refused_by object a (sight 0 m.core)
-
-  abbrev IsOwn : Refusal → Type 0
-  IsOwn x = (number_of x == 10) ≡ true → IsIn x own
-
-  not-own : (xs : List Refusal) → AllByRecursion NotTen xs → AllByRecursion IsOwn xs
-  not-own [] h = tt
-  not-own (x ∷ xs) h = ((λ is. absurd (h.0 is)), not-own xs h.1)
-
-  own-all : (xs : List Refusal) → AllByRecursion (λ x. IsIn x own) xs → AllByRecursion IsOwn xs
-  own-all [] h = tt
-  own-all (x ∷ xs) h = ((λ is. h.0), own-all xs h.1)
-
-  pub missing-at : OpensCopy places 0 object a avoid m next (Err e) → IsIn refused.NotFound own
-  missing-at (placed, at, inl (inl why, stays)) =
-      let can : Bool = can_place_copy object a (inventory m.core) in
-      subst (λ (x : Refusal). IsIn x own) (ten-is e ten)
-      (foremost-all IsOwn _
-      (append-all IsOwn (ended m) _ (not-own (ended m) (ended-not m))
-      (append-all IsOwn own _ (own-all own (all-in own own (λ x i. i)))
-      (not-own _
-      (append-all NotTen (placing_refused can placed) _
-      (placed-not can (places (inventory m.core) (space m.core) 0 (size_of object (inventory m.core)) a 0 avoid) placed at
-      (λ x is. elsewhere-not x (lawful (inventory m.core) (space m.core) 0 (size_of object (inventory m.core)) a 0 avoid x is)))
-      (unless-all NotTen (nat_lt (m.core.next_ticket + 1) (2 ^ 62)) refused.InventoryFull (λ is. absurd cc)))))) e why ten)
-  missing-at (placed, at, inl (inr memory, stays)) = absurd (let odd : (number_of refused.Memory == 10) ≡ true = subst (λ (x : Refusal). (number_of x == 10) ≡ true) memory ten in cc)
-  missing-at (placed, at, inr h) = absurd h.1
-
 -- ---- a pool that isn't there
 
 no-line : (pool : ℕ) (s : PoolRows) (pools : List (ℕ × Pool)) → is_some (row_at pool pools) ≡ false → is_sequential_in pool (map (pool_line s) pools) ≡ false
@@ -114,6 +85,62 @@ no-line pool s (p ∷ pools) none =
 
 no-pool : (pool : ℕ) (v : Inv) → has_pool pool v ≡ false → is_sequential_there pool v ≡ false
 no-pool pool v none = no-line pool v.stores v.stores.pools none
+
+-- a pool is there that is the first one, or another
+pool-there : (k : ℕ) (p : ℕ × Pool) (pools : List (ℕ × Pool)) → (p.0 ≡ k) ⊎ (is_some (row_at k pools) ≡ true) → is_some (row_at k (p ∷ pools)) ≡ true
+pool-there k p pools h =
+    subst (λ b. is_some (if b then Some p.1 else row_at k pools) ≡ true) (sym (at-eqb k p.0))
+    (elim (p.0 == k) as (λ b. (p.0 == k) ≡ b → is_some (if b then Some p.1 else row_at k pools) ≡ true) [
+      | true ↦ λ same. refl
+      | false ↦ λ other. elim h as (λ _. is_some (row_at k pools) ≡ true) [
+        | inl is ↦ absurd (false≢true (sym other ∙ eq-eqb p.0 k is))
+        | inr there ↦ there
+      ]
+    ] refl)
+
+called-there : (name : List ℕ) (s : PoolRows) (pools : List (ℕ × Pool)) (home : ℕ × PoolKind) → pool_called name (map (pool_line s) pools) ≡ Some home → is_some (row_at home.0 pools) ≡ true
+called-there name s [] home is = absurd (let odd : ◌≡◌ {A = Option (ℕ × PoolKind)} None (Some home) = is in cc)
+called-there name s (p ∷ pools) home is =
+    elim (is_same_name p.1.name name) as (λ b. option_map (λ (l : PoolLine). (l.number, l.kind)) (if b then Some (pool_line s p) else find (λ (l : PoolLine). is_same_name l.name name) (map (pool_line s) pools)) ≡ Some home
+    → is_some (row_at home.0 (p ∷ pools)) ≡ true) [
+      | true ↦ λ one. pool-there home.0 p pools (inl (ap (λ (h : ℕ × PoolKind). h.0) (same_Some (p.0, p.1.kind) home one)))
+      | false ↦ λ more. pool-there home.0 p pools (inr (called-there name s pools home more))
+    ] is
+
+home-there : (s : PoolRows) (o : Option VolumeLine) (home : ℕ × PoolKind) → home_if (map (pool_line s) s.pools) o ≡ Some home → is_some (row_at home.0 s.pools) ≡ true
+home-there s None home is = absurd (let odd : ◌≡◌ {A = Option (ℕ × PoolKind)} None (Some home) = is in cc)
+home-there s (Some line) home is = go line.pool is where
+  go : (name : Option (List ℕ)) → pool_if (map (pool_line s) s.pools) name ≡ Some home → is_some (row_at home.0 s.pools) ≡ true
+  go None none = absurd (let odd : ◌≡◌ {A = Option (ℕ × PoolKind)} None (Some home) = none in cc)
+  go (Some name) called = called-there name s s.pools home called
+
+no-kind : (o : Option Pool) → is_some o ≡ false → option_map (λ p. p.kind) o ≡ None
+no-kind None none = refl
+no-kind (Some p) none = absurd (true≢false none)
+
+-- where the pool isn't there to which what lies on a volume is to move, it may not
+goes-missing : (file to : ℕ) (v : Inv) → has_pool to v ≡ false → goes_in file to v ≡ Err refused.NotFound
+goes-missing file to v none = from_home (home_of file (volume_lines None None v.stores) pools) refl where
+  pools : List PoolLine
+  pools = pool_lines None v.stores
+
+  apart : (home : ℕ × PoolKind) → home_of file (volume_lines None None v.stores) pools ≡ Some home → (b : Bool) → (home.0 == to) ≡ b → b ≡ false
+  apart home is false other = refl
+  apart home is true same =
+      absurd (true≢false (sym (home-there v.stores (volume_with file (volume_lines None None v.stores)) home is) ∙ ap (λ (k : ℕ). has_pool k v) (eqb-true home.0 to same) ∙ none))
+
+  from_home : (o : Option (ℕ × PoolKind)) → home_of file (volume_lines None None v.stores) pools ≡ o → goes_from to o pools ≡ Err refused.NotFound
+  from_home None is = refl
+  from_home (Some home) is =
+      ap (λ (b : Bool). if b then Ok tt else both_primary home.1 (kind_of to pools)) (apart home is (home.0 == to) refl)
+      ∙ ap (both_primary home.1) (kind-is to v pools refl ∙ no-kind (pool to v) none)
+
+-- a copy's pool is there, and where another one is named that one
+never-there : (to from : ℕ) (v : Inv) → has_pool (into to from) v ≡ false → has_pool from v ≡ true → ((to == 0) ≡ false → has_pool to v ≡ true) → ⊥
+never-there to from v none home named = go (to == 0) refl none where
+  go : (own : Bool) → (to == 0) ≡ own → has_pool (if own then from else to) v ≡ false → ⊥
+  go true own gone = true≢false (sym home ∙ gone)
+  go false other gone = true≢false (sym (named other) ∙ gone)
 
 eligible-not : (v : Inv) (b : Bool) (xs : List ℕ) (m : Machine) (e : Refusal) → (number_of e == 10) ≡ true
     → foremost (ended m ++ refusal_of {S = Answer} (on_ok (answer_in v) (on_ok rows.Eligible (if b then Ok xs else Err refused.NotFound)))) ≡ Some e → b ≡ false
@@ -137,21 +164,13 @@ module _ (trusted : Type 0) (places : Places) (nobody : NobodyHolds places) (law
 
   by-stop : (Did : List Event → Type 0) → Did events → IsUnheld events e → (e ≡ refused.InventoryFull) ⊎ ((h : Holder) × (e ≡ refused.Busy h)) → Met e events → IsStuck places Did old e
   by-stop Did did unheld (inl full) met =
-      (let c = cut (Refuses e) met in inr (full, (c.at, c.m, comes Did did (Refuses e) c, full-at-step trusted places nobody true events old new rest tries f e full c)))
+      (let c = cut (Refuses e) met in λ valid. (full, (c.at, c.m, comes Did did (Refuses e) c, full-at-step trusted places nobody true events old new rest tries f e full c)))
   by-stop Did did unheld (inr busy) met = absurd (never-held trusted places nobody true events old new rest tries f e unheld met busy.0 busy.1)
 
   -- what stopped it is a bound
   pub stuck-by : (Did : List Event → Type 0) → Did events → IsUnheld events e → IsStopped events e → IsStuck places Did old e
   stuck-by Did did unheld (inl memory) = absurd (ends-halt e (subst Ends (sym memory) refl) mild)
   stuck-by Did did unheld (inr (stops, met)) = by-stop Did did unheld (stopping-mild e stops mild) met
-
-  -- a ticket wasn't given for what it names
-  pub stuck-at : (Did : List Event → Type 0) → Did events → (number_of e == 10) ≡ true → (object : ℕ) (a : Aim) (avoid : ℕ) → MetBy (λ d. d ≡ OpenCopy object a avoid (Err e)) events → IsStuck places Did old e
-  stuck-at Did did ten object a avoid met =
-      let Is : Deed → Type 0 = (λ d. d ≡ OpenCopy object a avoid (Err e)) in
-      let c = cut Is met in
-      let missing = missing-at places lawful object a avoid c.m c.next e ten (subst (λ (d : Deed). Case places 0 d c.m c.next) c.is c.step) in
-      inl (ten-is e ten, (c.at, c.m, comes Did did Is c, subst (λ (d : Deed). IsMissingAt d c.m) (sym c.is) missing))
 
   -- ---- MOVE DATA
 
@@ -177,7 +196,19 @@ module _ (trusted : Type 0) (places : Places) (nobody : NobodyHolds places) (law
   barred : (file to : ℕ) → DataMove file to events (Err e) → IsBarred file to events e → IsUnmoved places file to old e
   barred file to did (inl (ten, met, asks)) = inl (ten-is e ten, volume-not file ten met asks)
   barred file to did (inr (inl (named, history, told))) = inr (inl (named, goes-not file to told))
-  barred file to did (inr (inr (ten, (object, from, placed, met)))) = inr (inr (stuck-at (IsDataMove file to) (Err e, did) ten object (aim.Move from placed (into to from) false) file met))
+  barred file to did (inr (inr (ten, (object, from, placed, none)))) = at_pool (has_pool to (database old)) refl where
+    never : ((to == 0) ≡ false → has_pool to (database old) ≡ true) → is_valid (database old) ≡ true → ⊥
+    never named valid =
+        let t = no-target trusted places lawful events e old new rest tries f ten object from placed (into to from) false file valid none in
+        never-there to from (database old) t.0 t.1 named
+
+    missing : (own : Bool) → (to == 0) ≡ own → has_pool to (database old) ≡ false → IsUnmoved places file to old e
+    missing true own gone = inr (inr (λ valid. absurd (never (λ other. absurd (true≢false (sym own ∙ other))) valid)))
+    missing false other gone = inr (inl (other, subst (λ (x : Refusal). goes_in file to (database old) ≡ Err x) (sym (ten-is e ten)) (goes-missing file to (database old) gone)))
+
+    at_pool : (there : Bool) → has_pool to (database old) ≡ there → IsUnmoved places file to old e
+    at_pool true there = inr (inr (λ valid. absurd (never (λ other. there) valid)))
+    at_pool false gone = missing (to == 0) refl gone
 
   pub move-reason : (file to : ℕ) → DataMove file to events (Err e) → IsUnmoved places file to old e
   move-reason file to did = elim did.came.cause as (λ _. IsUnmoved places file to old e) [
@@ -205,8 +236,14 @@ module _ (trusted : Type 0) (places : Places) (nobody : NobodyHolds places) (law
   unopened : (pool threshold : ℕ) → Reclamation pool threshold events (Err e) → IsNotThere pool threshold events e → IsUnreclaimed places pool threshold old e
   unopened pool threshold did (inl (ten, met, asks)) = inl (ten-is e ten, pool-not pool threshold ten met asks)
   unopened pool threshold did (inr (inl (is, history, told))) = inl (is, sequential-not pool told)
-  unopened pool threshold did (inr (inr (ten, (file, object, from, placed, met)))) =
-      inr (stuck-at (IsReclamation pool threshold) (Err e, did) ten object (aim.Move from placed (into pool from) false) file met)
+  unopened pool threshold did (inr (inr (ten, (file, object, from, placed, none)))) =
+      at_pool (has_pool pool (database old)) refl
+    where
+      at_pool : (there : Bool) → has_pool pool (database old) ≡ there → IsUnreclaimed places pool threshold old e
+      at_pool true there = inr (λ valid. absurd (
+          let t = no-target trusted places lawful events e old new rest tries f ten object from placed (into pool from) false file valid none in
+          never-there pool from (database old) t.0 t.1 (λ other. there)))
+      at_pool false gone = inl (ten-is e ten, no-pool pool (database old) gone)
 
   pub reclaim-reason : (pool threshold : ℕ) → Reclamation pool threshold events (Err e) → IsUnreclaimed places pool threshold old e
   reclaim-reason pool threshold did = elim did.came.cause as (λ _. IsUnreclaimed places pool threshold old e) [

@@ -164,7 +164,7 @@ few-goes : (P : Change → Type 0) (c d : Core) → Goes P c d → IsFew (invent
 few-goes P c d (inl same) few = subst IsFew (sym same) few
 few-goes P c d (inr (w, so, legal, is)) few = subst IsFew (sym is) (legal-few (sight 0 c).journal w (inventory c) legal)
 
-valid-goes : (P : Change → Type 0) (c d : Core) → Goes P c d → is_valid (inventory c) ≡ true → is_valid (inventory d) ≡ true
+pub valid-goes : (P : Change → Type 0) (c d : Core) → Goes P c d → is_valid (inventory c) ≡ true → is_valid (inventory d) ≡ true
 valid-goes P c d (inl same) valid = ap is_valid same ∙ valid
 valid-goes P c d (inr (w, so, legal, is)) valid = ap is_valid is ∙ legal-valid (sight 0 c).journal w (inventory c) legal
 
@@ -187,7 +187,7 @@ module _ (places : Places) (m next : Machine) where
   ending-free d (inl (q, answer, is)) step free = ask-free q answer m next (subst (λ (x : Deed). Case places 0 x m next) is step) free
   ending-free d (inr (answer, is)) step free = forced-free answer m next (subst (λ (x : Deed). Case places 0 x m next) is step) free
 
-ending-makes : (P : Change → Type 0) (d : Deed) → IsEnding d → Makes P d
+pub ending-makes : (P : Change → Type 0) (d : Deed) → IsEnding d → Makes P d
 ending-makes P d (inl (q, answer, is)) = subst (λ (x : Deed). Makes P x) (sym is) tt
 ending-makes P d (inr (answer, is)) = subst (λ (x : Deed). Makes P x) (sym is) tt
 

@@ -31,7 +31,8 @@ use Rattle.inventory_rows.specs.pool_tables.declared.pool.Pool.{Pool}
 use Rattle.inventory_rows.specs.volume_rows.declared.volume.Volume.{Volume}
 use Rattle.inventory_rows.specs.State.{Inv}
 use Rattle.inventory_rules.specs.Common.{or_same}
-use Rattle.inventory_rules.specs.Transactions.{effect}
+use Rattle.inventory_rules.specs.Transactions.{effect, refused as refused_by}
+use Rattle.inventory_rules.specs.Valid.{is_valid}
 use Rattle.inventory_work.specs.Copies.{has_pool, has_volume}
 use Rattle.inventory_work.specs.Lists.{only}
 use Rattle.command_steps.specs.copy_attempts.Outcomes.{MetBy}
@@ -46,27 +47,31 @@ use Rattle.command_steps.proofs.of_pool_restores.Beginning.{volumes-ask}
 use Rattle.command_steps.proofs.of_reclamation.Listing.{told-volumes}
 use Rattle.command_steps.specs.sessions.Changing.{Changing}
 use Rattle.steps.specs.Events.{Deed, Event, event}
-use Rattle.steps.specs.Events.Deed.{Ask, OpenCopy}
+use Rattle.steps.specs.Events.Deed.{Ask}
 use Rattle.machine.specs.Alone.{Alone}
-use Rattle.machine.specs.Causes.{is_plain}
+use Rattle.machine.specs.Causes.{change_illegal, is_plain}
 use Rattle.machine.specs.Laws.{RefusesElsewhere}
 use Rattle.machine.specs.Machine.{Asks, Case, Places}
-use Rattle.machine.specs.State.{Core, Machine, after, inventory}
+use Rattle.machine.specs.State.{Core, Machine, after, inventory, sight}
+use Rattle.machine.proofs.Elsewhere.{append-none, none-held}
 use Rattle.machine.proofs.Histories.{after-append}
 use Rattle.command_steps.specs.Answers.{halt_by}
 use Rattle.line_results.specs.Commands.{drawn}
-use Rattle.line_results.specs.Moving.{ComesBy, IsMissingAt, IsStuck}
+use Rattle.line_results.specs.Moving.{ComesBy, IsStuck}
 use Rattle.line_results.specs.Resting.{IsAtRest, Makes, NobodyHolds, database, entry, why_not}
 use Rattle.line_results.specs.Returning.{CannotBeLost, HasNoPool, RestoresPool, RestoresVolume, loss_in}
+use Rattle.line_results.proofs.Bounds.{legal-valid}
 use Rattle.line_results.proofs.Changed.{changes, makes}
-use Rattle.line_results.proofs.CopyReason.{ten-is, told-pools}
+use Rattle.line_results.proofs.CopyReason.{told-pools}
 use Rattle.line_results.proofs.Cutting.{CutAt, loose-moved}
-use Rattle.line_results.proofs.MoveReason.{asks-core, at-start, missing-at, stuck-at, stuck-by, volume-not}
+use Rattle.line_results.proofs.Growing.{listed-none}
+use Rattle.line_results.proofs.MoveReason.{asks-core, at-start, stuck-by, volume-not}
 use Rattle.line_results.proofs.PutHeld.{no-end}
 use Rattle.line_results.proofs.Reasons.{stopping-mild}
 use Rattle.line_results.proofs.Runs.{alone-append, alone-parts, onward-none}
 use Rattle.line_results.proofs.Spent.{ticket-step}
 use Rattle.line_results.proofs.Stopping.{Ends, ends-halt}
+use Rattle.line_results.proofs.Ticketed.{no-target}
 use Rattle.line_results.proofs.Trying.{AreTrying, IsTrying, Refuses, cut-of, full-at-step, never-held}
 
 -- ---- rows and lines
@@ -213,8 +218,8 @@ module _ (trusted : Type 0) (places : Places) (nobody : NobodyHolds places) (law
   barred pool did (inr (inl (volumes, (file, among, inl stopped), asks, told))) =
       inr (stuck-by trusted places nobody lawful events e old new mild rest tries f (RestoresPool pool) (Err e, did) did.came.unheld stopped)
   barred pool did (inr (inl (volumes, (file, among, inr (ten, met)), asks, told))) = absurd (never-unlisted volumes file ten among told met asks)
-  barred pool did (inr (inr (ten, (object, in_pool, placed, met)))) =
-      inr (stuck-at trusted places nobody lawful events e old new mild rest tries f (RestoresPool pool) (Err e, did) ten object (aim_of in_pool placed) 0 met)
+  barred pool did (inr (inr (ten, (object, in_pool, placed, none)))) = inr (λ valid.
+      (let t = no-target trusted places lawful events e old new rest tries f ten object in_pool placed in_pool true 0 valid none in absurd (true≢false (sym t.1 ∙ t.0))))
 
   pub restore-pool-reason : (pool : ℕ) → PoolRestore pool events (Err e) → HasNoPool pool old e ⊎ IsStuck places (RestoresPool pool) old e
   restore-pool-reason pool did = elim did.came.cause as (λ _. HasNoPool pool old e ⊎ IsStuck places (RestoresPool pool) old e) [
@@ -240,6 +245,11 @@ module _ (trusted : Type 0) (places : Places) (nobody : NobodyHolds places) (law
   in-front file did asks (inr none) = inl (inl (no-volume file none asks))
 
 -- ---- its transaction, and behind that
+
+-- what nothing is against is legal
+none-legal : (c : Change) (core : Core) → why_not c core ≡ None → refused_by (sight 0 core).journal c (inventory core) ≡ None
+none-legal c core h =
+    listed-none (refused_by (sight 0 core).journal c (inventory core)) (append-none (change_illegal c (sight 0 core)) _ (none-held (change_illegal c (sight 0 core) ++ _) h)).0
 
 module _ (trusted : Type 0) (places : Places) (file : ℕ) (volumes : List VolumeLine) (c : Change) (old : Machine) (rest : IsAtRest old.core) (is : destroying_of file volumes ≡ Ok c) where
   -- the question in front of it
@@ -267,9 +277,9 @@ module _ (trusted : Type 0) (places : Places) (file : ℕ) (volumes : List Volum
         | inr h ↦ absurd (no-end why mid new h.0 (subst (λ (x : Refusal). halt_by x ≡ None) same mild))
       ]
 
-  -- it was made: the machine is at rest again, and the volume is there
+  -- it was made: the machine is at rest again, the volume is there, and a valid database stays so
   loss-made : (xs us : List Event) (number : ℕ) (mid new : Machine) → AskedVolumes xs volumes → Changing c us (Ok number) → Alone trusted places 0 xs old mid → Alone trusted places 0 us mid new
-      → IsAtRest new.core × (has_volume file (database new) ≡ true)
+      → IsAtRest new.core × (has_volume file (database new) ≡ true) × (is_valid (database old) ≡ true → is_valid (database new) ≡ true)
   loss-made xs us number mid new asked changing f g =
       let at : mid.core ≡ old.core = core-at xs mid asked f in
       let plain : is_plain c ≡ true = loss-plain file c volumes is in
@@ -279,10 +289,11 @@ module _ (trusted : Type 0) (places : Places) (file : ℕ) (volumes : List Volum
       let now : database new ≡ effect c (database old) =
       made-database (drawn c mid) mid new made.1 ∙ ap₂ (λ (x : Change) (k : Core). effect x (inventory k)) (loss-drawn file c mid volumes is) at in
       let there : has_volume file (database old) ≡ true = found-there file (database old).stores (database old).stores.volumes c (loss-is xs mid asked f) in
-      (changed.leaves.rests refl, ap (has_volume file) now ∙ loss-stays file c (database old) volumes is ∙ there)
+      let why : why_not c old.core ≡ None = sym (ap₂ (λ (x : Change) (k : Core). why_not x k) (loss-drawn file c mid volumes is) at) ∙ made.0 in
+      (changed.leaves.rests refl, ap (has_volume file) now ∙ loss-stays file c (database old) volumes is ∙ there, λ valid. ap is_valid now ∙ legal-valid (sight 0 old.core).journal c (database old) (none-legal c old.core why))
 
 module _ (trusted : Type 0) (places : Places) (nobody : NobodyHolds places) (lawful : RefusesElsewhere places) (file : ℕ) (xs ys : List Event) (e : Refusal) (old mid new : Machine) (mild : halt_by e ≡ None) (rest : IsAtRest mid.core)
-    (there : has_volume file (database mid) ≡ true) (f : Alone trusted places 0 xs old mid) (g : Alone trusted places 0 ys mid new) (h : EndsBehind file ys e) (Did : List Event → Type 0) (did : Did (xs ++ ys)) where
+    (there : has_volume file (database mid) ≡ true) (stays : is_valid (database old) ≡ true → is_valid (database mid) ≡ true) (f : Alone trusted places 0 xs old mid) (g : Alone trusted places 0 ys mid new) (h : EndsBehind file ys e) (Did : List Event → Type 0) (did : Did (xs ++ ys)) where
   tries-behind : AreTrying true ys
   tries-behind = restores-try ys h.only
 
@@ -302,7 +313,7 @@ module _ (trusted : Type 0) (places : Places) (nobody : NobodyHolds places) (law
 
   stopped-so : (e ≡ refused.InventoryFull) ⊎ ((k : Holder) × (e ≡ refused.Busy k)) → MetBy (Refuses e) ys → IsStuck places Did old e
   stopped-so (inl full) met =
-      (let c = cut-behind (Refuses e) met in inr (full, (c.at, c.m, comes-behind (Refuses e) c, full-at-step trusted places nobody true ys mid new rest tries-behind g e full c)))
+      (let c = cut-behind (Refuses e) met in λ valid. (full, (c.at, c.m, comes-behind (Refuses e) c, full-at-step trusted places nobody true ys mid new rest tries-behind g e full c)))
   stopped-so (inr busy) met = absurd (never-held trusted places nobody true ys mid new rest tries-behind g e h.unheld met busy.0 busy.1)
 
   stopped-behind : IsStopped ys e → IsStuck places Did old e
@@ -310,11 +321,8 @@ module _ (trusted : Type 0) (places : Places) (nobody : NobodyHolds places) (law
   stopped-behind (inr (stops, met)) = stopped-so (stopping-mild e stops mild) met
 
   aimless-behind : IsAimless ys e → IsStuck places Did old e
-  aimless-behind (ten, (object, pool, placed, met)) =
-      let Is : Deed → Type 0 = (λ d. d ≡ OpenCopy object (aim_of pool placed) 0 (Err e)) in
-      let c = cut-behind Is met in
-      let missing = missing-at places lawful object (aim_of pool placed) 0 c.m c.next e ten (subst (λ (d : Deed). Case places 0 d c.m c.next) c.is c.step) in
-      inl (ten-is e ten, (c.at, c.m, comes-behind Is c, subst (λ (d : Deed). IsMissingAt d c.m) (sym c.is) missing))
+  aimless-behind (ten, (object, pool, placed, none)) = λ valid.
+      (let t = no-target trusted places lawful ys e mid new rest tries-behind g ten object pool placed pool true 0 (stays valid) none in absurd (true≢false (sym t.1 ∙ t.0)))
 
   never-missing : (n : ℕ) → IsIn n (file ∷ []) → (number_of e == 10) ≡ true → MetBy (λ d. d ≡ Ask (query.OnVolume n) (Err e)) ys → AreAsking ys → ⊥
   never-missing n (inl same) ten met asks =
@@ -349,7 +357,7 @@ module _ (trusted : Type 0) (places : Places) (nobody : NobodyHolds places) (law
       let p = alone-parts trusted places 0 events xs ys old new is f in
       let q = alone-parts trusted places 0 xs zs us old p.0 cut p.1 in
       let made = loss-made trusted places file volumes c old rest found zs us number q.0 p.0 asked changing q.1 q.2 in
-      stuck-behind trusted places nobody lawful file xs ys e old p.0 new mild made.0 made.1 p.1 p.2 h (RestoresVolume file) (subst (RestoresVolume file) is (Err e, did))
+      stuck-behind trusted places nobody lawful file xs ys e old p.0 new mild made.0 made.1 made.2 p.1 p.2 h (RestoresVolume file) (subst (RestoresVolume file) is (Err e, did))
 
   pub restore-volume-reason : CannotBeLost file old e ⊎ IsStuck places (RestoresVolume file) old e
   restore-volume-reason = elim did.came.place as (λ _. CannotBeLost file old e ⊎ IsStuck places (RestoresVolume file) old e) [

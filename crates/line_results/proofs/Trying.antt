@@ -94,7 +94,7 @@ trying-tickets moves (Force answer) (inr h) = tt
 trying-tickets moves (Commit asked tickets answer) (inr h) = tt
 trying-tickets moves d (inr (object, a, avoid, so, h)) = absurd h
 
-all-copies : (moves : Bool) (events : List Event) → AreTrying moves events → AllCopy moves NoOther events
+pub all-copies : (moves : Bool) (events : List Event) → AreTrying moves events → AllCopy moves NoOther events
 all-copies moves [] h = tt
 all-copies moves (e ∷ events) h = (trying-copies moves e.deed h.0, all-copies moves events h.1)
 

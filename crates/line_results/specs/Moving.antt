@@ -5,19 +5,18 @@ use Rattle.kinds.specs.declared.refusal.Refusal.TheVariants.{InventoryFull, NotF
 use Rattle.entries.specs.declared.change.Change.{Change}
 use Rattle.inventory_answers.specs.Stores.{pool_lines, volume_lines}
 use Rattle.inventory_rows.specs.State.{Inv}
+use Rattle.inventory_rules.specs.Valid.{is_valid}
 use Rattle.inventory_work.specs.Copies.{has_pool, has_volume}
 use Rattle.command_steps.specs.copy_pools.Backups.{Backup, are_kinds, pool_kind}
 use Rattle.command_steps.specs.copy_runs.declared.wanted.Moved.{Moved}
-use Rattle.command_steps.specs.copy_runs.Wanting.{IsIn}
 use Rattle.command_steps.specs.reclamation.Moving.{DataMove, goes}
 use Rattle.command_steps.specs.reclamation.Reclaiming.{Reclamation, is_sequential_in}
 use Rattle.script_loop.specs.declared.ends.Halt.{Halt}
 use Rattle.steps.specs.Events.{Deed, Event}
 use Rattle.steps.specs.Events.Deed.{Commit, OpenCopy}
 use Rattle.machine.specs.Alone.{Alone}
-use Rattle.machine.specs.Causes.{copy_refused_by}
 use Rattle.machine.specs.Machine.{Places, asked_change, size_of, space}
-use Rattle.machine.specs.State.{Machine, sight}
+use Rattle.machine.specs.State.{Machine}
 use Rattle.command_steps.specs.Answers.{halt_by}
 use Rattle.command_steps.specs.Doing.{the_number, the_second}
 use Rattle.command_steps.specs.Owns.{Mover, Own, all_migrator, back_up_pool, data_mover, migrator, moves, pool_restorer, reclaimer, volume_restorer}
@@ -69,22 +68,14 @@ IsUncopied places primary copy old why =
 
 -- ---- copies that are to move
 
--- In this state what it names refuses the step: the pool that the copy goes to isn't there; or the object, or its copy as it was listed, isn't there, and no transaction of the run tells what became of it.
-abbrev pub IsMissingAt : Deed → Machine → Type 0
-IsMissingAt (OpenCopy object a avoid answer) m = IsIn NotFound (copy_refused_by object a (sight 0 m.core))
-IsMissingAt d m = ⊥
-
--- it came to a step that is refused so
-abbrev pub ComesToMissing : Places → (Did : List Event → Type 0) → (old : Machine) → Type 0
-ComesToMissing places Did old = (e : Event) × (m : Machine) × ComesBy places Did e old m × IsMissingAt e.deed m
-
--- what it came to on its way: to a step that what it names refuses, or a bound
+-- In a valid database: on its way it came to a bound. (What is listed stays there until it moves, and where it isn't there any more the transaction that moved it tells so; and a valid database names no
+-- pool that isn't there.)
 abbrev pub IsStuck : Places → (Did : List Event → Type 0) → (old : Machine) → Refusal → Type 0
-IsStuck places Did old why = ((why ≡ NotFound) × ComesToMissing places Did old) ⊎ ((why ≡ InventoryFull) × ComesToBound places Did old)
+IsStuck places Did old why = is_valid (database old) ≡ true → (why ≡ InventoryFull) × ComesToBound places Did old
 
--- it comes to neither
+-- the database is valid, and it comes to none
 abbrev pub IsOpen : Places → (Did : List Event → Type 0) → (old : Machine) → Type 0
-IsOpen places Did old = (ComesToMissing places Did old → ⊥) × (ComesToBound places Did old → ⊥)
+IsOpen places Did old = (is_valid (database old) ≡ true) × (ComesToBound places Did old → ⊥)
 
 -- ---- MOVE DATA
 

@@ -1,8 +1,10 @@
 -- Turns of a migration, one after the other, and how it breaks off.
-use Rattle.std.proofs.Common.{◌≡◌, ◌⊎◌, inl, inr, ℕ, ◌+◌, ◌≤◌, ◌==◌, Bool, true, false, List, [], ◌∷◌, ◌++◌, Option, Some, None, Result, Ok, Err, refl, sym, ap, ap₂, subst, ◌∙◌, arith, append_assoc}
+use Rattle.std.proofs.Common.{◌≡◌, ◌⊎◌, inl, inr, ℕ, zero, suc, ◌+◌, ◌≤◌, ◌==◌, Bool, true, false, List, [], ◌∷◌, ◌++◌, Option, Some, None, Result, Ok, Err, refl, sym, ap, ap₂, subst, ◌∙◌, arith, append_assoc}
 use Rattle.std.proofs.lemmas.Bool.{false≢true}
 use Rattle.std.proofs.lemmas.List.{append-nil}
-use Rattle.std.specs.List.{AllByRecursion}
+use Rattle.std.proofs.lemmas.Option.{same_Some}
+use Rattle.std.specs.List.{AllByRecursion, remove, slice_get}
+use Rattle.choosers.specs.declared.candidate.Candidate.{Candidate}
 use Rattle.kinds.specs.Refusals.{number_of}
 use Rattle.kinds.specs.declared.refusal.Holder.{Holder}
 use Rattle.kinds.specs.declared.refusal.Refusal.{Refusal}
@@ -18,12 +20,12 @@ use Rattle.space.specs.declared.aim.Aim.{Aim}
 use Rattle.space.specs.declared.aim.Aim.TheVariants as aim
 use Rattle.steps.proofs.Joining.{GoesOn, call_then}
 use Rattle.steps.specs.Calls.{Call}
-use Rattle.steps.specs.Events.{Event, event}
+use Rattle.steps.specs.Events.{Deed, Event, event}
 use Rattle.steps.specs.Events.Deed.{Ask, OpenCopy}
 use Rattle.steps.specs.Receipts.{made}
 use Rattle.machine.specs.Fits.{Fits, History, Own, Step, inv}
 use Rattle.machine.proofs.Runs.{fits-cut, fits-one, fits-rises}
-use Rattle.copy_attempts.proofs.Facts.{all-append, made-append, met-behind}
+use Rattle.copy_attempts.proofs.Facts.{all-append, made-append, met-before, met-behind}
 use Rattle.steps.proofs.Spending.{settled-append}
 use Rattle.copy_attempts.specs.Outcomes.{IsOf, MetBy, may_leave}
 use Rattle.steps.specs.Spent.{AreSettled}
@@ -34,16 +36,19 @@ use Rattle.copy_runs.specs.Ends.{AreAsking, AskedPools, IsAsking, IsStopped, IsU
 use Rattle.copy_runs.specs.Parts.{Part, both_moved, none_moved}
 use Rattle.copy_runs.specs.Processes.{AreMoving}
 use Rattle.copy_runs.specs.Runs.{AreOfThese, EntersOnly, HasFailed, IsCausedByOne, IsEntered, IsEntryFor, LeavesNone, Run}
+use Rattle.copy_runs.specs.Tickets.{ListsCopy}
 use Rattle.copy_runs.specs.Wanting.{IsIn}
 use Rattle.copy_runs.proofs.Ending.{stopped-behind}
+use Rattle.copy_runs.proofs.Listing.{flat-parts, is-only}
 use Rattle.copy_runs.proofs.Outcomes.{then-none}
 use Rattle.copy_runs.proofs.Parts.{none-behind, part-as, part-behind-asks, part-join, part-of-asks, part-of-run}
+use Rattle.copy_runs.proofs.Tickets.{ticket-behind}
 use Rattle.copy_runs.proofs.Told.{reaches}
 use Rattle.copy_runs.proofs.Unheld.{asking-unheld, other-unheld, run-unheld, unheld-behind}
 use Rattle.copy_runs.proofs.Whole.{IsBegun, asks-begun, asks-unmade}
 use Rattle.migration.specs.Marks.{Looked, Looks, is_within, line_of, onward, target, target_of}
-use Rattle.migration.specs.Migrating.{AreMigration, Breaks, EntersFrom, Going, GoesSo, HasFailedIn, IsBarred, IsEnteredIn, IsMigrating, IsMigration, Lowers, Migrates, TellsWhy, Turning}
-use Rattle.migration.specs.Turns.{AreTried, AsksPool, Filled, FilledFrom, Fills, IsLow, IsOver, IsPicked, Lowered, Picks, Rest, Turned, Turns, unasked}
+use Rattle.migration.specs.Migrating.{AreMigration, Breaks, BreaksFor, EndsTurn, EntersFrom, Going, GoesSo, HasFailedIn, HasLeft, IsBarred, IsEnteredIn, IsLeftBehind, IsMigrating, IsMigration, Lowers, Migrates, TellsNext, TellsWhy, Turning}
+use Rattle.migration.specs.Turns.{AreTried, AsksPool, Filled, FilledFrom, Fills, IsLow, IsOver, IsPicked, Lowered, Picks, Rest, Turned, Turns, candidate, candidates_of, is_fresh, moving, unasked}
 
 -- ---- of the pool
 
@@ -158,23 +163,13 @@ unlisted-bars : (pool low : ℕ) (xs : List Event) (e : Refusal) → IsUnlisted 
 unlisted-bars pool low xs e (inl h) = inl h
 unlisted-bars pool low xs e (inr h) = inr (inr (inl h))
 
-one-caused : (pool low : ℕ) (x : Wanted) (xs : List Event) (e : Refusal) → IsMigrating pool x → IsCausedByOne (x ∷ []) 0 xs e → IsStopped xs e ⊎ IsBarred pool low xs e
-one-caused pool low x xs e m h = elim h.2 as (λ _. IsStopped xs e ⊎ IsBarred pool low xs e) [
-  | inl memory ↦ inl (inl memory)
-  | inr more ↦ elim more as (λ _. IsStopped xs e ⊎ IsBarred pool low xs e) [
-    | inl met ↦ inl (inr met)
-    | inr gone ↦ (let k = one-migrates pool x m h.0 h.1 in
-        inr (inr (inr (gone.0, (h.0.object, k.0, k.1, subst (λ (to : Aim). MetBy (λ d. d ≡ OpenCopy h.0.object to 0 (Err e)) xs) k.2 gone.1)))))
-  ]
-]
-
 these-move : (wanted : List Wanted) (xs : List Event) → AreOfThese wanted 0 xs → AreMoving wanted 0 xs
 these-move wanted [] h = tt
 these-move wanted (e ∷ xs) h = (inr h.0, these-move wanted xs h.1)
 
-run-breaks : (pool low : ℕ) (x : Wanted) (xs : List Event) (e : Refusal) → IsMigrating pool x → Run (x ∷ []) 0 xs (Err e) → Breaks pool low xs e
-run-breaks pool low x xs e m r = record {
-  cause = one-caused pool low x xs e m r.outcome.0;
+run-breaks : (pool : ℕ) (x : Wanted) (xs : List Event) (e : Refusal) → IsMigrating pool x → Run (x ∷ []) 0 xs (Err e) → BreaksFor pool (IsCausedByOne (x ∷ []) 0 xs e) xs e
+run-breaks pool x xs e m r = record {
+  cause = r.outcome.0;
   unheld = run-unheld (x ∷ []) 0 xs e r;
   only = only-migration pool (x ∷ []) xs (one-migrates pool x m) (these-move (x ∷ []) xs r.only);
   entries = enters-from pool (x ∷ []) xs (one-migrates pool x m) r.entries;
@@ -197,17 +192,21 @@ cause-behind pool low xs ys e (inl h) = inl (stopped-behind xs ys e h)
 cause-behind pool low xs ys e (inr (inl h)) = inr (inl (so-behind pool low xs ys (Err e) h.0, met-behind (TellsWhy pool low e) xs ys h.1))
 cause-behind pool low xs ys e (inr (inr (inl h))) = inr (inr (inl (h.0, met-behind (λ d. d ≡ Ask (query.OnPool pool) (Err e)) xs ys h.1)))
 cause-behind pool low xs ys e (inr (inr (inr h))) =
-    inr (inr (inr (h.0, (h.1.0, h.1.1, h.1.2, met-behind (λ d. d ≡ OpenCopy h.1.0 (aim.Move pool h.1.1 h.1.2 true) 0 (Err e)) xs ys h.1.3))))
+    inr (inr (inr (h.0, (h.1.0, h.1.1, h.1.2, met-behind (TellsNext pool low h.1.2) xs ys h.1.3, ticket-behind h.1.0 pool h.1.1 h.1.2 true 0 xs ys e h.1.4))))
 
-pub breaks-behind : (pool low : ℕ) (wanted : List Wanted) (xs ys : List Event) (m : Moved) (e : Refusal) → AreMigrating pool wanted → Part wanted 0 xs m → Breaks pool low ys e → Breaks pool low (xs ++ ys) e
-breaks-behind pool low wanted xs ys m e all p h = record {
-  cause = cause-behind pool low xs ys e h.cause;
+for-behind : (pool : ℕ) (C D : Type 0) (wanted : List Wanted) (xs ys : List Event) (m : Moved) (e : Refusal) → AreMigrating pool wanted → Part wanted 0 xs m → (C → D) → BreaksFor pool C ys e → BreaksFor pool D (xs ++ ys) e
+for-behind pool C D wanted xs ys m e all p so h = record {
+  cause = so h.cause;
   unheld = unheld-behind xs ys e h.unheld;
   only = all-append (λ x. IsMigration pool x.deed) xs ys (only-migration pool wanted xs all p.only) h.only;
   entries = enters-both pool xs ys (enters-from pool wanted xs all p.entries) p.done.none_left h.entries;
   settled = λ leave. settled-append xs ys p.done.settled (h.settled leave);
   none_left = λ leave. then-none xs ys p.done.none_left (h.none_left leave);
 }
+
+pub breaks-behind : (pool low : ℕ) (wanted : List Wanted) (xs ys : List Event) (m : Moved) (e : Refusal) → AreMigrating pool wanted → Part wanted 0 xs m → Breaks pool low ys e → Breaks pool low (xs ++ ys) e
+breaks-behind pool low wanted xs ys m e all p h =
+    for-behind pool (IsStopped ys e ⊎ IsBarred pool low ys e) (IsStopped (xs ++ ys) e ⊎ IsBarred pool low (xs ++ ys) e) wanted xs ys m e all p (cause-behind pool low xs ys e) h
 
 asks-behind : (pool low : ℕ) (xs ys : List Event) (e : Refusal) → AreAsking xs → Breaks pool low ys e → Breaks pool low (xs ++ ys) e
 asks-behind pool low xs ys e asks h = breaks-behind pool low [] xs ys none_moved e (λ x i. absurd i) (part-of-asks 0 xs asks) h
@@ -229,6 +228,93 @@ filled-asks : (pool : ℕ) (r q : Rest) (empty : Bool) (xs : List Event) → Fil
 filled-asks pool r q false xs h = subst AreAsking (sym h.0) tt
 filled-asks pool r q true xs h = subst AreAsking (sym h.2.1) ((query.OnPool pool, Ok h.0, refl), tt)
 
+next-told : (pool low to : ℕ) (xs : List Event) → Looked pool low xs (Ok (Some to)) → MetBy (TellsNext pool low to) xs
+next-told pool low to xs h = subst (λ (es : List Event). MetBy (TellsNext pool low to) es) (sym h.1.2) (inl (h.1.1, h.0, refl, h.1.3, h.2))
+
+-- what is left of a list was listed, or was left before
+fill-left : (pool object : ℕ) (r k : Rest) (empty : Bool) (us : List Event) → Filled empty pool r us k → HasLeft object k → MetBy (ListsCopy object pool) us ⊎ HasLeft object r
+fill-left pool object r k true us (answer, lines, asked, told, is) (c, among, same) =
+    let l = flat-parts (candidates_of r.seen) c lines (subst (λ (x : Rest). IsIn c x.candidates) is among) in
+    let its = is-only (is_fresh r.seen l.0) (candidate l.0) c l.2 in
+    inl (subst (λ (es : List Event). MetBy (ListsCopy object pool) es) (sym asked.1) (inl (inr (answer, lines, l.0, refl, told, l.1, ap (λ (x : Candidate). x.object) its.0 ∙ same))))
+fill-left pool object r k false us (none, is) left = inr (subst (λ (x : Rest). HasLeft object x) is left)
+
+at-in : (xs : List Candidate) (place : ℕ) (c : Candidate) → slice_get xs place ≡ Some c → IsIn c xs
+at-in [] place c is = absurd cc
+at-in (x ∷ xs) zero c is = inl (same_Some x c is)
+at-in (x ∷ xs) (suc place) c is = inr (at-in xs place c is)
+
+in-removed : (xs : List Candidate) (place : ℕ) (c : Candidate) → IsIn c (remove xs place) → IsIn c xs
+in-removed [] zero c i = absurd i
+in-removed [] (suc place) c i = absurd i
+in-removed (x ∷ xs) zero c i = inr i
+in-removed (x ∷ xs) (suc place) c (inl same) = inl same
+in-removed (x ∷ xs) (suc place) c (inr i) = inr (in-removed xs place c i)
+
+turned-listed : (picks : Picks) (pool low object : ℕ) (r s : Rest) (x : Wanted) (m : Moved) (events before : List Event) → Turned picks pool low r s x m events → (HasLeft object r → MetBy (ListsCopy object pool) before) → HasLeft object s
+    → MetBy (ListsCopy object pool) (before ++ events)
+turned-listed picks pool low object r s x m events before (to, k, picked, (xs, ys, cut, looked, (us, vs, both, filled, run))) first (c, among, same) =
+    let left : HasLeft object k = (c, in-removed k.candidates picked.0 c (subst (λ (y : Rest). IsIn c y.candidates) picked.6 among), same) in
+    elim (fill-left pool object r k (is_nil r.candidates) us filled left) as (λ _. MetBy (ListsCopy object pool) (before ++ events)) [
+      | inl listed ↦ met-behind (ListsCopy object pool) before events
+          (subst (λ (es : List Event). MetBy (ListsCopy object pool) es) (sym cut)
+          (met-behind (ListsCopy object pool) xs ys (subst (λ (es : List Event). MetBy (ListsCopy object pool) es) (sym both) (met-before (ListsCopy object pool) us vs listed))))
+      | inr old ↦ met-before (ListsCopy object pool) before events (first old)
+    ]
+
+-- what is left behind some turns was listed by one of them, or was left before
+turns-listed : (picks : Picks) (pool low object : ℕ) (r s : Rest) (wanted : List Wanted) (events before : List Event) → Turns picks pool low r s wanted events → (HasLeft object r → MetBy (ListsCopy object pool) before) → HasLeft object s
+    → MetBy (ListsCopy object pool) (before ++ events)
+turns-listed picks pool low object r s [] events before h first left = met-before (ListsCopy object pool) before events (first (subst (λ (x : Rest). HasLeft object x) h.1 left))
+turns-listed picks pool low object r s (x ∷ wanted) events before (q, m, (us, vs, cut, turned, more)) first left =
+    subst (λ (es : List Event). MetBy (ListsCopy object pool) es) (append_assoc before us vs ∙ ap (λ (es : List Event). before ++ es) (sym cut))
+    (turns-listed picks pool low object q s wanted vs (before ++ us) more (turned-listed picks pool low object r q x m us before turned first) left)
+
+one-is : (x y : Wanted) → IsIn y (x ∷ []) → x ≡ y
+one-is x y (inl same) = same
+one-is x y (inr i) = absurd i
+
+-- why a turn ended in which a copy was picked
+turn-caused : (picks : Picks) (pool low to : ℕ) (r k s : Rest) (x : Wanted) (xs us vs : List Event) (e : Refusal) → IsPicked picks pool to k s x → Looked pool low xs (Ok (Some to)) → Filled (is_nil r.candidates) pool r us k
+    → IsCausedByOne (x ∷ []) 0 vs e → IsStopped (xs ++ (us ++ vs)) e ⊎ IsBarred pool low (xs ++ (us ++ vs)) e ⊎ IsLeftBehind pool low r (xs ++ (us ++ vs)) e
+turn-caused picks pool low to r k s x xs us vs e picked looked filled h =
+    elim h.2 as (λ _. IsStopped (xs ++ (us ++ vs)) e ⊎ IsBarred pool low (xs ++ (us ++ vs)) e ⊎ IsLeftBehind pool low r (xs ++ (us ++ vs)) e) [
+      | inl memory ↦ inl (inl memory)
+      | inr more ↦ elim more as (λ _. IsStopped (xs ++ (us ++ vs)) e ⊎ IsBarred pool low (xs ++ (us ++ vs)) e ⊎ IsLeftBehind pool low r (xs ++ (us ++ vs)) e) [
+        | inl met ↦ inl (stopped-behind xs (us ++ vs) e (stopped-behind us vs e (inr met)))
+        | inr gone ↦ by-ticket gone.0 gone.1
+      ]
+    ]
+  where
+    by-ticket : (number_of e == 10) ≡ true → MetBy (λ d. d ≡ OpenCopy h.0.object h.0.aim 0 (Err e)) vs → IsStopped (xs ++ (us ++ vs)) e ⊎ IsBarred pool low (xs ++ (us ++ vs)) e ⊎ IsLeftBehind pool low r (xs ++ (us ++ vs)) e
+    by-ticket ten met =
+        let c : Candidate = picked.1 in
+        let placed : ℕ = picked.2 in
+        let Opens : Deed → Type 0 = (λ d. d ≡ OpenCopy c.object (aim.Move pool placed to true) 0 (Err e)) in
+        let same : moving pool to c placed ≡ h.0 = sym picked.7 ∙ one-is x h.0 h.1 in
+        let opened : MetBy Opens vs = subst (λ (y : Wanted). MetBy (λ d. d ≡ OpenCopy y.object y.aim 0 (Err e)) vs) (sym same) met in
+        let next : MetBy (TellsNext pool low to) (xs ++ (us ++ vs)) = met-before (TellsNext pool low to) xs (us ++ vs) (next-told pool low to xs looked) in
+        elim (fill-left pool c.object r k (is_nil r.candidates) us filled (c, at-in k.candidates picked.0 c picked.4, refl))
+        as (λ _. IsStopped (xs ++ (us ++ vs)) e ⊎ IsBarred pool low (xs ++ (us ++ vs)) e ⊎ IsLeftBehind pool low r (xs ++ (us ++ vs)) e) [
+          | inl listed ↦ inr (inl (inr (inr (ten, (c.object, placed, to, next, (xs ++ us, vs, sym (append_assoc xs us vs), met-behind (ListsCopy c.object pool) xs us listed, opened))))))
+          | inr left ↦ inr (inr (ten, (c.object, placed, to, left, next, met-behind Opens xs (us ++ vs) (met-behind Opens us vs opened))))
+        ]
+
+as-turn : (pool low : ℕ) (r : Rest) (xs : List Event) (e : Refusal) → Breaks pool low xs e → EndsTurn pool low r xs e
+as-turn pool low r xs e h = record { cause = wider h.cause; unheld = h.unheld; only = h.only; entries = h.entries; settled = h.settled; none_left = h.none_left } where
+  wider : IsStopped xs e ⊎ IsBarred pool low xs e → IsStopped xs e ⊎ IsBarred pool low xs e ⊎ IsLeftBehind pool low r xs e
+  wider (inl stopped) = inl stopped
+  wider (inr barred) = inr (inl barred)
+
+-- behind the turns before it
+turn-behind : (picks : Picks) (pool low : ℕ) (r : Rest) (wanted : List Wanted) (xs ys : List Event) (e : Refusal) → Turns picks pool low unasked r wanted xs
+    → IsStopped ys e ⊎ IsBarred pool low ys e ⊎ IsLeftBehind pool low r ys e → IsStopped (xs ++ ys) e ⊎ IsBarred pool low (xs ++ ys) e
+turn-behind picks pool low r wanted xs ys e turns (inl stopped) = inl (stopped-behind xs ys e stopped)
+turn-behind picks pool low r wanted xs ys e turns (inr (inl barred)) = cause-behind pool low xs ys e (inr barred)
+turn-behind picks pool low r wanted xs ys e turns (inr (inr (ten, (object, placed, to, left, next, met)))) =
+    let listed : MetBy (ListsCopy object pool) xs = turns-listed picks pool low object unasked r wanted xs [] turns (λ none. absurd none.1) left in
+    inr (inr (inr (ten, (object, placed, to, met-behind (TellsNext pool low to) xs ys next, (xs, ys, refl, listed, met)))))
+
 -- the pool to which copies go, as it was told
 pub to-some : {S : Type 0} (did : S → List Event → S → Type 0) (p q : S) (pool low to : ℕ) (o : Option ℕ) → o ≡ Some to → Call did p q (λ events. Looks pool low events (Ok o))
     → Call did p q (λ events. Looks pool low events (Ok (Some to)))
@@ -244,14 +330,15 @@ turn-low did p q picks pool low r s a = (a.0, a.1, inl a.2)
 
 pub turn-unlooked : {S : Type 0} (did : S → List Event → S → Type 0) (p q : S) (picks : Picks) (pool low : ℕ) (r s : Rest) (e : Refusal) → Call did p q (λ events. Looks pool low events (Err e))
     → Call did p q (λ events. Turning picks pool low r s events (Err e))
-turn-unlooked did p q picks pool low r s e a = (a.0, a.1, look-breaks pool low a.0 e a.2)
+turn-unlooked did p q picks pool low r s e a = (a.0, a.1, as-turn pool low r a.0 e (look-breaks pool low a.0 e a.2))
 
 pub turn-unfilled : {S : Type 0} (did : S → List Event → S → Type 0) → GoesOn did → (p q t : S) (picks : Picks) (pool low to : ℕ) (r k s : Rest) (e : Refusal)
     → Call did p q (λ events. Looks pool low events (Ok (Some to))) → Call did q t (λ events. Fills (is_nil r.candidates) pool r events k (Err e))
     → Call did p t (λ events. Turning picks pool low r s events (Err e))
 turn-unfilled did goes p q t picks pool low to r k s e a b =
     call_then did goes (λ events. Looks pool low events (Ok (Some to))) (λ events. Fills (is_nil r.candidates) pool r events k (Err e)) (λ events. Turning picks pool low r s events (Err e)) p q t a b
-    (λ xs ys f g. asks-behind pool low xs ys e (looked-asks pool low xs (Ok (Some to)) f) (asks-break pool low ys e g.1 (unlisted-unheld (query.OnPool pool) ys e g.1 g.0) (unlisted-bars pool low ys e g.0)))
+    (λ xs ys f g. as-turn pool low r (xs ++ ys) e
+    (asks-behind pool low xs ys e (looked-asks pool low xs (Ok (Some to)) f) (asks-break pool low ys e g.1 (unlisted-unheld (query.OnPool pool) ys e g.1 g.0) (unlisted-bars pool low ys e g.0))))
 
 none-left : (picks : Picks) (pool low to : ℕ) (r k : Rest) (empty : Bool) (xs ys : List Event) → is_nil r.candidates ≡ empty → is_nil k.candidates ≡ true → Looked pool low xs (Ok (Some to)) → Filled empty pool r ys k
     → IsOver pool low r (xs ++ ys)
@@ -273,8 +360,10 @@ turn-of : (picks : Picks) (pool low to : ℕ) (r k s : Rest) (x : Wanted) (resul
     → Filled (is_nil r.candidates) pool r us k → Run (x ∷ []) 0 vs result → Turning picks pool low r s (xs ++ (us ++ vs)) (turned_by result)
 turn-of picks pool low to r k s x (Ok m) xs us vs i f g h = (x, (to, k, i, (xs, us ++ vs, refl, f, (us, vs, refl, g, h))))
 turn-of picks pool low to r k s x (Err e) xs us vs i f g h =
-    asks-behind pool low xs (us ++ vs) e (looked-asks pool low xs (Ok (Some to)) f)
-    (asks-behind pool low us vs e (filled-asks pool r k (is_nil r.candidates) us g) (run-breaks pool low x vs e (picked-migrates picks pool to k s x i) h))
+    let Cause : Type 0 = IsStopped (xs ++ (us ++ vs)) e ⊎ IsBarred pool low (xs ++ (us ++ vs)) e ⊎ IsLeftBehind pool low r (xs ++ (us ++ vs)) e in
+    for-behind pool Cause Cause [] xs (us ++ vs) none_moved e (λ y n. absurd n) (part-of-asks 0 xs (looked-asks pool low xs (Ok (Some to)) f)) (λ c. c)
+    (for-behind pool (IsCausedByOne (x ∷ []) 0 vs e) Cause [] us vs none_moved e (λ y n. absurd n) (part-of-asks 0 us (filled-asks pool r k (is_nil r.candidates) us g))
+    (turn-caused picks pool low to r k s x xs us vs e i f g) (run-breaks pool x vs e (picked-migrates picks pool to k s x i) h))
 
 pub turn-made : {S : Type 0} (did : S → List Event → S → Type 0) → GoesOn did → (p q t u : S) (picks : Picks) (pool low to : ℕ) (r k s : Rest) (x : Wanted) (wanted : List Wanted) (result : Result Moved Refusal)
     → wanted ≡ x ∷ [] → IsPicked picks pool to k s x
@@ -328,7 +417,8 @@ pub going-breaks : {S : Type 0} (did : S → List Event → S → Type 0) → Go
     → Call did p q (λ events. Going picks pool low r events m) → Call did q t (λ events. Turning picks pool low r s events (Err e)) → Call did p t (λ events. Lowers picks pool low events (Err e))
 going-breaks did goes p q t picks pool low r s m e a b =
     call_then did goes (λ events. Going picks pool low r events m) (λ events. Turning picks pool low r s events (Err e)) (λ events. Lowers picks pool low events (Err e)) p q t a b
-    (λ xs ys f g. breaks-behind pool low f.wanted xs ys m e (going-all picks pool low r xs m f) f.part g)
+    (λ xs ys f g. for-behind pool (IsStopped ys e ⊎ IsBarred pool low ys e ⊎ IsLeftBehind pool low r ys e) (IsStopped (xs ++ ys) e ⊎ IsBarred pool low (xs ++ ys) e) f.wanted xs ys m e (going-all picks pool low r xs m f) f.part
+    (turn-behind picks pool low r f.wanted xs ys e f.order) g)
 
 pub going-ends : {S : Type 0} (did : S → List Event → S → Type 0) (p q : S) (picks : Picks) (pool low : ℕ) (r : Rest) (m : Moved) → Call did p q (λ events. Going picks pool low r events m)
     → Call did p q (λ events. Lowers picks pool low events (Err refused.Memory))

@@ -3,6 +3,7 @@ use Rattle.std.specs.Prelude.{◌≡◌, ◌⊎◌, ◌≤◌, ℕ, ◌-◌, ◌
 use Rattle.std.specs.List.{AllByRecursion, slice_get}
 use Rattle.kinds.specs.Refusals.{number_of}
 use Rattle.kinds.specs.declared.refusal.Refusal.{Refusal}
+use Rattle.choosers.specs.declared.candidate.Candidate.{Candidate}
 use Rattle.entries.specs.declared.change.Change.{Change}
 use Rattle.inventory_answers.specs.Stores.{pool_lines}
 use Rattle.inventory_answers.specs.declared.lines.PoolLine.{PoolLine}
@@ -25,6 +26,8 @@ use Rattle.copy_runs.specs.Ends.{IsEnding, IsStopped, IsUnheld, IsUnlisted, firs
 use Rattle.copy_runs.specs.Parts.{Part}
 use Rattle.copy_runs.specs.Returning.{AreValid, Holds, is_kept}
 use Rattle.copy_runs.specs.Runs.{HasFailed, IsEntryFor, LeavesNone, copies_in, failing_in, is_among}
+use Rattle.copy_runs.specs.Tickets.{GotNoTicket}
+use Rattle.copy_runs.specs.Wanting.{IsIn}
 use Rattle.migration.specs.Marks.{target}
 use Rattle.migration.specs.Turns.{IsOver, Lowered, Picks, Rest, Turned, Turns, unasked}
 
@@ -92,29 +95,50 @@ GoesSo pool low events is =
 abbrev pub TellsWhy : (pool low : ℕ) → Refusal → Deed → Type 0
 TellsWhy pool low e d = (answer : Answer) × (lines : List PoolLine) × (d ≡ Ask (query.Pools None) (Ok answer)) × (answer.rows ≡ rows.Pools lines) × (target pool low lines ≡ Err e)
 
--- The pool isn't there at one of the numbers, or has no next one, as one of its questions was answered; or it wasn't there when its copies were asked for; or the pool wasn't there to which a copy was
--- to go.
+-- the pools were asked for, and by the answer copies of the pool are to go to this one
+abbrev pub TellsNext : (pool low to : ℕ) → Deed → Type 0
+TellsNext pool low to d = (answer : Answer) × (lines : List PoolLine) × (d ≡ Ask (query.Pools None) (Ok answer)) × (answer.rows ≡ rows.Pools lines) × (target pool low lines ≡ Ok (Some to))
+
+-- The pool isn't there at one of the numbers, or has no next one, as one of its questions was answered; or it wasn't there when its copies were asked for; or the pool wasn't there to which by such an
+-- answer a copy was to go that was listed.
 abbrev pub IsBarred : (pool low : ℕ) → List Event → Refusal → Type 0
 IsBarred pool low events e =
     (GoesSo pool low events (Err e) × MetBy (TellsWhy pool low e) events)
     ⊎ (((number_of e == 10) ≡ true) × MetBy (λ d. d ≡ Ask (query.OnPool pool) (Err e)) events)
-    ⊎ (((number_of e == 10) ≡ true) × ((object : ℕ) × (placed : ℕ) × (to : ℕ) × MetBy (λ d. d ≡ OpenCopy object (aim.Move pool placed to true) 0 (Err e)) events))
+    ⊎ (((number_of e == 10) ≡ true) × ((object : ℕ) × (placed : ℕ) × (to : ℕ) × MetBy (TellsNext pool low to) events × GotNoTicket object pool placed to true 0 events e))
 
--- It was refused: for want of memory, or with a refusal that ends a process and that one of its steps met, or that bars it; it waits for no transaction that a force would make durable; and no ticket
--- is left, unless none can be given back.
-pub record Breaks (pool low : ℕ) (events : List Event) (e : Refusal) : Type 0 where
-  pub cause : IsStopped events e ⊎ IsBarred pool low events e
+-- It was refused, with this cause; it waits for no transaction that a force would make durable; and no ticket is left, unless none can be given back.
+pub record BreaksFor (pool : ℕ) (Cause : Type 0) (events : List Event) (e : Refusal) : Type 0 where
+  pub cause : Cause
   pub unheld : IsUnheld events e
   pub only : AreMigration pool events
   pub entries : EntersFrom pool events
   pub settled : may_leave (Err e) ≡ false → AreSettled events
   pub none_left : may_leave (Err e) ≡ false → LeavesNone events
 
+-- for want of memory, or with a refusal that ends a process and that one of its steps met, or that bars it
+abbrev pub Breaks : (pool low : ℕ) → List Event → Refusal → Type 0
+Breaks pool low events e = BreaksFor pool (IsStopped events e ⊎ IsBarred pool low events e) events e
+
+-- a copy of the object is left
+abbrev pub HasLeft : (object : ℕ) → Rest → Type 0
+HasLeft object r = (c : Candidate) × IsIn c r.candidates × (c.object ≡ object)
+
+-- the pool wasn't there to which by an answer a copy was to go that was left
+abbrev pub IsLeftBehind : (pool low : ℕ) → Rest → List Event → Refusal → Type 0
+IsLeftBehind pool low r events e =
+    ((number_of e == 10) ≡ true)
+    × ((object : ℕ) × (placed : ℕ) × (to : ℕ) × HasLeft object r × MetBy (TellsNext pool low to) events × MetBy (λ d. d ≡ OpenCopy object (aim.Move pool placed to true) 0 (Err e)) events)
+
+-- so a turn is, or for a copy that was left
+abbrev pub EndsTurn : (pool low : ℕ) → Rest → List Event → Refusal → Type 0
+EndsTurn pool low r events e = BreaksFor pool (IsStopped events e ⊎ IsBarred pool low events e ⊎ IsLeftBehind pool low r events e) events e
+
 -- one turn: a copy was tried, or it was over, or it was refused
 abbrev pub Turning : Picks → (pool low : ℕ) → (r s : Rest) → List Event → Result (Option Moved) Refusal → Type 0
 Turning picks pool low r s events (Ok (Some m)) = (x : Wanted) × Turned picks pool low r s x m events
 Turning picks pool low r s events (Ok None) = IsOver pool low r events
-Turning picks pool low r s events (Err e) = Breaks pool low events e
+Turning picks pool low r s events (Err e) = EndsTurn pool low r events e
 
 -- so far these were tried
 pub record Going (picks : Picks) (pool low : ℕ) (left : Rest) (events : List Event) (m : Moved) : Type 0 where

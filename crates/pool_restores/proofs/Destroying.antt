@@ -38,7 +38,7 @@ use Rattle.pool_restores.specs.Listing.{AskedVolumes, AsksVolumes, Collected, Co
 use Rattle.pool_restores.specs.Restoring.{IsAimless, IsEnteredSo, IsRestore}
 use Rattle.pool_restores.specs.Volumes.{BeginsVolume, BegunVolume, Destroyed, Destroys, EndsBehind, IsEnteredOr, IsInPlace, IsNoVolume, IsVolumeBarred, IsVolumeRestore, IsVolumeRestored, Unbegun, VolumeRestore, VolumeStopped, is_unmade, unmade}
 use Rattle.pool_restores.proofs.Beginning.{collected-asks, uncollected-behind, volumes-ask}
-use Rattle.pool_restores.proofs.Restored.{AreRestoring, aimless-behind, asking-restore, caused, collected-restoring, completes-caused, completes-some, counted-of, entered-so, lost-row, only-restore, unlisted-unheld}
+use Rattle.pool_restores.proofs.Restored.{AreFound, AreRestoring, asking-restore, collected-found, collected-restoring, completes-caused, completes-some, counted-of, entered-so, found-behind, lost-row, only-restore, unlisted-unheld}
 
 -- ---- a change
 
@@ -263,14 +263,14 @@ volume-row file wanted failed x y us vs ys got done all w actor a b valid none f
     lost-row w actor a b None (file ∷ []) file object copy wanted failed x y us vs ys valid none f got done all there (inl refl) on_it (λ l same. refl)
 
 -- it ended behind the volume's transaction
-ended-behind : (file : ℕ) (wanted : List Wanted) (vs ys : List Event) (e : Refusal) → AreRestoring wanted → AreAsking vs → AllByRecursion (λ x. IsRestore x.deed) ys → Completes wanted 0 ys (Err e)
+ended-behind : (file : ℕ) (wanted : List Wanted) (vs ys : List Event) (e : Refusal) → AreFound wanted vs → AreAsking vs → AllByRecursion (λ x. IsRestore x.deed) ys → Completes wanted 0 ys (Err e)
     → EndsBehind file (vs ++ ys) e
-ended-behind file wanted vs ys e all asks only h =
-    let why = completes-caused wanted ys e all h in
+ended-behind file wanted vs ys e found asks only h =
+    let why = completes-caused wanted vs ys e found h in
     record {
       cause = elim why.0 as (λ _. IsStopped (vs ++ ys) e ⊎ (IsUncollected (file ∷ []) (vs ++ ys) e × AreAsking (vs ++ ys)) ⊎ IsAimless (vs ++ ys) e) [
-        | inl stopped ↦ inl (stopped-behind vs ys e stopped)
-        | inr aimless ↦ inr (inr (aimless-behind vs ys e aimless))
+        | inl stopped ↦ inl stopped
+        | inr aimless ↦ inr (inr aimless)
       ];
       unheld = unheld-behind vs ys e why.1;
       only = all-append (λ x. IsRestore x.deed) vs ys (asking-restore vs asks) only;
@@ -303,20 +303,18 @@ volume-of file c wanted x us vs ys (Ok m) begun f done got h =
 volume-of file c wanted x us vs ys (Err e) begun f done got h =
     let first : List Event = x ∷ (us ++ vs) in
     let all : AreRestoring wanted = collected-restoring None (file ∷ []) [] wanted vs got (λ y i. absurd i) in
+    let found : AreFound wanted vs = collected-found None (file ∷ []) [] wanted vs [] got (λ y i. absurd i) in
     let t : Told wanted 0 first ys (Err e) = process-told wanted 0 x (us ++ vs) ys (Err e) f.begun h in
     let p : Ended wanted 0 (first ++ ys) e = t.answers in
     record {
       came = record {
-        cause = elim p.cause as (λ _. IsStopped (first ++ ys) e ⊎ IsVolumeBarred file (first ++ ys) e) [
+        cause = elim (completes-caused wanted first ys e (found-behind wanted (x ∷ us) vs found) h).0 as (λ _. IsStopped (first ++ ys) e ⊎ IsVolumeBarred file (first ++ ys) e) [
           | inl stopped ↦ inl stopped
-          | inr one ↦ elim (caused wanted (first ++ ys) e all one) as (λ _. IsStopped (first ++ ys) e ⊎ IsVolumeBarred file (first ++ ys) e) [
-            | inl stopped ↦ inl stopped
-            | inr aimless ↦ inr (inr (inr (inr aimless)))
-          ]
+          | inr aimless ↦ inr (inr (inr (inr aimless)))
         ];
         place =
             place-behind file c x us vs ys e done
-            (ended-behind file wanted vs ys e all (collected-asks None (file ∷ []) [] wanted vs got) (only-restore wanted ys all t.only) h);
+            (ended-behind file wanted vs ys e found (collected-asks None (file ∷ []) [] wanted vs got) (only-restore wanted ys all t.only) h);
         settled = p.settled;
         none_left = p.none_left;
       };

@@ -31,7 +31,7 @@ use Rattle.machine.specs.Fits.{Fits, History, Own, Step, inv, last}
 use Rattle.machine.specs.Machine.{IsAnswer}
 use Rattle.machine.specs.Says.{Says}
 use Rattle.machine.proofs.Runs.{fits-cut, fits-first, fits-one, fits-rises}
-use Rattle.copy_attempts.proofs.Facts.{all-append, met-behind}
+use Rattle.copy_attempts.proofs.Facts.{all-append, met-before, met-behind}
 use Rattle.copy_attempts.specs.Outcomes.{IsOf, MetBy}
 use Rattle.copy_runs.specs.declared.wanted.Moved.{Moved}
 use Rattle.copy_runs.specs.declared.wanted.Wanted.{Wanted}
@@ -39,6 +39,7 @@ use Rattle.copy_runs.specs.Ends.{AreAsking, IsAsking, IsStopped, IsUnheld, IsUnl
 use Rattle.copy_runs.specs.Processes.{AreMoving, Completes, Ended, IsDoneAllAlong, Process}
 use Rattle.copy_runs.specs.Returning.{AreValid, Holds, is_kept}
 use Rattle.copy_runs.specs.Runs.{EntersOnly, HasFailed, IsCausedByOne, IsEntered, IsEntryFor, is_among}
+use Rattle.copy_runs.specs.Tickets.{ListsCopy}
 use Rattle.copy_runs.specs.Wanting.{IsIn, IsPast, is_wanted}
 use Rattle.copy_runs.proofs.Ending.{stopped-behind}
 use Rattle.copy_runs.proofs.Entries.{enters-append, unmade-enters}
@@ -47,6 +48,7 @@ use Rattle.copy_runs.proofs.Outcomes.{in-before, in-behind}
 use Rattle.copy_runs.proofs.Parts.{in-either}
 use Rattle.copy_runs.proofs.Returning.{held-all-along, held-wanted, placed-past}
 use Rattle.copy_runs.proofs.Risen.{call-rises}
+use Rattle.copy_runs.proofs.Tickets.{AreListed, lists-all}
 use Rattle.copy_runs.proofs.Told.{reaches}
 use Rattle.copy_runs.proofs.Unheld.{asking-unheld, ending-unheld, other-unheld, run-unheld, unheld-behind}
 use Rattle.copy_runs.proofs.Whole.{IsBegun, Told, asks-begun, asks-unmade, last-behind, process-told, reached-last}
@@ -75,6 +77,40 @@ all-restoring pool (line ∷ lines) wanted h =
 pub collected-restoring : (pool : Option ℕ) (files : List ℕ) (from to : List Wanted) (xs : List Event) → Collected pool files from to xs → AreRestoring from → AreRestoring to
 collected-restoring pool [] from to xs h all = subst AreRestoring (sym h.1) all
 collected-restoring pool (file ∷ files) from to xs h all = collected-restoring pool files (with_all pool h.0 from) to h.1.1 h.1.4 (all-restoring pool h.0 from all)
+
+-- what is wanted was listed by one of these steps
+abbrev pub IsFound : List Event → Wanted → Type 0
+IsFound events x = (pool : ℕ) × (placed : ℕ) × (x.aim ≡ aim_of pool placed) × MetBy (ListsCopy x.object pool) events
+
+abbrev pub AreFound : List Wanted → List Event → Type 0
+AreFound wanted events = (x : Wanted) → IsIn x wanted → IsFound events x
+
+only-found : (b : Bool) (line : CopyLine) (events : List Event) → MetBy (ListsCopy line.object line.pool) events → AreFound (only b (restoring line)) events
+only-found true line events met x (inl is) = subst (λ (y : Wanted). IsFound events y) is (line.pool, line.placed, refl, met)
+only-found true line events met x (inr i) = absurd i
+only-found false line events met x i = absurd i
+
+all-found : (pool : Option ℕ) (lines : List CopyLine) (wanted : List Wanted) (events : List Event) → AreListed lines events → AreFound wanted events → AreFound (with_all pool lines wanted) events
+all-found pool [] wanted events listed h = h
+all-found pool (line ∷ lines) wanted events listed h =
+    all-found pool lines (with_one pool line wanted) events (λ l i. listed l (inr i))
+    (λ x i. elim (in-either x wanted (only (is_of pool line && not (is_wanted_of line wanted)) (restoring line)) i) as (λ _. IsFound events x) [
+      | inl a ↦ h x a
+      | inr b ↦ only-found (is_of pool line && not (is_wanted_of line wanted)) line events (listed line (inl refl)) x b
+    ])
+
+found-before : (wanted : List Wanted) (xs ys : List Event) → AreFound wanted xs → AreFound wanted (xs ++ ys)
+found-before wanted xs ys h x i = (let k = h x i in (k.0, k.1, k.2, met-before (ListsCopy x.object k.0) xs ys k.3))
+
+pub found-behind : (wanted : List Wanted) (xs ys : List Event) → AreFound wanted ys → AreFound wanted (xs ++ ys)
+found-behind wanted xs ys h x i = (let k = h x i in (k.0, k.1, k.2, met-behind (ListsCopy x.object k.0) xs ys k.3))
+
+pub collected-found : (pool : Option ℕ) (files : List ℕ) (from to : List Wanted) (xs first : List Event) → Collected pool files from to xs → AreFound from first → AreFound to (first ++ xs)
+collected-found pool [] from to xs first h all = subst (λ (ws : List Wanted). AreFound ws (first ++ xs)) (sym h.1) (found-before from first xs all)
+collected-found pool (file ∷ files) from to xs first (lines, (us, vs, is, listed, more)) all =
+    subst (λ (es : List Event). AreFound to es) (append_assoc first us vs ∙ ap (λ (es : List Event). first ++ es) (sym is))
+    (collected-found pool files (with_all pool lines from) to vs (first ++ us) more
+    (all-found pool lines from (first ++ us) (λ l i. met-behind (ListsCopy l.object l.pool) first us (lists-all file us lines listed l i)) (found-before from first us all)))
 
 -- one of them is of this copy of the object
 abbrev HasMove : (object pool placed : ℕ) → List Wanted → Type 0
@@ -296,13 +332,14 @@ entered-so wanted w actor (e ∷ events) all h =
     let m = all h.0.0 h.0.2 in
     ((h.0.0.object, m.0, m.1, h.0.1, subst (λ (to : Aim). IsEntryFor h.0.0.object to h.0.1) m.2 h.0.3, h.0.4), entered-so wanted w actor events all h.1)
 
-pub caused : (wanted : List Wanted) (events : List Event) (e : Refusal) → AreRestoring wanted → IsCausedByOne wanted 0 events e → IsStopped events e ⊎ IsAimless events e
-caused wanted events e all h = elim h.2 as (λ _. IsStopped events e ⊎ IsAimless events e) [
+-- what ended the run over them, behind the steps by which they were listed
+caused : (wanted : List Wanted) (xs ys : List Event) (e : Refusal) → AreFound wanted xs → IsCausedByOne wanted 0 ys e → IsStopped (xs ++ ys) e ⊎ IsAimless (xs ++ ys) e
+caused wanted xs ys e found h = elim h.2 as (λ _. IsStopped (xs ++ ys) e ⊎ IsAimless (xs ++ ys) e) [
   | inl memory ↦ inl (inl memory)
-  | inr more ↦ elim more as (λ _. IsStopped events e ⊎ IsAimless events e) [
-    | inl met ↦ inl (inr met)
-    | inr gone ↦ (let m = all h.0 h.1 in
-        inr (gone.0, (h.0.object, m.0, m.1, subst (λ (to : Aim). MetBy (λ d. d ≡ OpenCopy h.0.object to 0 (Err e)) events) m.2 gone.1)))
+  | inr more ↦ elim more as (λ _. IsStopped (xs ++ ys) e ⊎ IsAimless (xs ++ ys) e) [
+    | inl met ↦ inl (stopped-behind xs ys e (inr met))
+    | inr gone ↦ (let m = found h.0 h.1 in
+        inr (gone.0, (h.0.object, m.0, m.1, (xs, ys, refl, m.3, subst (λ (to : Aim). MetBy (λ d. d ≡ OpenCopy h.0.object to 0 (Err e)) ys) m.2 gone.1))))
   ]
 ]
 
@@ -321,15 +358,12 @@ begin-unheld pool events e asks (inr (inl gone)) = other-unheld events e (λ hol
 begin-unheld pool events e asks (inr (inr (inl lost))) = unlisted-unheld lost.1.0 events e asks lost.1.2
 begin-unheld pool events e asks (inr (inr (inr aimless))) = other-unheld events e (ten-fine e aimless.0)
 
-pub aimless-behind : (xs ys : List Event) (e : Refusal) → IsAimless ys e → IsAimless (xs ++ ys) e
-aimless-behind xs ys e h = (h.0, (h.1.0, h.1.1, h.1.2, met-behind (λ d. d ≡ OpenCopy h.1.0 (aim_of h.1.1 h.1.2) 0 (Err e)) xs ys h.1.3))
-
--- what ended the making of the copies
-pub completes-caused : (wanted : List Wanted) (ys : List Event) (e : Refusal) → AreRestoring wanted → Completes wanted 0 ys (Err e) → (IsStopped ys e ⊎ IsAimless ys e) × IsUnheld ys e
-completes-caused wanted ys e all (inl run) = (caused wanted ys e all run.outcome.0, run-unheld wanted 0 ys e run)
-completes-caused wanted ys e all (inr (m, (us, vs, is, run, ends))) =
-    subst (λ (es : List Event). (IsStopped es e ⊎ IsAimless es e) × IsUnheld es e) (sym is)
-    (inl (stopped-behind us vs e ends.0), unheld-behind us vs e (ending-unheld vs e ends.1 ends.0))
+-- what ended the making of the copies that were listed
+pub completes-caused : (wanted : List Wanted) (xs ys : List Event) (e : Refusal) → AreFound wanted xs → Completes wanted 0 ys (Err e) → (IsStopped (xs ++ ys) e ⊎ IsAimless (xs ++ ys) e) × IsUnheld ys e
+completes-caused wanted xs ys e found (inl run) = (caused wanted xs ys e found run.outcome.0, run-unheld wanted 0 ys e run)
+completes-caused wanted xs ys e found (inr (m, (us, vs, is, run, ends))) =
+    subst (λ (es : List Event). (IsStopped (xs ++ es) e ⊎ IsAimless (xs ++ es) e) × IsUnheld es e) (sym is)
+    (inl (stopped-behind xs (us ++ vs) e (stopped-behind us vs e ends.0)), unheld-behind us vs e (ending-unheld vs e ends.1 ends.0))
 
 pub counted-of : (wanted : List Wanted) (events : List Event) (m : Moved) → AreRestoring wanted → (p : Process wanted 0 events m) → Counted p.failed events m
 counted-of wanted events m all p = record {
@@ -373,16 +407,14 @@ restored-of pool volumes wanted x us vs ys (Ok m) asked there got asks h =
 restored-of pool volumes wanted x us vs ys (Err e) asked there got asks h =
     let first : List Event = x ∷ (us ++ vs) in
     let all : AreRestoring wanted = collected-restoring (Some pool) (destroyed_of volumes) [] wanted vs got (λ y i. absurd i) in
+    let found : AreFound wanted vs = collected-found (Some pool) (destroyed_of volumes) [] wanted vs [] got (λ y i. absurd i) in
     let t : Told wanted 0 first ys (Err e) = process-told wanted 0 x (us ++ vs) ys (Err e) (asks-begun first asks) h in
     let p : Ended wanted 0 (first ++ ys) e = t.answers in
     record {
       came = record {
-        cause = elim p.cause as (λ _. IsStopped (first ++ ys) e ⊎ IsPoolBarred pool (first ++ ys) e) [
+        cause = elim (completes-caused wanted first ys e (found-behind wanted (x ∷ us) vs found) h).0 as (λ _. IsStopped (first ++ ys) e ⊎ IsPoolBarred pool (first ++ ys) e) [
           | inl stopped ↦ inl stopped
-          | inr one ↦ elim (caused wanted (first ++ ys) e all one) as (λ _. IsStopped (first ++ ys) e ⊎ IsPoolBarred pool (first ++ ys) e) [
-            | inl stopped ↦ inl stopped
-            | inr aimless ↦ inr (inr (inr aimless))
-          ]
+          | inr aimless ↦ inr (inr (inr aimless))
         ];
         unheld = p.unheld;
         settled = p.settled;

@@ -28,6 +28,7 @@ use Rattle.copy_runs.specs.Ends.{AreAsking, AskedPools, IsEnding, IsStopped, IsU
 use Rattle.copy_runs.specs.Processes.{Completes}
 use Rattle.copy_runs.specs.Returning.{AreValid, Holds, is_kept}
 use Rattle.copy_runs.specs.Runs.{HasFailed, IsEntryFor, LeavesNone, copies_in, failing_in, is_among}
+use Rattle.copy_runs.specs.Tickets.{GotNoTicket}
 use Rattle.sessions.specs.Changing.{Changing}
 use Rattle.pool_restores.specs.Listing.{AskedVolumes, Collected, IsUncollected, aim_of, destroying_of, destroyed_of, is_there}
 
@@ -62,9 +63,9 @@ pub record Counted (failed : List ℕ) (events : List Event) (m : Moved) : Type 
   pub settled : AreSettled events
   pub none_left : LeavesNone events
 
--- the pool wasn't there to which a copy was to go
+-- the pool wasn't there to which a copy that was listed was to go
 abbrev pub IsAimless : List Event → Refusal → Type 0
-IsAimless events e = ((number_of e == 10) ≡ true) × ((object : ℕ) × (pool : ℕ) × (placed : ℕ) × MetBy (λ d. d ≡ OpenCopy object (aim_of pool placed) 0 (Err e)) events)
+IsAimless events e = ((number_of e == 10) ≡ true) × ((object : ℕ) × (pool : ℕ) × (placed : ℕ) × GotNoTicket object pool placed pool true 0 events e)
 
 -- ---- a pool
 

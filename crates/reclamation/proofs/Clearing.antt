@@ -1,19 +1,18 @@
 -- The parts of a reclamation: one volume after the other is emptied.
-use Rattle.std.proofs.Common.{◌≡◌, ◌⊎◌, inl, inr, ℕ, ◌+◌, ◌<◌, false, List, [], ◌∷◌, ◌++◌, append_assoc, length, map, take, drop, get_or, Result, Ok, Err, refl, sym, ap, ap₂, subst, ◌∙◌, arith}
+use Rattle.std.proofs.Common.{◌≡◌, ◌⊎◌, inl, inr, ℕ, ◌+◌, ◌<◌, not, true, false, List, [], ◌∷◌, ◌++◌, append_assoc, length, map, take, drop, get_or, Result, Ok, Err, refl, sym, ap, ap₂, subst, ◌∙◌, arith}
 use Rattle.std.proofs.lemmas.List.{append-nil, take-append-drop, take_all, take_more}
 use Rattle.std.specs.List.{AllByRecursion}
 use Rattle.kinds.specs.declared.refusal.Refusal.{Refusal}
 use Rattle.kinds.specs.declared.refusal.Refusal.TheVariants as refused
 use Rattle.inventory_answers.specs.declared.query.Query.TheVariants as query
+use Rattle.inventory_work.specs.Lists.{only}
 use Rattle.inventory_work.specs.declared.lines.CopyLine.{CopyLine}
-use Rattle.space.specs.declared.aim.Aim.TheVariants as aim
 use Rattle.steps.proofs.Joining.{GoesOn, call_then, so_call}
 use Rattle.steps.specs.Calls.{Call}
 use Rattle.steps.specs.Events.{Event}
-use Rattle.steps.specs.Events.Deed.{OpenCopy}
 use Rattle.steps.specs.Receipts.{made}
 use Rattle.machine.proofs.Runs.{fits-cut}
-use Rattle.copy_attempts.proofs.Facts.{all-append, made-append, met-behind}
+use Rattle.copy_attempts.proofs.Facts.{all-append, caused-behind, made-append}
 use Rattle.steps.proofs.Spending.{settled-append}
 use Rattle.steps.specs.Spent.{AreSettled}
 use Rattle.copy_runs.specs.declared.wanted.Moved.{Moved}
@@ -23,11 +22,12 @@ use Rattle.copy_runs.specs.Runs.{AreOfThese, LeavesNone, Run}
 use Rattle.copy_runs.specs.Wanting.{IsIn}
 use Rattle.copy_runs.proofs.Ending.{stopped-behind}
 use Rattle.copy_runs.proofs.Outcomes.{in-before, in-behind, then-none}
+use Rattle.copy_runs.proofs.Tickets.{AreListed, lists-all, ticket-behind}
 use Rattle.copy_runs.proofs.Unheld.{asking-unheld, ending-unheld, other-unheld, run-unheld, unheld-behind}
 use Rattle.copy_runs.proofs.Whole.{asks-begun, asks-unmade, ends-none, ends-settled, ends-unmade}
 use Rattle.reclamation.specs.Moving.{EntersOff, IsEnteredOff, into, moving}
 use Rattle.reclamation.specs.Reclaiming.{AreReclaiming, Breaks, Clears, ClearsAll, Emptied, IsReclaiming, IsUnopened, ListedThere, ListsThere, Turn, Turned, Turns, Works, both_moved, files_of, sum_of, tried_behind}
-use Rattle.reclamation.specs.Tried.{Key, fresh, seen}
+use Rattle.reclamation.specs.Tried.{Key, fresh, is_tried, seen, with_tried}
 use Rattle.reclamation.proofs.Moves.{AreMoves, all-moves, caused, entries-off, one-moving}
 
 -- ---- steps
@@ -110,7 +110,7 @@ clean-run files pool file wanted xs m among all run = record {
 
 unopened-behind : (pool : ℕ) (xs ys : List Event) (e : Refusal) → IsUnopened pool ys e → IsUnopened pool (xs ++ ys) e
 unopened-behind pool xs ys e (ten, (file, object, from, placed, met)) =
-    (ten, (file, object, from, placed, met-behind (λ d. d ≡ OpenCopy object (aim.Move from placed (into pool from) false) file (Err e)) xs ys met))
+    (ten, (file, object, from, placed, ticket-behind object from placed (into pool from) false file xs ys e met))
 
 pub cause-behind : (pool : ℕ) (xs ys : List Event) (e : Refusal) → IsStopped ys e ⊎ IsUnopened pool ys e → IsStopped (xs ++ ys) e ⊎ IsUnopened pool (xs ++ ys) e
 cause-behind pool xs ys e (inl h) = inl (stopped-behind xs ys e h)
@@ -135,32 +135,54 @@ breaks-clean files pool xs e h unheld a = record { cause = inl h; unheld = unhel
 breaks-wider : (some files : List ℕ) (pool : ℕ) (xs : List Event) (e : Refusal) → Within some files → Breaks some pool xs e → Breaks files pool xs e
 breaks-wider some files pool xs e within b = record { cause = b.cause; unheld = b.unheld; only = wider some files pool xs within b.only; entries = b.entries; settled = b.settled; none_left = b.none_left }
 
-breaks-run : (files : List ℕ) (pool file : ℕ) (wanted : List Wanted) (xs : List Event) (e : Refusal) → IsIn file files → AreMoves pool wanted → Run wanted file xs (Err e) → Breaks files pool xs e
-breaks-run files pool file wanted xs e among all run = record {
-  cause = elim (caused file pool wanted xs e all run.outcome.0) as (λ _. IsStopped xs e ⊎ IsUnopened pool xs e) [
-    | inl stopped ↦ inl stopped
-    | inr gone ↦ inr (gone.0, (file, gone.1.0, gone.1.1, gone.1.2, gone.1.3))
-  ];
-  unheld = run-unheld wanted file xs e run;
-  only = run-reclaims files pool file wanted xs among all run.only;
-  entries = entries-off pool wanted xs all run.entries;
-  settled = run.outcome.1;
-  none_left = run.outcome.2;
-}
-
 -- ---- one volume
 
 pub there-asks : (file : ℕ) (xs : List Event) (lines : List CopyLine) → ListedThere file xs lines → AreAsking xs
 there-asks file xs lines (inl h) = subst AreAsking (sym h.2) ((query.OnVolume file, Ok h.1, refl), tt)
 there-asks file xs lines (inr (none, n, e, ten, same)) = subst AreAsking (sym same) ((query.OnVolume file, Err e, refl), tt)
 
+there-listed : (file : ℕ) (xs : List Event) (lines : List CopyLine) → ListedThere file xs lines → AreListed lines xs
+there-listed file xs lines (inl h) = lists-all file xs lines h
+there-listed file xs lines (inr h) = λ l among. absurd (subst (λ (ls : List CopyLine). IsIn l ls) h.0 among)
+
+fresh-in : (tried : List Key) (lines : List CopyLine) (l : CopyLine) → IsIn l (fresh tried lines) → IsIn l lines
+fresh-in tried [] l h = absurd h
+fresh-in tried (y ∷ lines) l h =
+    elim (not (is_tried tried y)) as (λ b. IsIn l (only b y ++ fresh (with_tried tried y) lines) → IsIn l (y ∷ lines)) [
+      | true ↦ λ m. elim m as (λ _. IsIn l (y ∷ lines)) [
+        | inl same ↦ inl same
+        | inr later ↦ inr (fresh-in (with_tried tried y) lines l later)
+      ]
+      | false ↦ λ m. inr (fresh-in (with_tried tried y) lines l m)
+    ] h
+
+-- the run over the copies that were listed ended with a refusal
+breaks-run : (files : List ℕ) (pool file : ℕ) (lines : List CopyLine) (xs ys : List Event) (e : Refusal) → IsIn file files → AreAsking xs → AreListed lines xs → Run (map (moving pool) lines) file ys (Err e)
+    → Breaks files pool (xs ++ ys) e
+breaks-run files pool file lines xs ys e among asks listed run =
+    let wanted : List Wanted = map (moving pool) lines in
+    let all : AreMoves pool wanted = all-moves pool lines in
+    let a : Clean files pool xs = clean-asks files pool xs asks in
+    let one = run.outcome.0 in
+    record {
+      cause = elim (caused file pool lines xs ys e asks listed (one.0, one.1, caused-behind one.0.object one.0.aim file xs ys e one.2)) as (λ _. IsStopped (xs ++ ys) e ⊎ IsUnopened pool (xs ++ ys) e) [
+        | inl stopped ↦ inl stopped
+        | inr gone ↦ inr (gone.0, (file, gone.1.0, gone.1.1, gone.1.2, gone.1.3))
+      ];
+      unheld = unheld-behind xs ys e (run-unheld wanted file ys e run);
+      only = all-append (λ x. IsReclaiming files pool x.deed) xs ys a.only (run-reclaims files pool file wanted ys among all run.only);
+      entries = off-append pool xs ys a.entries a.none_left (entries-off pool wanted ys all run.entries);
+      settled = λ leave. settled-append xs ys a.settled (run.outcome.1 leave);
+      none_left = λ leave. then-none xs ys a.none_left (run.outcome.2 leave);
+    }
+
 -- it had its turn
 turned-by : (pool : ℕ) (old new : List Key) (file : ℕ) (lines : List CopyLine) (wanted : List Wanted) (xs ys : List Event) (result : Result Moved Refusal) → new ≡ seen old lines
     → wanted ≡ map (moving pool) (fresh old lines) → ListedThere file xs lines → Run wanted file ys result → Clears pool old new file (xs ++ ys) result
 turned-by pool old new file lines wanted xs ys (Ok m) tried is a run = (lines, tried, (xs, ys, refl, a, subst (λ (ws : List Wanted). Run ws file ys (Ok m)) is run))
 turned-by pool old new file lines wanted xs ys (Err e) tried is a run =
-    breaks-behind (file ∷ []) pool xs ys e (clean-asks (file ∷ []) pool xs (there-asks file xs lines a))
-    (breaks-run (file ∷ []) pool file (map (moving pool) (fresh old lines)) ys e (inl refl) (all-moves pool (fresh old lines)) (subst (λ (ws : List Wanted). Run ws file ys (Err e)) is run))
+    breaks-run (file ∷ []) pool file (fresh old lines) xs ys e (inl refl) (there-asks file xs lines a) (λ l i. there-listed file xs lines a l (fresh-in old lines l i))
+    (subst (λ (ws : List Wanted). Run ws file ys (Err e)) is run)
 
 pub clears : {S : Type 0} (did : S → List Event → S → Type 0) → GoesOn did → (p q r : S) (pool : ℕ) (old new : List Key) (file : ℕ) (lines those : List CopyLine) (wanted these : List Wanted)
     (result : Result Moved Refusal) → those ≡ lines → new ≡ seen old those → wanted ≡ map (moving pool) (fresh old those) → these ≡ wanted

@@ -31,11 +31,13 @@ use Rattle.copy_runs.specs.Ends.{AreAsking, IsStopped, last_of, IsUnheld}
 use Rattle.copy_runs.specs.Processes.{Completes, Ended, IsDoneAllAlong, Process}
 use Rattle.copy_runs.specs.Returning.{is_kept}
 use Rattle.copy_runs.specs.Runs.{IsCausedByOne, is_among}
+use Rattle.copy_runs.specs.Tickets.{ListsCopy}
 use Rattle.copy_runs.specs.Wanting.{IsIn, is_wanted}
 use Rattle.copy_runs.proofs.Entries.{enters-append, unmade-enters}
 use Rattle.copy_runs.proofs.Listing.{copy-listed}
 use Rattle.copy_runs.proofs.Returning.{held-all-along, held-wanted, placed-past}
 use Rattle.copy_runs.proofs.Risen.{call-rises}
+use Rattle.copy_runs.proofs.Tickets.{AreListed, lists-all}
 use Rattle.copy_runs.proofs.Told.{reaches}
 use Rattle.copy_runs.proofs.Unheld.{asking-unheld, other-unheld}
 use Rattle.copy_runs.proofs.Whole.{IsBegun, Told as ToldOfRun, asks-begun, asks-unmade, process-told}
@@ -135,16 +137,16 @@ came-of file to x xs zs lines (Err e) h allows asks g t =
     let p : Ended (map (moving to) lines) file ((x ∷ xs) ++ zs) e = t.answers in
     let all : AreMoves to (map (moving to) lines) = all-moves to lines in
     record {
-      came = record { cause = cause-of file to (map (moving to) lines) ((x ∷ xs) ++ zs) e all p.cause; unheld = p.unheld; settled = p.settled; none_left = p.none_left };
+      came = record { cause = cause-of file to lines (x ∷ xs) zs e asks (λ l i. met-before (ListsCopy l.object l.pool) (x ∷ []) xs (lists-all file (x ∷ []) lines h l i)) p.cause; unheld = p.unheld; settled = p.settled; none_left = p.none_left };
       only = all-append (λ e. IsMoving file to e.deed) (x ∷ xs) zs (asking-moving file to (x ∷ xs) asks) (only-moving file to (map (moving to) lines) zs all t.only);
       entries = entries-off to (map (moving to) lines) ((x ∷ xs) ++ zs) all
           (enters-append (map (moving to) lines) (x ∷ xs) zs (unmade-enters (map (moving to) lines) (x ∷ xs) (asks-unmade (x ∷ xs) asks)) (asks-begun (x ∷ xs) asks).none_left t.entries);
     }
   where
-    cause-of : (file to : ℕ) (wanted : List Wanted) (events : List Event) (e : Refusal) → AreMoves to wanted → IsStopped events e ⊎ IsCausedByOne wanted file events e
-        → IsStopped events e ⊎ IsBarred file to events e
-    cause-of file to wanted events e all (inl h) = inl h
-    cause-of file to wanted events e all (inr h) = elim (caused file to wanted events e all h) as (λ _. IsStopped events e ⊎ IsBarred file to events e) [
+    cause-of : (file to : ℕ) (lines : List CopyLine) (us vs : List Event) (e : Refusal) → AreAsking us → AreListed lines us → IsStopped (us ++ vs) e ⊎ IsCausedByOne (map (moving to) lines) file (us ++ vs) e
+        → IsStopped (us ++ vs) e ⊎ IsBarred file to (us ++ vs) e
+    cause-of file to lines us vs e asks listed (inl h) = inl h
+    cause-of file to lines us vs e asks listed (inr h) = elim (caused file to lines us vs e asks listed h) as (λ _. IsStopped (us ++ vs) e ⊎ IsBarred file to (us ++ vs) e) [
       | inl stopped ↦ inl stopped
       | inr gone ↦ inr (inr (inr gone))
     ]

@@ -1,5 +1,5 @@
 -- Copies that move: what a run over them is, by its steps and its transactions.
-use Rattle.std.proofs.Common.{◌≡◌, ◌⊎◌, inl, inr, ℕ, ◌≤◌, ◌==◌, true, false, List, [], ◌∷◌, map, Err, refl, sym, ap, subst, arith}
+use Rattle.std.proofs.Common.{◌≡◌, ◌⊎◌, inl, inr, ℕ, ◌≤◌, ◌==◌, true, false, List, [], ◌∷◌, ◌++◌, map, Err, refl, sym, ap, subst, arith}
 use Rattle.std.specs.List.{AllByRecursion}
 use Rattle.kinds.specs.Refusals.{number_of}
 use Rattle.kinds.specs.declared.refusal.Refusal.{Refusal}
@@ -16,7 +16,9 @@ use Rattle.copy_runs.specs.declared.wanted.Wanted.{Wanted}
 use Rattle.copy_runs.specs.Ends.{AreAsking, IsStopped, last_of}
 use Rattle.copy_runs.specs.Processes.{AreMoving as AreOfRun}
 use Rattle.copy_runs.specs.Runs.{EntersOnly, HasFailed, IsCausedByOne, IsEntered, IsEntryFor}
+use Rattle.copy_runs.specs.Tickets.{GotNoTicket}
 use Rattle.copy_runs.specs.Wanting.{IsIn}
+use Rattle.copy_runs.proofs.Tickets.{AreListed, met-later}
 use Rattle.copy_runs.proofs.Told.{reaches}
 use Rattle.copy_runs.proofs.Whole.{reached-last}
 use Rattle.reclamation.specs.Moving.{AreMoving, EntersOff, HasFailedOff, IsEnteredOff, IsMove, IsMoving, into, moving}
@@ -95,17 +97,28 @@ pub asking-moving : (file to : ℕ) (events : List Event) → AreAsking events �
 asking-moving file to [] h = tt
 asking-moving file to (e ∷ events) h = (inl (inl h.0), asking-moving file to events h.1)
 
--- the pool wasn't there to which a copy was to go
-abbrev pub IsUnopened : (file to : ℕ) → List Event → Refusal → Type 0
-IsUnopened file to events e =
-    ((number_of e == 10) ≡ true) × ((object : ℕ) × (from : ℕ) × (placed : ℕ) × MetBy (λ d. d ≡ OpenCopy object (aim.Move from placed (into to from) false) file (Err e)) events)
+-- ---- tickets
 
-pub caused : (file to : ℕ) (wanted : List Wanted) (events : List Event) (e : Refusal) → AreMoves to wanted → IsCausedByOne wanted file events e → IsStopped events e ⊎ IsUnopened file to events e
-caused file to wanted events e all h = elim h.2 as (λ _. IsStopped events e ⊎ IsUnopened file to events e) [
+-- what is wanted is the move of one of them
+of-line : (to : ℕ) (lines : List CopyLine) (x : Wanted) → IsIn x (map (moving to) lines) → (l : CopyLine) × IsIn l lines × (moving to l ≡ x)
+of-line to [] x h = absurd h
+of-line to (l ∷ lines) x (inl h) = (l, inl refl, h)
+of-line to (l ∷ lines) x (inr h) = (let r = of-line to lines x h in (r.0, inr r.1, r.2))
+
+-- the pool wasn't there to which a copy that was listed was to go
+abbrev pub IsUnopened : (file to : ℕ) → List Event → Refusal → Type 0
+IsUnopened file to events e = ((number_of e == 10) ≡ true) × ((object : ℕ) × (from : ℕ) × (placed : ℕ) × GotNoTicket object from placed (into to from) false file events e)
+
+pub caused : (file to : ℕ) (lines : List CopyLine) (xs ys : List Event) (e : Refusal) → AreAsking xs → AreListed lines xs → IsCausedByOne (map (moving to) lines) file (xs ++ ys) e
+    → IsStopped (xs ++ ys) e ⊎ IsUnopened file to (xs ++ ys) e
+caused file to lines xs ys e asks listed h = elim h.2 as (λ _. IsStopped (xs ++ ys) e ⊎ IsUnopened file to (xs ++ ys) e) [
   | inl memory ↦ inl (inl memory)
-  | inr more ↦ elim more as (λ _. IsStopped events e ⊎ IsUnopened file to events e) [
+  | inr more ↦ elim more as (λ _. IsStopped (xs ++ ys) e ⊎ IsUnopened file to (xs ++ ys) e) [
     | inl met ↦ inl (inr met)
-    | inr gone ↦ (let is = all h.0 h.1 in
-        inr (gone.0, (h.0.object, is.0, is.1, subst (λ (a : Aim). MetBy (λ d. d ≡ OpenCopy h.0.object a file (Err e)) events) is.2 gone.1)))
+    | inr gone ↦ (let k = of-line to lines h.0 h.1 in
+        let l : CopyLine = k.0 in
+        let met : MetBy (λ d. d ≡ OpenCopy l.object (aim.Move l.pool l.placed (into to l.pool) false) file (Err e)) (xs ++ ys) =
+        subst (λ (x : Wanted). MetBy (λ d. d ≡ OpenCopy x.object x.aim file (Err e)) (xs ++ ys)) (sym k.2) gone.1 in
+        inr (gone.0, (l.object, l.pool, l.placed, (xs, ys, refl, listed l k.1, met-later l.object (aim.Move l.pool l.placed (into to l.pool) false) file (Err e) xs ys asks met))))
   ]
 ]

@@ -21,7 +21,7 @@ use Rattle.inventory_rows.specs.Search.{lies_on}
 use Rattle.space.specs.declared.aim.Aim.TheVariants as aim
 use Rattle.steps.specs.Calls.{Then}
 use Rattle.steps.specs.Events.{Deed, Event, event}
-use Rattle.steps.specs.Events.Deed.{Ask, OpenCopy}
+use Rattle.steps.specs.Events.Deed.{Ask}
 use Rattle.steps.specs.Receipts.{made, receipts}
 use Rattle.machine.specs.Fits.{Fits, History, Own, inv}
 use Rattle.copy_attempts.specs.Outcomes.{IsOf, MetBy, may_leave}
@@ -33,6 +33,7 @@ use Rattle.copy_runs.specs.Ends.{AreAsking, AskedPools, IsEnding, IsStopped, IsU
 use Rattle.copy_runs.specs.Returning.{AreValid, Holds, is_kept}
 use Rattle.copy_runs.specs.Processes.{Completes}
 use Rattle.copy_runs.specs.Runs.{HasFailed, IsEntryFor, LeavesNone, copies_in, failing_in, is_among}
+use Rattle.copy_runs.specs.Tickets.{GotNoTicket}
 
 -- ---- what is wanted
 
@@ -188,12 +189,12 @@ TellsSo file to events is =
     × MetBy (λ d. (answer : Answer) × (d ≡ Ask (query.Volumes None None) (Ok answer)) × (answer.rows ≡ rows.Volumes volumes)) events
     × MetBy (λ d. (answer : Answer) × (d ≡ Ask (query.Pools None) (Ok answer)) × (answer.rows ≡ rows.Pools pools)) events
 
--- The volume isn't there; or the pool that was named isn't there, or is none to which that may move; or it wasn't there any more where a copy was to go there.
+-- The volume isn't there; or the pool that was named isn't there, or is none to which that may move; or it wasn't there any more where a copy that was listed was to go there.
 abbrev pub IsBarred : (file to : ℕ) → List Event → Refusal → Type 0
 IsBarred file to events e =
     (((number_of e == 10) ≡ true) × MetBy (λ d. d ≡ Ask (query.OnVolume file) (Err e)) events × AreAsking events)
     ⊎ (((to == 0) ≡ false) × GoesSo file to events (Err e) × TellsSo file to events (Err e))
-    ⊎ (((number_of e == 10) ≡ true) × ((object : ℕ) × (from : ℕ) × (placed : ℕ) × MetBy (λ d. d ≡ OpenCopy object (aim.Move from placed (into to from) false) file (Err e)) events))
+    ⊎ (((number_of e == 10) ≡ true) × ((object : ℕ) × (from : ℕ) × (placed : ℕ) × GotNoTicket object from placed (into to from) false file events e))
 
 -- What it did where it was refused: the refusal is want of memory, or one that ends a process and that one of its steps met, or what is named isn't there or doesn't go together; it waits for no
 -- transaction that a force would make durable; and no ticket is left, unless none can be given back.

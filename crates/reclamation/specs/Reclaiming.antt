@@ -15,10 +15,9 @@ use Rattle.inventory_rows.specs.version_groups.declared.copies.CopyRow.{CopyRow}
 use Rattle.inventory_rows.specs.pool_rows.PoolRows.{is_sequential}
 use Rattle.inventory_rows.specs.Search.{lies_on}
 use Rattle.inventory_rules.specs.Valid.{disk}
-use Rattle.space.specs.declared.aim.Aim.TheVariants as aim
 use Rattle.steps.specs.Calls.{Then}
 use Rattle.steps.specs.Events.{Deed, Event, event}
-use Rattle.steps.specs.Events.Deed.{Ask, OpenCopy}
+use Rattle.steps.specs.Events.Deed.{Ask}
 use Rattle.steps.specs.Receipts.{receipts}
 use Rattle.machine.specs.Fits.{Fits, History, Own, inv}
 use Rattle.copy_attempts.specs.Attempts.{stopping}
@@ -28,6 +27,7 @@ use Rattle.copy_runs.specs.declared.wanted.Moved.{Moved}
 use Rattle.copy_runs.specs.Ends.{AreAsking, AskedPools, Finished, IsEnding, IsStopped, IsUnheld, IsUnlisted, Unanswered, first_of, last_of}
 use Rattle.copy_runs.specs.Returning.{AreValid, Holds, is_kept}
 use Rattle.copy_runs.specs.Runs.{LeavesNone, Run, copies_in, failing_in, is_among}
+use Rattle.copy_runs.specs.Tickets.{GotNoTicket}
 use Rattle.copy_runs.specs.Wanting.{IsIn}
 use Rattle.reclamation.specs.Moving.{EntersOff, HasFailedOff, IsMoving, Listed, into, moving}
 use Rattle.reclamation.specs.Tried.{Key, fresh, seen}
@@ -145,11 +145,11 @@ IsReclaiming files pool d = IsEnding d ⊎ ((file : ℕ) × IsIn file files × I
 abbrev pub AreReclaiming : (files : List ℕ) → (pool : ℕ) → List Event → Type 0
 AreReclaiming files pool events = AllByRecursion (λ e. IsReclaiming files pool e.deed) events
 
--- the pool wasn't there any more where a copy was to go there
+-- the pool wasn't there any more where a copy that was listed was to go there
 abbrev pub IsUnopened : (pool : ℕ) → List Event → Refusal → Type 0
 IsUnopened pool events e =
     ((number_of e == 10) ≡ true)
-    × ((file : ℕ) × (object : ℕ) × (from : ℕ) × (placed : ℕ) × MetBy (λ d. d ≡ OpenCopy object (aim.Move from placed (into pool from) false) file (Err e)) events)
+    × ((file : ℕ) × (object : ℕ) × (from : ℕ) × (placed : ℕ) × GotNoTicket object from placed (into pool from) false file events e)
 
 -- These steps ended with this refusal: it has its cause, it waits for no transaction that a force would make durable, they were no others, and no ticket is left, unless none can be given back.
 pub record Breaks (files : List ℕ) (pool : ℕ) (events : List Event) (e : Refusal) : Type 0 where
