@@ -3,6 +3,7 @@ use Rattle.std.proofs.Common.{◌≡◌, ℕ, ◌+◌, ◌^◌, ◌==◌, nat_le
 use Rattle.std.proofs.lemmas.Bool.{eqb-true, false≢true}
 use Rattle.std.proofs.lemmas.Option.{same_Some}
 use Rattle.std.specs.List.{AllByRecursion, find, list_any}
+use Rattle.std.specs.Prelude.{is_some}
 use Rattle.std.specs.Option.{option_map, option_map_or}
 use Rattle.kinds.specs.Names.{is_same_name}
 use Rattle.kinds.specs.Refusals.{foremost, unless}
@@ -12,7 +13,9 @@ use Rattle.kinds.specs.declared.refusal.Refusal.{Refusal}
 use Rattle.kinds.specs.declared.refusal.Refusal.TheVariants as refused
 use Rattle.kinds.specs.declared.segment.Segment.{Segment}
 use Rattle.entries.specs.change_items.declared.items.DiscardedVersion.{DiscardedVersion}
+use Rattle.entries.specs.change_items.declared.items.DroppedCopy.{DroppedCopy}
 use Rattle.entries.specs.change_items.declared.lists.DiscardedVersions.{DiscardedVersions}
+use Rattle.entries.specs.change_items.declared.lists.DroppedCopies.{DroppedCopies}
 use Rattle.entries.specs.declared.change.Change.{Change}
 use Rattle.entries.specs.declared.change.Change.TheVariants as change
 use Rattle.inventory_rows.specs.Items.{count_items, most_items}
@@ -30,11 +33,12 @@ use Rattle.inventory_rows.specs.volume_rows.declared.volume.Volume.{Volume}
 use Rattle.inventory_rows.specs.volume_rows.Held.{held_of}
 use Rattle.inventory_rows.specs.volume_rows.Holdings.{is_held}
 use Rattle.inventory_rows.specs.volume_rows.Volumes.{take_from}
-use Rattle.inventory_rows.specs.Search.{is_primary, is_primary_kind, lies_on, version}
+use Rattle.inventory_rows.specs.Search.{is_primary, is_primary_kind, lies_on, pool, version}
 use Rattle.inventory_rows.specs.State.{Inv}
 use Rattle.inventory_rows.proofs.of_object_rows.Stands.{at-eqb}
 use Rattle.inventory_rows.proofs.of_pool_tables.Names.{number_where-set}
 use Rattle.inventory_rules.specs.Common.{each, full_at, or_same}
+use Rattle.inventory_rules.specs.Copies.{change_copy, drop_copy, dropped, segments_in, version_at}
 use Rattle.inventory_rules.specs.Held.{IsTied}
 use Rattle.inventory_rules.specs.Journal.{Journal}
 use Rattle.inventory_rules.specs.Ordered.{IsOrdered}
@@ -45,7 +49,7 @@ use Rattle.inventory_rules.specs.Versions.{all_lie_on, copies_at, discard, in_us
 use Rattle.inventory_laws.specs.Kept.{OnlyVolumes, clients_after, shape_of}
 use Rattle.inventory_laws.proofs.Facts.{facts_of}
 use Rattle.inventory_laws.proofs.Removals.{discard_valid}
-use Rattle.inventory_laws.proofs.VolumeItems.{removes_kept}
+use Rattle.inventory_laws.proofs.VolumeItems.{drops_kept, removes_kept}
 use Rattle.inventory_answers.specs.Stores.{pool_line, pool_lines}
 use Rattle.inventory_answers.specs.declared.lines.PoolLine.{PoolLine}
 use Rattle.steps.specs.Events.{Event}
@@ -57,7 +61,6 @@ use Rattle.machine.specs.Alone.{Alone}
 use Rattle.machine.specs.Machine.{Commits, Places}
 use Rattle.machine.specs.State.{Core, Machine, inventory, sight}
 use Rattle.machine.proofs.Elsewhere.{append-all, append-none, none-held, unless-all}
-use Rattle.line_results.specs.Removing.{AreDiscardable}
 use Rattle.line_results.proofs.Bounds.{Common, commit-all, discard-takes}
 use Rattle.line_results.proofs.Discarded.{discarded-ordered, discarded-versions}
 use Rattle.line_results.proofs.Emptied.{IsThis, any-discarded, any-split}
@@ -92,14 +95,14 @@ names-all : (name : List ℕ) (object : ℕ) (copies : List CopyRow) (v : Inv) �
 names-all name object [] v = refl
 names-all name object (c ∷ copies) v = names-all name object copies (take_away object c.segments v) ∙ names-away name object c.segments v
 
--- of the one database in the other the volume is there, names are the same, and so are pools
-record Onto (file : ℕ) (v w : Inv) : Type 0 where
-  row : (x : Volume) → row_at file v.stores.volumes ≡ Some x → (y : Volume) × (row_at file w.stores.volumes ≡ Some y)
-  named : (name : List ℕ) → volume_named name w.stores ≡ volume_named name v.stores
-  pools : w.stores.pools ≡ v.stores.pools
+-- of the one database in the other the volume is there in its pool, names are the same, and so are pools
+pub record Onto (file : ℕ) (v w : Inv) : Type 0 where
+  pub row : (x : Volume) → row_at file v.stores.volumes ≡ Some x → (y : Volume) × (row_at file w.stores.volumes ≡ Some y) × (y.pool ≡ x.pool)
+  pub named : (name : List ℕ) → volume_named name w.stores ≡ volume_named name v.stores
+  pub pools : w.stores.pools ≡ v.stores.pools
 
-shaped : (o p : Option Volume) (x : Volume) → shape_of p ≡ shape_of o → o ≡ Some x → (y : Volume) × (p ≡ Some y)
-shaped o (Some y) x same is = (y, refl)
+shaped : (o p : Option Volume) (x : Volume) → shape_of p ≡ shape_of o → o ≡ Some x → (y : Volume) × (p ≡ Some y) × (y.pool ≡ x.pool)
+shaped o (Some y) x same is = (y, refl, ap (λ (s : ℕ × ℕ). s.0) (same_Some (y.pool, y.capacity) (x.pool, x.capacity) (same ∙ ap shape_of is)))
 shaped o None x same is = absurd (let odd : shape_of None ≡ shape_of (Some x) = same ∙ ap shape_of is in cc)
 
 onto-one : (file : ℕ) (item : DiscardedVersion) (v : Inv) → Onto file v (discard item v)
@@ -111,27 +114,44 @@ onto-one file item v =
       pools = ap (λ (x : Inv). x.stores.pools) kept.only;
     }
 
-onto-run : (file : ℕ) (items : List DiscardedVersion) (v : Inv) → Onto file v (each discard items v)
-onto-run file [] v = record { row = λ x at. (x, at); named = λ name. refl; pools = refl }
-onto-run file (i ∷ items) v =
-    let a : Onto file v (discard i v) = onto-one file i v in
-    let b : Onto file (discard i v) (each discard items (discard i v)) = onto-run file items (discard i v) in
-    record { row = λ x at. (let y = a.row x at in b.row y.0 y.1); named = λ name. b.named name ∙ a.named name; pools = b.pools ∙ a.pools }
+onto-drop : (file : ℕ) (item : DroppedCopy) (v : Inv) → Onto file v (drop_copy item v)
+onto-drop file item v =
+    let kept : OnlyVolumes (change_copy item.object (dropped item) v) (drop_copy item v) = drops_kept item v in
+    record {
+      row = λ x at. shaped (row_at file v.stores.volumes) (row_at file (drop_copy item v).stores.volumes) x (kept.shapes file) at;
+      named = λ name. names-away name item.object (segments_in item.pool (version_at item.object v)) v;
+      pools = ap (λ (x : Inv). x.stores.pools) kept.only;
+    }
+
+onto-run : {X : Type 0} (file : ℕ) (step : X → Inv → Inv) → ((i : X) (v : Inv) → Onto file v (step i v)) → (items : List X) (v : Inv) → Onto file v (each step items v)
+onto-run file step one [] v = record { row = λ x at. (x, at, refl); named = λ name. refl; pools = refl }
+onto-run file step one (i ∷ items) v =
+    let a : Onto file v (step i v) = one i v in
+    let b : Onto file (step i v) (each step items (step i v)) = onto-run file step one items (step i v) in
+    record {
+      row = λ x at. (let y = a.row x at in let z = b.row y.0 y.1 in (z.0, z.1, z.2 ∙ y.2));
+      named = λ name. b.named name ∙ a.named name;
+      pools = b.pools ∙ a.pools;
+    }
 
 onto-effect : (file : ℕ) (c : DiscardedVersions) (v : Inv) → Onto file v (effect (change.Discard c) v)
 unfolding effect
-onto-effect file c v = (let o : Onto file v (each discard c.items v) = onto-run file c.items v in record { row = o.row; named = o.named; pools = o.pools })
+onto-effect file c v = (let o : Onto file v (each discard c.items v) = onto-run file discard (onto-one file) c.items v in record { row = o.row; named = o.named; pools = o.pools })
+
+pub onto-drops : (file : ℕ) (c : DroppedCopies) (v : Inv) → Onto file v (effect (change.DropCopies c) v)
+unfolding effect
+onto-drops file c v = (let o : Onto file v (each drop_copy c.items v) = onto-run file drop_copy (onto-drop file) c.items v in record { row = o.row; named = o.named; pools = o.pools })
 
 -- ---- a legal transaction
 
-abbrev IsSound : Inv → Type 0
+abbrev pub IsSound : Inv → Type 0
 IsSound v = (is_valid v ≡ true) × IsOrdered v × IsTied v
 
 legal-parts : (o : Option Refusal) (valid : Bool) → then_valid o valid ≡ None → o ≡ None
 legal-parts None valid h = refl
 legal-parts (Some e) valid h = absurd cc
 
-legal-lists : (j : Journal) (c : Change) (v : Inv) → refused_by j c v ≡ None → (causes j c v ≡ []) × (sizes_refused c v ≡ [])
+pub legal-lists : (j : Journal) (c : Change) (v : Inv) → refused_by j c v ≡ None → (causes j c v ≡ []) × (sizes_refused c v ≡ [])
 unfolding refused_by
 legal-lists j c v h =
     append-none (causes j c v) (sizes_refused c v) (none-held (causes j c v ++ sizes_refused c v) (legal-parts (foremost (causes j c v ++ sizes_refused c v)) (is_valid (effect c v)) h))
@@ -144,26 +164,30 @@ pub record Leaving (file : ℕ) (v : Inv) (rest : List Doomed) (c : Core) : Type
   pub row : (x : Volume) × (row_at file (inventory c).stores.volumes ≡ Some x)
   pub named : (name : List ℕ) → volume_named name (inventory c).stores ≡ volume_named name v.stores
   pub pools : (inventory c).stores.pools ≡ v.stores.pools
-  pub same : (k : ℕ) (w : Version) → version k (inventory c) ≡ Some w → version k v ≡ Some w
+  pub same : (k : ℕ) (w : Version) → version k (inventory c) ≡ Some w → LiesOn file w → version k v ≡ Some w
   pub left : (k : ℕ) (w : Version) → version k (inventory c) ≡ Some w → LiesOn file w → list_any (λ (d : Doomed). eqb d.object k) rest ≡ true
   pub free : IsFree c
 
 abbrev those : (file : ℕ) → List Doomed → DiscardedVersions
 those file run = record { reason = for_volume file; items = map discarded run }
 
-abbrev IsUnpassed : Refusal → Type 0
+abbrev pub IsUnpassed : Refusal → Type 0
 IsUnpassed e = is_passed e ≡ false
 
-unpassed-common : Common IsUnpassed
+pub unpassed-common : Common IsUnpassed
 unpassed-common = record { full = refl; fault = λ file count. refl; memory = refl; bad = refl; long = refl }
 
-unpassed-sizes : (w : Change) (v : Inv) → AllByRecursion IsUnpassed (sizes_refused w v)
+pub unpassed-sizes : (w : Change) (v : Inv) → AllByRecursion IsUnpassed (sizes_refused w v)
 unpassed-sizes w v =
     append-all IsUnpassed (unless (nat_le (count_items (effect w v)) most_items) refused.InventoryFull) (full_at v.number (2 ^ 62)) (unless-all IsUnpassed (nat_le (count_items (effect w v)) most_items) refused.InventoryFull refl)
     (unless-all IsUnpassed (nat_lt (v.number + 1) (2 ^ 62)) refused.InventoryFull refl)
 
-module _ (file : ℕ) (v : Inv) (may : AreDiscardable file v) where
-  removing-leaves : (run rest : List Doomed) (m next : Machine) (number : ℕ) → Leaving file v (run ++ rest) m.core → Commits 0 (discarding (for_volume file) run) [] m next (Ok number) → Leaving file v rest next.core
+-- of an object of which a copy lies on it the copy in a primary pool does, or all of its copies do: so it may be discarded for the volume
+abbrev pub IsDiscardable : (file object : ℕ) → Inv → Type 0
+IsDiscardable file object v = (w : Version) → version object v ≡ Some w → LiesOn file w → (primary_lies_on file w v || all_lie_on file w) ≡ true
+
+module _ (file : ℕ) (v : Inv) where
+  pub removing-leaves : (run rest : List Doomed) (m next : Machine) (number : ℕ) → Leaving file v (run ++ rest) m.core → Commits 0 (discarding (for_volume file) run) [] m next (Ok number) → Leaving file v rest next.core
   removing-leaves run rest m next number g step =
       let c : DiscardedVersions = those file run in
       let w : Change = change.Discard c in
@@ -181,7 +205,7 @@ module _ (file : ℕ) (v : Inv) (may : AreDiscardable file v) where
         row = (row.0, ap (λ (x : Inv). row_at file x.stores.volumes) is ∙ row.1);
         named = λ name. ap (λ (x : Inv). volume_named name x.stores) is ∙ onto.named name ∙ g.named name;
         pools = ap (λ (x : Inv). x.stores.pools) is ∙ onto.pools ∙ g.pools;
-        same = λ k x found. g.same k x (discarded-versions (sight 0 m.core).journal c u g.sound.0 g.sound.1 lists.0 k x (sym (ap (version k) is) ∙ found)).0;
+        same = λ k x found lying. g.same k x (discarded-versions (sight 0 m.core).journal c u g.sound.0 g.sound.1 lists.0 k x (sym (ap (version k) is) ∙ found)).0 lying;
         left = λ k x found lying.
             (let was = discarded-versions (sight 0 m.core).journal c u g.sound.0 g.sound.1 lists.0 k x (sym (ap (version k) is) ∙ found) in
             any-split k run rest (g.left k x was.0 lying) (sym (any-discarded k run) ∙ was.1));
@@ -189,17 +213,14 @@ module _ (file : ℕ) (v : Inv) (may : AreDiscardable file v) where
       }
 
   -- the discard of one that is left is legal
-  discard-legal : (j : Journal) (it : Doomed) (w : Version) (c : Core) (rest : List Doomed) → Leaving file v rest c → version it.object (inventory c) ≡ Some w → LiesOn file w → causes j (change.Discard (those file (it ∷ []))) (inventory c) ≡ []
-  discard-legal j it w c rest g found lying =
-      let may_go : (primary_lies_on file w (inventory c) || all_lie_on file w) ≡ true =
-      ap (λ (ps : List (ℕ × Pool)). list_any (λ (x : CopyRow). option_map_or (λ (p : Pool). is_primary_kind p.kind) (row_at x.pool ps) false && lies_on file x) w.copies || all_lie_on file w) g.pools
-      ∙ may it.object w (g.same it.object w found) lying in
-      ap (λ (x : Option Version). of_there j it.object (λ y. unless (primary_lies_on file y (inventory c) || all_lie_on file y) (in_use it.object)) x ++ []) found ∙ ap (λ (b : Bool). unless b (in_use it.object) ++ []) may_go
+  discard-legal : (j : Journal) (it : Doomed) (w : Version) (c : Core) → IsDiscardable file it.object (inventory c) → version it.object (inventory c) ≡ Some w → LiesOn file w → causes j (change.Discard (those file (it ∷ []))) (inventory c) ≡ []
+  discard-legal j it w c may found lying =
+      ap (λ (x : Option Version). of_there j it.object (λ y. unless (primary_lies_on file y (inventory c) || all_lie_on file y) (in_use it.object)) x ++ []) found ∙ ap (λ (b : Bool). unless b (in_use it.object) ++ []) (may w found lying)
 
-  skipping-leaves : (it : Doomed) (rest : List Doomed) (m next : Machine) (why : Refusal) → Leaving file v (it ∷ rest) m.core → is_passed why ≡ true → Commits 0 (discarding (for_volume file) (it ∷ [])) [] m next (Err why)
-      → Leaving file v rest next.core
-  skipping-leaves it rest m next why g passed step =
-      subst (Leaving file v rest) (sym (passed-same (for_volume file) m next it why passed step))
+  pub skipping-leaves : (it : Doomed) (rest : List Doomed) (m next : Machine) (why : Refusal) → IsDiscardable file it.object (inventory m.core) → Leaving file v (it ∷ rest) m.core → is_passed why ≡ true
+      → Commits 0 (discarding (for_volume file) (it ∷ [])) [] m next (Err why) → Leaving file v rest next.core
+  skipping-leaves it rest m next why may g passed step =
+      subst (Leaving file v rest) (sym (passed-same (discarding (for_volume file) (it ∷ [])) m next why passed step))
       (record { sound = g.sound; row = g.row; named = g.named; pools = g.pools; same = g.same; free = g.free; left = λ k w found lying. others k w found lying (eqb it.object k) refl (g.left k w found lying) })
     where
       unpassed : (w : Version) → version it.object (inventory m.core) ≡ Some w → LiesOn file w → ⊥
@@ -207,19 +228,25 @@ module _ (file : ℕ) (v : Inv) (may : AreDiscardable file v) where
           let x : Change = change.Discard (those file (it ∷ [])) in
           false≢true
           (sym (commit-all IsUnpassed unpassed-common m next why x ((discard-takes (those file (it ∷ []))).fills m.core.next_file (inventory m.core))
-          (subst (λ (l : List Refusal). AllByRecursion IsUnpassed l) (sym (discard-legal (sight 0 m.core).journal it w m.core (it ∷ rest) g found lying)) tt) (unpassed-sizes x (inventory m.core)) tt step) ∙ passed)
+          (subst (λ (l : List Refusal). AllByRecursion IsUnpassed l) (sym (discard-legal (sight 0 m.core).journal it w m.core may found lying)) tt) (unpassed-sizes x (inventory m.core)) tt step) ∙ passed)
 
       others : (k : ℕ) (w : Version) → version k (inventory m.core) ≡ Some w → LiesOn file w → (b : Bool) → eqb it.object k ≡ b → (b || list_any (λ (d : Doomed). eqb d.object k) rest) ≡ true
           → list_any (λ (d : Doomed). eqb d.object k) rest ≡ true
       others k w found lying true same t = absurd (unpassed w (subst (λ (n : ℕ). version n (inventory m.core) ≡ Some w) (sym (eqb-true it.object k same)) found) lying)
       others k w found lying false other t = t
 
+  -- what might be discarded at first may still be
+  still-discardable : (rest : List Doomed) (c : Core) (object : ℕ) → Leaving file v rest c → IsDiscardable file object v → IsDiscardable file object (inventory c)
+  still-discardable rest c object g may w found lying =
+      ap (λ (ps : List (ℕ × Pool)). list_any (λ (x : CopyRow). option_map_or (λ (p : Pool). is_primary_kind p.kind) (row_at x.pool ps) false && lies_on file x) w.copies || all_lie_on file w) g.pools
+      ∙ may w (g.same object w found lying) lying
+
   -- behind all of them nothing is left
-  pub cleared : (trusted : Type 0) (places : Places) (events : List Event) (rest : List Doomed) (m new : Machine) → Handles (for_volume file) rest events → Leaving file v rest m.core → Alone trusted places 0 events m new
-      → Leaving file v [] new.core
-  cleared trusted places events rest m new handles leaving f =
+  pub cleared : ((object : ℕ) → IsDiscardable file object v) → (trusted : Type 0) (places : Places) (events : List Event) (rest : List Doomed) (m new : Machine) → Handles (for_volume file) rest events → Leaving file v rest m.core
+      → Alone trusted places 0 events m new → Leaving file v [] new.core
+  cleared may trusted places events rest m new handles leaving f =
       handled-by trusted places (for_volume file) (Leaving file v) (λ run left x next number g step. removing-leaves run left x next number g step)
-      (λ it left x next why g passed step. skipping-leaves it left x next why g passed step) events rest m new handles leaving f
+      (λ it left x next why g passed step. skipping-leaves it left x next why (still-discardable (it ∷ left) x.core it.object g (may it.object)) g passed step) events rest m new handles leaving f
 
 -- its row has no segment then
 pub none-left : (file : ℕ) (v : Inv) (c : Core) → (g : Leaving file v [] c) → g.row.0.segments ≡ []
@@ -228,20 +255,36 @@ none-left file v c g =
 
 -- ---- the pool of what lies on it
 
+kind-shown : (number : ℕ) (s : PoolRows) (es : List (ℕ × Pool)) → is_copy_kind (option_map (λ (l : PoolLine). l.kind) (find (λ (l : PoolLine). l.number == number) (map (pool_line s) es))) ≡ is_copy_kind (option_map (λ (p : Pool). p.kind) (row_at number es))
+kind-shown number s [] = refl
+kind-shown number s (e ∷ es) =
+    let rest : Option PoolLine = find (λ (l : PoolLine). l.number == number) (map (pool_line s) es) in
+    elim (at_number number e.0) as (λ b. at_number number e.0 ≡ b
+    → is_copy_kind (option_map (λ (l : PoolLine). l.kind) (if e.0 == number then Some (pool_line s e) else rest)) ≡ is_copy_kind (option_map (λ (p : Pool). p.kind) (cond b (Some e.1) (row_at number es)))) [
+      | true ↦ λ here. ap (λ (b : Bool). is_copy_kind (option_map (λ (l : PoolLine). l.kind) (if b then Some (pool_line s e) else rest))) (sym (at-eqb number e.0) ∙ here)
+      | false ↦ λ other. ap (λ (b : Bool). is_copy_kind (option_map (λ (l : PoolLine). l.kind) (if b then Some (pool_line s e) else rest))) (sym (at-eqb number e.0) ∙ other) ∙ kind-shown number s es
+    ] refl
+
 primary-kind : (kind : PoolKind) → is_primary_kind kind ≡ true → is_copy_kind (Some kind) ≡ false
 primary-kind Primary h = refl
 primary-kind Copy h = absurd (false≢true h)
 
-kind-shown : (number : ℕ) (s : PoolRows) (es : List (ℕ × Pool)) → option_map_or (λ (p : Pool). is_primary_kind p.kind) (row_at number es) false ≡ true → is_copy_kind (option_map (λ (l : PoolLine). l.kind) (find (λ (l : PoolLine). l.number == number) (map (pool_line s) es))) ≡ false
-kind-shown number s [] primary = absurd (false≢true primary)
-kind-shown number s (e ∷ es) primary =
-    let rest : Option PoolLine = find (λ (l : PoolLine). l.number == number) (map (pool_line s) es) in
-    elim (at_number number e.0) as (λ b. at_number number e.0 ≡ b → option_map_or (λ (p : Pool). is_primary_kind p.kind) (cond b (Some e.1) (row_at number es)) false ≡ true
-    → is_copy_kind (option_map (λ (l : PoolLine). l.kind) (if e.0 == number then Some (pool_line s e) else rest)) ≡ false) [
-      | true ↦ λ here is. ap (λ (b : Bool). is_copy_kind (option_map (λ (l : PoolLine). l.kind) (if b then Some (pool_line s e) else rest))) (sym (at-eqb number e.0) ∙ here) ∙ primary-kind e.1.kind is
-      | false ↦ λ other is. ap (λ (b : Bool). is_copy_kind (option_map (λ (l : PoolLine). l.kind) (if b then Some (pool_line s e) else rest))) (sym (at-eqb number e.0) ∙ other) ∙ kind-shown number s es is
-    ] refl primary
+copy-kind : (kind : PoolKind) → is_primary_kind kind ≡ false → is_copy_kind (Some kind) ≡ true
+copy-kind Primary h = absurd (false≢true (sym h))
+copy-kind Copy h = refl
+
+primary-row : (o : Option Pool) → option_map_or (λ (p : Pool). is_primary_kind p.kind) o false ≡ true → is_copy_kind (option_map (λ (p : Pool). p.kind) o) ≡ false
+primary-row None h = refl
+primary-row (Some p) h = primary-kind p.kind h
+
+copy-row : (o : Option Pool) → is_some o ≡ true → option_map_or (λ (p : Pool). is_primary_kind p.kind) o false ≡ false → is_copy_kind (option_map (λ (p : Pool). p.kind) o) ≡ true
+copy-row None there h = absurd (false≢true there)
+copy-row (Some p) there h = copy-kind p.kind h
 
 -- a primary pool isn't shown as a copy pool
 pub not-copy-pool : (number : ℕ) (v : Inv) → is_primary number v ≡ true → is_copy_pool number (pool_lines None v.stores) ≡ false
-not-copy-pool number v primary = kind-shown number v.stores v.stores.pools primary
+not-copy-pool number v primary = kind-shown number v.stores v.stores.pools ∙ primary-row (pool number v) primary
+
+-- and another that is there is
+pub is-copy-pool : (number : ℕ) (v : Inv) → is_some (pool number v) ≡ true → is_primary number v ≡ false → is_copy_pool number (pool_lines None v.stores) ≡ true
+is-copy-pool number v there other = kind-shown number v.stores v.stores.pools ∙ copy-row (pool number v) there other

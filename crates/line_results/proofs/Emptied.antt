@@ -102,7 +102,7 @@ module _ (filespace : ℕ) (m next : Machine) where
   passing-goes : (it : Doomed) (rest : List Doomed) (why : Refusal) → Going filespace (it ∷ rest) m.core → is_passed why ≡ true → Commits 0 (discarding (because.Filespace filespace) (it ∷ [])) [] m next (Err why)
       → Going filespace rest next.core
   passing-goes it rest why g passed step =
-      let same : next.core ≡ m.core = passed-same (because.Filespace filespace) m next it why passed step in
+      let same : next.core ≡ m.core = passed-same (discarding (because.Filespace filespace) (it ∷ [])) m next why passed step in
       going-as filespace rest m.core next.core same (record { there = g.there; valid = g.valid; ordered = g.ordered; left = λ k kept. others k kept (eqb it.object k) refl (g.left k kept) })
     where
       others : (k : ℕ) → filespace_of k (inventory m.core) ≡ Some filespace → (b : Bool) → eqb it.object k ≡ b → (b || list_any (IsDoomed k) rest) ≡ true → list_any (IsDoomed k) rest ≡ true

@@ -48,7 +48,7 @@ use Rattle.machine.specs.Alone.{Alone}
 use Rattle.machine.specs.Machine.{Asks, Case, Commits, Places, answer_with, ended}
 use Rattle.machine.specs.State.{Core, Machine, inventory, sight}
 use Rattle.machine.proofs.Elsewhere.{append-all, ended-all, foremost-all, unless-all}
-use Rattle.line_results.specs.Removing.{CanEmpty, IsNamed, IsUnremoved}
+use Rattle.line_results.specs.Removing.{CanEmpty, IsUnremoved}
 use Rattle.line_results.specs.Resting.{database}
 use Rattle.line_results.proofs.Bounds.{Common, commit-all, filespace-takes}
 use Rattle.line_results.proofs.Emptied.{Going, handled}
@@ -57,6 +57,7 @@ use Rattle.line_results.proofs.Meeting.{met-at}
 use Rattle.line_results.proofs.PutHomes.{rows-told}
 use Rattle.line_results.proofs.Runs.{alone-parts, stepped}
 use Rattle.line_results.proofs.Unused.{row-legal}
+use Rattle.line_results.proofs.Shown.{IsNamed, filespace-shown}
 use Rattle.line_results.proofs.Types.{Doomed, Names}
 
 -- ---- refusals
@@ -164,7 +165,7 @@ shape v it = record { n = v.number; today = v.today; rows = it }
 
 module _ (filespace : ℕ) (v : Inv) (can : CanEmpty filespace v) where
   abbrev here : IsNamed filespace v
-  here = can.0
+  here = filespace-shown filespace v can.1 can.0
 
   abbrev its-names : Names
   its-names = record { node = here.2; name = here.0.name }

@@ -23,6 +23,7 @@ pub mod Changed
 pub mod Changing
 pub mod Checkpointed
 pub mod Chosen
+pub mod Cited
 pub mod Clearing
 pub mod CopiesStay
 pub mod CopyReason
@@ -32,6 +33,7 @@ pub mod Cutting
 pub mod Denied
 pub mod Did
 pub mod Discarded
+pub mod Dropped
 pub mod Earlier
 pub mod Emptied
 pub mod Emptying
@@ -79,6 +81,7 @@ pub mod Roomy
 pub mod Runs
 pub mod Sending
 pub mod Settling
+pub mod Shown
 pub mod Since
 pub mod Spent
 pub mod Stopping
@@ -89,6 +92,7 @@ pub mod Trying
 pub mod Types
 pub mod Unfailed
 pub mod Unfound
+pub mod Unloading
 pub mod Unused
 pub mod VolumesThere
 pub mod Walking

@@ -72,25 +72,25 @@ abbrev pub LiesOn : (file : ℕ) → Version → Type 0
 LiesOn file w = list_any (lies_on file) w.copies ≡ true
 
 -- the copies on a volume, as they are listed
-abbrev on-copies : (file node : ℕ) → Version → CopyRow → List CopyLine
+abbrev pub on-copies : (file node : ℕ) → Version → CopyRow → List CopyLine
 on-copies file node x c = only (lies_on file c) (copy_line node x c)
 
-abbrev on-version : (file node : ℕ) → Version → List CopyLine
+abbrev pub on-version : (file node : ℕ) → Version → List CopyLine
 on-version file node x = flat_map (on-copies file node x) x.copies
 
-abbrev on-group : (file node : ℕ) → Group → List CopyLine
+abbrev pub on-group : (file node : ℕ) → Group → List CopyLine
 on-group file node g = flat_map (on-version file node) g.versions
 
-abbrev on-space : (file : ℕ) → Filespace → List CopyLine
+abbrev pub on-space : (file : ℕ) → Filespace → List CopyLine
 on-space file f = flat_map (λ g. on-group file f.node g.1) f.groups
 
-abbrev on-spaces : (file : ℕ) → List (ℕ × Filespace) → List CopyLine
+abbrev pub on-spaces : (file : ℕ) → List (ℕ × Filespace) → List CopyLine
 on-spaces file fs = flat_map (λ f. on-space file f.1) fs
 
-abbrev on-held : (file : ℕ) → List (ℕ × Filespace) → List (ℕ × HeldRow) → List CopyLine
+abbrev pub on-held : (file : ℕ) → List (ℕ × Filespace) → List (ℕ × HeldRow) → List CopyLine
 on-held file fs held = flat_map (λ h. on-version file (node_of h.1.filespace fs) h.1.held.version) held
 
-abbrev on-found : (file : ℕ) → Inv → List CopyLine
+abbrev pub on-found : (file : ℕ) → Inv → List CopyLine
 on-found file v = on-spaces file v.clients.filespaces ++ on-held file v.clients.filespaces v.clients.held
 
 module _ (file k : ℕ) (w : Version) (lying : LiesOn file w) where

@@ -1,6 +1,6 @@
 -- Where a volume may be deleted with its data, its deletion isn't refused since something isn't there, or is used still.
 use Rattle.std.proofs.Common.{◌≡◌, ◌⊎◌, inl, inr, ℕ, zero, suc, ◌==◌, true, false, cond, if◌then◌else◌, List, [], ◌∷◌, ◌++◌, map, Bool, Option, None, Some, Result, Ok, Err, refl, sym, ap, subst, ◌∙◌}
-use Rattle.std.proofs.lemmas.Bool.{false≢true}
+use Rattle.std.proofs.lemmas.Bool.{false≢true, or_left}
 use Rattle.std.proofs.lemmas.Option.{same_Some}
 use Rattle.std.specs.Prelude.{is_some}
 use Rattle.std.specs.List.{AllByRecursion, find, flat_map}
@@ -26,6 +26,7 @@ use Rattle.inventory_rules.specs.Journal.{Journal}
 use Rattle.inventory_rules.specs.Ordered.{IsOrdered}
 use Rattle.inventory_rules.specs.Transactions.{causes}
 use Rattle.inventory_rules.specs.Valid.{is_valid}
+use Rattle.inventory_rules.specs.Versions.{all_lie_on, primary_lies_on}
 use Rattle.inventory_answers.specs.Answered.{answered, rows_of}
 use Rattle.inventory_answers.specs.Stores.{pool_lines, volume_line, volume_lines, volume_lines_of}
 use Rattle.inventory_answers.specs.declared.lines.PoolLine.{PoolLine}
@@ -45,16 +46,19 @@ use Rattle.command_steps.specs.deletions.Volumes.{Cleared, HasNotFound, HasNotGo
 use Rattle.machine.specs.Alone.{Alone}
 use Rattle.machine.specs.Machine.{Case, Commits, Places}
 use Rattle.machine.specs.State.{Core, Machine, inventory, sight}
-use Rattle.line_results.specs.Removing.{AreDiscardable, CanRemove, HasNothing, IsUnremoved, IsVolume, MayClear}
+use Rattle.line_results.specs.Removing.{CanRemove, HasNothing, IsUnremoved, IsVolume, MayClear}
 use Rattle.line_results.specs.Resting.{database}
 use Rattle.line_results.proofs.Bounds.{commit-all, commit-unheld, volume-takes}
-use Rattle.line_results.proofs.Clearing.{Leaving, cleared, none-left, not-copy-pool}
+use Rattle.line_results.proofs.Cited.{IsOf, are-listed, in-its-pool, line-pool, primary-there}
+use Rattle.line_results.proofs.Clearing.{Leaving, cleared, is-copy-pool, none-left, not-copy-pool}
 use Rattle.line_results.proofs.Emptying.{IsBare, ask-rows, ask-told, asked-rows, asking-same, bare-common, bare-sizes, kept-of, no-both, ok-same, same-ok, shape, unstopped}
 use Rattle.line_results.proofs.Handling.{IsFree}
 use Rattle.line_results.proofs.Lying.{on-list}
 use Rattle.line_results.proofs.Meeting.{met-at}
 use Rattle.line_results.proofs.Runs.{alone-none, alone-parts, stepped}
+use Rattle.line_results.proofs.Shown.{volume-shown}
 use Rattle.line_results.proofs.Types.{Row}
+use Rattle.line_results.proofs.Unloading.{unloaded}
 
 -- ---- its row
 
@@ -94,6 +98,15 @@ told-if c x = if c then Ok x else Err refused.NotFound
 
 there-lines : {A : Type 0} (b : Bool) (x : A) → b ≡ true → (y : A) × ((if b then Ok x else Err refused.NotFound) ≡ Ok y)
 there-lines b x h = (x, ap (λ (c : Bool). told-if c x) h)
+
+-- where it may be deleted it is there, under its name
+volume-there : (file : ℕ) (v : Inv) → CanRemove file v → IsVolume file v
+volume-there file v (inr (there, nothing)) = there
+volume-there file v (inl (has, (valid, ordered, tied))) = volume-shown file v valid has
+
+and-so : (file : ℕ) (v : Inv) → CanRemove file v → MayClear v ⊎ HasNothing file v
+and-so file v (inl (has, may)) = inl may
+and-so file v (inr (there, nothing)) = inr nothing
 
 module _ (file : ℕ) (v : Inv) (there : IsVolume file v) where
   abbrev pub its-row : Row
@@ -144,9 +157,9 @@ no-wait trusted places row file (suc number) events m new free (xs, ys, cut, wai
 
 -- ---- the whole
 
-module _ (trusted : Type 0) (places : Places) (file : ℕ) (e : Refusal) (un : is_kept_by e ≡ true) (v : Inv) (can : CanRemove file v) where
+module _ (trusted : Type 0) (places : Places) (file : ℕ) (e : Refusal) (un : is_kept_by e ≡ true) (v : Inv) (there : IsVolume file v) (can : MayClear v ⊎ HasNothing file v) where
   abbrev its : Row
-  its = its-row file v can.0
+  its = its-row file v there
 
   -- it is found
   unfound : (events : List Event) (m new : Machine) → inventory m.core ≡ v → HasNotFound file e events → Alone trusted places 0 events m new → ⊥
@@ -159,63 +172,88 @@ module _ (trusted : Type 0) (places : Places) (file : ℕ) (e : Refusal) (un : i
           ask-told (query.Volumes None None) m next e (shape (inventory m.core) (rows.Volumes (volume_lines None None (inventory m.core).stores))) refl un (subst (λ (x : Deed). Case places 0 x m next) asked step)
       by m next d same step (inr (answer, lines, asked, shown, none)) =
           let told = ask-rows (query.Volumes None None) (rows.Volumes lines) answer m next (λ n a. refl) shown (subst (λ (x : Deed). Case places 0 x m next) asked step) in
-          no-both its e (row_in file lines) (named-row file v can.0 lines (ap (rows_of (query.Volumes None None)) (sym same) ∙ told.1)) none
+          no-both its e (row_in file lines) (named-row file v there lines (ap (rows_of (query.Volumes None None)) (sym same) ∙ told.1)) none
 
   -- what lies on it is listed
   unlisted : (events : List Event) (m new : Machine) → inventory m.core ≡ v → HasNotListed file e events → Alone trusted places 0 events m new → ⊥
   unlisted events m new is (ten, asks, met) f =
       let at = met-at trusted places IsAsking (λ c. inventory c ≡ v) (λ d x next so step h. asking-same places v d x next so step h) (λ d. d ≡ Ask (query.OnVolume file) (Err e)) events m new asks is f met in
-      ask-told (query.OnVolume file) at.before at.after e (shape v (rows.OnVolume (its-lines file v can.0).0)) (ap (answered (query.OnVolume file)) at.holds ∙ ap (on_ok (shape v)) (copies-are file v can.0)) un
+      ask-told (query.OnVolume file) at.before at.after e (shape v (rows.OnVolume (its-lines file v there).0)) (ap (answered (query.OnVolume file)) at.holds ∙ ap (on_ok (shape v)) (copies-are file v there)) un
       (subst (λ (x : Deed). Case places 0 x at.before at.after) at.is at.step)
 
-  -- what was listed
-  taken-pool : (l : CopyLine) (lines : List CopyLine) (events : List Event) (removed : Removed) (m new : Machine) → inventory m.core ≡ v → is_primary l.pool v ≡ true → AreDiscardable file v → Leaving file v (map doomed (l ∷ lines)) m.core
+  -- the lines of a volume are of its pool
+  of-pool : (x : Volume) (lines : List CopyLine) (P : ℕ → Type 0) → is_valid v ≡ true → row_at file v.stores.volumes ≡ Some x → P x.pool → AllByRecursion (IsOf file v) lines → AllByRecursion (λ (l : CopyLine). P l.pool) lines
+  of-pool x [] P valid at h are = tt
+  of-pool x (l ∷ lines) P valid at h are = (subst P (sym (line-pool file v l x valid at are.0).0) h, of-pool x lines P valid at h are.1)
+
+  -- what was listed, of a primary pool
+  taken-primary : (l : CopyLine) (lines : List CopyLine) (pools : List PoolLine) (events : List Event) (removed : Removed) (m new : Machine) → pools ≡ pool_lines None v.stores → is_valid v ≡ true → is_primary there.0.pool v ≡ true → AllByRecursion (IsOf file v) (l ∷ lines)
+      → Leaving file v (map doomed (l ∷ lines)) m.core → Taken (is_copy_pool l.pool pools) file (l ∷ lines) events removed → Alone trusted places 0 events m new → Leaving file v [] new.core
+  taken-primary l lines pools events removed m new all valid primary are g taken f =
+      let at : row_at file v.stores.volumes ≡ Some there.0 = there.1 in
+      let its : is_primary l.pool v ≡ true = (of-pool there.0 (l ∷ lines) (λ (n : ℕ). is_primary n v ≡ true) valid at primary are).0 in
+      let handled = subst (λ (b : Bool). Taken b file (l ∷ lines) events removed) (ap (is_copy_pool l.pool) all ∙ not-copy-pool l.pool v its) taken in
+      cleared file v (λ object w found lying. or_left (primary_lies_on file w v) (all_lie_on file w) (primary-there file there.0.pool v w.copies primary (in-its-pool file object v there.0 w valid at found) lying)) trusted places events
+      (map doomed (l ∷ lines)) m new handled.0.each g f
+
+  -- and of a copy pool
+  taken-copies : (l : CopyLine) (lines : List CopyLine) (pools : List PoolLine) (events : List Event) (removed : Removed) (m new : Machine) → pools ≡ pool_lines None v.stores → is_valid v ≡ true → is_primary there.0.pool v ≡ false → AllByRecursion (IsOf file v) (l ∷ lines)
+      → Leaving file v (map doomed (l ∷ lines)) m.core → Taken (is_copy_pool l.pool pools) file (l ∷ lines) events removed → Alone trusted places 0 events m new → Leaving file v [] new.core
+  taken-copies l lines pools events removed m new all valid other are g taken f =
+      let at : row_at file v.stores.volumes ≡ Some there.0 = there.1 in
+      let others : AllByRecursion (λ (x : CopyLine). is_primary x.pool v ≡ false) (l ∷ lines) = of-pool there.0 (l ∷ lines) (λ (n : ℕ). is_primary n v ≡ false) valid at other are in
+      let emptied = subst (λ (b : Bool). Taken b file (l ∷ lines) events removed) (ap (is_copy_pool l.pool) all ∙ is-copy-pool l.pool v (line-pool file v l there.0 valid at are.0).1 others.0) taken in
+      unloaded file v trusted places events (l ∷ lines) m new emptied.each are others g f
+
+  taken-pool : (l : CopyLine) (lines : List CopyLine) (events : List Event) (removed : Removed) (m new : Machine) → inventory m.core ≡ v → is_valid v ≡ true → AllByRecursion (IsOf file v) (l ∷ lines) → Leaving file v (map doomed (l ∷ lines)) m.core
       → TakenFrom l.pool file (l ∷ lines) events removed → Alone trusted places 0 events m new → Leaving file v [] new.core
-  taken-pool l lines events removed m new is primary may g (pools, (us, vs, cut, (n, answer, one, shown), taken)) f =
+  taken-pool l lines events removed m new is valid are g (pools, (us, vs, cut, (n, answer, one, shown), taken)) f =
       let parts = alone-parts trusted places 0 events us vs m new cut f in
       let a = asked-rows trusted places (query.Pools None) (rows.Pools pools) answer us m parts.0 (λ k b. refl) shown (n, one) parts.1 in
       let all : pools ≡ pool_lines None v.stores =
       same-ok pools-in (rows.Pools pools) (rows.Pools (pool_lines None v.stores)) (rows_of (query.Pools None) v) (ap (rows_of (query.Pools None)) (sym is) ∙ a.1) refl in
-      let other : is_copy_pool l.pool pools ≡ false = ap (is_copy_pool l.pool) all ∙ not-copy-pool l.pool v primary in
-      let handled = subst (λ (b : Bool). Taken b file (l ∷ lines) vs removed) other taken in
-      cleared file v may trusted places vs (map doomed (l ∷ lines)) parts.0 new handled.0.each (subst (Leaving file v (map doomed (l ∷ lines))) (sym a.0) g) parts.2
+      let first : Leaving file v (map doomed (l ∷ lines)) parts.0.core = subst (Leaving file v (map doomed (l ∷ lines))) (sym a.0) g in
+      elim (is_primary there.0.pool v) as (λ b. is_primary there.0.pool v ≡ b → Leaving file v [] new.core) [
+        | true ↦ λ primary. taken-primary l lines pools vs removed parts.0 new all valid primary are first taken parts.2
+        | false ↦ λ other. taken-copies l lines pools vs removed parts.0 new all valid other are first taken parts.2
+      ] refl
 
-  taken-away : (lines : List CopyLine) (events : List Event) (removed : Removed) (m new : Machine) → inventory m.core ≡ v → AllByRecursion (λ (l : CopyLine). is_primary l.pool v ≡ true) lines → AreDiscardable file v
-      → Leaving file v (map doomed lines) m.core → TakenOf (pool_of lines) file lines events removed → Alone trusted places 0 events m new → Leaving file v [] new.core
-  taken-away [] events removed m new is primary may g taken f = subst (Leaving file v []) (sym (ap (λ (x : Machine). x.core) (alone-none trusted places 0 events m new taken.0 f))) g
-  taken-away (l ∷ lines) events removed m new is primary may g taken f = taken-pool l lines events removed m new is primary.0 may g taken f
+  taken-away : (lines : List CopyLine) (events : List Event) (removed : Removed) (m new : Machine) → inventory m.core ≡ v → is_valid v ≡ true → AllByRecursion (IsOf file v) lines → Leaving file v (map doomed lines) m.core
+      → TakenOf (pool_of lines) file lines events removed → Alone trusted places 0 events m new → Leaving file v [] new.core
+  taken-away [] events removed m new is valid are g taken f = subst (Leaving file v []) (sym (ap (λ (x : Machine). x.core) (alone-none trusted places 0 events m new taken.0 f))) g
+  taken-away (l ∷ lines) events removed m new is valid are g taken f = taken-pool l lines events removed m new is valid are g taken f
 
   -- all of it goes
   untaken : (events : List Event) (removed : Removed) (m new : Machine) → inventory m.core ≡ v → IsFree m.core → Cleared true file events removed → Alone trusted places 0 events m new → Ready file v new.core
   untaken events removed m new is free (lines, (xs, ys, cut, (answer, asked, shown), taken)) f =
       let parts = alone-parts trusted places 0 events xs ys m new cut f in
       let a = asked-rows trusted places (query.OnVolume file) (rows.OnVolume lines) answer xs m parts.0 (λ n b. refl) shown asked parts.1 in
-      let same : lines ≡ (its-lines file v can.0).0 =
-      same-ok copies-in (rows.OnVolume lines) (rows.OnVolume (its-lines file v can.0).0) (rows_of (query.OnVolume file) v) (ap (rows_of (query.OnVolume file)) (sym is) ∙ a.1) (copies-are file v can.0) in
-      by parts.0 ((its-lines file v can.0).1 ∙ sym (ap-ok same)) (ap inventory a.0 ∙ is) (subst IsFree (sym a.0) free) taken parts.2 can.1
+      let same : lines ≡ (its-lines file v there).0 =
+      same-ok copies-in (rows.OnVolume lines) (rows.OnVolume (its-lines file v there).0) (rows_of (query.OnVolume file) v) (ap (rows_of (query.OnVolume file)) (sym is) ∙ a.1) (copies-are file v there) in
+      by parts.0 ((its-lines file v there).1 ∙ sym (ap-ok same)) (ap inventory a.0 ∙ is) (subst IsFree (sym a.0) free) taken parts.2 can
     where
-      by : (mid : Machine) → on_volume file v ≡ Ok lines → inventory mid.core ≡ v → IsFree mid.core → TakenOf (pool_of lines) file lines ys removed → Alone trusted places 0 ys mid new → HasNothing file v ⊎ MayClear file v
+      by : (mid : Machine) → on_volume file v ≡ Ok lines → inventory mid.core ≡ v → IsFree mid.core → TakenOf (pool_of lines) file lines ys removed → Alone trusted places 0 ys mid new → MayClear v ⊎ HasNothing file v
           → Ready file v new.core
-      by mid all here free_there taken_there f_there (inl nothing) =
+      by mid all here free_there taken_there f_there (inr nothing) =
           let quiet = subst (λ (l : List CopyLine). TakenOf (pool_of l) file l ys removed) (ok-same lines [] (sym all ∙ nothing.1)) taken_there in
           let same : new.core ≡ mid.core = ap (λ (x : Machine). x.core) (alone-none trusted places 0 ys mid new quiet.0 f_there) in
           record {
-            row = (can.0.0, ap (λ (c : Core). row_at file (inventory c).stores.volumes) same ∙ ap (λ (x : Inv). row_at file x.stores.volumes) here ∙ can.0.1);
-            none = nothing.0 can.0.0 can.0.1;
+            row = (there.0, ap (λ (c : Core). row_at file (inventory c).stores.volumes) same ∙ ap (λ (x : Inv). row_at file x.stores.volumes) here ∙ there.1);
+            none = nothing.0 there.0 there.1;
             named = λ name. ap (λ (c : Core). volume_named name (inventory c).stores) same ∙ ap (λ (x : Inv). volume_named name x.stores) here;
             free = subst IsFree (sym same) free_there;
           }
-      by mid all here free_there taken_there f_there (inr (primaries, may, valid, ordered, tied)) =
+      by mid all here free_there taken_there f_there (inl (valid, ordered, tied)) =
           let first : Leaving file v (map doomed lines) mid.core = record {
             sound = subst (λ (x : Inv). (is_valid x ≡ true) × IsOrdered x × IsTied x) (sym here) (valid, ordered, tied);
-            row = (can.0.0, ap (λ (x : Inv). row_at file x.stores.volumes) here ∙ can.0.1);
+            row = (there.0, ap (λ (x : Inv). row_at file x.stores.volumes) here ∙ there.1);
             named = λ name. ap (λ (x : Inv). volume_named name x.stores) here;
             pools = ap (λ (x : Inv). x.stores.pools) here;
-            same = λ k w found. sym (ap (version k) here) ∙ found;
+            same = λ k w found lying. sym (ap (version k) here) ∙ found;
             left = λ k w found lying. on-list file k w v lines lying all (sym (ap (version k) here) ∙ found);
             free = free_there;
           } in
-          let last = taken-away lines ys removed mid new here (primaries lines all) may first taken_there f_there in
+          let last = taken-away lines ys removed mid new here valid (are-listed file v lines valid all) first taken_there f_there in
           record { row = last.row; none = ap least_object (none-left file v new.core last); named = last.named; free = last.free }
 
   -- its row goes
@@ -223,7 +261,7 @@ module _ (trusted : Type 0) (places : Places) (file : ℕ) (e : Refusal) (un : i
   row-goes row m next named ready step =
       let w : Change = change.Pool (store.Volume verb.Delete row.name 0 file row.capacity row.access) in
       let t = volume-takes row.name file row.capacity row.access in
-      let none : causes (sight 0 m.core).journal w (inventory m.core) ≡ [] = row-free file v m.core can.0 (sight 0 m.core).journal row named ready in
+      let none : causes (sight 0 m.core).journal w (inventory m.core) ≡ [] = row-free file v m.core there (sight 0 m.core).journal row named ready in
       commit-all IsBare bare-common m next e w (t.fills m.core.next_file (inventory m.core)) (subst (λ (l : List Refusal). AllByRecursion IsBare l) (sym none) tt) (bare-sizes w (inventory m.core))
       (subst (λ (l : List Refusal). AllByRecursion IsBare l) (sym (t.free m.core ready.free.1 ready.free.0)) tt) step
 
@@ -249,10 +287,11 @@ module _ (trusted : Type 0) (places : Places) (file : ℕ) (e : Refusal) (un : i
   placed events m new is free one (inr (inr (row, (xs, ys, cut, (answer, lines, asked, shown, told), rest)))) f =
       let parts = alone-parts trusted places 0 events xs ys m new cut f in
       let a = asked-rows trusted places (query.Volumes None None) (rows.Volumes lines) answer xs m parts.0 (λ n b. refl) shown asked parts.1 in
-      let named : row ≡ its = ok-same row its (sym told ∙ named-row file v can.0 lines (ap (rows_of (query.Volumes None None)) (sym is) ∙ a.1)) in
+      let named : row ≡ its = ok-same row its (sym told ∙ named-row file v there lines (ap (rows_of (query.Volumes None None)) (sym is) ∙ a.1)) in
       behind-found row ys parts.0 new named (ap inventory a.0 ∙ is) (ap (λ (c : Core). c.tickets) a.0 ∙ free.0, ap (λ (c : Core). c.image) a.0 ∙ free.1) rest parts.2
 
 -- where the volume may be deleted none is refused so
 pub unbarred-volume : (trusted : Type 0) (places : Places) (file : ℕ) (events : List Event) (e : Refusal) (old new : Machine) → IsFree old.core → IsUnremoved e → IsInPlace true file events e → Alone trusted places 0 events old new
     → CanRemove file (database old) → ⊥
-unbarred-volume trusted places file events e old new free one place f can = placed trusted places file e (kept-of e one) (database old) can events old new refl free one place f
+unbarred-volume trusted places file events e old new free one place f can =
+    placed trusted places file e (kept-of e one) (database old) (volume-there file (database old) can) (and-so file (database old) can) events old new refl free one place f

@@ -347,7 +347,7 @@ MayFollow old =
 abbrev pub MayAudit : (fix : Bool) → (file : ℕ) → (old mid : Machine) → Type 0
 MayAudit fix file old mid = (has_volume file (database old) ≡ true) × (fix ≡ true → (is_valid (database old) ≡ true) × StaysWithin old mid)
 
--- Work of a command's own is legal over the numbers of the things that it names. `mid` is the state behind it. Of processes that aren't told apart here none is said to be.
+-- Work of a command's own is legal over the numbers of the things that it names. `mid` is the state behind it. None is that isn't done so far.
 abbrev pub MayOwn : Places → Client → (numbers : List ℕ) → Own → (old mid : Machine) → Type 0
 MayOwn places k numbers (validate set) old mid = validated set (database old) ≡ Ok tt
 MayOwn places k numbers (put p) old mid = MayPut places k.choice p old
