@@ -84,6 +84,7 @@ pub mod Settling
 pub mod Shown
 pub mod Since
 pub mod Spent
+pub mod Standing
 pub mod Stopping
 pub mod Ticketed
 pub mod Told

@@ -147,6 +147,6 @@ abbrev pub MayMove : Places → (numbers : List ℕ) → Mover → (old : Machin
 MayMove places numbers data_mover old = MayMoveData places (the_number numbers) (the_second numbers) old
 MayMove places numbers reclaimer old = MayReclaim places (the_number numbers) (min (the_second numbers) 100) old
 MayMove places numbers migrator old = (has_next (the_number numbers) (database old) ≡ true) × IsOpen places (IsPoolMigration (the_number numbers) (min (the_second numbers) 100)) old
-MayMove places numbers all_migrator old = StandByNumber (database old) × IsOpen places IsAllMigration old
+MayMove places numbers all_migrator old = IsOpen places IsAllMigration old
 MayMove places numbers pool_restorer old = (has_pool (the_number numbers) (database old) ≡ true) × IsOpen places (RestoresPool (the_number numbers)) old
 MayMove places numbers volume_restorer old = CanBeLost (the_number numbers) old × IsOpen places (RestoresVolume (the_number numbers)) old

@@ -11,6 +11,7 @@ ghost use Rattle.command_steps.specs.Clients.{Client};
 ghost use Rattle.command_steps.specs.Lines.{Line};
 ghost use Rattle.line_results.specs.Clauses.{Holds};
 ghost use Rattle.line_results.specs.Lines.{Halts, Replies};
+ghost use Rattle.line_results.specs.Migrating.{StandByNumber};
 ghost use Rattle.line_results.specs.Resting.{HasSizes, IsAtRest};
 
 /// Where objects go, whatever decides it.
@@ -45,10 +46,11 @@ pub fn lines_come_to<P: Placing>()
         → AnswersLine k n line events (Err how) → Alone ⊥ P.places 0 events old new → Halts ⊥ P.places k n line old how new }
 {}
 
-/// Of each line that was answered so holds what is said of its transactions, its rows and bytes, its refusal and what it did, when it isn't refused, and which tree it may change.
+/// Of each line that was answered so holds what is said of its transactions, its rows and bytes, its refusal and what it did, when it isn't refused, and which tree it may change. The pools of the
+/// database with which the machine was opened stand by number, as tables hold them (`are_ascending` of `inventory_rows`).
 pub fn answered_lines_hold<P: Placing>()
-    ensures trusted { (k : Client) (n : ℕ) (line : Line) (answer : Answer) (why : Option Refusal) (old new : Machine) → (r : Replies (Unit {0}) P.places k n line old answer why new)
+    ensures trusted { (k : Client) (n : ℕ) (line : Line) (answer : Answer) (why : Option Refusal) (old new : Machine) → StandByNumber old.core.base → (r : Replies (Unit {0}) P.places k n line old answer why new)
         → Holds (Unit {0}) P.places k n line old r.mid answer r.added }
-    ensures unknown { (k : Client) (n : ℕ) (line : Line) (answer : Answer) (why : Option Refusal) (old new : Machine) → (r : Replies ⊥ P.places k n line old answer why new)
+    ensures unknown { (k : Client) (n : ℕ) (line : Line) (answer : Answer) (why : Option Refusal) (old new : Machine) → StandByNumber old.core.base → (r : Replies ⊥ P.places k n line old answer why new)
         → Holds ⊥ P.places k n line old r.mid answer r.added }
 {}

@@ -37,6 +37,7 @@ use Rattle.block_results.specs.command_steps.Clients.{Client, Known, all_seen, c
 use Rattle.block_results.specs.command_steps.Lines.{Line, line_of}
 use Rattle.block_results.specs.line_results.Clauses.{Holds}
 use Rattle.block_results.specs.line_results.Lines.{Halts as EndsLine, Replies}
+use Rattle.block_results.specs.line_results.Migrating.{StandByNumber}
 use Rattle.block_results.specs.line_results.Resting.{HasSizes, IsAtRest, Onward}
 use Rattle.blocks.specs.Parts.{begins, part}
 use Rattle.blocks.specs.Shapes.{Gathered, begun, is_end, with_line}
@@ -110,7 +111,7 @@ End_ trusted =
 -- and then it has what the headline says of each line
 abbrev pub Hold : Type 0 → Type 0
 Hold trusted =
-    (k : Client) (n : ℕ) (line : Line) (answer : Answer) (why : Option Refusal) (old new : Machine) → (r : Replies trusted hall_places k n line old answer why new)
+    (k : Client) (n : ℕ) (line : Line) (answer : Answer) (why : Option Refusal) (old new : Machine) → StandByNumber old.core.base → (r : Replies trusted hall_places k n line old answer why new)
     → Holds trusted hall_places k n line old r.mid answer r.added
 
 -- stamps that rise to a moment are at most that
@@ -136,9 +137,10 @@ module _ {S T : Type 0} (told : S → Option History) (moment : S → ℕ) (faul
     (changes : ChangeTheirTree) (steps_go : GoOn told moment faults) (gives : AreThere told moment faults)
     (goes_then : (x y z : Option History) → Told x y (GoesOn (λ file. Unit {0})) → Told y z (GoesOn (λ file. Unit {0})) → Told x z (GoesOn (λ file. Unit {0}))) (goes_here : (x : Option History) → Told x x (GoesOn (λ file. Unit {0})))
     (trusted : Type 0) (alone : AreAlone trusted told moment faults) (comes : Come trusted) (ends : End_ trusted) (hold : Hold trusted) (choice : List Rule) where
-  -- a session is in this state of the machine, and at rest
+  -- a session is in this state of the machine, and at rest; and pools stand by number in the database that its hall was opened with
   pub record At (s : Session S T) (m : Machine) : Type 0 where
     pub is : Is told moment faults s.hall m
+    pub stands : StandByNumber s.hall.held.base
     pub known : trusted → IsTrusted (told s.hall.store) s.hall.held
     pub rests : IsAtRest m.core
     pub binder : s.binder ≡ choice
@@ -195,14 +197,14 @@ module _ {S T : Type 0} (told : S → Option History) (moment : S → ℕ) (faul
       let r = comes k n (line_of line) events answer why m run.0 at.rests at.is.good.bytes.sized said run.1 in
       record {
         next = run.0;
-        at = record { is = run.2; known = run.3; rests = r.rests; binder = binder ∙ at.binder };
+        at = record { is = run.2; stands = subst StandByNumber (sym on.0) at.stands; known = run.3; rests = r.rests; binder = binder ∙ at.binder };
         goes = on;
         onward = further m r.mid run.0 r.first r.behind;
         same = run.2.core.base ∙ on.0 ∙ sym at.is.core.base;
         run = λ last more. (
           why,
           r,
-          hold k n (line_of line) answer why m run.0 r,
+          hold k n (line_of line) answer why m run.0 (subst StandByNumber (sym at.is.core.base) at.stands) r,
           leaves_file changes k n (line_of line) events answer why said,
           (λ t. there told moment faults clock gives new.hall run.0 (told last.hall.store) run.2 r.rests.fault r.rests.durable (run.3 t) more.2),
           timely told moment faults new.hall m run.0 run.2 run.4,
@@ -343,7 +345,7 @@ module _ {S T : Type 0} (told : S → Option History) (moment : S → ℕ) (faul
         let lines = jobs_ran.ran in
         let came = lines.0 in
         let middle = jobs old mid b first came m at lines.1 in
-        let place : At mid middle.next = record { is = middle.is; known = middle.known; rests = at_rest told moment faults mid.hall middle.next middle.is rests; binder = jobs_ran.binder ∙ at.binder } in
+        let place : At mid middle.next = record { is = middle.is; stands = subst StandByNumber (sym middle.goes.0) at.stands; known = middle.known; rests = at_rest told moment faults mid.hall middle.next middle.is rests; binder = jobs_ran.binder ∙ at.binder } in
         let behind = led_by mid done.behind n [] done.follow middle.next place done.follows in
         let further_on : Goes mid new =
         subst (λ (h : Hall S). (h.held.base ≡ mid.hall.held.base) × (h.held.opened ≡ mid.hall.held.opened) × Told (told mid.hall.store) (told h.store) (GoesOn (λ file. Unit {0}))) (sym done.hall) behind.goes in
@@ -352,6 +354,7 @@ module _ {S T : Type 0} (told : S → Option History) (moment : S → ℕ) (faul
           next = behind.next;
           at = record {
             is = subst (λ (h : Hall S). Is told moment faults h behind.next) (sym done.hall) behind.at.is;
+            stands = subst (λ (h : Hall S). StandByNumber h.held.base) (sym done.hall) behind.at.stands;
             known = subst (λ (h : Hall S). trusted → IsTrusted (told h.store) h.held) (sym done.hall) behind.at.known;
             rests = behind.at.rests;
             binder = done.binder ∙ behind.at.binder;
@@ -441,7 +444,7 @@ module _ {S T : Type 0} (told : S → Option History) (moment : S → ℕ) (faul
     behind_jobs old new b first n how m mid said at ran (inr (rests, stopped)) =
         let lines = ran.ran in
         let middle = jobs old mid b first lines.0 m at lines.1 in
-        let place : At mid middle.next = record { is = middle.is; known = middle.known; rests = at_rest told moment faults mid.hall middle.next middle.is rests; binder = ran.binder ∙ at.binder } in
+        let place : At mid middle.next = record { is = middle.is; stands = subst StandByNumber (sym middle.goes.0) at.stands; known = middle.known; rests = at_rest told moment faults mid.hall middle.next middle.is rests; binder = ran.binder ∙ at.binder } in
         let behind = ended_by mid new n [] how middle.next place stopped in
         record {
           next = behind.next;

@@ -1,5 +1,6 @@
 // A session of the server, and how it answers a line.
 ghost use Rattle.std.specs.Prelude.{◌≡◌, ◌≤◌, ◌<◌, ◌-◌, ◌^◌, length, IfErr, IfOk};
+ghost use Rattle.inventory_rows.specs.Ascending.{AreAscending};
 ghost use Rattle.machine.specs.State.{Machine};
 ghost use Rattle.hall.specs.Steps.{IsTrusted};
 ghost use Rattle.hall_turns.specs.Runs.{CameTo};
@@ -21,6 +22,7 @@ use hall::Hall;
 use hall::laws::trusted_halls_are_safe;
 use hall_turns::Direct;
 use hall_turns::laws::{halls_at_rest_are_there, halls_leave_sound_stores, runs_are_alone};
+use inventory_rows::are_ascending;
 use kinds::Refusal;
 use script_loop::{Halt, Reply};
 use std::alloc::Global;
@@ -55,6 +57,13 @@ impl Placing for HallPlaces {
     ghost goes_on = { hall_goes_on };
 
     ghost elsewhere = { hall_is_lawful };
+}
+
+/// The rows of the database that the hall was opened with ascend.
+pub(crate) fn rows_ascend<S: Store>(hall: &Hall<S>)
+    ensures { AreAscending hall.now.held.base }
+{
+    are_ascending(hall.base().tables());
 }
 
 /// Answers a line by the steps of the script, who has the hall alone, and by calls on the tree that it names.
@@ -136,6 +145,7 @@ impl<S: Store, T: Tree> Session<S, T> {
         halls_at_rest_are_there::<S>();
         halls_leave_sound_stores::<S>();
         trusted_halls_are_safe::<S>();
+        rows_ascend(&self.hall);
         lines_come_to::<HallPlaces>();
         answered_lines_hold::<HallPlaces>();
         lines_change_their_tree();

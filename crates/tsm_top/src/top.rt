@@ -20,7 +20,7 @@ use crate::note::Note;
 use crate::recover::recover;
 use crate::script::{answer_script, clocks_agree};
 use crate::server::Server;
-use crate::session::{HallPlaces, Session};
+use crate::session::{HallPlaces, Session, rows_ascend};
 use block_results::command_steps::laws::lines_change_their_tree;
 use block_results::line_results::laws::{answered_lines_hold, lines_come_to};
 use choosers::Binder;
@@ -465,6 +465,7 @@ fn run_script<
         × (result.base ≡ Some hall.held.base) × (result.opened ≡ S.moment_of hall.store)
         × SourceCause end (I.fault_count script.old) (I.fault_count script.new) × SinkCause end (O.fault_count out.old) (O.fault_count out.new) }
 {
+    rows_ascend(&hall);
     runs_are_alone::<S>();
     halls_at_rest_are_there::<S>();
     halls_leave_sound_stores::<S>();
