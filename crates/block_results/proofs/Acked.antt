@@ -175,19 +175,19 @@ defined-mild (Err e) m = unplaced-mild e (is_unplaced e) m
 
 module _ (given : ClientFile) (file : FileRow) (node filespace : List ℕ) where
   home-acked : (choice : List Rule) (events : List Event) (r : Result Home Refusal) → FindsHome node choice file.path events r → AreAcked events
-  home-acked choice events r h = all-acked events (home-each IsUnmade given file node filespace (λ n q x. refl) (λ n x. refl) (λ n p s o x. refl) (λ n t b x. refl) (λ n t x. refl) (λ n t x. refl) choice events r h)
+  home-acked choice events r h = all-acked events (home-each IsUnmade given file node filespace (λ n q x. refl) (λ n x. refl) (λ n p o x. refl) (λ n t b x. refl) (λ n t x. refl) (λ n t x. refl) choice events r h)
 
   for-acked : (events : List Event) (r : Result ℕ Refusal) → AsksFor node filespace events r → AreAcked events
-  for-acked events r h = all-acked events (for-each IsUnmade given file node filespace (λ n q x. refl) (λ n x. refl) (λ n p s o x. refl) (λ n t b x. refl) (λ n t x. refl) (λ n t x. refl) events r h)
+  for-acked events r h = all-acked events (for-each IsUnmade given file node filespace (λ n q x. refl) (λ n x. refl) (λ n p o x. refl) (λ n t b x. refl) (λ n t x. refl) (λ n t x. refl) events r h)
 
   sends-acked : (pool : ℕ) (events : List Event) (r : Result Sealed Refusal) → Sends (Some given) pool file.size events r → AreAcked events
-  sends-acked pool events r h = all-acked events (sends-each IsUnmade given file node filespace (λ n q x. refl) (λ n x. refl) (λ n p s o x. refl) (λ n t b x. refl) (λ n t x. refl) (λ n t x. refl) pool events r h)
+  sends-acked pool events r h = all-acked events (sends-each IsUnmade given file node filespace (λ n q x. refl) (λ n x. refl) (λ n p o x. refl) (λ n t b x. refl) (λ n t x. refl) (λ n t x. refl) pool events r h)
 
   names-acked : (digest : Digest) (events : List Event) (r : Result ℕ Refusal) → Names node filespace file digest events r → AreAcked events
-  names-acked digest events r h = all-acked events (names-each IsUnmade given file node filespace (λ n q x. refl) (λ n x. refl) (λ n p s o x. refl) (λ n t b x. refl) (λ n t x. refl) (λ n t x. refl) digest events r h)
+  names-acked digest events r h = all-acked events (names-each IsUnmade given file node filespace (λ n q x. refl) (λ n x. refl) (λ n p o x. refl) (λ n t b x. refl) (λ n t x. refl) (λ n t x. refl) digest events r h)
 
   back-unmade : (ticket : ℕ) (why e : Refusal) (events : List Event) → GivesBack ticket why events e → AllByRecursion IsUnmade events
-  back-unmade ticket why e events h = back-each IsUnmade given file node filespace (λ n q x. refl) (λ n x. refl) (λ n p s o x. refl) (λ n t b x. refl) (λ n t x. refl) (λ n t x. refl) ticket why e events h
+  back-unmade ticket why e events h = back-each IsUnmade given file node filespace (λ n q x. refl) (λ n x. refl) (λ n p o x. refl) (λ n t b x. refl) (λ n t x. refl) (λ n t x. refl) ticket why e events h
 
   defines-acked : (number : ℕ) (events : List Event) (r : Result (Unit {0}) Refusal) → IsMild r → Defines number filespace events r → AreAcked events
   defines-acked number events r m (answer, changing, is) = change-acked (defined number filespace) answer events (defined-mild answer (subst (λ (x : Result (Unit {0}) Refusal). IsMild x) is m)) changing

@@ -21,12 +21,12 @@ use Rattle.block_results.specs.Jobs.{AreHeld, FateHolds, JobsHold, nothing_at}
 use Rattle.block_results.proofs.Fitting.{fits-parts}
 use Rattle.block_results.proofs.Lines.{fits-nothing, line-holds}
 
-fate-holds : (w : History) (actor : ℕ) (k : Client) (fate : Fate) (l : JobLine) (events : List Event) (reply : Answer × Option Refusal) (old new : Holding) → old.tickets ≡ [] → Fits w actor old events new → AnswersFate k fate l events (Ok reply)
+pub fate-holds : (w : History) (actor : ℕ) (k : Client) (fate : Fate) (l : JobLine) (events : List Event) (reply : Answer × Option Refusal) (old new : Holding) → old.tickets ≡ [] → Fits w actor old events new → AnswersFate k fate l events (Ok reply)
     → FateHolds w actor k fate l old events reply.0 new
 fate-holds w actor k Beyond l events reply old new free f (kept, none, is) = (kept, none, fits-nothing w actor old new events none f, ap (λ (r : Answer × Option Refusal). r.0) is)
 fate-holds w actor k (Done tree) l events reply old new free f h = line-holds w actor k l.in_use l.line.number (line_in true l.line.text) events reply.0 reply.1 old new free f h
 
-fate-none : (w : History) (actor : ℕ) (k : Client) (fate : Fate) (l : JobLine) (events : List Event) (answer : Answer) (old new : Holding) → old.tickets ≡ [] → FateHolds w actor k fate l old events answer new → new.tickets ≡ []
+pub fate-none : (w : History) (actor : ℕ) (k : Client) (fate : Fate) (l : JobLine) (events : List Event) (answer : Answer) (old new : Holding) → old.tickets ≡ [] → FateHolds w actor k fate l old events answer new → new.tickets ≡ []
 fate-none w actor k Beyond l events answer old new free (kept, none, same, is) = ap (λ (o : Holding). o.tickets) same ∙ free
 fate-none w actor k (Done tree) l events answer old new free h = h.tickets
 
@@ -74,7 +74,7 @@ jobs-held w choice all job first reached turns (own ∷ trees) (c ∷ came) fits
 abbrev has : (reached : ℕ) → List Ticket → Option Picture → Holding
 has reached tickets image = record { reached = reached; tickets = tickets; image = image }
 
-nothing-in : (actor reached : ℕ) (c : Core) → c.tickets ≡ [] → c.image ≡ None → own_in actor reached c ≡ nothing_at reached
+pub nothing-in : (actor reached : ℕ) (c : Core) → c.tickets ≡ [] → c.image ≡ None → own_in actor reached c ≡ nothing_at reached
 nothing-in actor reached c tickets image =
     ap (λ (ts : List Ticket). has reached (own_tickets actor ts) (own_image actor c.image)) tickets ∙ ap (λ (i : Option Picture). has reached [] (own_image actor i)) image
 

@@ -149,7 +149,7 @@ module _ (w : History) (actor : ℕ) (k : Client) (a b : Holding) (until : ℕ) 
   put-entered : (p : FilePut) (numbers : List ℕ) (r : Result ℕ Refusal) → Puts p.node p.filespace k.choice (Some (file_put p)) (row_put p) events r → Entered numbers (put p)
   put-entered p numbers r puts =
       entered-all w actor (Orders numbers (put p)) events a b
-      (puts-all (λ e. Makes w actor (Orders numbers (put p)) e.n e.deed) (file_put p) (row_put p) p.node p.filespace (λ n q answer. tt) (λ n answer. tt) (λ n pool size prefer answer. tt) (λ n ticket bytes answer. tt) (λ n ticket answer. tt)
+      (puts-all (λ e. Makes w actor (Orders numbers (put p)) e.n e.deed) (file_put p) (row_put p) p.node p.filespace (λ n q answer. tt) (λ n answer. tt) (λ n pool prefer answer. tt) (λ n ticket bytes answer. tt) (λ n ticket answer. tt)
       (λ n ticket answer. tt) (λ n number answer s at c same. put-define p number s.inventory.next_filespace c same)
       (λ n number class digest ticket answer hash s at c same.
       put-store p number class digest (all_tickets (ticket ∷ []) s) (scratch_of s.inventory (all_tickets (ticket ∷ []) s)) (are_so_many 1 (ticket ∷ []) s) c hash

@@ -2,13 +2,19 @@ pub use Rattle.line_results.proofs as of_line_results
 pub use Rattle.line_jobs.proofs as of_line_jobs
 pub use Rattle.line_results.proofs.of_command_steps as of_command_steps
 pub mod Acked
+pub mod Attempting
+pub mod Based
 pub mod BySteps
 pub mod Came
 pub mod Changed
 pub mod Completing
+pub mod Drawn
 pub mod Entering
+pub mod Filespaces
 pub mod Fitting
+pub mod Following
 pub mod Imaged
+pub mod InOrder
 pub mod Jobs
 pub mod JobsComplete
 pub mod Journal
@@ -16,11 +22,20 @@ pub mod Leaving
 pub mod Lines
 pub mod Looking
 pub mod Mild
+pub mod MildImages
+pub mod Moving
 pub mod Owned
+pub mod Processes
 pub mod Reasons
+pub mod Removing
+pub mod Restored
 pub mod Rows
 pub mod Settled
 pub mod Single
+pub mod Sized
+pub mod Stored
+pub mod Ticketed
 pub mod Treed
 pub mod Turned
+pub mod Unfailed
 pub mod Walks

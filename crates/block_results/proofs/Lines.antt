@@ -99,7 +99,7 @@ asked-questions (q ∷ queries) [] events h = absurd h
 asked-questions (q ∷ queries) (x ∷ answers) events (xs, ys, cut, step, next) =
     then-all (λ e. IsQuestion e.deed) events xs ys cut (made-all (λ e. IsQuestion e.deed) (Ask q (Ok x)) xs (inl step) (λ n. tt)) (asked-questions queries answers ys next)
 
-looks-questions : (queries : List Query) (events : List Event) (r : Result (List rows.Answer) Refusal) → OrMemory (AsksAll queries) events r → AreQuestions events
+pub looks-questions : (queries : List Query) (events : List Event) (r : Result (List rows.Answer) Refusal) → OrMemory (AsksAll queries) events r → AreQuestions events
 looks-questions queries events (Ok answers) (inl h) = asked-questions queries answers events h
 looks-questions queries events (Err e) (inl (front, answers, inl (q, rest, same, (xs, ys, cut, asked, made)))) =
     then-all (λ e. IsQuestion e.deed) events xs ys cut (asked-questions front answers xs asked) (made-all (λ e. IsQuestion e.deed) (Ask q (Err e)) ys made (λ n. tt))
@@ -113,7 +113,7 @@ question-unmade d h = absurd h
 questions-unmade : (events : List Event) → AreQuestions events → AllByRecursion (λ e. is_made e.deed ≡ false) events
 questions-unmade events h = all-so (λ e. IsQuestion e.deed) (λ e. is_made e.deed ≡ false) (λ e q. question-unmade e.deed q) events h
 
-questions-made : (events : List Event) → AreQuestions events → made events ≡ []
+pub questions-made : (events : List Event) → AreQuestions events → made events ≡ []
 questions-made events h = none-made events (questions-unmade events h)
 
 -- ---- a command

@@ -60,11 +60,11 @@ given-ok x it false h = cc
 
 -- ---- DSMC INCREMENTAL
 
-not-there : (e : Refusal) → (number_of e == 10) ≡ true → e ≡ refused.NotFound
+pub not-there : (e : Refusal) → (number_of e == 10) ≡ true → e ≡ refused.NotFound
 not-there refused.NotFound h = refl
 not-there e h = absurd (false≢true h)
 
-found-is : (x : Found) (number : ℕ) → number_found x ≡ Some number → x ≡ found.Number number
+pub found-is : (x : Found) (number : ℕ) → number_found x ≡ Some number → x ≡ found.Number number
 found-is (found.Number n) number h = ap found.Number (same_Some n number h)
 found-is (found.DevClass capacity) number h = absurd cc
 

@@ -1,9 +1,11 @@
 -- A run of several actors' turns: no count falls, and the moment doesn't; which states it passes, and where each of its steps stands.
-use Rattle.std.proofs.Common.{◌≡◌, ◌∙◌, inl, inr, ℕ, ◌+◌, ◌≤◌, ◌==◌, if◌then◌else◌, false, Some, List, [], ◌∷◌, ◌++◌, length, refl, sym, subst, append_assoc, arith}
+use Rattle.std.proofs.Common.{◌≡◌, ◌∙◌, inl, inr, ℕ, ◌+◌, ◌≤◌, ◌==◌, if◌then◌else◌, false, Some, Result, List, [], ◌∷◌, ◌++◌, length, refl, sym, subst, append_assoc, arith}
 use Rattle.std.specs.List.{AllByRecursion}
 use Rattle.kinds.specs.Refusals.{foremost}
 use Rattle.kinds.specs.declared.refusal.Refusal.{Refusal}
 use Rattle.kinds.specs.declared.refusal.Refusal.TheVariants as refused
+use Rattle.steps.specs.declared.image.ImageKind.{ImageKind}
+use Rattle.steps.specs.declared.image.ImageReply.{ImageReply}
 use Rattle.steps.specs.Events.{Deed, Event, refusal}
 use Rattle.steps.specs.Events.Deed.{OpenNew, OpenCopy, WritePiece, CopyPiece, Seal, Commit, DropTicket, ReadPiece, Ask, Image, Reuse, Force}
 use Rattle.machine.specs.Alone.{Moves, behind}
@@ -17,6 +19,7 @@ use Rattle.machine.specs.Turns.{Turn}
 use Rattle.crew.specs.Ran.{Turned}
 use Rattle.line_results.specs.Resting.{Onward}
 use Rattle.block_results.specs.Refusing.{HasNoPlace, HasRisen, HaveCauses, IsRefusedFor, Meets, bounds, held_reasons, own_reasons}
+use Rattle.block_results.proofs.MildImages.{bounds-mild, held-mild, own-mild}
 use Rattle.block_results.proofs.Reasons.{moved-for}
 
 -- ---- counts and the moment
@@ -98,6 +101,19 @@ module _ (trusted : Type 0) (places : Places) where
   risen-by actor deed file old before after new first last mild place held bound (inr (inr (inr (inr (inr (inl rose)))))) = rose-within old before after new file first rose last
   risen-by actor deed file old before after new first last mild place held bound (inr (inr (inr (inr (inr (inr h)))))) = absurd cc
 
+  -- a step on an image
+  image-risen : (actor : ℕ) (kind : ImageKind) (answer : Result ImageReply Refusal) (file : ℕ) (old before after new : Machine) → Onward old before → Onward after new
+      → IsRefusedFor places actor (Image kind answer) before after (refused.WriteFault file) → RoseAt old.counts new.counts file
+  image-risen actor kind answer file old before after new first last (inl h) = absurd (own-mild actor kind (sight actor before.core) file h)
+  image-risen actor kind answer file old before after new first last (inr (inl h)) = absurd h
+  image-risen actor kind answer file old before after new first last (inr (inr (inl h))) = absurd (held-mild actor kind answer before.core file h)
+  image-risen actor kind answer file old before after new first last (inr (inr (inr (inl h)))) = absurd (bounds-mild kind answer before.core file h)
+  image-risen actor kind answer file old before after new first last (inr (inr (inr (inr (inl h))))) =
+      let odd : is_write_fault (refused.WriteFault file) ≡ false = foremost-all IsMild (ended before) (ended-all IsMild refl (λ f count. refl) before) (refused.WriteFault file) h in
+      absurd cc
+  image-risen actor kind answer file old before after new first last (inr (inr (inr (inr (inr (inl rose)))))) = rose-within old before after new file first rose last
+  image-risen actor kind answer file old before after new first last (inr (inr (inr (inr (inr (inr h)))))) = absurd cc
+
   risen-of : (actor : ℕ) (deed : Deed) (e : Refusal) (old before after new : Machine) → Onward old before → IsRefusedFor places actor deed before after e → Onward after new → HasRisen deed e old new
   risen-of actor (WritePiece number bytes answer) (refused.WriteFault file) old before after new first for last =
       risen-by actor (WritePiece number bytes answer) file old before after new first last (mild-write before number (length bytes) (sight actor before.core)) (λ x. x) refl refl for
@@ -105,6 +121,7 @@ module _ (trusted : Type 0) (places : Places) where
       risen-by actor (CopyPiece number answer) file old before after new first last (mild-copy before number (sight actor before.core)) (λ x. x) refl refl for
   risen-of actor (Seal number answer) (refused.WriteFault file) old before after new first for last =
       risen-by actor (Seal number answer) file old before after new first last (mild-seal before number (sight actor before.core)) (λ x. x) refl refl for
+  risen-of actor (Image kind answer) (refused.WriteFault file) old before after new first for last = image-risen actor kind answer file old before after new first last for
   risen-of actor deed e old before after new first for last = tt
 
   abbrev HasCause : List Turn → Machine → Machine → Turn → Type 0

@@ -88,7 +88,7 @@ module _ (P : Event → Type 0) (ask : (n : ℕ) (q : Query) (answer : Result An
 module _ (P : Event → Type 0) (given : ClientFile) (file : FileRow) (node filespace : List ℕ)
     (ask : (n : ℕ) (q : Query) (answer : Result Answer Refusal) → P (event n (Ask q answer)))
     (force : (n : ℕ) (answer : Result ℕ Refusal) → P (event n (Force answer)))
-    (open_new : (n pool size prefer : ℕ) (answer : Result ℕ Refusal) → P (event n (OpenNew pool size prefer answer)))
+    (open_new : (n pool prefer : ℕ) (answer : Result ℕ Refusal) → P (event n (OpenNew pool file.size prefer answer)))
     (write : (n ticket : ℕ) (bytes : List ℕ) (answer : Result ℕ Refusal) → P (event n (WritePiece ticket bytes answer)))
     (seal : (n ticket : ℕ) (answer : Result (Unit {0}) Refusal) → P (event n (Seal ticket answer)))
     (give_back : (n ticket : ℕ) (answer : Result (Unit {0}) Refusal) → P (event n (DropTicket ticket answer))) where
@@ -149,14 +149,14 @@ module _ (P : Event → Type 0) (given : ClientFile) (file : FileRow) (node file
   spends-each ticket size before after events r (inl (digest, fills, is)) = fills-each ticket size before after events (Ok digest) fills
   spends-each ticket size before after events r (inr (e, (xs, ys, cut, fills, gives))) = then-all P events xs ys cut (fills-each ticket size before after xs (Err e) fills) (gives-up-each ticket e ys r gives)
 
-  sent-each : (pool size before after : ℕ) (events : List Event) (r : Result Came Refusal) → client.Sends (Some given) pool size before after events r → Each events
-  sent-each pool size before after events r (inl (e, made, is)) = made-all P (OpenNew pool size 0 (Err e)) events made (λ n. open_new n pool size 0 (Err e))
-  sent-each pool size before after events r (inr (ticket, (xs, ys, cut, made, spends))) =
-      then-all P events xs ys cut (made-all P (OpenNew pool size 0 (Ok ticket)) xs made (λ n. open_new n pool size 0 (Ok ticket))) (spends-each ticket size before after ys r spends)
+  sent-each : (pool before after : ℕ) (events : List Event) (r : Result Came Refusal) → client.Sends (Some given) pool file.size before after events r → Each events
+  sent-each pool before after events r (inl (e, made, is)) = made-all P (OpenNew pool file.size 0 (Err e)) events made (λ n. open_new n pool 0 (Err e))
+  sent-each pool before after events r (inr (ticket, (xs, ys, cut, made, spends))) =
+      then-all P events xs ys cut (made-all P (OpenNew pool file.size 0 (Ok ticket)) xs made (λ n. open_new n pool 0 (Ok ticket))) (spends-each ticket file.size before after ys r spends)
 
   pub sends-each : (pool : ℕ) (events : List Event) (r : Result Sealed Refusal) → Sends (Some given) pool file.size events r → Each events
   sends-each pool events r h =
-      obtains-all P force (SendsOnce (Some given) pool file.size) (λ answer xs once. sent-each pool file.size once.0 once.1 xs once.2 once.3.order) events r h
+      obtains-all P force (SendsOnce (Some given) pool file.size) (λ answer xs once. sent-each pool once.0 once.1 xs once.2 once.3.order) events r h
 
   pub back-each : (ticket : ℕ) (why e : Refusal) (events : List Event) → GivesBack ticket why events e → Each events
   back-each ticket why e events (inl (lasting, none, is)) = none-all P events none

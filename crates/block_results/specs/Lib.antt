@@ -5,6 +5,9 @@ pub mod Clauses
 pub mod Jobs
 pub mod Joining
 pub mod Legal
+pub mod Processes
 pub mod Refusing
+pub mod Room
+pub mod Sizes
 pub mod Standing
 pub mod Works

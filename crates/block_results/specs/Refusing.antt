@@ -102,11 +102,12 @@ pub record Meets (trusted : Type 0) (places : Places) (turns : List Turn) (old n
   pub made : Moves trusted places t.actor t.did before after
   pub leads : Turned trusted places back after new
 
--- of a ticket's step that writes to a volume: where that failed, the count of the file's faults rose in the turns
+-- of a ticket's step that writes to a volume, and of one that writes to a backup's file: where that failed, the count of the file's faults rose in the turns
 abbrev pub HasRisen : Deed → Refusal → (old new : Machine) → Type 0
 HasRisen (WritePiece number bytes answer) (WriteFault file) old new = RoseAt old.counts new.counts file
 HasRisen (CopyPiece number answer) (WriteFault file) old new = RoseAt old.counts new.counts file
 HasRisen (Seal number answer) (WriteFault file) old new = RoseAt old.counts new.counts file
+HasRisen (Image kind answer) (WriteFault file) old new = RoseAt old.counts new.counts file
 HasRisen deed e old new = Unit {0}
 
 -- Each of these turns that was refused has its cause at the state that it met.

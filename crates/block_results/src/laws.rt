@@ -20,12 +20,15 @@ ghost use Rattle.line_jobs.specs.Shares.{AreDone, Came};
 ghost use Rattle.line_jobs.specs.declared.job.Said.{Said};
 ghost use Rattle.line_results.specs.copy_attempts.Outcomes.{Met};
 ghost use Rattle.line_results.specs.Resting.{Adds};
+ghost use Rattle.line_results.specs.Trees.{HaveBytes};
 ghost use Rattle.block_results.specs.Clauses.{Holds};
 ghost use Rattle.block_results.specs.Standing.{IsRefusedAt};
 ghost use Rattle.block_results.specs.Jobs.{AreHeld, JobsHold, nothing_at};
 ghost use Rattle.block_results.specs.Joining.{AreBySteps};
 ghost use Rattle.block_results.specs.Legal.{JobsComplete};
 ghost use Rattle.block_results.specs.Refusing.{HaveCauses};
+ghost use Rattle.block_results.specs.Room.{JobsUnfailed};
+ghost use Rattle.block_results.specs.Sizes.{JobsSized};
 
 /// A line of a job that was answered holds, clause by clause, in every history that its steps fit, where its actor had no ticket before it; and it has none behind it.
 pub fn job_lines_hold()
@@ -64,10 +67,34 @@ pub fn transactions_are_by_steps()
         → AreBySteps ⊥ hall_places turns old new (inventory old.core).number added }
 {}
 
-/// A line of a job of a block that is legal, and in which no count of faults rose, isn't refused, unless the reuse of volumes behind its work is.
+/// A line of a job of a block that is legal, and in which no count of faults rose, isn't refused, unless the reuse of volumes behind its work is, or a wait for what others hold, or a filespace or a volume that is in use still, or a ticket for a copy that is to move.
 pub fn blocks_are_complete()
     ensures trusted { (choice : List Rule) (all : List Placed) (job first : ℕ) (turns : List Turn) (old new : Machine) (trees : List (List Known)) (came : List Came) → Turned (Unit {0}) hall_places turns old new
         → AreDone choice all job first turns trees came → JobsComplete (Unit {0}) hall_places choice all job first turns old new trees came }
     ensures unknown { (choice : List Rule) (all : List Placed) (job first : ℕ) (turns : List Turn) (old new : Machine) (trees : List (List Known)) (came : List Came) → Turned ⊥ hall_places turns old new
         → AreDone choice all job first turns trees came → JobsComplete ⊥ hall_places choice all job first turns old new trees came }
+{}
+
+/// What the jobs of a block stored has as many bytes as the client gave: a version that a PUT brings as many as the text, and one that a backup of a tree brings as many as were listed of its file, which has as many where the tree
+/// tells it. So it is in every history that what each of the block's actors did fits, since no ticket of a run has a number that another one had.
+pub fn blocks_have_sizes()
+    ensures trusted { (w : History) (choice : List Rule) (all : List Placed) (job first reached : ℕ) (turns : List Turn) (old new : Machine) (trees : List (List Known)) (came : List Came) → Turned (Unit {0}) hall_places turns old new
+        → ((actor : ℕ) → (last : Own) × Fits w actor (nothing_at reached) (events_of actor turns) last) → AreDone choice all job first turns trees came → JobsSized w choice all job first reached turns trees came }
+    ensures unknown { (w : History) (choice : List Rule) (all : List Placed) (job first reached : ℕ) (turns : List Turn) (old new : Machine) (trees : List (List Known)) (came : List Came) → Turned ⊥ hall_places turns old new
+        → ((actor : ℕ) → (last : Own) × Fits w actor (nothing_at reached) (events_of actor turns) last) → AreDone choice all job first turns trees came → JobsSized w choice all job first reached turns trees came }
+{}
+
+/// Where no count of faults rose no file fails in a DSMC INCREMENTAL of a job of a block that has room for all of its files at each state that its steps meet, nor in a DSMC RESTORE of versions that can be given back at each state
+/// that its turns pass.
+pub fn blocks_fail_none()
+    ensures trusted { (choice : List Rule) (all : List Placed) (job first : ℕ) (turns : List Turn) (old new : Machine) (trees : List (List Known)) (came : List Came) → Turned (Unit {0}) hall_places turns old new
+        → AreDone choice all job first turns trees came → JobsUnfailed (Unit {0}) hall_places choice all job first turns old new trees came }
+    ensures unknown { (choice : List Rule) (all : List Placed) (job first : ℕ) (turns : List Turn) (old new : Machine) (trees : List (List Known)) (came : List Came) → Turned ⊥ hall_places turns old new
+        → AreDone choice all job first turns trees came → JobsUnfailed ⊥ hall_places choice all job first turns old new trees came }
+{}
+
+/// Each version that the transactions of a run bring which began without a ticket says of its object how many bytes that has, and their digest; and these are the object's bytes from then on.
+pub fn stored_versions_have_bytes()
+    ensures trusted { (turns : List Turn) (old new : Machine) (added : List Entry) → old.core.tickets ≡ [] → Turned (Unit {0}) hall_places turns old new → Adds added old new → HaveBytes new added }
+    ensures unknown { (turns : List Turn) (old new : Machine) (added : List Entry) → old.core.tickets ≡ [] → Turned ⊥ hall_places turns old new → Adds added old new → HaveBytes new added }
 {}

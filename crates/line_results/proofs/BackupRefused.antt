@@ -112,12 +112,12 @@ lists-idle [] (r ∷ rebind) none empty = absurd cc
 lists-idle (l ∷ send) rebind none empty = (let few : length (l ∷ send) ≤ 0 = ltb-false 0 (length (l ∷ send)) none in absurd (omega (arith, few)))
 
 -- a plan over no versions has something to be committed only where it sends files
-plan-idle : (s : Scheme) (files : List FileRow) (plan : Lists) → plan ≡ plan_of s files [] → is_sending plan ≡ false → is_idle plan ≡ true
+pub plan-idle : (s : Scheme) (files : List FileRow) (plan : Lists) → plan ≡ plan_of s files [] → is_sending plan ≡ false → is_idle plan ≡ true
 plan-idle s files plan is none =
     subst (λ (p : Lists). is_idle p ≡ true) (sym is)
     (lists-idle (plan_of s files []).send (flat_map rebinds (map (file_task s []) files)) (subst (λ (p : Lists). is_sending p ≡ false) is none) (rebinds-none s files))
 
-none-active : AreActive []
+pub none-active : AreActive []
 unfolding IsStrictlySortedBy
 none-active = tt
 
@@ -154,7 +154,7 @@ lines-same (Ok x) a b h k = (let first : x ≡ rows.Filespaces a = cc in let sec
 lines-same (Err e) a b h k = absurd cc
 
 -- a filespace that isn't there has no versions
-no-versions : (node name : List ℕ) (k : ℕ) (v : Inv) (versions : List VersionLine) → node_named node v.clients.nodes ≡ Some k → filespace_named k name v.clients.filespaces ≡ None → HasVersions node name v versions → versions ≡ []
+pub no-versions : (node name : List ℕ) (k : ℕ) (v : Inv) (versions : List VersionLine) → node_named node v.clients.nodes ≡ Some k → filespace_named k name v.clients.filespaces ≡ None → HasVersions node name v versions → versions ≡ []
 no-versions node name k v versions known none (inl are) =
     (let at : filespace_asked node name v.clients ≡ if_found (filespace_named k name v.clients.filespaces) Ok = asked-there node name k v.clients known in
     let missing : filespace_asked node name v.clients ≡ Err refused.NotFound = at ∙ ap (λ (o : Option ℕ). if_found o Ok) none in
@@ -170,7 +170,7 @@ found-refused (Some x) f e so h = so x h
 never-ok : {A : Type 0} (x : A) (e : Refusal) → ◌≡◌ {A = Result A Refusal} (Ok x) (Err e) → e ≡ refused.NotFound
 never-ok x e h = cc
 
-asked-missing : (node name : List ℕ) (clients : Clients) (e : Refusal) → filespace_asked node name clients ≡ Err e → e ≡ refused.NotFound
+pub asked-missing : (node name : List ℕ) (clients : Clients) (e : Refusal) → filespace_asked node name clients ≡ Err e → e ≡ refused.NotFound
 asked-missing node name clients e h =
     found-refused (node_named node clients.nodes) (λ n. if_found (filespace_named n name clients.filespaces) Ok) e (λ n g. found-refused (filespace_named n name clients.filespaces) Ok e (λ x k. never-ok x e k) g) h
 
@@ -216,11 +216,12 @@ other-refused j node name v e none h =
     (λ f is. foremost-all IsOther _ (other-causes j node name v none) f is) h
 
 -- defining a filespace that isn't there isn't refused since it is
-not-there-yet : (node : ℕ) (name : List ℕ) (core : Core) (e : Refusal) → filespace_named node name (inventory core).clients.filespaces ≡ None → why_not (filespace_defined node name (inventory core)) core ≡ Some e → IsOther e
-not-there-yet node name core e none h =
-    foremost-all IsOther (change_refused 0 (Some (filespace_defined node name (inventory core))) (sight 0 core))
-    (append-all IsOther (change_illegal (filespace_defined node name (inventory core)) (sight 0 core)) _
-    (other-listed (refused_by (sight 0 core).journal (filespace_defined node name (inventory core)) (inventory core)) (λ f is. other-refused (sight 0 core).journal node name (inventory core) f none is))
+pub not-there-yet : (actor node : ℕ) (name : List ℕ) (core : Core) (e : Refusal) → filespace_named node name (inventory core).clients.filespaces ≡ None
+    → foremost (change_refused actor (Some (filespace_defined node name (inventory core))) (sight actor core)) ≡ Some e → (number_of e == 11) ≡ false
+not-there-yet actor node name core e none h =
+    foremost-all IsOther (change_refused actor (Some (filespace_defined node name (inventory core))) (sight actor core))
+    (append-all IsOther (change_illegal (filespace_defined node name (inventory core)) (sight actor core)) _
+    (other-listed (refused_by (sight actor core).journal (filespace_defined node name (inventory core)) (inventory core)) (λ f is. other-refused (sight actor core).journal node name (inventory core) f none is))
     (unless-all IsOther _ refused.RecordFull refl)) e h
 
 -- ---- questions
@@ -263,7 +264,7 @@ module _ (trusted : Type 0) (places : Places) where
     pub legal : why_not (filespace_defined k name (database m)) m.core ≡ None
     pub became : Became (made 0 (filespace_defined k name (database m)) m.core) m new
 
-  already-not : (why : Refusal) (b : Bool) → (number_of why == 11) ≡ b → ◌≡◌ {A = Result (Unit {0}) Refusal} (Ok tt) (if b then Ok tt else Err (undefined why)) → (number_of why == 11) ≡ true
+  pub already-not : (why : Refusal) (b : Bool) → (number_of why == 11) ≡ b → ◌≡◌ {A = Result (Unit {0}) Refusal} (Ok tt) (if b then Ok tt else Err (undefined why)) → (number_of why == 11) ≡ true
   already-not why true is h = is
   already-not why false is h = absurd cc
 
@@ -271,7 +272,7 @@ module _ (trusted : Type 0) (places : Places) where
       → JoinFails (change.Object (client.Filespace two.Define k name 0)) m new why → ⊥
   not-exists k name why m new none is (inl (inl (inl (full, late)), b)) = true≢false (sym is ∙ ap (λ (e : Refusal). number_of e == 11) full)
   not-exists k name why m new none is (inl (inl (inr memory), b)) = true≢false (sym is ∙ ap (λ (e : Refusal). number_of e == 11) memory)
-  not-exists k name why m new none is (inl (inr refuses, b)) = true≢false (sym is ∙ not-there-yet k name m.core why none refuses)
+  not-exists k name why m new none is (inl (inr refuses, b)) = true≢false (sym is ∙ not-there-yet 0 k name m.core why none refuses)
   not-exists k name why m new none is (inr (legal, (file, count, fault, rose, b))) = true≢false (sym is ∙ ap (λ (e : Refusal). number_of e == 11) fault)
 
   defines : (k : ℕ) (name : List ℕ) (events : List Event) (m new : Machine) → IsAtRest m.core → filespace_named k name (database m).clients.filespaces ≡ None → DefinesOne k name events (Ok tt)
@@ -289,7 +290,7 @@ module _ (trusted : Type 0) (places : Places) where
   mild-undefined e why true is mild = is
   mild-undefined e why false is mild = absurd (ends-halt e (subst Ends (sym is) (ends-stopping why)) mild)
 
-  mild-defined : (e why : Refusal) (b : Bool) → ◌≡◌ {A = Result (Unit {0}) Refusal} (Err e) (if b then Ok tt else Err (undefined why)) → halt_by e ≡ None → e ≡ why
+  pub mild-defined : (e why : Refusal) (b : Bool) → ◌≡◌ {A = Result (Unit {0}) Refusal} (Err e) (if b then Ok tt else Err (undefined why)) → halt_by e ≡ None → e ≡ why
   mild-defined e why true is mild = absurd cc
   mild-defined e why false is mild = mild-undefined e why (has_number (10 ∷ 31 ∷ []) why) (same-err (Unit {0}) e (undefined why) is) mild
 

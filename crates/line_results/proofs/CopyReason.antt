@@ -65,12 +65,12 @@ ended-not m = ended-all NotTen (λ is. absurd cc) (λ file count is. absurd cc) 
 
 -- ---- kinds
 
-no-kinds : (a b : Option Pool) → (is_some a && is_some b) ≡ false → are_kinds (option_map (λ p. p.kind) a) (option_map (λ p. p.kind) b) ≡ false
+pub no-kinds : (a b : Option Pool) → (is_some a && is_some b) ≡ false → are_kinds (option_map (λ p. p.kind) a) (option_map (λ p. p.kind) b) ≡ false
 no-kinds None b h = refl
 no-kinds (Some x) None h = elim x.kind as (λ k. are_kinds (Some k) None ≡ false) [ kind.Primary ↦ refl | kind.Copy ↦ refl ]
 no-kinds (Some x) (Some y) h = absurd (let odd : true ≡ false = h in cc)
 
-no-copy-kind : (first : Option PoolKind) (found : Option Pool) → option_map_or (λ p. not (is_primary_kind p.kind)) found false ≡ false → are_kinds first (option_map (λ p. p.kind) found) ≡ false
+pub no-copy-kind : (first : Option PoolKind) (found : Option Pool) → option_map_or (λ p. not (is_primary_kind p.kind)) found false ≡ false → are_kinds first (option_map (λ p. p.kind) found) ≡ false
 no-copy-kind first None h = none first where
   none : (first : Option PoolKind) → are_kinds first None ≡ false
   none None = refl

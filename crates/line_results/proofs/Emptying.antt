@@ -128,7 +128,7 @@ module _ (trusted : Type 0) (places : Places) where
 -- ---- its names
 
 -- the lines of all filespaces tell those of the one with this number
-names-shown : (filespace : ℕ) (clients : Clients) (es : List (ℕ × Filespace)) (x : Filespace) → filespace_at filespace es ≡ Some x
+pub names-shown : (filespace : ℕ) (clients : Clients) (es : List (ℕ × Filespace)) (x : Filespace) → filespace_at filespace es ≡ Some x
     → names_in filespace (flat_map (filespace_lines_of clients None) es) ≡ with_node x.name (name_of_node x.node clients)
 names-shown filespace clients [] x at = absurd (let odd : None ≡ Some x = at in cc)
 names-shown filespace clients (e ∷ es) x at =

@@ -14,6 +14,7 @@ pub use Rattle.command_steps.proofs.of_deletions as of_deletions
 pub use Rattle.command_steps.proofs.of_db_backup as of_db_backup
 pub use Rattle.command_steps.proofs.of_volume_audits as of_volume_audits
 pub use Rattle.command_steps.proofs.of_sessions as of_sessions
+pub use Rattle.inventory_laws.proofs as of_inventory_laws
 pub mod Asked
 pub mod Backing
 pub mod BackupReason

@@ -252,18 +252,22 @@ defined-rows node name v x h none =
           ] s
     ] h
 
-pub defined-there : (node : ℕ) (name : List ℕ) (core : Core) → why_not (filespace_defined node name (inventory core)) core ≡ None → filespace_named node name (inventory core).clients.filespaces ≡ None
-    → ((effect (filespace_defined node name (inventory core)) (inventory core)).clients.nodes ≡ (inventory core).clients.nodes)
-    × (filespace_named node name (effect (filespace_defined node name (inventory core)) (inventory core)).clients.filespaces ≡ Some (inventory core).next_filespace)
-defined-there node name core why none =
-    let v : Inv = inventory core in
+-- where the database doesn't refuse it
+pub defined-so : (j : Journal) (node : ℕ) (name : List ℕ) (v : Inv) → refused_by j (filespace_defined node name v) v ≡ None → filespace_named node name v.clients.filespaces ≡ None
+    → ((effect (filespace_defined node name v) v).clients.nodes ≡ v.clients.nodes) × (filespace_named node name (effect (filespace_defined node name v) v).clients.filespaces ≡ Some v.next_filespace)
+defined-so j node name v legal none =
     let it : Change = filespace_defined node name v in
-    let held = append-none (refusal_of (rows_changed (client.Filespace two.Define node name v.next_filespace) v.next_node v.clients)) _ (refused-none (sight 0 core).journal it v (legal it core why)) in
+    let held = append-none (refusal_of (rows_changed (client.Filespace two.Define node name v.next_filespace) v.next_node v.clients)) _ (refused-none j it v legal) in
     let made = refusal-none (rows_changed (client.Filespace two.Define node name v.next_filespace) v.next_node v.clients) held.0 in
     let x : Clients = made.0 in
     let left : (effect it v).clients ≡ x = clients-behind node name v x (ap (or_same v.clients) made.1) in
     let d = defined-rows node name v x made.1 none in
     (ap (λ (c : Clients). c.nodes) left ∙ d.0, ap (λ (c : Clients). filespace_named node name c.filespaces) left ∙ d.1)
+
+pub defined-there : (node : ℕ) (name : List ℕ) (core : Core) → why_not (filespace_defined node name (inventory core)) core ≡ None → filespace_named node name (inventory core).clients.filespaces ≡ None
+    → ((effect (filespace_defined node name (inventory core)) (inventory core)).clients.nodes ≡ (inventory core).clients.nodes)
+    × (filespace_named node name (effect (filespace_defined node name (inventory core)) (inventory core)).clients.filespaces ≡ Some (inventory core).next_filespace)
+defined-there node name core why none = defined-so (sight 0 core).journal node name (inventory core) (legal (filespace_defined node name (inventory core)) core why) none
 
 -- ---- one transaction more
 

@@ -18,6 +18,7 @@ use Rattle.kinds.specs.declared.rule.RuleFound.{RuleFound}
 use Rattle.kinds.specs.declared.segment.Segment.{Segment}
 use Rattle.entries.specs.change_items.declared.items.NewVersion.{NewVersion}
 use Rattle.entries.specs.change_items.declared.items.ScratchVolume.{ScratchVolume}
+use Rattle.entries.specs.declared.change.Change.TheVariants as change
 use Rattle.inventory_rows.specs.object_rows.Filespaces.{at_number, filespaces_with, group_at, groups_in}
 use Rattle.inventory_rows.specs.object_rows.Names.{at_name, filespace_named, name_in, named_of, node_named}
 use Rattle.inventory_rows.specs.object_rows.Rows.{Rows}
@@ -92,23 +93,24 @@ with_version filespace path class version filespaces = or_same filespaces (files
 abbrev with_newest : (filespace : ℕ) → (path class : List ℕ) → Version → Rows → Rows
 with_newest filespace path class version rows = record rows { filespaces = with_version filespace path class version rows.filespaces }
 
--- the version that the file became, whatever else is said of it
-pub record IsNewest (p : FilePut) (c : Core) (version : Version) : Type 0 where
-  pub object : version.object ≡ c.next_object
+-- the version that the file became, of the object with this number, whatever else is said of it
+pub record IsNewest (p : FilePut) (number : ℕ) (version : Version) : Type 0 where
+  pub object : version.object ≡ number
   pub mtime : version.mtime ≡ p.mtime
   pub digest : version.digest ≡ digest_with (sha256 p.text)
 
-pub backed-clients : (filespace : ℕ) (p : FilePut) (class : List ℕ) (place : Place) (c : Core)
-    → (version : Version) × IsNewest p c version × ((effect (backed_up filespace p class place c) (inventory c)).clients ≡ with_newest filespace p.path class version (inventory c).clients)
+-- what an item of a file's becomes, under whatever class and in whatever place
+pub stored-clients : (filespace : ℕ) (p : FilePut) (scratch : List ScratchVolume) (item : NewVersion) (v : Inv) → item.path ≡ p.path → item.mtime ≡ p.mtime → item.digest ≡ digest_with (sha256 p.text)
+    → (version : Version) × IsNewest p item.object version
+    × ((effect (change.Backup (record { filespace = filespace; scratch = scratch; items = item ∷ [] })) v).clients ≡ with_newest filespace p.path item.class version v.clients)
 unfolding effect
-backed-clients filespace p class place c =
-    let item : NewVersion = item_of p class place c in
-    let v : Inv = each make_scratch (scratch_of (inventory c) (ticket_of p place c ∷ [])) (inventory c) in
-    let version : Version = new_version v item in (
+stored-clients filespace p scratch item v path mtime digest =
+    let w : Inv = each make_scratch scratch v in
+    let version : Version = new_version w item in (
       version,
-      record { object = refl; mtime = refl; digest = refl },
-      put-clients item.object item.segments (inserted filespace item v)
-          ∙ ap (λ (rows : Rows). with_newest filespace p.path class version rows) (scratch-clients (scratch_of (inventory c) (ticket_of p place c ∷ [])) (inventory c)),
+      record { object = refl; mtime = mtime; digest = digest },
+      put-clients item.object item.segments (inserted filespace item w)
+          ∙ ap (λ (rows : Rows). with_newest filespace item.path item.class version rows) (scratch-clients scratch v) ∙ ap (λ (l : List ℕ). with_newest filespace l item.class version v.clients) path,
     )
 
 -- ---- the filespace and its node are found as before
@@ -120,7 +122,7 @@ passed number e es h = elim (at_number number e.0) as (λ b. (f : Filespace) × 
   | false ↦ h
 ]
 
-same-number : (n : ℕ) → at_number n n ≡ true
+pub same-number : (n : ℕ) → at_number n n ≡ true
 same-number n = (eq_by_cmp_equiv nat_cmp_total).refl n
 
 there-by : (node number : ℕ) (name : List ℕ) (es : List (ℕ × Filespace)) → filespace_named node name es ≡ Some number → (f : Filespace) × (lookup (at_number number) es ≡ Some f)
@@ -160,9 +162,9 @@ with-found filespace path class version f es h = rw h refl
 pub at-self : (path : List ℕ) → at_path path path ≡ true
 at-self path = is_eq-slice_cmp path path ∙ same-self path
 
-first-is : (p : FilePut) (c : Core) (rule : Option RuleFound) (today : ℕ) (path class : List ℕ) (version : Version) (group : Group) (older : List Version) → IsNewest p c version → group.versions ≡ version ∷ older
-    → object_among (row_put p) (digest_with (sha256 p.text)) (group_versions rule today path group) ≡ Some c.next_object
-first-is p c rule today path class version group older is newest =
+first-is : (p : FilePut) (number : ℕ) (rule : Option RuleFound) (today : ℕ) (path class : List ℕ) (version : Version) (group : Group) (older : List Version) → IsNewest p number version → group.versions ≡ version ∷ older
+    → object_among (row_put p) (digest_with (sha256 p.text)) (group_versions rule today path group) ≡ Some number
+first-is p number rule today path class version group older is newest =
     let time : (version.mtime == p.mtime) ≡ true = eq-eqb version.mtime p.mtime is.mtime in
     let same : is_same_name version.digest.0 (digest_with (sha256 p.text)).0 ≡ true = ap (λ d. is_same_name d.0 (digest_with (sha256 p.text)).0) is.digest ∙ same-self (digest_with (sha256 p.text)).0 in
     rw newest (rw time (rw same (ap Some is.object)))
@@ -180,18 +182,14 @@ group-found filespace path class version f es h =
     ap (λ (o : Option Filespace). grouped.group_at path (groups_in o)) there
     ∙ lookup-inserted nat_list_cmp_total path path g f.groups ∙ ap (λ (b : Bool). cond b (Some g) (lookup (is_at (slice_cmp nat_cmp path)) f.groups)) (at-self path)
 
--- the versions of the path, behind the transaction
-pub named-object : (node filespace : ℕ) (p : FilePut) (class : List ℕ) (place : Place) (c : Core) → node_named p.node (inventory c).clients.nodes ≡ Some node
-    → filespace_named node p.filespace (inventory c).clients.filespaces ≡ Some filespace
-    → (lines : List VersionLine) × (path_versions_of p.node p.filespace p.path (effect (backed_up filespace p class place c) (inventory c)) ≡ Ok lines)
-    × (object_stored (row_put p) (digest_with (sha256 p.text)) lines ≡ Ok c.next_object)
-named-object node filespace p class place c known found =
-    let w : Inv = effect (backed_up filespace p class place c) (inventory c) in
-    let es : List (ℕ × Filespace) = (inventory c).clients.filespaces in
-    let b = backed-clients filespace p class place c in
-    let version : Version = b.0 in
+-- the versions of the path, behind a transaction that left these clients
+pub named-in : (node filespace : ℕ) (p : FilePut) (class : List ℕ) (number : ℕ) (version : Version) (v w : Inv) → IsNewest p number version → w.clients ≡ with_newest filespace p.path class version v.clients
+    → node_named p.node v.clients.nodes ≡ Some node → filespace_named node p.filespace v.clients.filespaces ≡ Some filespace
+    → (lines : List VersionLine) × (path_versions_of p.node p.filespace p.path w ≡ Ok lines) × (object_among (row_put p) (digest_with (sha256 p.text)) lines ≡ Some number)
+named-in node filespace p class number version v w newest left known found =
+    let es : List (ℕ × Filespace) = v.clients.filespaces in
     let there = there-by node filespace p.filespace es found in
-    let rows : Rows = with_newest filespace p.path class version (inventory c).clients in
+    let rows : Rows = with_newest filespace p.path class version v.clients in
     let names : filespace_named node p.filespace rows.filespaces ≡ Some filespace =
     ap (λ (l : List (ℕ × Filespace)). filespace_named node p.filespace l) (with-found filespace p.path class version there.0 es there.1)
     ∙ ap (lookup (at_name p.filespace)) (named-set (at_number filespace) node there.0 (newer p.path class version there.0) es there.1 refl refl) ∙ found in
@@ -200,11 +198,18 @@ named-object node filespace p class place c known found =
     let at : group_at filespace p.path rows.filespaces ≡ Some group = group-found filespace p.path class version there.0 es there.1 in
     let lines : List VersionLine = group_versions (rule_in filespace group.class w) w.today p.path group in
     let under : versions_under filespace p.path w ≡ lines =
-    ap (λ (r : Rows). versions_of_group filespace p.path w (group_at filespace p.path r.filespaces)) b.2 ∙ ap (λ (o : Option Group). versions_of_group filespace p.path w o) at in
-    let first = group-first class version (grouped.group_at p.path there.0.groups) in
-    let among : object_among (row_put p) (digest_with (sha256 p.text)) lines ≡ Some c.next_object =
-    first-is p c (rule_in filespace group.class w) w.today p.path class version group first.0 b.1 first.1 in (
+    ap (λ (r : Rows). versions_of_group filespace p.path w (group_at filespace p.path r.filespaces)) left ∙ ap (λ (o : Option Group). versions_of_group filespace p.path w o) at in
+    let first = group-first class version (grouped.group_at p.path there.0.groups) in (
       lines,
-      ap (λ (r : Result ℕ Refusal). on_ok (λ n. versions_under n p.path w) r) (ap (λ (r : Rows). filespace_asked p.node p.filespace r) b.2 ∙ asked) ∙ ap Ok under,
-      ap found_or among,
+      ap (λ (r : Result ℕ Refusal). on_ok (λ n. versions_under n p.path w) r) (ap (λ (r : Rows). filespace_asked p.node p.filespace r) left ∙ asked) ∙ ap Ok under,
+      first-is p number (rule_in filespace group.class w) w.today p.path class version group first.0 newest first.1,
     )
+
+pub named-object : (node filespace : ℕ) (p : FilePut) (class : List ℕ) (place : Place) (c : Core) → node_named p.node (inventory c).clients.nodes ≡ Some node
+    → filespace_named node p.filespace (inventory c).clients.filespaces ≡ Some filespace
+    → (lines : List VersionLine) × (path_versions_of p.node p.filespace p.path (effect (backed_up filespace p class place c) (inventory c)) ≡ Ok lines)
+    × (object_stored (row_put p) (digest_with (sha256 p.text)) lines ≡ Ok c.next_object)
+named-object node filespace p class place c known found =
+    let b = stored-clients filespace p (scratch_of (inventory c) (ticket_of p place c ∷ [])) (item_of p class place c) (inventory c) refl refl refl in
+    let named = named-in node filespace p class c.next_object b.0 (inventory c) (effect (backed_up filespace p class place c) (inventory c)) b.1 b.2 known found in
+    (named.0, named.1, ap found_or named.2)

@@ -494,7 +494,7 @@ audit-reason trusted places fix file events e old new mild free h f = elim h.cam
 -- ---- DELETE FILESPACE, DELETE VOLUME
 
 -- of what is there, or used, no more is said
-kept-so : (e : Refusal) → is_kept_by e ≡ true → IsUnremoved e
+pub kept-so : (e : Refusal) → is_kept_by e ≡ true → IsUnremoved e
 kept-so refused.NotFound h = inl refl
 kept-so (refused.InUse user) h = inr (inl (user, refl))
 kept-so (refused.NotYet file day) h = inr (inr (file, day, refl))

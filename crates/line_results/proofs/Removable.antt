@@ -112,7 +112,7 @@ module _ (file : ℕ) (v : Inv) (there : IsVolume file v) where
   abbrev pub its-row : Row
   its-row = record { name = there.0.name; capacity = there.0.capacity; access = there.0.access }
 
-  named-row : (lines : List VolumeLine) → rows_of (query.Volumes None None) v ≡ Ok (rows.Volumes lines) → row_in file lines ≡ Ok its-row
+  pub named-row : (lines : List VolumeLine) → rows_of (query.Volumes None None) v ≡ Ok (rows.Volumes lines) → row_in file lines ≡ Ok its-row
   named-row lines is =
       ap (row_in file) (same-ok volumes-in (rows.Volumes lines) (rows.Volumes (volume_lines None None v.stores)) (rows_of (query.Volumes None None) v) is refl)
       ∙ row-shown file v.stores v.stores.volumes there.0 there.1

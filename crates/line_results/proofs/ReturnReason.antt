@@ -77,7 +77,7 @@ use Rattle.line_results.proofs.Trying.{AreTrying, IsTrying, Refuses, cut-of, ful
 -- ---- rows and lines
 
 -- a pool without a line isn't there
-no-row : (pool : ℕ) (s : PoolRows) (pools : List (ℕ × Pool)) → is_there pool (map (pool_line s) pools) ≡ false → is_some (row_at pool pools) ≡ false
+pub no-row : (pool : ℕ) (s : PoolRows) (pools : List (ℕ × Pool)) → is_there pool (map (pool_line s) pools) ≡ false → is_some (row_at pool pools) ≡ false
 no-row pool s [] h = refl
 no-row pool s (p ∷ pools) h =
     subst (λ b. is_some (if b then Some p.1 else row_at pool pools) ≡ false) (sym (at-eqb pool p.0))

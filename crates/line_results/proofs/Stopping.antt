@@ -90,7 +90,7 @@ failing-ends e why h = elim (is_unfilled why) as (λ b. ◌≡◌ {A = Result Ca
   | false ↦ λ k. ends-as Came e (stopping why) k (ends-stopping why)
 ] h
 
-unopened-ends : (e why : Refusal) → ◌≡◌ {A = Result Came Refusal} (Err e) (unopened why) → Ends e
+pub unopened-ends : (e why : Refusal) → ◌≡◌ {A = Result Came Refusal} (Err e) (unopened why) → Ends e
 unopened-ends e (refused.Busy holder) h = absurd cc
 unopened-ends e why h = elim (is_unopened why) as (λ b. ◌≡◌ {A = Result Came Refusal} (Err e) (if b then Ok (came.Failed why) else Err (stopping why)) → Ends e) [
   | true ↦ λ k. absurd cc
@@ -101,7 +101,7 @@ dropped-ends : (e why : Refusal) (answer : Result (Unit {0}) Refusal) → ◌≡
 dropped-ends e why (Ok done) h = failing-ends e why h
 dropped-ends e why (Err other) h = ends-as Came e (stopping other) h (ends-stopping other)
 
-given-up-ends : (ticket : ℕ) (why e : Refusal) (events : List Event) → GivesUp ticket why events (Err e) → Ends e
+pub given-up-ends : (ticket : ℕ) (why e : Refusal) (events : List Event) → GivesUp ticket why events (Err e) → Ends e
 given-up-ends ticket why e events (inl h) = failing-ends e why h.2
 given-up-ends ticket why e events (inr h) = dropped-ends e why h.1 h.3
 

@@ -105,7 +105,7 @@ all-tickets moves (e ∷ events) h = (trying-tickets moves e.deed h.0, all-ticke
 -- ---- refusals
 
 -- neither is the database full for it, nor has anything to be waited for
-abbrev IsCalm : Refusal → Type 0
+abbrev pub IsCalm : Refusal → Type 0
 IsCalm e = (e ≡ refused.InventoryFull → ⊥) × IsNoHolder e
 
 -- what holds where it says that the database is full, and where it says that something is held
@@ -128,13 +128,13 @@ calm-fault file count = ((λ is. absurd cc), (λ h is. absurd cc))
 calm-memory : IsCalm refused.Memory
 calm-memory = ((λ is. absurd cc), (λ h is. absurd cc))
 
-calm-missing : IsCalm refused.NotFound
+pub calm-missing : IsCalm refused.NotFound
 calm-missing = ((λ is. absurd cc), (λ h is. absurd cc))
 
-calm-bad : IsCalm bad_value
+pub calm-bad : IsCalm bad_value
 calm-bad = ((λ is. absurd cc), (λ h is. absurd cc))
 
-calm-used : (number : ℕ) → IsCalm (ticket_in_use number)
+pub calm-used : (number : ℕ) → IsCalm (ticket_in_use number)
 calm-used number = ((λ is. absurd cc), (λ h is. absurd cc))
 
 calm-gone : (o : Option ℕ) → IsCalm (gone_or_unknown o)
@@ -160,7 +160,7 @@ calm-already : (found : Option CopyRow) → AllByRecursion IsCalm (copied_alread
 calm-already None = tt
 calm-already (Some copy) = (calm-stale copy.placed, tt)
 
-calm-open : (object : ℕ) (a : Aim) (s : Sight) → AllByRecursion IsCalm (copy_refused_by object a s)
+pub calm-open : (object : ℕ) (a : Aim) (s : Sight) → AllByRecursion IsCalm (copy_refused_by object a s)
 calm-open object (aim.New number) s = (calm-bad, tt)
 calm-open object (aim.Move from placed to along) s =
     append-all IsCalm (unless (is_some (pool to s.inventory)) refused.NotFound) _ (unless-all IsCalm (is_some (pool to s.inventory)) refused.NotFound calm-missing)
@@ -179,19 +179,19 @@ if-all : (b : Bool) (xs ys : List Refusal) → AllByRecursion IsCalm xs → AllB
 if-all true xs ys h k = h
 if-all false xs ys h k = k
 
-calm-copying : (number : ℕ) (s : Sight) → AllByRecursion IsCalm (copying_refused number s)
+pub calm-copying : (number : ℕ) (s : Sight) → AllByRecursion IsCalm (copying_refused number s)
 calm-copying number s =
     calm-ticket (λ t. if is_storing t.purpose then ticket_in_use number ∷ [] else unless (not t.is_sealed) (ticket_in_use number) ++ object_gone (object_of t.purpose) s)
     (λ t. if-all (is_storing t.purpose) (ticket_in_use number ∷ []) (unless (not t.is_sealed) (ticket_in_use number) ++ object_gone (object_of t.purpose) s) (calm-used number, tt)
     (append-all IsCalm (unless (not t.is_sealed) (ticket_in_use number)) _ (unless-all IsCalm (not t.is_sealed) (ticket_in_use number) (calm-used number))
     (calm-version s.journal (object_of t.purpose) (λ w. []) (λ w. tt) (version (object_of t.purpose) s.inventory)))) (ticket number s.tickets)
 
-calm-seal : (number : ℕ) (s : Sight) → AllByRecursion IsCalm (seal_refused number s)
+pub calm-seal : (number : ℕ) (s : Sight) → AllByRecursion IsCalm (seal_refused number s)
 calm-seal number s =
     calm-ticket (λ t. unless (length t.bytes == t.size) (refused.Changed t.size (length t.bytes)))
     (λ t. unless-all IsCalm (length t.bytes == t.size) (refused.Changed t.size (length t.bytes)) ((λ is. absurd cc), (λ h is. absurd cc))) (ticket number s.tickets)
 
-calm-drop : (number : ℕ) (s : Sight) → AllByRecursion IsCalm (drop_refused number s)
+pub calm-drop : (number : ℕ) (s : Sight) → AllByRecursion IsCalm (drop_refused number s)
 calm-drop number s = calm-ticket (λ t. []) (λ t. tt) (ticket number s.tickets)
 
 flat-all : {X : Type 0} (P : Refusal → Type 0) (f : X → List Refusal) → ((x : X) → AllByRecursion P (f x)) → (xs : List X) → AllByRecursion P (flat_map f xs)

@@ -14,6 +14,7 @@ pub use Rattle.command_steps.specs.deletions as deletions
 pub use Rattle.command_steps.specs.db_backup as db_backup
 pub use Rattle.command_steps.specs.volume_audits as volume_audits
 pub use Rattle.command_steps.specs.sessions as sessions
+pub use Rattle.inventory_laws.specs as inventory_laws
 pub mod Bounds
 pub mod Clauses
 pub mod Commands

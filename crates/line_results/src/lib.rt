@@ -10,3 +10,4 @@ pub use command_steps::{
     incrementals, migration, pool_restores, reclamation, restores, reuse_delay, sessions,
     volume_audits,
 };
+pub use inventory_laws;

@@ -48,7 +48,10 @@ use Rattle.block_results.specs.line_jobs.declared.job.Said.{Said}
 use Rattle.block_results.proofs.BySteps.{steps-of}
 use Rattle.block_results.proofs.Jobs.{block-held}
 use Rattle.block_results.proofs.JobsComplete.{jobs-complete}
+use Rattle.block_results.proofs.Sized.{block-sized}
+use Rattle.block_results.proofs.Stored.{have-bytes}
 use Rattle.block_results.proofs.Turned.{further, have-causes, here, turned_on}
+use Rattle.block_results.proofs.Unfailed.{jobs-unfailed}
 use Rattle.tsm_top.specs.InBlock.{BlockEnds, BlockHalted, BlockRan, IsCause, JobsRan}
 use Rattle.tsm_top.specs.Notes.{note_of, notes_of, number_in, with_note}
 use Rattle.tsm_top.specs.Servers.{EndsBlock, EndsOutside, HaltsBy, HaltsHere, HaltsIn, HaltsInside, Keeps, Serves as ServesBy, ServesBlock, ServesHere, ServesIn, ServesInside, ServesOutside, Stays}
@@ -327,12 +330,17 @@ module _ {S T : Type 0} (told : S → Option History) (moment : S → ℕ) (faul
             hold = λ sure w goes.
                 block-held w choice b.lines first (inventory m.core).number m.core worked.turns (shared b.lines (b.job + 1) (knows old.trees.items)) came at.rests.tickets at.rests.image
                 (λ actor. (let fits = run.5 sure w goes actor (inventory m.core).number (omega arith) in (own_in actor fits.0 run.0.core, fits.2))) worked.done;
+            sizes = λ sure w goes.
+                block-sized trusted hall_places w choice b.lines first (inventory m.core).number worked.turns m run.0 (shared b.lines (b.job + 1) (knows old.trees.items)) came run.1 at.rests.tickets at.rests.image
+                (λ actor. (let fits = run.5 sure w goes actor (inventory m.core).number (omega arith) in (own_in actor fits.0 run.0.core, fits.2))) worked.done;
             causes = have-causes trusted hall_places worked.turns m run.0 run.1;
             complete = jobs-complete trusted hall_places choice b.lines 0 first worked.turns m run.0 (shared b.lines (b.job + 1) (knows old.trees.items)) came run.1 worked.done;
+            none_fails = jobs-unfailed trusted hall_places choice b.lines 0 first worked.turns m run.0 (shared b.lines (b.job + 1) (knows old.trees.items)) came run.1 worked.done;
             added = joined.0;
             adds = joined.1;
             by_jobs = joined.2;
             by_steps = steps-of trusted hall_places goes_where_aimed worked.turns m run.0 joined.0 run.1 joined.1;
+            items = have-bytes trusted hall_places worked.turns m run.0 joined.0 at.rests.tickets run.1 joined.1;
             onward = turned_on trusted hall_places worked.turns m run.0 run.1;
             timely = timely told moment faults mid.hall m run.0 run.2 run.4;
             in_order = in_order told moment faults mid.hall run.0 run.2;

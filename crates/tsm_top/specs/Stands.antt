@@ -15,6 +15,7 @@ use Rattle.hall.specs.Placed.{hall_places}
 use Rattle.block_results.specs.command_steps.Answers.{nothing}
 use Rattle.block_results.specs.command_steps.Clients.{Known}
 use Rattle.block_results.specs.line_results.Resting.{Adds, IsAtRest, Onward}
+use Rattle.block_results.specs.line_results.Trees.{HaveBytes}
 use Rattle.blocks.specs.Parts.{begins, part}
 use Rattle.blocks.specs.Shapes.{Gathered, begun, is_end, with_line}
 use Rattle.crew.specs.Knowing.{IsWithin}
@@ -26,6 +27,8 @@ use Rattle.block_results.specs.Jobs.{JobsHold}
 use Rattle.block_results.specs.Joining.{AreBySteps}
 use Rattle.block_results.specs.Legal.{JobsComplete}
 use Rattle.block_results.specs.Refusing.{HaveCauses}
+use Rattle.block_results.specs.Room.{JobsUnfailed}
+use Rattle.block_results.specs.Sizes.{JobsSized}
 use Rattle.tsm_top.specs.InBlock.{IsCause}
 use Rattle.tsm_top.specs.Notes.{notes_of, number_in}
 use Rattle.tsm_top.specs.Sites.{IsInOrder, IsTimely, RepliesAt, Site, StopsAt, site}
@@ -60,9 +63,9 @@ IsBy least most e = (least ≤ e.actor) × (e.actor < most)
 module _ (trusted : Type 0) (choice : List Rule) where
   -- The jobs of a block, the first of whose actors has this number, did what they did: their steps, in one order, are a run of the machine, and nobody else made one; and this came of each of them, over the trees that it
   -- has. Over a trusted store what each actor did fits every history that goes on from behind the block: each of its steps was made on the database of its number, and what joined by it stands there; so each line that was
-  -- answered holds there, clause by clause (`Holds` of block_results), at numbers from that of the database before the block on. Over whatever store each step that was refused has its cause at the state that it met
-  -- (`HaveCauses`), and a line that is legal at each state that its turns pass isn't refused (`JobsComplete`). The block's transactions stand behind those that were there, each made by the actor of one of the jobs, and by
-  -- a step of its own (`AreBySteps`). No count fell, no stamp changed, and the database is in order.
+  -- answered holds there, clause by clause (`Holds` of block_results), at numbers from that of the database before the block on, and what it stored has as many bytes as the client gave (`JobsSized`). Over whatever store each step that was refused has its cause at the state that it met
+  -- (`HaveCauses`), a line that is legal at each state that its turns pass isn't refused (`JobsComplete`), and in one that has room no file fails (`JobsUnfailed`). The block's transactions stand behind those that were there, each made by the actor of one of the jobs, and by
+  -- a step of its own (`AreBySteps`); and each version that they bring says how many bytes its object has, and their digest (`HaveBytes`). No count fell, no stamp changed, and the database is in order.
   pub record JobsTurned (block : Gathered) (first : ℕ) (old new : Machine) (trees : List Known) (came : List Came) : Type 0 where
     pub turns : List Turn
     pub turned : Turned trusted hall_places turns old new
@@ -70,12 +73,15 @@ module _ (trusted : Type 0) (choice : List Rule) where
     pub done : AreDone choice block.lines 0 first turns (shared block.lines (block.job + 1) trees) came
     pub fits : trusted → EachFits turns old new
     pub hold : trusted → (w : Run) → Continues new w → JobsHold w choice block.lines 0 first (inventory old.core).number turns (shared block.lines (block.job + 1) trees) came
+    pub sizes : trusted → (w : Run) → Continues new w → JobsSized w choice block.lines 0 first (inventory old.core).number turns (shared block.lines (block.job + 1) trees) came
     pub causes : HaveCauses trusted hall_places turns old new
     pub complete : JobsComplete trusted hall_places choice block.lines 0 first turns old new (shared block.lines (block.job + 1) trees) came
+    pub none_fails : JobsUnfailed trusted hall_places choice block.lines 0 first turns old new (shared block.lines (block.job + 1) trees) came
     pub added : List Entry
     pub adds : Adds added old new
     pub by_jobs : AllByRecursion (IsBy first (first + (block.job + 1))) added
     pub by_steps : AreBySteps trusted hall_places turns old new (inventory old.core).number added
+    pub items : HaveBytes new added
     pub onward : Onward old new
     pub timely : IsTimely old new
     pub in_order : IsInOrder new
