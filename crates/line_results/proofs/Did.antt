@@ -31,7 +31,7 @@ use Rattle.machine.specs.Alone.{Alone}
 use Rattle.machine.specs.Causes.{is_plain}
 use Rattle.machine.specs.Laws.{RefusesElsewhere}
 use Rattle.machine.specs.Machine.{Places}
-use Rattle.machine.specs.State.{Core, Machine}
+use Rattle.machine.specs.State.{Core, Machine, inventory}
 use Rattle.command_steps.specs.Behind.{Behind, behind, forces, no_more, reuses}
 use Rattle.command_steps.specs.Doing.{Does as DoesBy, DoesOwn as DoesOwnBy, DoesWork, Doing, EndsWork, PutsText, Validates, validated_by, validity}
 use Rattle.command_steps.specs.Clients.{Client, IsKept}
@@ -42,6 +42,7 @@ use Rattle.line_results.specs.Commands.{Comes, Does, DoesOwn, IsFull, IsRefusedA
 use Rattle.line_results.specs.Files.{Gets, Puts}
 use Rattle.line_results.specs.Lines.{in_doubt}
 use Rattle.line_results.specs.Resting.{HasSizes, IsAtRest, IsLate, IsNearlyDurable, Leaves, NobodyHolds, SameImage, database}
+use Rattle.line_results.specs.Sound.{HasSoundRows}
 use Rattle.line_results.proofs.Asked.{EndsBy, Looked, asked-step, last-of, looked, unstopped}
 use Rattle.line_results.proofs.Changed.{changes}
 use Rattle.line_results.proofs.Checkpointed.{checkpoints}
@@ -297,13 +298,13 @@ module _ (trusted : Type 0) (places : Places) (nobody : NobodyHolds places) (law
       (plain-work trusted places k c w old new said
       (plain-did trusted places k puts gets c w xs said old new plain so rest sizes does (subst (λ (m : Machine). Alone trusted places 0 xs old m) (sym same) parts.1))))
 
-  work-did : (c : Command) (w : Result Work Refusal) (events : List Event) (result : Result Outcome Refusal) (old new : Machine) → IsPlainWork w → (IsProcess c → IsRowless w) → IsAtRest old.core → HasSizes old
+  work-did : (c : Command) (w : Result Work Refusal) (events : List Event) (result : Result Outcome Refusal) (old new : Machine) → IsPlainWork w → (IsProcess c → IsRowless w) → IsAtRest old.core → HasSizes old → HasSoundRows (database old)
       → DoesWork k c w events result → Alone trusted places 0 events old new → WorkDid trusted places k c w (behind c) old new result
-  work-did c (Err why) events result old new plain rowless rest sizes (kept, none, is) f =
+  work-did c (Err why) events result old new plain rowless rest sizes sound (kept, none, is) f =
       refused-did trusted places k c why (behind c) old old new result kept rest is (became-same old new (alone-none trusted places 0 events old new none f))
-  work-did c (Ok w) events result old new plain rowless rest sizes h f = elim (kind c) as (λ _. WorkDid trusted places k c (Ok w) (behind c) old new result) [
+  work-did c (Ok w) events result old new plain rowless rest sizes sound h f = elim (kind c) as (λ _. WorkDid trusted places k c (Ok w) (behind c) old new result) [
     | inl it ↦ done-work c w events result old new plain it.0 it.1 rest sizes h f
-    | inr it ↦ process-work trusted places k c w (behind c) old new result it.some (processed trusted places nobody lawful k c w result events old new it (rowless it) plain rest h f)
+    | inr it ↦ process-work trusted places k c w (behind c) old new result it.some (processed trusted places nobody lawful k c w result events old new it (rowless it) plain rest sound h f)
   ]
 
 -- ---- a command
@@ -394,20 +395,20 @@ was-done trusted places k c answers old mid new result h w =
     }
 
 module _ (trusted : Type 0) (places : Places) (nobody : NobodyHolds places) (lawful : RefusesElsewhere places) (k : Client) (puts : PutsAs trusted places k.choice) (gets : GetsAs trusted places) where
-  pub command-did : (c : Command) (events : List Event) (result : Result Outcome Refusal) (old new : Machine) → IsAtRest old.core → HasSizes old → Doing k c events result → Alone trusted places 0 events old new
+  pub command-did : (c : Command) (events : List Event) (result : Result Outcome Refusal) (old new : Machine) → IsAtRest old.core → HasSizes old → HasSoundRows (database old) → Doing k c events result → Alone trusted places 0 events old new
       → CommandDid trusted places k c old new result
-  command-did c events result old new rest sizes (inl (e, kept, inl asked, is)) f =
+  command-did c events result old new rest sizes sound (inl (e, kept, inl asked, is)) f =
       not-looked trusted places k c old new e result kept rest is (looked trusted places (needs c) events (Err e) old new (needs-unlogged c) rest asked f)
-  command-did c events result old new rest sizes (inl (e, kept, inr (none, wanted), is)) f =
+  command-did c events result old new rest sizes sound (inl (e, kept, inr (none, wanted), is)) f =
       let stop : result ≡ Err refused.Memory = is ∙ ap Err (same-err e refused.Memory wanted) in
       begins-not trusted places k c old new result kept rest (wanted-ends Outcome result old new stop) (became-same old new (alone-none trusted places 0 events old new none f)) (λ l. inl (inr stop))
-  command-did c events result old new rest sizes (inr (answers, (xs, ys, cut, inr (none, wanted), next))) f = absurd cc
-  command-did c events result old new rest sizes (inr (answers, (xs, ys, cut, inl asked, inl work))) f =
+  command-did c events result old new rest sizes sound (inr (answers, (xs, ys, cut, inr (none, wanted), next))) f = absurd cc
+  command-did c events result old new rest sizes sound (inr (answers, (xs, ys, cut, inl asked, inl work))) f =
       let parts = alone-parts trusted places 0 events xs ys old new cut f in
       let h = looked trusted places (needs c) xs (Ok answers) old parts.0 (needs-unlogged c) rest asked parts.1 in
       was-done trusted places k c answers old parts.0 new result h
-      (work-did trusted places nobody lawful k puts gets c (work_of c answers) ys result parts.0 new (work-plain c answers) (λ it. it.rowless answers) (rest-as parts.0.core old.core h.still.core rest) (sizes-as old parts.0 h.still sizes) work parts.2)
-  command-did c events result old new rest sizes (inr (answers, (xs, ys, cut, inl asked, inr (kept, none, wanted)))) f =
+      (work-did trusted places nobody lawful k puts gets c (work_of c answers) ys result parts.0 new (work-plain c answers) (λ it. it.rowless answers) (rest-as parts.0.core old.core h.still.core rest) (sizes-as old parts.0 h.still sizes) (subst (λ (x : Core). HasSoundRows (inventory x)) (sym h.still.core) sound) work parts.2)
+  command-did c events result old new rest sizes sound (inr (answers, (xs, ys, cut, inl asked, inr (kept, none, wanted)))) f =
       let parts = alone-parts trusted places 0 events xs ys old new cut f in
       let h = looked trusted places (needs c) xs (Ok answers) old parts.0 (needs-unlogged c) rest asked parts.1 in
       let same : new ≡ parts.0 = alone-none trusted places 0 ys parts.0 new none parts.2 in

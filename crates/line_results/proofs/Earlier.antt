@@ -192,7 +192,7 @@ module _ (trusted : Type 0) (places : Places) (k : Client) (result : Result Outc
   move-reason-as numbers reclaimer e (inr stuck) = inr (stuck-as (IsReclamation (the_number numbers) (min (the_second numbers) 100)) e stuck)
   move-reason-as numbers migrator e (inl without) = inl without
   move-reason-as numbers migrator e (inr stuck) = inr (stuck-as (IsPoolMigration (the_number numbers) (min (the_second numbers) 100)) e stuck)
-  move-reason-as numbers all_migrator e h = λ sorted. stuck-as IsAllMigration e (h sorted)
+  move-reason-as numbers all_migrator e stuck = stuck-as IsAllMigration e stuck
   move-reason-as numbers pool_restorer e (inl none) = inl none
   move-reason-as numbers pool_restorer e (inr stuck) = inr (stuck-as (RestoresPool (the_number numbers)) e stuck)
   move-reason-as numbers volume_restorer e (inl barred) = inl barred

@@ -163,7 +163,11 @@ no-both x e (Err d) h k = cc
 abbrev pub shape : Inv → Rows → Answer
 shape v it = record { n = v.number; today = v.today; rows = it }
 
-module _ (filespace : ℕ) (v : Inv) (can : CanEmpty filespace v) where
+-- it is there, in a valid database whose rows stand in order
+abbrev IsThereIn : (filespace : ℕ) → Inv → Type 0
+IsThereIn filespace v = (is_some (filespace_at filespace v.clients.filespaces) ≡ true) × (is_valid v ≡ true) × IsOrdered v
+
+module _ (filespace : ℕ) (v : Inv) (can : IsThereIn filespace v) where
   abbrev here : IsNamed filespace v
   here = filespace-shown filespace v can.1 can.0
 
@@ -203,7 +207,7 @@ row-goes filespace name m next e g step =
 
 -- ---- the whole
 
-module _ (trusted : Type 0) (places : Places) (filespace : ℕ) (e : Refusal) (un : is_kept_by e ≡ true) (v : Inv) (can : CanEmpty filespace v) where
+module _ (trusted : Type 0) (places : Places) (filespace : ℕ) (e : Refusal) (un : is_kept_by e ≡ true) (v : Inv) (can : IsThereIn filespace v) where
   abbrev its : Names
   its = its-names filespace v can
 
@@ -282,5 +286,5 @@ module _ (trusted : Type 0) (places : Places) (filespace : ℕ) (e : Refusal) (u
 
 -- where the filespace may be deleted none is refused so
 pub unbarred : (trusted : Type 0) (places : Places) (filespace : ℕ) (events : List Event) (e : Refusal) (old new : Machine) → IsUnremoved e → IsInPlace filespace events e → Alone trusted places 0 events old new
-    → CanEmpty filespace (database old) → ⊥
-unbarred trusted places filespace events e old new one place f can = placed trusted places filespace e (kept-of e one) (database old) can events old new refl one place f
+    → IsOrdered (database old) → CanEmpty filespace (database old) → ⊥
+unbarred trusted places filespace events e old new one place f ordered can = placed trusted places filespace e (kept-of e one) (database old) (can.0, can.1, ordered) events old new refl one place f

@@ -18,6 +18,7 @@ use Rattle.inventory_rows.specs.version_groups.declared.group.Group.{Group}
 use Rattle.inventory_rows.specs.version_groups.declared.versions.Version.{Version}
 use Rattle.inventory_rows.specs.State.{Inv}
 use Rattle.inventory_rules.specs.Valid.{is_valid}
+use Rattle.inventory_work.specs.Copies.{has_volume}
 use Rattle.inventory_work.specs.Rules.{rules_of}
 use Rattle.inventory_work.specs.declared.lines.Rules.{Rules}
 use Rattle.inventory_answers.specs.Answered.{answered}
@@ -56,7 +57,7 @@ use Rattle.line_results.specs.Clauses.{BytesBy, BytesOwn, CauseBy, CauseOwn, Cau
 use Rattle.line_results.specs.Commands.{Comes, Does, DoesOwn, DoesThere, EndsWith, IsReuse, Tells, Works, WorksWith, drawn, validated, work_over}
 use Rattle.line_results.specs.Files.{Checkpoints, Gets, GetsOf, GetsUnder, Puts, ShowsFound, active_at, filespace_defined}
 use Rattle.line_results.specs.Lines.{Replies, Says}
-use Rattle.line_results.specs.Migrating.{IsAllMigration, IsPoolMigration, StandByNumber}
+use Rattle.line_results.specs.Migrating.{IsAllMigration, IsPoolMigration}
 use Rattle.line_results.specs.Moving.{HasMoveReason, IsDataMove, IsOpen, IsReclamation, IsStuck, IsUncopied, MayCopy, MayMove}
 use Rattle.line_results.specs.Removing.{CanEmpty, CanRemove, IsBarred}
 use Rattle.line_results.specs.Resting.{Commits, EndsRun, Onward, RoseFrom, SameBytes, database, why_not}
@@ -82,7 +83,6 @@ use Rattle.line_results.proofs.PutHeld.{IsMild, PutHeld, no-end, no-put, put-hel
 use Rattle.line_results.proofs.Denied.{denied-by}
 use Rattle.line_results.proofs.Roomy.{last-failed, says-none}
 use Rattle.line_results.proofs.Runs.{rose-on}
-use Rattle.line_results.proofs.Standing.{pools-stand}
 use Rattle.line_results.proofs.Told.{told-by}
 
 -- ---- answers
@@ -611,9 +611,9 @@ never-there trusted places k (restore r) f old between first so may mild h = so
 never-there trusted places k (back_up i) f old between first so may mild (inl (before, after, turns, (ran, are, image, keeps, have, why))) = may.1.1 before after turns (backup-legal i before after old f may.0 first mild why)
 never-there trusted places k (back_up i) f old between first so may mild (inr (missing, kept, is, still, none)) = (let there = may.1.0 in omega (arith, missing, there))
 
--- no count of faults rose, and the database's pools stand by number
+-- no count of faults rose
 abbrev NoneRose : (old mid : Machine) → Type 0
-NoneRose old mid = ((file : ℕ) → RoseFrom old mid file → ⊥) × StandByNumber (database old)
+NoneRose old mid = (file : ℕ) → RoseFrom old mid file → ⊥
 
 -- the one state comes behind the other, with what it had made
 abbrev IsBehind : (between mid : Machine) → Type 0
@@ -636,7 +636,7 @@ module _ (old between mid : Machine) (on : IsBehind between mid) (rose : NoneRos
   made-so : (after : Option ℕ) → IsUnmade after old between f → MayBackUpDatabase after old → ⊥
   made-so after (inl no_begin) may = work-none (illegal (begins after old.core) old.core) f may.0 no_begin
   made-so after (inr (inl no_end)) may = work-none (end_refused after old.core) f may.1 no_end
-  made-so after (inr (inr fault)) may = rose.0 old.core.next_file (rose-on old between mid old.core.next_file fault on.0)
+  made-so after (inr (inr fault)) may = rose old.core.next_file (rose-on old between mid old.core.next_file fault on.0)
 
   database-backed : IsUnmade None old between f ⊎ ((how : Halt) × (halt_by f ≡ Some how)) → MayBackUpDatabase None old → ⊥
   database-backed (inl unmade) may = made-so None unmade may
@@ -683,7 +683,7 @@ module _ (old between mid : Machine) (on : IsBehind between mid) (rose : NoneRos
   moved-so places reclaimer numbers (inl (inr stuck)) may = stuck-so places (IsReclamation (the_number numbers) (min (the_second numbers) 100)) stuck may.1
   moved-so places migrator numbers (inl (inl without)) may = next-not (the_number numbers) (database old) f may.0 without
   moved-so places migrator numbers (inl (inr stuck)) may = stuck-so places (IsPoolMigration (the_number numbers) (min (the_second numbers) 100)) stuck may.1
-  moved-so places all_migrator numbers (inl why) may = stuck-so places IsAllMigration (why rose.1) may
+  moved-so places all_migrator numbers (inl stuck) may = stuck-so places IsAllMigration stuck may
   moved-so places pool_restorer numbers (inl (inl none)) may = true≢false (sym may.0 ∙ none.1)
   moved-so places pool_restorer numbers (inl (inr stuck)) may = stuck-so places (RestoresPool (the_number numbers)) stuck may.1
   moved-so places volume_restorer numbers (inl (inl barred)) may = lost-so (the_number numbers) barred may.0
@@ -696,8 +696,8 @@ module _ (old between mid : Machine) (on : IsBehind between mid) (rose : NoneRos
   emptied-so filespace (inr halts) may = some-not f halts.0 mild halts.1
 
   volume-so : (file : ℕ) → (IsBarred (CanRemove file (database old)) f ⊎ (is_valid (database old) ≡ true → IsBounded old between f)) ⊎ ((how : Halt) × (halt_by f ≡ Some how))
-      → CanRemove file (database old) × (is_valid (database old) ≡ true) × StaysWithin old mid → ⊥
-  volume-so file (inl (inl barred)) may = barred.1 may.0
+      → (has_volume file (database old) ≡ true) × (is_valid (database old) ≡ true) × StaysWithin old mid → ⊥
+  volume-so file (inl (inl barred)) may = barred.1 (inl (may.0, may.1))
   volume-so file (inl (inr bounded)) may = may.2 (reaches-on old between mid on (bounded may.1).1)
   volume-so file (inr halts) may = some-not f halts.0 mild halts.1
 
@@ -797,7 +797,7 @@ module _ (trusted : Type 0) (places : Places) (k : Client) (n : ℕ) (c : Comman
       inr (why, shown, it, between, first, does, (events, alone, ends, image, bytes, inl bounded), bounded)
   answered-behind reuses old mid answer some (why, shown, mild, it, between, first, does, (events, alone, ends, image, bytes, inr halts)) = absurd (some-not why halts.0 mild halts.1)
 
-module _ (trusted : Type 0) (places : Places) (k : Client) (n : ℕ) (c : Command) (p : IsProcess c) (old mid : Machine) (stands : StandByNumber (database old)) (answer : Answer) (added : List Entry) where
+module _ (trusted : Type 0) (places : Places) (k : Client) (n : ℕ) (c : Command) (p : IsProcess c) (old mid : Machine) (answer : Answer) (added : List Entry) where
   held-with : (b : Behind) (said : Result Outcome Refusal) → (b ≡ no_more → ⊥) → Works trusted places k c (work_over c (database old)) b old mid said added
       → AreWith k b (own_of c) (work_over c (database old)) old added → Blames trusted places k n c (work_over c (database old)) b old mid answer said
       → HaveItems (own_of c) (work_over c (database old)) mid added → IsShown n said answer → HeldWith trusted places k n c b old mid answer added
@@ -817,7 +817,7 @@ module _ (trusted : Type 0) (places : Places) (k : Client) (n : ℕ) (c : Comman
     items = items;
     causes = λ one. (e, shown.1, cause-with trusted places k c b old mid e added some works);
     done = λ none. absurd (zero-one answer.tally.refused none (one-refused n e answer shown.1));
-    complete = λ rose may. answered-behind trusted places k n c b old mid answer some (blames e refl shown.1 shown.0 (rose, stands) may);
+    complete = λ rose may. answered-behind trusted places k n c b old mid answer some (blames e refl shown.1 shown.0 rose may);
   }
 
   process-held : (b : Behind) (said : Result Outcome Refusal) → (b ≡ no_more → ⊥) → Works trusted places k c (work_over c (database old)) b old mid said added → IsShown n said answer
@@ -827,7 +827,7 @@ module _ (trusted : Type 0) (places : Places) (k : Client) (n : ℕ) (c : Comman
       held-with b said some works h.0 h.1 h.2 shown
 
 -- what holds of a command behind whose work nothing comes, with what may have come
-module _ (trusted : Type 0) (places : Places) (k : Client) (n : ℕ) (c : Command) (old mid : Machine) (stands : StandByNumber (database old)) (answer : Answer) (added : List Entry) where
+module _ (trusted : Type 0) (places : Places) (k : Client) (n : ℕ) (c : Command) (old mid : Machine) (answer : Answer) (added : List Entry) where
   plain-held : HeldBy trusted places k n (own_of c) (work_over c (database old)) old mid answer added → HeldWith trusted places k n c no_more old mid answer added
   plain-held h = record { journal = h.journal; queries = h.queries; bytes = h.bytes; items = h.items; causes = h.causes; done = h.done; complete = λ rose may. h.complete rose may }
 
@@ -837,7 +837,7 @@ module _ (trusted : Type 0) (places : Places) (k : Client) (n : ℕ) (c : Comman
     | inl it ↦ subst (λ (b : Behind). HeldWith trusted places k n c b old mid answer added) (sym it.0)
         (plain-held (does-held trusted places k n old mid answer added c (work_over c (database old)) said it.1
         (subst (λ (b : Behind). Works trusted places k c (work_over c (database old)) b old mid said added) it.0 h) shown))
-    | inr it ↦ process-held trusted places k n c it old mid stands answer added (behind c) said it.some h shown
+    | inr it ↦ process-held trusted places k n c it old mid answer added (behind c) said it.some h shown
   ]
 
   comes-held : (said : Result Outcome Refusal) → Comes trusted places k c old mid said added → IsShown n said answer → HeldWith trusted places k n c (behind c) old mid answer added
@@ -848,7 +848,7 @@ module _ (trusted : Type 0) (places : Places) (k : Client) (n : ℕ) (c : Comman
 
 -- ---- a line
 
-module _ (trusted : Type 0) (places : Places) (k : Client) (n : ℕ) (old mid : Machine) (stands : StandByNumber (database old)) (answer : Answer) (added : List Entry) where
+module _ (trusted : Type 0) (places : Places) (k : Client) (n : ℕ) (old mid : Machine) (answer : Answer) (added : List Entry) where
   says-held : (line : Line) (why : Option Refusal) → Says trusted places k n line old answer why added mid → Holds trusted places k n line old mid answer added
   says-held comment why (kept, is, w, none, same) = record {
     journal = no-entries (λ x. (x.actor ≡ 0) × orders k comment old x.change) added none;
@@ -873,7 +873,7 @@ module _ (trusted : Type 0) (places : Places) (k : Client) (n : ℕ) (old mid : 
     trees = kept;
   }
   says-held (asks c) why (said, comes, ends) =
-      let h = comes-held trusted places k n c old mid stands answer added said comes (shown-of n said answer why ends) in
+      let h = comes-held trusted places k n c old mid answer added said comes (shown-of n said answer why ends) in
       record {
         journal = h.journal;
         queries = h.queries;
@@ -888,5 +888,5 @@ module _ (trusted : Type 0) (places : Places) (k : Client) (n : ℕ) (old mid : 
 
 -- what holds of a line that was answered so
 pub replies-hold : (trusted : Type 0) (places : Places) (k : Client) (n : ℕ) (line : Line) (old new : Machine) (answer : Answer) (why : Option Refusal)
-    → StandByNumber old.core.base → (r : Replies trusted places k n line old answer why new) → Holds trusted places k n line old r.mid answer r.added
-replies-hold trusted places k n line old new answer why stands r = says-held trusted places k n old r.mid (pools-stand old.core stands) answer r.added line why r.says
+    → (r : Replies trusted places k n line old answer why new) → Holds trusted places k n line old r.mid answer r.added
+replies-hold trusted places k n line old new answer why r = says-held trusted places k n old r.mid answer r.added line why r.says

@@ -84,6 +84,7 @@ pub mod Sending
 pub mod Settling
 pub mod Shown
 pub mod Since
+pub mod SoundRows
 pub mod Spent
 pub mod Standing
 pub mod Stopping

@@ -22,7 +22,8 @@ use Rattle.command_steps.specs.Lines.{Line, asks, comment, refused as refused_li
 use Rattle.command_steps.specs.declared.outcome.Outcome.{Outcome}
 use Rattle.line_results.specs.Lines.{EndsAt, EndsBehind, EndsFollowing, Halts, Replies, Says, doubtful}
 use Rattle.line_results.specs.Commands.{Comes}
-use Rattle.line_results.specs.Resting.{Adds, EndsNoRun, EndsRun, HasSizes, IsAtRest, IsNearlyDurable, LogEnds, NobodyHolds, Onward, has_broken, has_ended}
+use Rattle.line_results.specs.Resting.{Adds, EndsNoRun, EndsRun, HasSizes, IsAtRest, IsNearlyDurable, LogEnds, NobodyHolds, Onward, database, has_broken, has_ended}
+use Rattle.line_results.specs.Sound.{HasSoundRows}
 use Rattle.line_results.proofs.Did.{GetsAs, PutsAs, command-did, newest-doubt}
 use Rattle.line_results.proofs.Ending.{comes-end}
 use Rattle.line_results.proofs.Followed.{followed}
@@ -88,17 +89,17 @@ same-halt : (a b : Halt) → as_halt a ≡ as_halt b → a ≡ b
 same-halt a b h = ap halt_in h
 
 module _ (trusted : Type 0) (places : Places) (nobody : NobodyHolds places) (lawful : RefusesElsewhere places) (k : Client) (puts : PutsAs trusted places k.choice) (gets : GetsAs trusted places) where
-  line-did : (n : ℕ) (line : Line) (events : List Event) (answer : Answer) (why : Option Refusal) (old mid : Machine) → IsAtRest old.core → HasSizes old → DoesOrWants k n line events (Ok (answer, why))
+  line-did : (n : ℕ) (line : Line) (events : List Event) (answer : Answer) (why : Option Refusal) (old mid : Machine) → IsAtRest old.core → HasSizes old → HasSoundRows (database old) → DoesOrWants k n line events (Ok (answer, why))
       → Alone trusted places 0 events old mid → LineDid trusted places k n line old answer why mid
-  line-did n comment events answer why old mid rest sizes (inl (kept, none, is)) f =
+  line-did n comment events answer why old mid rest sizes sound (inl (kept, none, is)) f =
       let pair : (let p : Answer × Option Refusal = (answer, why) in p) ≡ (nothing, None) = same-reply (answer, why) (nothing, None) is in
       let same : mid ≡ old = alone-none trusted places 0 events old mid none f in
       still-did trusted places k n comment old mid answer why rest same (kept, ap (λ (p : Answer × Option Refusal). p.0) pair, ap (λ (p : Answer × Option Refusal). p.1) pair, refl, same)
-  line-did n (refused_line given) events answer why old mid rest sizes (inl (kept, none, is)) f =
+  line-did n (refused_line given) events answer why old mid rest sizes sound (inl (kept, none, is)) f =
       let same : mid ≡ old = alone-none trusted places 0 events old mid none f in
       still-did trusted places k n (refused_line given) old mid answer why rest same (kept, ap (λ (p : Answer × Option Refusal). p.0) is, ap (λ (p : Answer × Option Refusal). p.1) is, refl, same)
-  line-did n (asks c) events answer why old mid rest sizes (inl (said, doing, ends)) f =
-      let d = command-did trusted places nobody lawful k puts gets c events said old mid rest sizes doing f in
+  line-did n (asks c) events answer why old mid rest sizes sound (inl (said, doing, ends)) f =
+      let d = command-did trusted places nobody lawful k puts gets c events said old mid rest sizes sound doing f in
       record {
         added = d.added;
         says = (said, d.comes, ends);
@@ -107,15 +108,15 @@ module _ (trusted : Type 0) (places : Places) (nobody : NobodyHolds places) (law
         onward = d.left.onward;
         rests = d.left.rests (answered-rests n said (answer, why) ends);
       }
-  line-did n line events answer why old mid rest sizes (inr (kept, none, is)) f = absurd cc
+  line-did n line events answer why old mid rest sizes sound (inr (kept, none, is)) f = absurd cc
 
   -- ---- a line is answered
 
-  pub answered : (n : ℕ) (line : Line) (events : List Event) (answer : Answer) (why : Option Refusal) (old new : Machine) → IsAtRest old.core → HasSizes old → AnswersLine k n line events (Ok (answer, why))
+  pub answered : (n : ℕ) (line : Line) (events : List Event) (answer : Answer) (why : Option Refusal) (old new : Machine) → IsAtRest old.core → HasSizes old → HasSoundRows (database old) → AnswersLine k n line events (Ok (answer, why))
       → Alone trusted places 0 events old new → Replies trusted places k n line old answer why new
-  answered n line events answer why old new rest sizes (xs, ys, cut, does, (made, follows, halts)) f =
+  answered n line events answer why old new rest sizes sound (xs, ys, cut, does, (made, follows, halts)) f =
       let parts = alone-parts trusted places 0 events xs ys old new cut f in
-      let d = line-did n line xs answer why old parts.0 rest sizes does parts.1 in
+      let d = line-did n line xs answer why old parts.0 rest sizes sound does parts.1 in
       let b = followed trusted places ys made parts.0 new d.rests follows parts.2 in
       let on = b.on halts in
       record { added = d.added; mid = parts.0; says = d.says; adds = d.adds; log = d.log; first = d.onward; follows = on.0; behind = b.onward; rests = on.1 }
@@ -212,14 +213,14 @@ module _ (trusted : Type 0) (places : Places) (nobody : NobodyHolds places) (law
         durable = λ h. inl (subst (λ (m : Machine). IsAtRest m.core) (sym same) rest).durable;
       }
 
-  ends-line : (n : ℕ) (line : Line) (events : List Event) (how : Halt) (old new : Machine) → IsAtRest old.core → HasSizes old → DoesOrWants k n line events (Err how) → Alone trusted places 0 events old new
+  ends-line : (n : ℕ) (line : Line) (events : List Event) (how : Halt) (old new : Machine) → IsAtRest old.core → HasSizes old → HasSoundRows (database old) → DoesOrWants k n line events (Err how) → Alone trusted places 0 events old new
       → Halts trusted places k n line old how new
-  ends-line n comment events how old new rest sizes (inl (kept, none, is)) f = absurd cc
-  ends-line n (refused_line given) events how old new rest sizes (inl (kept, none, is)) f =
+  ends-line n comment events how old new rest sizes sound (inl (kept, none, is)) f = absurd cc
+  ends-line n (refused_line given) events how old new rest sizes sound (inl (kept, none, is)) f =
       let same : new ≡ old = alone-none trusted places 0 events old new none f in
       still-halts n (refused_line given) how old new rest same (kept, refl, wanted-following how old new is same) (wanted-behind how old new is)
-  ends-line n (asks c) events how old new rest sizes (inl (said, doing, ends)) f =
-      let d = command-did trusted places nobody lawful k puts gets c events said old new rest sizes doing f in
+  ends-line n (asks c) events how old new rest sizes sound (inl (said, doing, ends)) f =
+      let d = command-did trusted places nobody lawful k puts gets c events said old new rest sizes sound doing f in
       record {
         added = d.added;
         ends = inr (said, new, d.comes, inl (refl, ends));
@@ -230,16 +231,16 @@ module _ (trusted : Type 0) (places : Places) (nobody : NobodyHolds places) (law
         nearly = d.doubt;
         durable = λ h. kept-durable n said d.added how old new d.left ends (has_broken said) refl;
       }
-  ends-line n line events how old new rest sizes (inr (kept, none, is)) f =
+  ends-line n line events how old new rest sizes sound (inr (kept, none, is)) f =
       let same : new ≡ old = alone-none trusted places 0 events old new none f in
       still-halts n line how old new rest same (wants-ends trusted places k n line how old new kept (same-halt how halt.Memory is) same) (wanted-behind how old new (same-halt how halt.Memory is))
 
-  pub ended : (n : ℕ) (line : Line) (events : List Event) (how : Halt) (old new : Machine) → IsAtRest old.core → HasSizes old → AnswersLine k n line events (Err how) → Alone trusted places 0 events old new
+  pub ended : (n : ℕ) (line : Line) (events : List Event) (how : Halt) (old new : Machine) → IsAtRest old.core → HasSizes old → HasSoundRows (database old) → AnswersLine k n line events (Err how) → Alone trusted places 0 events old new
       → Halts trusted places k n line old how new
-  ended n line events how old new rest sizes (inl h) f = ends-line n line events how old new rest sizes h f
-  ended n line events how old new rest sizes (inr ((answer, why), (xs, ys, cut, does, (made, follows, halts)))) f =
+  ended n line events how old new rest sizes sound (inl h) f = ends-line n line events how old new rest sizes sound h f
+  ended n line events how old new rest sizes sound (inr ((answer, why), (xs, ys, cut, does, (made, follows, halts)))) f =
       let parts = alone-parts trusted places 0 events xs ys old new cut f in
-      let d = line-did trusted places nobody lawful k puts gets n line xs answer why old parts.0 rest sizes does parts.1 in
+      let d = line-did trusted places nobody lawful k puts gets n line xs answer why old parts.0 rest sizes sound does parts.1 in
       let b = followed trusted places ys made parts.0 new d.rests follows parts.2 in
       record {
         added = d.added;

@@ -85,6 +85,7 @@ use Rattle.line_results.specs.Bounds.{IsReasoned}
 use Rattle.line_results.specs.Commands.{Does, DoesAlone, DoesOwn, DoesThere, EndsWith, IsLoss, IsReuse, IsStill, IsStopped, MayMake, Processes, Ran, Tells, Works, WorksWith}
 use Rattle.line_results.specs.Moving.{IsCopyReasoned}
 use Rattle.line_results.specs.Resting.{Adds, EndsRun, IsAtRest, IsLate, NobodyHolds, SameBytes, SameImage, database, has_ended}
+use Rattle.line_results.specs.Sound.{HasSoundRows}
 use Rattle.line_results.specs.Trees.{HasBytes, IsOfBackup}
 use Rattle.reports.specs.declared.shown.Shown.TheVariants.{Copied, DeletedHistory, DeletedVolume, DiscardedFilespace, Expired, Reused}
 use Rattle.line_results.proofs.Backing.{AllBack, MayBack, back-walk, backed-none, backs-none, left_by, newest-none}
@@ -401,9 +402,9 @@ module _ (trusted : Type 0) (places : Places) (choice : List Rule) (b : Behind) 
   no-other c moving (inl h) = h
   no-other c moving (inr h) = absurd h
 
-  moves-began : NobodyHolds places → RefusesElsewhere places → (mover : Mover) (numbers : List ℕ) (said : Result Outcome Refusal) (events : List Event) (old mid : Machine) → IsAtRest old.core → DoesAloneBy choice (moves mover) numbers events said
+  moves-began : NobodyHolds places → RefusesElsewhere places → (mover : Mover) (numbers : List ℕ) (said : Result Outcome Refusal) (events : List Event) (old mid : Machine) → IsAtRest old.core → HasSoundRows (database old) → DoesAloneBy choice (moves mover) numbers events said
       → Alone trusted places 0 events old mid → OwnBegan trusted places (λ added. DoesAlone trusted places choice numbers (moves mover) old mid said added) b old mid said
-  moves-began nobody lawful data_mover numbers said events old mid rest h f =
+  moves-began nobody lawful data_mover numbers said events old mid rest sound h f =
       copies-began true NoOther numbers (moves data_mover) said events old mid (λ c is. no-other c true is) rest h
       (all-copies true NoOther (IsMoving (the_number numbers) (the_second numbers)) (data-moves (the_number numbers) (the_second numbers)) events h.1.only)
       (λ leave. moves-settled events said leave data_mover (the_number numbers) (the_second numbers) h.0 h.1 h.2) (
@@ -412,7 +413,7 @@ module _ (trusted : Type 0) (places : Places) (choice : List Rule) (b : Behind) 
             (λ e is mild. move-reason trusted places nobody lawful events e old mid mild rest (moves-try (the_number numbers) (the_second numbers) events h.1.only) f (the_number numbers) (the_second numbers)
             (subst (λ (r : Result Moved Refusal). DataMove (the_number numbers) (the_second numbers) events r) is h.1)),
       ) f
-  moves-began nobody lawful reclaimer numbers said events old mid rest h f =
+  moves-began nobody lawful reclaimer numbers said events old mid rest sound h f =
       copies-began true NoOther numbers (moves reclaimer) said events old mid (λ c is. no-other c true is) rest h
       (all-copies true NoOther (IsReclaiming h.1.files (the_number numbers)) (reclaim-moves h.1.files (the_number numbers)) events h.1.only)
       (λ leave. moves-settled events said leave reclaimer (the_number numbers) (the_second numbers) h.0 h.1 h.2) (
@@ -421,7 +422,7 @@ module _ (trusted : Type 0) (places : Places) (choice : List Rule) (b : Behind) 
             (λ e is mild. reclaim-reason trusted places nobody lawful events e old mid mild rest (reclaims-try h.1.files (the_number numbers) events h.1.only) f (the_number numbers) (min (the_second numbers) 100)
             (subst (λ (r : Result Moved Refusal). Reclamation (the_number numbers) (min (the_second numbers) 100) events r) is h.1)),
       ) f
-  moves-began nobody lawful pool_restorer numbers said events old mid rest h f =
+  moves-began nobody lawful pool_restorer numbers said events old mid rest sound h f =
       copies-began true NoOther numbers (moves pool_restorer) said events old mid (λ c is. no-other c true is) rest h (all-copies true NoOther IsRestore (restore-moves NoOther) events h.1.only)
       (λ leave. moves-settled events said leave pool_restorer (the_number numbers) (the_second numbers) h.0 h.1 h.2) (
         unreasoned numbers (moves pool_restorer) old mid said (λ e. tt),
@@ -429,7 +430,7 @@ module _ (trusted : Type 0) (places : Places) (choice : List Rule) (b : Behind) 
             (λ e is mild. restore-pool-reason trusted places nobody lawful events e old mid mild rest (restores-try events h.1.only) f (the_number numbers)
             (subst (λ (r : Result Moved Refusal). PoolRestore (the_number numbers) events r) is h.1)),
       ) f
-  moves-began nobody lawful volume_restorer numbers said events old mid rest h f =
+  moves-began nobody lawful volume_restorer numbers said events old mid rest sound h f =
       copies-began true (IsLoss (the_number numbers)) numbers (moves volume_restorer) said events old mid (λ c is. is) rest h
       (all-copies true (IsLoss (the_number numbers)) (IsVolumeRestore (the_number numbers)) (volume-moves (the_number numbers)) events h.1.only)
       (λ leave. moves-settled events said leave volume_restorer (the_number numbers) (the_second numbers) h.0 h.1 h.2) (
@@ -438,7 +439,7 @@ module _ (trusted : Type 0) (places : Places) (choice : List Rule) (b : Behind) 
             (λ e is mild. restore-volume-reason trusted places nobody lawful (the_number numbers) events e old mid mild rest f
             (subst (λ (r : Result Moved Refusal). VolumeRestore (the_number numbers) events r) is h.1)),
       ) f
-  moves-began nobody lawful migrator numbers said events old mid rest h f =
+  moves-began nobody lawful migrator numbers said events old mid rest sound h f =
       copies-began true NoOther numbers (moves migrator) said events old mid (λ c is. no-other c true is) rest h (all-copies true NoOther (IsMigration (the_number numbers)) (migration-moves (the_number numbers)) events h.1.only)
       (λ leave. moves-settled events said leave migrator (the_number numbers) (the_second numbers) h.0 h.1 h.2) (
         unreasoned numbers (moves migrator) old mid said (λ e. tt),
@@ -446,63 +447,63 @@ module _ (trusted : Type 0) (places : Places) (choice : List Rule) (b : Behind) 
             (λ e is mild. migrate-reason trusted places nobody lawful events e old mid mild rest (migrations-try (the_number numbers) events h.1.only) f (the_number numbers) (min (the_second numbers) 100)
             (subst (λ (r : Result Moved Refusal). Migration first_picks (the_number numbers) (min (the_second numbers) 100) events r) is h.1)),
       ) f
-  moves-began nobody lawful all_migrator numbers said events old mid rest h f =
+  moves-began nobody lawful all_migrator numbers said events old mid rest sound h f =
       copies-began true NoOther numbers (moves all_migrator) said events old mid (λ c is. no-other c true is) rest h (all-copies true NoOther IsSweep sweep-moves events h.1.only)
       (λ leave. moves-settled events said leave all_migrator (the_number numbers) (the_second numbers) h.0 h.1 h.2) (
         unreasoned numbers (moves all_migrator) old mid said (λ e. tt),
         copy-reasoned places numbers (moves all_migrator) old (λ (m : Moved). Said (moved_line all_migrator m)) h.0 said h.2
             (λ e is mild. all-reason trusted places nobody lawful events e old mid mild rest (sweeps-try events h.1.only) f
-            (subst (λ (r : Result Moved Refusal). AllMigration first_picks events r) is h.1)),
+            (subst (λ (r : Result Moved Refusal). AllMigration first_picks events r) is h.1) sound.pools),
       ) f
 
-  alone-began : NobodyHolds places → RefusesElsewhere places → (own : Own) (numbers : List ℕ) (said : Result Outcome Refusal) (events : List Event) (old mid : Machine) → IsProcessOwn own → IsAtRest old.core → DoesAloneBy choice own numbers events said
+  alone-began : NobodyHolds places → RefusesElsewhere places → (own : Own) (numbers : List ℕ) (said : Result Outcome Refusal) (events : List Event) (old mid : Machine) → IsProcessOwn own → IsAtRest old.core → HasSoundRows (database old) → DoesAloneBy choice own numbers events said
       → Alone trusted places 0 events old mid → OwnBegan trusted places (λ added. DoesAlone trusted places choice numbers own old mid said added) b old mid said
-  alone-began nobody lawful expire numbers said events old mid so rest h f = process-began numbers expire said events old mid rest h (all-walk IsExpiring (MayMake numbers expire) (expiring-walks numbers) events h.1.only)
+  alone-began nobody lawful expire numbers said events old mid so rest sound h f = process-began numbers expire said events old mid rest h (all-walk IsExpiring (MayMake numbers expire) (expiring-walks numbers) events h.1.only)
       (reasoned numbers expire old mid (λ expired. Said (Expired expired 0)) h.0 said h.2 (λ e is mild. expire-reason trusted places old mid e mild events (subst (λ (r : Result ℕ Refusal). Expiration events r) is h.1) f), copy-unreasoned places numbers expire old said (λ e. tt)) f
-  alone-began nobody lawful empty_filespace numbers said events old mid so rest h f =
+  alone-began nobody lawful empty_filespace numbers said events old mid so rest sound h f =
       process-began numbers empty_filespace said events old mid rest h (all-walk (filespaces.IsDeleting (the_number numbers)) (MayMake numbers empty_filespace) (filespace-walks numbers) events h.1.only) (
         reasoned numbers empty_filespace old mid (λ discarded. Said (DiscardedFilespace discarded 0)) h.0 said h.2
-            (λ e is mild. filespace-reason trusted places (the_number numbers) events e old mid mild (rest.tickets, rest.image) (subst (λ (r : Result ℕ Refusal). FilespaceDeletion (the_number numbers) events r) is h.1) f),
+            (λ e is mild. filespace-reason trusted places (the_number numbers) events e old mid mild (rest.tickets, rest.image) sound.rows (subst (λ (r : Result ℕ Refusal). FilespaceDeletion (the_number numbers) events r) is h.1) f),
         copy-unreasoned places numbers empty_filespace old said (λ e. tt),
       ) f
-  alone-began nobody lawful empty_volume numbers said events old mid so rest h f =
+  alone-began nobody lawful empty_volume numbers said events old mid so rest sound h f =
       process-began numbers empty_volume said events old mid rest h (all-walk (volumes.IsDeleting true (the_number numbers)) (MayMake numbers empty_volume) (volume-walks numbers) events h.1.only) (
         reasoned numbers empty_volume old mid (λ (went : Removed). Said (DeletedVolume went.discarded went.dropped)) h.0 said h.2
-            (λ e is mild. volume-reason trusted places (the_number numbers) events e old mid mild (rest.tickets, rest.image) (subst (λ (r : Result Removed Refusal). VolumeDeletion true (the_number numbers) events r) is h.1) f),
+            (λ e is mild. volume-reason trusted places (the_number numbers) events e old mid mild (rest.tickets, rest.image) sound.rows sound.tied (subst (λ (r : Result Removed Refusal). VolumeDeletion true (the_number numbers) events r) is h.1) f),
         copy-unreasoned places numbers empty_volume old said (λ e. tt),
       ) f
-  alone-began nobody lawful back_up_pool numbers said events old mid so rest h f =
+  alone-began nobody lawful back_up_pool numbers said events old mid so rest sound h f =
       copies-began false NoOther numbers back_up_pool said events old mid (λ c is. no-other c false is) rest h (backup-copies (the_second numbers) events h.1.only) (backup-settled (the_number numbers) (the_second numbers) events h.0 said h.1.came h.2) (
         unreasoned numbers back_up_pool old mid said (λ e. tt),
         copy-reasoned places numbers back_up_pool old (λ (copies : Moved). Said (Copied copies.moved copies.failed)) h.0 said h.2
             (λ e is mild. copy-reason trusted places nobody lawful (the_number numbers) (the_second numbers) events e old mid mild rest (subst (λ (r : Result Moved Refusal). Backup (the_number numbers) (the_second numbers) events r) is h.1) f),
       ) f
-  alone-began nobody lawful (moves mover) numbers said events old mid so rest h f = moves-began nobody lawful mover numbers said events old mid rest h f
-  alone-began nobody lawful back_up_database numbers said events old mid so rest (answer, made, is) f =
+  alone-began nobody lawful (moves mover) numbers said events old mid so rest sound h f = moves-began nobody lawful mover numbers said events old mid rest sound h f
+  alone-began nobody lawful back_up_database numbers said events old mid so rest sound (answer, made, is) f =
       images-began numbers back_up_database said events old mid rest (answer, made, is) (all-back (MayMake numbers back_up_database) (IsOfImage (kind_of None)) (backup-backs numbers) events made.only)
       (λ h. backs-none None events answer made.order (leaves-none answer said is h))
       (reasoned numbers back_up_database old mid backed_up answer said is (λ e same mild. backup-reason trusted places None e events old mid mild rest.image (subst (λ (r : Result Taken Refusal). Backs image.Backup events r) same made.order) f), copy-unreasoned places numbers back_up_database old said (λ e. tt)) f
-  alone-began nobody lawful back_up_since numbers said events old mid so rest (answer, made, is) f =
+  alone-began nobody lawful back_up_since numbers said events old mid so rest sound (answer, made, is) f =
       images-began numbers back_up_since said events old mid rest (answer, made, is) (all-back (MayMake numbers back_up_since) IsFollowing (following-backs numbers) events made.only)
       (λ h. newest-none events answer made.order (leaves-none answer said is h))
       (reasoned numbers back_up_since old mid backed_up answer said is (λ e same mild. follow-reason trusted places e mild events old mid rest.image (subst (λ (r : Result Taken Refusal). FollowsNewest events r) same made.order) f), copy-unreasoned places numbers back_up_since old said (λ e. tt)) f
-  alone-began nobody lawful (delete_history to) numbers said events old mid so rest h f =
+  alone-began nobody lawful (delete_history to) numbers said events old mid so rest sound h f =
       process-began numbers (delete_history to) said events old mid rest h (all-walk (IsDeleting (due_files to h.1.lines)) (MayMake numbers (delete_history to)) (history-walks to numbers (due_files to h.1.lines)) events h.1.only) (
         reasoned numbers (delete_history to) old mid (λ deleted. Said (DeletedHistory deleted)) h.0 said h.2
             (λ e is mild. history-reason trusted places to events e old mid mild (rest.tickets, rest.image) (subst (λ (r : Result ℕ Refusal). HistoryDeletion to events r) is h.1) f),
         copy-unreasoned places numbers (delete_history to) old said (λ e. tt),
       ) f
-  alone-began nobody lawful (audit_volume fix) numbers said events old mid so rest h f =
+  alone-began nobody lawful (audit_volume fix) numbers said events old mid so rest sound h f =
       process-began numbers (audit_volume fix) said events old mid rest h
       (all-may-walk (IsAuditing fix (the_number numbers)) (MayMake numbers (audit_volume fix)) (auditing-walks fix numbers) events h.1.only) (
         reasoned numbers (audit_volume fix) old mid came.Audited h.0 said h.2
             (λ e is mild. audit-reason trusted places fix (the_number numbers) events e old mid mild (rest.tickets, rest.image) (subst (λ (r : Result Audit Refusal). VolumeAudit fix (the_number numbers) events r) is h.1) f),
         copy-unreasoned places numbers (audit_volume fix) old said (λ e. tt),
       ) f
-  alone-began nobody lawful none_but_reuse numbers said events old mid so rest h f = none-began (Ok (Said (Reused 0))) said events old mid rest h.0 h.1 f
-  alone-began nobody lawful none_yet numbers said events old mid so rest h f = none-began (Err (refused.UnknownWord 1)) said events old mid rest h.0 h.1 f
-  alone-began nobody lawful (on_tree work) numbers said events old mid so rest h f = absurd h
-  alone-began nobody lawful own numbers said events old mid so rest h f = absurd so
+  alone-began nobody lawful none_but_reuse numbers said events old mid so rest sound h f = none-began (Ok (Said (Reused 0))) said events old mid rest h.0 h.1 f
+  alone-began nobody lawful none_yet numbers said events old mid so rest sound h f = none-began (Err (refused.UnknownWord 1)) said events old mid rest h.0 h.1 f
+  alone-began nobody lawful (on_tree work) numbers said events old mid so rest sound h f = absurd h
+  alone-began nobody lawful own numbers said events old mid so rest sound h f = absurd so
 
 -- all trees are as they were
 kept-began : (trusted : Type 0) (places : Places) (k : Client) (Did : List Entry → Type 0) (b : Behind) (old mid : Machine) (said : Result Outcome Refusal) → IsKept k → OwnBegan trusted places Did b old mid said
@@ -550,26 +551,26 @@ module _ (trusted : Type 0) (places : Places) (nobody : NobodyHolds places) (law
   tree-began (back_up i) said events old mid so rest h f = back-up-began i said events old mid rest h f
   tree-began work said events old mid so rest h f = absurd so
 
-  alone : (own : Own) (numbers : List ℕ) (said : Result Outcome Refusal) (events : List Event) (old mid : Machine) → IsProcessOwn own → IsAtRest old.core → IsKept k × DoesAloneBy k.choice own numbers events said
+  alone : (own : Own) (numbers : List ℕ) (said : Result Outcome Refusal) (events : List Event) (old mid : Machine) → IsProcessOwn own → IsAtRest old.core → HasSoundRows (database old) → IsKept k × DoesAloneBy k.choice own numbers events said
       → Alone trusted places 0 events old mid → OwnBegan trusted places (λ added. IsKept k × DoesAlone trusted places k.choice numbers own old mid said added) b old mid said
-  alone own numbers said events old mid so rest (kept, h) f =
-      kept-began trusted places k (λ added. DoesAlone trusted places k.choice numbers own old mid said added) b old mid said kept (alone-began trusted places k.choice b nobody lawful own numbers said events old mid so rest h f)
+  alone own numbers said events old mid so rest sound (kept, h) f =
+      kept-began trusted places k (λ added. DoesAlone trusted places k.choice numbers own old mid said added) b old mid said kept (alone-began trusted places k.choice b nobody lawful own numbers said events old mid so rest sound h f)
 
-  own-began : (own : Own) (numbers : List ℕ) (said : Result Outcome Refusal) (events : List Event) (old mid : Machine) → IsProcessOwn own → IsAtRest old.core → DoesOwnBy k own numbers events said
+  own-began : (own : Own) (numbers : List ℕ) (said : Result Outcome Refusal) (events : List Event) (old mid : Machine) → IsProcessOwn own → IsAtRest old.core → HasSoundRows (database old) → DoesOwnBy k own numbers events said
       → Alone trusted places 0 events old mid → OwnBegan trusted places (λ added. DoesOwn trusted places k numbers own old mid said added) b old mid said
-  own-began (on_tree work) numbers said events old mid so rest h f = tree-began work said events old mid so rest h f
-  own-began expire numbers said events old mid so rest h f = alone expire numbers said events old mid so rest h f
-  own-began empty_filespace numbers said events old mid so rest h f = alone empty_filespace numbers said events old mid so rest h f
-  own-began empty_volume numbers said events old mid so rest h f = alone empty_volume numbers said events old mid so rest h f
-  own-began back_up_pool numbers said events old mid so rest h f = alone back_up_pool numbers said events old mid so rest h f
-  own-began (moves mover) numbers said events old mid so rest h f = alone (moves mover) numbers said events old mid so rest h f
-  own-began back_up_database numbers said events old mid so rest h f = alone back_up_database numbers said events old mid so rest h f
-  own-began back_up_since numbers said events old mid so rest h f = alone back_up_since numbers said events old mid so rest h f
-  own-began (delete_history to) numbers said events old mid so rest h f = alone (delete_history to) numbers said events old mid so rest h f
-  own-began (audit_volume fix) numbers said events old mid so rest h f = alone (audit_volume fix) numbers said events old mid so rest h f
-  own-began none_but_reuse numbers said events old mid so rest h f = alone none_but_reuse numbers said events old mid so rest h f
-  own-began none_yet numbers said events old mid so rest h f = alone none_yet numbers said events old mid so rest h f
-  own-began own numbers said events old mid so rest h f = absurd so
+  own-began (on_tree work) numbers said events old mid so rest sound h f = tree-began work said events old mid so rest h f
+  own-began expire numbers said events old mid so rest sound h f = alone expire numbers said events old mid so rest sound h f
+  own-began empty_filespace numbers said events old mid so rest sound h f = alone empty_filespace numbers said events old mid so rest sound h f
+  own-began empty_volume numbers said events old mid so rest sound h f = alone empty_volume numbers said events old mid so rest sound h f
+  own-began back_up_pool numbers said events old mid so rest sound h f = alone back_up_pool numbers said events old mid so rest sound h f
+  own-began (moves mover) numbers said events old mid so rest sound h f = alone (moves mover) numbers said events old mid so rest sound h f
+  own-began back_up_database numbers said events old mid so rest sound h f = alone back_up_database numbers said events old mid so rest sound h f
+  own-began back_up_since numbers said events old mid so rest sound h f = alone back_up_since numbers said events old mid so rest sound h f
+  own-began (delete_history to) numbers said events old mid so rest sound h f = alone (delete_history to) numbers said events old mid so rest sound h f
+  own-began (audit_volume fix) numbers said events old mid so rest sound h f = alone (audit_volume fix) numbers said events old mid so rest sound h f
+  own-began none_but_reuse numbers said events old mid so rest sound h f = alone none_but_reuse numbers said events old mid so rest sound h f
+  own-began none_yet numbers said events old mid so rest sound h f = alone none_yet numbers said events old mid so rest sound h f
+  own-began own numbers said events old mid so rest sound h f = absurd so
 
   -- a change, which is known by what it makes of the database
   same-first : (first more : List Entry) (old mid : Machine) → Adds first old mid → Grew IsAny [] more old mid → Grew (IsReuse b) first [] (since_of old mid) mid
@@ -584,12 +585,12 @@ module _ (trusted : Type 0) (places : Places) (nobody : NobodyHolds places) (law
       let w = walk trusted places IsAny [] events [] old old mid (all-walk (IsOf what) IsAny (changing-walks what) events called.only) (walked-none IsAny old rest) f in
       record { first = r.added; does = (kept, answer, r.commits, is, r.image, r.bytes); grew = same-first r.added w.0 old mid r.leaves.adds w.1.grew; free = λ h. w.1.free; idle = λ h. w.1.idle }
 
-  began : (c : Command) (w : Work) (said : Result Outcome Refusal) (events : List Event) (old mid : Machine) → IsProcessOwn (own_of c) → IsRowless (Ok w) → IsPlainWork (Ok w) → IsAtRest old.core → DoesBy k c w events said
+  began : (c : Command) (w : Work) (said : Result Outcome Refusal) (events : List Event) (old mid : Machine) → IsProcessOwn (own_of c) → IsRowless (Ok w) → IsPlainWork (Ok w) → IsAtRest old.core → HasSoundRows (database old) → DoesBy k c w events said
       → Alone trusted places 0 events old mid → Began trusted places k c w b old mid said
-  began c (CommitWork what) said events old mid own rowless plain rest h f = change-began c what said events old mid (and_parts (is_plain what) (is_common what) plain).0 rest h f
-  began c (Show q) said events old mid own rowless plain rest h f = absurd rowless
-  began c (Run numbers) said events old mid own rowless plain rest h f =
-      let r = own-began (own_of c) numbers said events old mid own rest h f in
+  began c (CommitWork what) said events old mid own rowless plain rest sound h f = change-began c what said events old mid (and_parts (is_plain what) (is_common what) plain).0 rest h f
+  began c (Show q) said events old mid own rowless plain rest sound h f = absurd rowless
+  began c (Run numbers) said events old mid own rowless plain rest sound h f =
+      let r = own-began (own_of c) numbers said events old mid own rest sound h f in
       record { first = r.first; does = r.does; grew = r.grew; free = r.free; idle = r.idle }
 
 -- ---- what comes behind it
@@ -683,9 +684,9 @@ module _ (trusted : Type 0) (places : Places) (nobody : NobodyHolds places) (law
             (λ it same. (g.free (ap may_stay same), g.idle (ap (λ (x : Result Outcome Refusal). has_ended x) same))) reusing forcing parts.1 parts.2,
       ) s
 
-  pub processed : (result : Result Outcome Refusal) (events : List Event) (old new : Machine) → IsProcess c → IsRowless (Ok w) → IsPlainWork (Ok w) → IsAtRest old.core → DoesWork k c (Ok w) events result
+  pub processed : (result : Result Outcome Refusal) (events : List Event) (old new : Machine) → IsProcess c → IsRowless (Ok w) → IsPlainWork (Ok w) → IsAtRest old.core → HasSoundRows (database old) → DoesWork k c (Ok w) events result
       → Alone trusted places 0 events old new → Processed trusted places k c w (behind c) old new result
-  processed result events old new p rowless plain rest (said, (xs, ys, cut, does, ends)) f =
+  processed result events old new p rowless plain rest sound (said, (xs, ys, cut, does, ends)) f =
       let parts = alone-parts trusted places 0 events xs ys old new cut f in
-      let g = began trusted places nobody lawful k (behind c) c w said xs old parts.0 p.own rowless plain rest does parts.1 in
+      let g = began trusted places nobody lawful k (behind c) c w said xs old parts.0 p.own rowless plain rest sound does parts.1 in
       behind-did (behind c) said result ys old parts.0 new p.some rest g ends parts.2

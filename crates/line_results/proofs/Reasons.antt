@@ -23,7 +23,9 @@ use Rattle.inventory_rows.specs.Items.{count_items, most_items}
 use Rattle.inventory_rows.specs.Search.{version}
 use Rattle.inventory_rows.specs.version_groups.Entries.{on_ok}
 use Rattle.inventory_rows.specs.version_groups.declared.versions.Version.{Version}
+use Rattle.inventory_rules.specs.Held.{IsTied}
 use Rattle.inventory_rules.specs.Journal.{Journal}
+use Rattle.inventory_rules.specs.Ordered.{IsOrdered}
 use Rattle.inventory_rules.specs.Transactions.{effect}
 use Rattle.inventory_rules.specs.Valid.{is_valid}
 use Rattle.inventory_rules.specs.Versions.{gone_or_unknown, of_version}
@@ -540,14 +542,14 @@ module _ (places : Places) (filespace : ℕ) where
   space-unheld d m next e (inr (inl h)) why step free = removing-unheld places (filespaces.reason_of filespace) d m next e h why step free
   space-unheld d m next e (inr (inr (name, answer, is))) why step free = plain-unheld places m next e _ answer d (filespace-takes name filespace) free is why step
 
-pub filespace-reason : (trusted : Type 0) (places : Places) (filespace : ℕ) (events : List Event) (e : Refusal) (old new : Machine) → halt_by e ≡ None → IsFree old.core → FilespaceDeletion filespace events (Err e)
+pub filespace-reason : (trusted : Type 0) (places : Places) (filespace : ℕ) (events : List Event) (e : Refusal) (old new : Machine) → halt_by e ≡ None → IsFree old.core → IsOrdered (database old) → FilespaceDeletion filespace events (Err e)
     → Alone trusted places 0 events old new → IsBarred (CanEmpty filespace (database old)) e ⊎ IsBounded old new e
-filespace-reason trusted places filespace events e old new mild free h f = elim h.came as (λ _. IsBarred (CanEmpty filespace (database old)) e ⊎ IsBounded old new e) [
+filespace-reason trusted places filespace events e old new mild free ordered h f = elim h.came as (λ _. IsBarred (CanEmpty filespace (database old)) e ⊎ IsBounded old new e) [
   | inl stopped ↦ inr (stopped-bounded trusted places (filespaces.IsDeleting filespace) (space-makes places filespace) (space-free places filespace) (space-full places filespace) (space-unheld places filespace)
       events e old new mild free h.only stopped f)
   | inr other ↦ (elim other as (λ _. IsBarred (CanEmpty filespace (database old)) e ⊎ IsBounded old new e) [
-    | inl missing ↦ (let one : IsUnremoved e = missing-so e missing.0 in inl (one, λ can. unbarred trusted places filespace events e old new one h.place f can))
-    | inr kept ↦ (let one : IsUnremoved e = kept-so e kept.0 in inl (one, λ can. unbarred trusted places filespace events e old new one h.place f can))
+    | inl missing ↦ (let one : IsUnremoved e = missing-so e missing.0 in inl (one, λ can. unbarred trusted places filespace events e old new one h.place f ordered can))
+    | inr kept ↦ (let one : IsUnremoved e = kept-so e kept.0 in inl (one, λ can. unbarred trusted places filespace events e old new one h.place f ordered can))
   ])
 ]
 
@@ -581,14 +583,14 @@ module _ (places : Places) (file : ℕ) where
   volume-unheld d m next e (inr (inl (lines, answer, is))) why step free = plain-unheld places m next e _ answer d (drop-takes _) free is why step
   volume-unheld d m next e (inr (inr h)) why step free = removing-unheld places (for_volume file) d m next e h why step free
 
-pub volume-reason : (trusted : Type 0) (places : Places) (file : ℕ) (events : List Event) (e : Refusal) (old new : Machine) → halt_by e ≡ None → IsFree old.core → VolumeDeletion true file events (Err e)
+pub volume-reason : (trusted : Type 0) (places : Places) (file : ℕ) (events : List Event) (e : Refusal) (old new : Machine) → halt_by e ≡ None → IsFree old.core → IsOrdered (database old) → IsTied (database old) → VolumeDeletion true file events (Err e)
     → Alone trusted places 0 events old new → IsBarred (CanRemove file (database old)) e ⊎ (is_valid (database old) ≡ true → IsBounded old new e)
-volume-reason trusted places file events e old new mild free h f = elim h.came as (λ _. IsBarred (CanRemove file (database old)) e ⊎ (is_valid (database old) ≡ true → IsBounded old new e)) [
+volume-reason trusted places file events e old new mild free ordered tied h f = elim h.came as (λ _. IsBarred (CanRemove file (database old)) e ⊎ (is_valid (database old) ≡ true → IsBounded old new e)) [
   | inl stopped ↦ inr (λ valid. stopped-valid trusted places (volumes.IsDeleting true file) (volume-makes places file) (volume-free places file) (volume-full places file) (volume-unheld places file)
       events e old new mild free valid h.only stopped f)
   | inr other ↦ (elim other as (λ _. IsBarred (CanRemove file (database old)) e ⊎ (is_valid (database old) ≡ true → IsBounded old new e)) [
-    | inl missing ↦ (let one : IsUnremoved e = missing-so e missing.0 in inl (one, λ can. unbarred-volume trusted places file events e old new free one h.place f can))
-    | inr kept ↦ (let one : IsUnremoved e = kept-so e kept.0 in inl (one, λ can. unbarred-volume trusted places file events e old new free one h.place f can))
+    | inl missing ↦ (let one : IsUnremoved e = missing-so e missing.0 in inl (one, λ can. unbarred-volume trusted places file events e old new free one h.place f ordered tied can))
+    | inr kept ↦ (let one : IsUnremoved e = kept-so e kept.0 in inl (one, λ can. unbarred-volume trusted places file events e old new free one h.place f ordered tied can))
   ])
 ]
 

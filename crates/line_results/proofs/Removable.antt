@@ -46,11 +46,11 @@ use Rattle.command_steps.specs.deletions.Volumes.{Cleared, HasNotFound, HasNotGo
 use Rattle.machine.specs.Alone.{Alone}
 use Rattle.machine.specs.Machine.{Case, Commits, Places}
 use Rattle.machine.specs.State.{Core, Machine, inventory, sight}
-use Rattle.line_results.specs.Removing.{CanRemove, HasNothing, IsUnremoved, IsVolume, MayClear}
+use Rattle.line_results.specs.Removing.{CanRemove, HasNothing, IsUnremoved, IsVolume}
 use Rattle.line_results.specs.Resting.{database}
 use Rattle.line_results.proofs.Bounds.{commit-all, commit-unheld, volume-takes}
 use Rattle.line_results.proofs.Cited.{IsOf, are-listed, in-its-pool, line-pool, primary-there}
-use Rattle.line_results.proofs.Clearing.{Leaving, cleared, is-copy-pool, none-left, not-copy-pool}
+use Rattle.line_results.proofs.Clearing.{IsSound, Leaving, cleared, is-copy-pool, none-left, not-copy-pool}
 use Rattle.line_results.proofs.Emptying.{IsBare, ask-rows, ask-told, asked-rows, asking-same, bare-common, bare-sizes, kept-of, no-both, ok-same, same-ok, shape, unstopped}
 use Rattle.line_results.proofs.Handling.{IsFree}
 use Rattle.line_results.proofs.Lying.{on-list}
@@ -102,11 +102,11 @@ there-lines b x h = (x, ap (λ (c : Bool). told-if c x) h)
 -- where it may be deleted it is there, under its name
 volume-there : (file : ℕ) (v : Inv) → CanRemove file v → IsVolume file v
 volume-there file v (inr (there, nothing)) = there
-volume-there file v (inl (has, (valid, ordered, tied))) = volume-shown file v valid has
+volume-there file v (inl (has, valid)) = volume-shown file v valid has
 
-and-so : (file : ℕ) (v : Inv) → CanRemove file v → MayClear v ⊎ HasNothing file v
-and-so file v (inl (has, may)) = inl may
-and-so file v (inr (there, nothing)) = inr nothing
+and-so : (file : ℕ) (v : Inv) → IsOrdered v → IsTied v → CanRemove file v → IsSound v ⊎ HasNothing file v
+and-so file v ordered tied (inl (has, valid)) = inl (valid, ordered, tied)
+and-so file v ordered tied (inr (there, nothing)) = inr nothing
 
 module _ (file : ℕ) (v : Inv) (there : IsVolume file v) where
   abbrev pub its-row : Row
@@ -157,7 +157,7 @@ no-wait trusted places row file (suc number) events m new free (xs, ys, cut, wai
 
 -- ---- the whole
 
-module _ (trusted : Type 0) (places : Places) (file : ℕ) (e : Refusal) (un : is_kept_by e ≡ true) (v : Inv) (there : IsVolume file v) (can : MayClear v ⊎ HasNothing file v) where
+module _ (trusted : Type 0) (places : Places) (file : ℕ) (e : Refusal) (un : is_kept_by e ≡ true) (v : Inv) (there : IsVolume file v) (can : IsSound v ⊎ HasNothing file v) where
   abbrev its : Row
   its = its-row file v there
 
@@ -232,7 +232,7 @@ module _ (trusted : Type 0) (places : Places) (file : ℕ) (e : Refusal) (un : i
       same-ok copies-in (rows.OnVolume lines) (rows.OnVolume (its-lines file v there).0) (rows_of (query.OnVolume file) v) (ap (rows_of (query.OnVolume file)) (sym is) ∙ a.1) (copies-are file v there) in
       by parts.0 ((its-lines file v there).1 ∙ sym (ap-ok same)) (ap inventory a.0 ∙ is) (subst IsFree (sym a.0) free) taken parts.2 can
     where
-      by : (mid : Machine) → on_volume file v ≡ Ok lines → inventory mid.core ≡ v → IsFree mid.core → TakenOf (pool_of lines) file lines ys removed → Alone trusted places 0 ys mid new → MayClear v ⊎ HasNothing file v
+      by : (mid : Machine) → on_volume file v ≡ Ok lines → inventory mid.core ≡ v → IsFree mid.core → TakenOf (pool_of lines) file lines ys removed → Alone trusted places 0 ys mid new → IsSound v ⊎ HasNothing file v
           → Ready file v new.core
       by mid all here free_there taken_there f_there (inr nothing) =
           let quiet = subst (λ (l : List CopyLine). TakenOf (pool_of l) file l ys removed) (ok-same lines [] (sym all ∙ nothing.1)) taken_there in
@@ -245,7 +245,7 @@ module _ (trusted : Type 0) (places : Places) (file : ℕ) (e : Refusal) (un : i
           }
       by mid all here free_there taken_there f_there (inl (valid, ordered, tied)) =
           let first : Leaving file v (map doomed lines) mid.core = record {
-            sound = subst (λ (x : Inv). (is_valid x ≡ true) × IsOrdered x × IsTied x) (sym here) (valid, ordered, tied);
+            sound = subst IsSound (sym here) (valid, ordered, tied);
             row = (there.0, ap (λ (x : Inv). row_at file x.stores.volumes) here ∙ there.1);
             named = λ name. ap (λ (x : Inv). volume_named name x.stores) here;
             pools = ap (λ (x : Inv). x.stores.pools) here;
@@ -292,6 +292,6 @@ module _ (trusted : Type 0) (places : Places) (file : ℕ) (e : Refusal) (un : i
 
 -- where the volume may be deleted none is refused so
 pub unbarred-volume : (trusted : Type 0) (places : Places) (file : ℕ) (events : List Event) (e : Refusal) (old new : Machine) → IsFree old.core → IsUnremoved e → IsInPlace true file events e → Alone trusted places 0 events old new
-    → CanRemove file (database old) → ⊥
-unbarred-volume trusted places file events e old new free one place f can =
-    placed trusted places file e (kept-of e one) (database old) (volume-there file (database old) can) (and-so file (database old) can) events old new refl free one place f
+    → IsOrdered (database old) → IsTied (database old) → CanRemove file (database old) → ⊥
+unbarred-volume trusted places file events e old new free one place f ordered tied can =
+    placed trusted places file e (kept-of e one) (database old) (volume-there file (database old) can) (and-so file (database old) ordered tied can) events old new refl free one place f

@@ -5,10 +5,9 @@ use Rattle.std.proofs.lemmas.Map.{keys-set_value}
 use Rattle.std.specs.BTreeMap.{insert_entry, is_at}
 use Rattle.std.specs.List.{AllByRecursion}
 use Rattle.std.specs.List.Sorted.{IsStrictlySortedBy}
-use Rattle.std.specs.Map.{keys_of, remove_entry, set_value}
+use Rattle.std.specs.Map.{keys_of}
 use Rattle.std.specs.Cmp.Lexicographic.{slice_cmp}
 use Rattle.std.specs.Ordering.{match_ordering, nat_cmp}
-use Rattle.std.specs.declared.cmp.Ordering.{Ordering}
 use Rattle.std.specs.declared.cmp.Ordering.TheVariants.{Less, Equal, Greater}
 use Rattle.kinds.specs.declared.change.DefineOrDelete.{DefineOrDelete}
 use Rattle.kinds.specs.declared.change.DefineOrDelete.TheVariants as two
@@ -23,7 +22,6 @@ use Rattle.kinds.specs.declared.refusal.Refusal.{Refusal}
 use Rattle.kinds.specs.declared.refusal.Refusal.TheVariants as refused
 use Rattle.entries.specs.declared.change.Change.{Change}
 use Rattle.entries.specs.declared.change.Change.TheVariants as change
-use Rattle.entries.specs.declared.entry.Entry.{Entry}
 use Rattle.inventory_rows.specs.pool_rows.ClassChanges.{change_class, class_gone, pool_of_class}
 use Rattle.inventory_rows.specs.pool_rows.Changed.{changed}
 use Rattle.inventory_rows.specs.pool_rows.Changes.{change_pool, change_volume, delete_filed, delete_numbered, is_bad_row, is_next_there, new_pool, new_volume, object_on, pool_before, unless_before, unless_filled, unless_held, update_filed, update_numbered, volume_of_pool}
@@ -36,7 +34,6 @@ use Rattle.inventory_rows.specs.State.{Inv}
 use Rattle.inventory_rules.specs.Common.{or_same}
 use Rattle.inventory_rules.specs.Transactions.{effect}
 use Rattle.inventory_rules.proofs.Touched.{effect-clients, effect-data}
-use Rattle.machine.specs.State.{Core, after, inventory}
 use Rattle.line_results.specs.Migrating.{StandByNumber}
 
 -- ---- numbers
@@ -219,7 +216,7 @@ stands-stores (store.Volume verb.Delete name pool file capacity access) v h =
 stands-as : (v w : Inv) → w.stores.pools ≡ v.stores.pools → StandByNumber v → StandByNumber w
 stands-as v w same h = subst Ascend (sym same) h
 
-stands-one : (c : Change) (v : Inv) → StandByNumber v → StandByNumber (effect c v)
+pub stands-one : (c : Change) (v : Inv) → StandByNumber v → StandByNumber (effect c v)
 unfolding effect
 stands-one (change.Day day) v h = h
 stands-one (change.Policy c) v h = h
@@ -238,11 +235,3 @@ stands-one (change.Reuse file) v h = h
 stands-one (change.DbBegin file after) v h = h
 stands-one (change.DbEnd file) v h = h
 stands-one (change.DbDelete file) v h = h
-
-stands-after : (v : Inv) (entries : List Entry) → StandByNumber v → StandByNumber (after v entries)
-stands-after v [] h = h
-stands-after v (e ∷ entries) h = stands-after (effect e.change v) entries (stands-one e.change v h)
-
--- so they are where those of the database were with which the machine was opened
-pub pools-stand : (c : Core) → StandByNumber c.base → StandByNumber (inventory c)
-pools-stand c h = stands-after c.base c.journal h

@@ -58,7 +58,7 @@ use Rattle.line_results.specs.Bounds.{HasNoneToFollow, IsBounded, ReachesBound, 
 use Rattle.line_results.specs.Commands.{Does, DoesThere, EndsWith, IsReuse, MayMake, Works, drawn, validated, work_over}
 use Rattle.line_results.specs.Files.{Gets, IsPlacedIn, Puts, backed_up, filespace_defined, why_no_place}
 use Rattle.line_results.specs.Moving.{MayCopy, MayMove}
-use Rattle.line_results.specs.Removing.{CanEmpty, CanRemove}
+use Rattle.line_results.specs.Removing.{CanEmpty}
 use Rattle.line_results.specs.Resting.{Makes, RoseFrom, database, entry, why_not}
 use Rattle.line_results.specs.Room.{NoneFails}
 use Rattle.line_results.specs.Trees.{HasBytes, IsChosen, IsOfTree, new_versions}
@@ -356,7 +356,7 @@ MayOwn places k numbers checkpoint old mid = old.core.generation + 1 < 2 ^ 62
 MayOwn places k numbers (on_tree work) old mid = MayOn k work old
 MayOwn places k numbers expire old mid = StaysWithin old mid
 MayOwn places k numbers empty_filespace old mid = CanEmpty (the_number numbers) (database old) × StaysWithin old mid
-MayOwn places k numbers empty_volume old mid = CanRemove (the_number numbers) (database old) × (is_valid (database old) ≡ true) × StaysWithin old mid
+MayOwn places k numbers empty_volume old mid = (has_volume (the_number numbers) (database old) ≡ true) × (is_valid (database old) ≡ true) × StaysWithin old mid
 MayOwn places k numbers back_up_database old mid = MayBackUpDatabase None old
 MayOwn places k numbers back_up_since old mid = MayFollow old
 MayOwn places k numbers (delete_history to) old mid = StaysWithin old mid

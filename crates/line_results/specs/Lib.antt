@@ -27,4 +27,5 @@ pub mod Removing
 pub mod Resting
 pub mod Returning
 pub mod Room
+pub mod Sound
 pub mod Trees

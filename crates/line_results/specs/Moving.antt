@@ -22,7 +22,7 @@ use Rattle.command_steps.specs.Doing.{the_number, the_second}
 use Rattle.command_steps.specs.Owns.{Mover, Own, all_migrator, back_up_pool, data_mover, migrator, moves, pool_restorer, reclaimer, volume_restorer}
 use Rattle.command_steps.specs.declared.outcome.Outcome.{Outcome}
 use Rattle.line_results.specs.Bounds.{illegal}
-use Rattle.line_results.specs.Migrating.{IsAllMigration, IsPoolMigration, IsWithoutNext, StandByNumber, has_next}
+use Rattle.line_results.specs.Migrating.{IsAllMigration, IsPoolMigration, IsWithoutNext, has_next}
 use Rattle.line_results.specs.Resting.{Onward, database}
 use Rattle.line_results.specs.Returning.{CanBeLost, CannotBeLost, HasNoPool, RestoresPool, RestoresVolume}
 
@@ -113,7 +113,7 @@ HasMoveReason places numbers data_mover old why = IsUnmoved places (the_number n
 HasMoveReason places numbers reclaimer old why = IsUnreclaimed places (the_number numbers) (min (the_second numbers) 100) old why
 HasMoveReason places numbers migrator old why =
     IsWithoutNext (the_number numbers) (database old) why ⊎ IsStuck places (IsPoolMigration (the_number numbers) (min (the_second numbers) 100)) old why
-HasMoveReason places numbers all_migrator old why = StandByNumber (database old) → IsStuck places IsAllMigration old why
+HasMoveReason places numbers all_migrator old why = IsStuck places IsAllMigration old why
 HasMoveReason places numbers pool_restorer old why = HasNoPool (the_number numbers) old why ⊎ IsStuck places (RestoresPool (the_number numbers)) old why
 HasMoveReason places numbers volume_restorer old why = CannotBeLost (the_number numbers) old why ⊎ IsStuck places (RestoresVolume (the_number numbers)) old why
 

@@ -9,8 +9,6 @@ use Rattle.inventory_rows.specs.pool_tables.Rows.{row_at}
 use Rattle.inventory_rows.specs.volume_rows.Holdings.{least_object}
 use Rattle.inventory_rows.specs.volume_rows.declared.volume.Volume.{Volume}
 use Rattle.inventory_rows.specs.State.{Inv}
-use Rattle.inventory_rules.specs.Held.{IsTied}
-use Rattle.inventory_rules.specs.Ordered.{IsOrdered}
 use Rattle.inventory_rules.specs.Valid.{is_valid}
 use Rattle.inventory_work.specs.Copies.{has_volume, on_volume}
 
@@ -22,9 +20,9 @@ IsUnremoved why = (why ≡ NotFound) ⊎ ((by : By) × (why ≡ InUse by)) ⊎ (
 abbrev pub IsBarred : (Can : Type 0) → Refusal → Type 0
 IsBarred Can why = IsUnremoved why × (Can → ⊥)
 
--- A filespace that is there may be deleted with all that is kept in it in a valid database whose rows stand in order.
+-- A filespace that is there may be deleted with all that is kept in it in a valid database.
 abbrev pub CanEmpty : (filespace : ℕ) → Inv → Type 0
-CanEmpty filespace v = (is_some (filespace_at filespace v.clients.filespaces) ≡ true) × (is_valid v ≡ true) × IsOrdered v
+CanEmpty filespace v = (is_some (filespace_at filespace v.clients.filespaces) ≡ true) × (is_valid v ≡ true)
 
 -- the volume with this file number is there, and is the one under its name
 abbrev pub IsVolume : (file : ℕ) → Inv → Type 0
@@ -34,10 +32,6 @@ IsVolume file v = (x : Volume) × (row_at file v.stores.volumes ≡ Some x) × (
 abbrev pub HasNothing : (file : ℕ) → Inv → Type 0
 HasNothing file v = ((x : Volume) → row_at file v.stores.volumes ≡ Some x → least_object x.segments ≡ None) × (on_volume file v ≡ Ok [])
 
--- What lies on a volume of it may go with the volume: it is valid, its rows stand in order, and its volumes have the segments of the copies.
-abbrev pub MayClear : Inv → Type 0
-MayClear v = (is_valid v ≡ true) × IsOrdered v × IsTied v
-
--- A volume that is there, of a primary pool or of a copy pool, may be deleted with its data in such a database; in any other where it is the one under its name, and nothing lies on it.
+-- A volume that is there, of a primary pool or of a copy pool, may be deleted with its data in a valid database; in any other where it is the one under its name, and nothing lies on it.
 abbrev pub CanRemove : (file : ℕ) → Inv → Type 0
-CanRemove file v = ((has_volume file v ≡ true) × MayClear v) ⊎ (IsVolume file v × HasNothing file v)
+CanRemove file v = ((has_volume file v ≡ true) × (is_valid v ≡ true)) ⊎ (IsVolume file v × HasNothing file v)
