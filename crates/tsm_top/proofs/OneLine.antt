@@ -3,12 +3,12 @@ use Rattle.std.proofs.Common.{◌≡◌, ℕ, Option, List, Result, Ok, Err, ref
 use Rattle.std.specs.Prelude.{IfErr, IfOk, IfSome}
 use Rattle.store_api.specs.Disk.{History, now}
 use Rattle.client_trees.specs.Files.{Files}
+use Rattle.inventory_rows.specs.Ascending.{AreAscending}
 use Rattle.script_loop.specs.Reply.{Answer}
 use Rattle.script_loop.specs.declared.ends.Halt.{Halt}
 use Rattle.machine.specs.State.{Machine}
 use Rattle.hall.specs.Good.{Is}
 use Rattle.hall.specs.Steps.{IsTrusted}
-use Rattle.block_results.specs.line_results.Migrating.{StandByNumber}
 use Rattle.block_results.specs.line_results.Resting.{Onward}
 use Rattle.tsm_top.specs.OneLine.{Answered, ComesTo, GoesTo, Halted, RestsAs}
 use Rattle.tsm_top.specs.Sessions.{HaltsLine, ServesLine}
@@ -21,9 +21,9 @@ use Rattle.tsm_top.proofs.Treed.{ChangeTheirTree}
 module _ {S T : Type 0} (told : S → Option History) (moment : S → ℕ) (faults : S → ℕ → ℕ) (files : T → Option Files) (tree_faults : T → ℕ) (clock : (s : S) → IfSome (told s) (λ h. now h ≡ moment s))
     (changes : ChangeTheirTree) (goes : GoOn told moment faults) (gives : AreThere told moment faults) (kept : AreKept told moment faults) (leave : LeaveSound told moment faults)
     (trusted : Type 0) (alone : AreAlone trusted told moment faults) (comes : Come trusted) (ends : End_ trusted) (hold : Hold trusted) where
-  module _ (old new : Session S T) (n : ℕ) (line : List ℕ) (stands : StandByNumber old.hall.held.base) (m : Machine) (rests : RestsAs told moment faults old m) (known : trusted → IsTrusted (told old.hall.store) old.hall.held) where
+  module _ (old new : Session S T) (n : ℕ) (line : List ℕ) (ascends : AreAscending old.hall.held.base) (m : Machine) (rests : RestsAs told moment faults old m) (known : trusted → IsTrusted (told old.hall.store) old.hall.held) where
     begun : At told moment faults files tree_faults clock changes goes gives goes_further goes_no_further trusted alone comes ends hold old.binder old m
-    begun = record { is = rests.is; stands = stands; known = known; rests = rests.rests; binder = refl }
+    begun = record { is = rests.is; ascends = ascends; known = known; rests = rests.rests; binder = refl }
 
     goes_to : (next : Machine) → Is told moment faults new.hall next → Onward m next → next.core.base ≡ m.core.base
         → Goes told moment faults files tree_faults clock changes goes gives goes_further goes_no_further trusted alone comes ends hold old.binder old new → (trusted → IsTrusted (told new.hall.store) new.hall.held)

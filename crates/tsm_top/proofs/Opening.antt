@@ -11,6 +11,7 @@ use Rattle.kinds.specs.declared.refusal.OpenRefused.TheVariants as refused
 use Rattle.client_trees.specs.Files.{Files}
 use Rattle.entries.specs.declared.entry.Entry.{Entry}
 use Rattle.inventory.specs.Meant.{meaning}
+use Rattle.inventory_rows.specs.Ascending.{AreAscending}
 use Rattle.inventory_rows.specs.State.{Inv}
 use Rattle.inventory_rules.specs.Valid.{is_valid}
 use Rattle.script_loop.specs.Runs.{Says}
@@ -27,7 +28,6 @@ use Rattle.hall.specs.Steps.{IsTrusted}
 use Rattle.hall.proofs.Imaging.{no_image}
 use Rattle.hall_turns.proofs.Openings.{opened_backed}
 use Rattle.block_results.specs.command_steps.Clients.{Client}
-use Rattle.block_results.specs.line_results.Migrating.{StandByNumber}
 use Rattle.blocks.specs.Shapes.{Gathered}
 use Rattle.tsm_top.specs.declared.note.Note.{Note}
 use Rattle.tsm_top.specs.declared.server.Server.{Server}
@@ -55,7 +55,7 @@ abbrev stand_at : Site → Option Gathered → ℕ → Stand
 stand_at w b j = record { site = w; block = b; jobs = j }
 
 module _ {S : Type 0} (told : S → Option History) (moment : S → ℕ) (faults : S → ℕ → ℕ) (clock : (s : S) → IfSome (told s) (λ h. now h ≡ moment s)) where
-  module _ (hall : Hall S) (fresh : IsNewHall (moment hall.store) hall.held) (stands : StandByNumber hall.held.base) where
+  module _ (hall : Hall S) (fresh : IsNewHall (moment hall.store) hall.held) (ascends : AreAscending hall.held.base) where
     begins : (m : Machine) → Is told moment faults hall m → Begins hall.held.base (moment hall.store) (faults hall.store) m
     begins m is =
         let no_tickets : m.core.tickets ≡ [] = no_seats hall.held.seats m.core.tickets fresh.seats is.core.tickets in
@@ -85,7 +85,7 @@ module _ {S : Type 0} (told : S → Option History) (moment : S → ℕ) (faults
           → (trusted → IsTrusted (told hall.store) hall.held) → At told moment faults files tree_faults clock changes goes gives goes_further goes_no_further trusted alone come ends hold first.binder first m
       begun_at trusted alone come ends hold m in_it known = record {
         is = subst (λ (h : Hall S). Is told moment faults h m) (sym begun) in_it;
-        stands = subst (λ (h : Hall S). StandByNumber h.held.base) (sym begun) stands;
+        ascends = subst (λ (h : Hall S). AreAscending h.held.base) (sym begun) ascends;
         known = subst (λ (h : Hall S). trusted → IsTrusted (told h.store) h.held) (sym begun) known;
         rests = (begins m in_it).rests;
         binder = refl;

@@ -1,5 +1,5 @@
 -- A script's run on a hall and the clients' trees is a run of the machine beside them, line by line.
-use Rattle.std.proofs.Common.{◌≡◌, ◌⊎◌, inl, inr, ℕ, ◌+◌, Bool, true, false, Option, None, Some, List, [], ◌∷◌, ◌++◌, length, Ok, Err, refl, sym, ap, subst, ◌∙◌, arith}
+use Rattle.std.proofs.Common.{◌≡◌, ◌⊎◌, inl, inr, ℕ, ◌+◌, Bool, true, false, Option, None, Some, List, [], ◌∷◌, ◌++◌, length, take, Ok, Err, refl, sym, ap, subst, ◌∙◌, arith}
 use Rattle.std.specs.Prelude.{IfSome, ◌≤◌}
 use Rattle.std.specs.List.{AllByRecursion}
 use Rattle.store_api.specs.Disk.{History, ImageAt, now}
@@ -8,7 +8,9 @@ use Rattle.store_api.specs.Told.{Told}
 use Rattle.kinds.specs.declared.refusal.Refusal.{Refusal}
 use Rattle.choosers.specs.declared.rule.Rule.{Rule}
 use Rattle.client_trees.specs.Files.{Files}
+use Rattle.inventory_rows.specs.Ascending.{AreAscending}
 use Rattle.inventory_rows.specs.State.{Inv}
+use Rattle.inventory_rules.specs.Run.{journal_of}
 use Rattle.inventory_rules.specs.Valid.{is_valid}
 use Rattle.script_loop.specs.Reply.{Answer}
 use Rattle.script_loop.specs.Runs.{Allows, Answers, Halts, Prints, Runs, Says}
@@ -37,14 +39,15 @@ use Rattle.block_results.specs.command_steps.Clients.{Client, Known, all_seen, c
 use Rattle.block_results.specs.command_steps.Lines.{Line, line_of}
 use Rattle.block_results.specs.line_results.Clauses.{Holds}
 use Rattle.block_results.specs.line_results.Lines.{Halts as EndsLine, Replies}
-use Rattle.block_results.specs.line_results.Migrating.{StandByNumber}
-use Rattle.block_results.specs.line_results.Resting.{HasSizes, IsAtRest, Onward}
+use Rattle.block_results.specs.line_results.Resting.{HasSizes, IsAtRest, Onward, database}
+use Rattle.block_results.specs.line_results.Sound.{HasSoundRows}
 use Rattle.blocks.specs.Parts.{begins, part}
 use Rattle.blocks.specs.Shapes.{Gathered, begun, is_end, with_line}
 use Rattle.crew.specs.Ran.{EachFits, RanFrom, Turned, began}
 use Rattle.block_results.specs.line_jobs.Ran.{EndsLines, IsEnding, Worked, ending, shared}
 use Rattle.block_results.specs.line_jobs.Shares.{Came, with_said}
 use Rattle.block_results.specs.line_jobs.declared.job.Said.{Said}
+use Rattle.block_results.proofs.of_line_results.SoundRows.{sound-along}
 use Rattle.block_results.proofs.BySteps.{steps-of}
 use Rattle.block_results.proofs.Jobs.{block-held}
 use Rattle.block_results.proofs.JobsComplete.{jobs-complete}
@@ -103,18 +106,18 @@ AreThere {S} told moment faults =
 -- a line's steps come to what it says, or end the run
 abbrev pub Come : Type 0 → Type 0
 Come trusted =
-    (k : Client) (n : ℕ) (line : Line) (events : List Event) (answer : Answer) (why : Option Refusal) (old new : Machine) → IsAtRest old.core → HasSizes old
+    (k : Client) (n : ℕ) (line : Line) (events : List Event) (answer : Answer) (why : Option Refusal) (old new : Machine) → IsAtRest old.core → HasSizes old → HasSoundRows (database old)
     → AnswersLine k n line events (Ok (answer, why)) → Alone trusted hall_places 0 events old new → Replies trusted hall_places k n line old answer why new
 
 abbrev pub End_ : Type 0 → Type 0
 End_ trusted =
-    (k : Client) (n : ℕ) (line : Line) (events : List Event) (how : Halt) (old new : Machine) → IsAtRest old.core → HasSizes old
+    (k : Client) (n : ℕ) (line : Line) (events : List Event) (how : Halt) (old new : Machine) → IsAtRest old.core → HasSizes old → HasSoundRows (database old)
     → AnswersLine k n line events (Err how) → Alone trusted hall_places 0 events old new → EndsLine trusted hall_places k n line old how new
 
 -- and then it has what the headline says of each line
 abbrev pub Hold : Type 0 → Type 0
 Hold trusted =
-    (k : Client) (n : ℕ) (line : Line) (answer : Answer) (why : Option Refusal) (old new : Machine) → StandByNumber old.core.base → (r : Replies trusted hall_places k n line old answer why new)
+    (k : Client) (n : ℕ) (line : Line) (answer : Answer) (why : Option Refusal) (old new : Machine) → (r : Replies trusted hall_places k n line old answer why new)
     → Holds trusted hall_places k n line old r.mid answer r.added
 
 -- stamps that rise to a moment are at most that
@@ -136,14 +139,21 @@ in_order told moment faults hall m is = record {
   next_object = is.good.numbers.next_object.1;
 }
 
+-- the rows of the database are sound, as those of each database of a lawful run are that began with rows as tables hold them
+sound_rows : {S : Type 0} (told : S → Option History) (moment : S → ℕ) (faults : S → ℕ → ℕ) (hall : Hall S) (m : Machine) → Is told moment faults hall m → AreAscending hall.held.base → HasSoundRows (database m)
+sound_rows told moment faults hall m is ascends =
+    let first : AreAscending m.core.base = subst AreAscending (sym is.core.base) ascends in
+    sound-along m.core.base m.core.journal is.good.lawful.valid (record { pools = first.pools; rows = record { by_number = first.filespaces; by_path = first.paths }; tied = is.good.lawful.tied })
+    (λ i e at. (journal_of m.core.base (take i m.core.journal), is.good.lawful.legal i e at))
+
 module _ {S T : Type 0} (told : S → Option History) (moment : S → ℕ) (faults : S → ℕ → ℕ) (files : T → Option Files) (tree_faults : T → ℕ) (clock : (s : S) → IfSome (told s) (λ h. now h ≡ moment s))
     (changes : ChangeTheirTree) (steps_go : GoOn told moment faults) (gives : AreThere told moment faults)
     (goes_then : (x y z : Option History) → Told x y (GoesOn (λ file. Unit {0})) → Told y z (GoesOn (λ file. Unit {0})) → Told x z (GoesOn (λ file. Unit {0}))) (goes_here : (x : Option History) → Told x x (GoesOn (λ file. Unit {0})))
     (trusted : Type 0) (alone : AreAlone trusted told moment faults) (comes : Come trusted) (ends : End_ trusted) (hold : Hold trusted) (choice : List Rule) where
-  -- a session is in this state of the machine, and at rest; and pools stand by number in the database that its hall was opened with
+  -- a session is in this state of the machine, and at rest; and the rows of the database that its hall was opened with ascend
   pub record At (s : Session S T) (m : Machine) : Type 0 where
     pub is : Is told moment faults s.hall m
-    pub stands : StandByNumber s.hall.held.base
+    pub ascends : AreAscending s.hall.held.base
     pub known : trusted → IsTrusted (told s.hall.store) s.hall.held
     pub rests : IsAtRest m.core
     pub binder : s.binder ≡ choice
@@ -197,17 +207,17 @@ module _ {S T : Type 0} (told : S → Option History) (moment : S → ℕ) (faul
       let on = steps_go 0 events old.hall new.hall ran in
       let k = between choice (of old m) (of new run.0) in
       let said : AnswersLine k n (line_of line) events (Ok (answer, why)) = subst (λ (rules : List Rule). AnswersLine (client files tree_faults rules old.trees.items new.trees.items) n (line_of line) events (Ok (answer, why))) at.binder did in
-      let r = comes k n (line_of line) events answer why m run.0 at.rests at.is.good.bytes.sized said run.1 in
+      let r = comes k n (line_of line) events answer why m run.0 at.rests at.is.good.bytes.sized (sound_rows told moment faults old.hall m at.is at.ascends) said run.1 in
       record {
         next = run.0;
-        at = record { is = run.2; stands = subst StandByNumber (sym on.0) at.stands; known = run.3; rests = r.rests; binder = binder ∙ at.binder };
+        at = record { is = run.2; ascends = subst AreAscending (sym on.0) at.ascends; known = run.3; rests = r.rests; binder = binder ∙ at.binder };
         goes = on;
         onward = further m r.mid run.0 r.first r.behind;
         same = run.2.core.base ∙ on.0 ∙ sym at.is.core.base;
         run = λ last more. (
           why,
           r,
-          hold k n (line_of line) answer why m run.0 (subst StandByNumber (sym at.is.core.base) at.stands) r,
+          hold k n (line_of line) answer why m run.0 r,
           leaves_file changes k n (line_of line) events answer why said,
           (λ t. there told moment faults clock gives new.hall run.0 (told last.hall.store) run.2 r.rests.fault r.rests.durable (run.3 t) more.2),
           timely told moment faults new.hall m run.0 run.2 run.4,
@@ -233,7 +243,7 @@ module _ {S T : Type 0} (told : S → Option History) (moment : S → ℕ) (faul
       let on = steps_go 0 events old.hall new.hall ran in
       let k = between choice (of old m) (of new run.0) in
       let said : AnswersLine k n (line_of line) events (Err how) = subst (λ (rules : List Rule). AnswersLine (client files tree_faults rules old.trees.items new.trees.items) n (line_of line) events (Err how)) at.binder did in
-      let r = ends k n (line_of line) events how m run.0 at.rests at.is.good.bytes.sized said run.1 in
+      let r = ends k n (line_of line) events how m run.0 at.rests at.is.good.bytes.sized (sound_rows told moment faults old.hall m at.is at.ascends) said run.1 in
       record {
         next = run.0;
         is = run.2;
@@ -353,7 +363,7 @@ module _ {S T : Type 0} (told : S → Option History) (moment : S → ℕ) (faul
         let lines = jobs_ran.ran in
         let came = lines.0 in
         let middle = jobs old mid b first came m at lines.1 in
-        let place : At mid middle.next = record { is = middle.is; stands = subst StandByNumber (sym middle.goes.0) at.stands; known = middle.known; rests = at_rest told moment faults mid.hall middle.next middle.is rests; binder = jobs_ran.binder ∙ at.binder } in
+        let place : At mid middle.next = record { is = middle.is; ascends = subst AreAscending (sym middle.goes.0) at.ascends; known = middle.known; rests = at_rest told moment faults mid.hall middle.next middle.is rests; binder = jobs_ran.binder ∙ at.binder } in
         let behind = led_by mid done.behind n [] done.follow middle.next place done.follows in
         let further_on : Goes mid new =
         subst (λ (h : Hall S). (h.held.base ≡ mid.hall.held.base) × (h.held.opened ≡ mid.hall.held.opened) × Told (told mid.hall.store) (told h.store) (GoesOn (λ file. Unit {0}))) (sym done.hall) behind.goes in
@@ -362,7 +372,7 @@ module _ {S T : Type 0} (told : S → Option History) (moment : S → ℕ) (faul
           next = behind.next;
           at = record {
             is = subst (λ (h : Hall S). Is told moment faults h behind.next) (sym done.hall) behind.at.is;
-            stands = subst (λ (h : Hall S). StandByNumber h.held.base) (sym done.hall) behind.at.stands;
+            ascends = subst (λ (h : Hall S). AreAscending h.held.base) (sym done.hall) behind.at.ascends;
             known = subst (λ (h : Hall S). trusted → IsTrusted (told h.store) h.held) (sym done.hall) behind.at.known;
             rests = behind.at.rests;
             binder = done.binder ∙ behind.at.binder;
@@ -452,7 +462,7 @@ module _ {S T : Type 0} (told : S → Option History) (moment : S → ℕ) (faul
     behind_jobs old new b first n how m mid said at ran (inr (rests, stopped)) =
         let lines = ran.ran in
         let middle = jobs old mid b first lines.0 m at lines.1 in
-        let place : At mid middle.next = record { is = middle.is; stands = subst StandByNumber (sym middle.goes.0) at.stands; known = middle.known; rests = at_rest told moment faults mid.hall middle.next middle.is rests; binder = ran.binder ∙ at.binder } in
+        let place : At mid middle.next = record { is = middle.is; ascends = subst AreAscending (sym middle.goes.0) at.ascends; known = middle.known; rests = at_rest told moment faults mid.hall middle.next middle.is rests; binder = ran.binder ∙ at.binder } in
         let behind = ended_by mid new n [] how middle.next place stopped in
         record {
           next = behind.next;

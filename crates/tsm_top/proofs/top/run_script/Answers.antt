@@ -4,7 +4,7 @@ use Rattle.tsm_top.proofs.top.run_script.Goals as goal
 
 pub returns : goal.returns
 returns g c =
-    let done = from g.S.Store.told g.S.Store.moment_of g.S.Store.faults_of c.clocks_agree.ensures c.args.hall c.requires.fresh c.rows_ascend.ensures.pools g.T.Tree.files g.T.Tree.fault_count
+    let done = from g.S.Store.told g.S.Store.moment_of g.S.Store.faults_of c.clocks_agree.ensures c.args.hall c.requires.fresh c.rows_ascend.ensures g.T.Tree.files g.T.Tree.fault_count
     (record { only = c.lines_change_their_tree.ensures.only; written = c.lines_change_their_tree.ensures.written; erased = c.lines_change_their_tree.ensures.erased })
     c.runs_are_alone.ensures.goes c.halls_at_rest_are_there.ensures (record { hall = c.args.hall; trees = c.args.trees; binder = c.args.binder; buffer = c.args.buffer; notes = c.new.result }) refl c.blocks_are_turns.ensures.goes (record { session = record { hall = c.args.hall; trees = c.args.trees; binder = c.args.binder; buffer = c.args.buffer; notes = c.new.result }; block = None; jobs = 0 }) c.answer_script-server.result.0 refl c.answer_script-server.result.1 _ _ _ c.answer_script-server.ensures.says c.answer_script-server.result.0.session refl
     c.new.ensures.items refl refl c.trusted_halls_are_safe.ensures c.halls_leave_sound_stores.ensures
