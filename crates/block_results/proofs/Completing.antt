@@ -151,7 +151,7 @@ use Rattle.line_results.specs.Clauses.{MayGive}
 use Rattle.line_results.specs.Commands.{drawn, validated}
 use Rattle.line_results.specs.Files.{filespace_defined}
 use Rattle.line_results.specs.Resting.{Onward, RoseFrom, database}
-use Rattle.block_results.specs.Legal.{AreAnswers, AreThere, IsAnswered, IsAnsweredWith, IsComplete, IsHeldOn, IsHeldUp, IsHome, IsLegal, IsNoBackup, IsReadable, IsUnopened, MayBackUp, MayBy, MayCheckpoint, MayCommit, MayDo, MayGet, MayLose, MayOn, MayOwn, Passes, Remains, IsThereOrDefined, HasRoom, IsBound, MayStore, IsKeptIn, StaysKept, stored_with, MayPut}
+use Rattle.block_results.specs.Legal.{AreAnswers, AreThere, IsAnswered, IsAnsweredWith, IsComplete, IsHome, IsInUse, IsLegal, IsNoBackup, IsReadable, IsUnopened, MayBackUp, MayBy, MayCheckpoint, MayCommit, MayDo, MayGet, MayLose, MayOn, MayOwn, Passes, Remains, IsThereOrDefined, HasRoom, IsBound, MayStore, IsKeptIn, StaysKept, stored_with, MayPut}
 use Rattle.block_results.specs.Processes.{MayProcess}
 use Rattle.block_results.specs.Refusing.{HasNoPlace, IsRefusedFor, IsUnended, IsUnread, bounds, held_reasons, own_reasons}
 use Rattle.block_results.proofs.Came.{Said as SaidOf}
@@ -162,6 +162,9 @@ use Rattle.block_results.proofs.InOrder.{Stood, Two, moved-number, passes-after,
 use Rattle.block_results.proofs.Looking.{told-as}
 use Rattle.block_results.proofs.Mild.{not-memory}
 use Rattle.block_results.proofs.Moving.{unmoved, unrestored-volume}
+use Rattle.line_results.proofs.Reasons.{stopping-mild}
+use Rattle.line_results.specs.copy_runs.Ends.{IsStopped}
+use Rattle.line_jobs.specs.Jobs.{is_held}
 use Rattle.block_results.proofs.Processes.{AllStood, unaudited, unbacked-whole, uncopied, undeleted, unexpired, unfollowed}
 use Rattle.block_results.proofs.Reasons.{moved-for}
 use Rattle.block_results.proofs.Removing.{IsUsed, unemptied, unremoved}
@@ -2067,14 +2070,26 @@ module _ (trusted : Type 0) (places : Places) (actor : ℕ) where
     reuse-err : (it : Outcome) (e : Refusal) (events : List Event) → Reusing (Ok it) events (Err e) → VolumeReuse events (Err e)
     reuse-err it e events h = gives-err VolumeReuse (λ number. with_reused number it) events e h
 
-    ends-none : (b : Behind) (n : ℕ) (it : Outcome) (e : Refusal) (front own : List Event) (all : List Event) (answer : Answer) → all ≡ front ++ own → halt_by e ≡ None → answer ≡ answer_refused n e → EndsWork b (Ok it) own (Err e) → IsAnsweredWith b n all answer
-    ends-none no_more n it e front own all answer cut mild said (none, is) = absurd cc
-    ends-none forces n it e front own all answer cut mild said h = absurd (forced-done it e own h mild)
-    ends-none reuses n it e front own all answer cut mild said (Ok more, (xs, ys, apart, reused, forcing)) = absurd (forced-done more e ys forcing mild)
-    ends-none reuses n it e front own all answer cut mild said (Err f, (xs, ys, apart, reused, forcing)) =
+    not-held : (e : Refusal) → is_held (Some e) ≡ false → IsBusy e → ⊥
+    not-held e unheld (h, is) = (let same : true ≡ false = ap (λ (x : Refusal). is_held (Some x)) (sym is) ∙ unheld in absurd cc)
+
+    -- of what stops a process only the bound of the database
+    only-full : (e : Refusal) → halt_by e ≡ None → is_held (Some e) ≡ false → (own : List Event) → IsStopped own e → e ≡ refused.InventoryFull
+    only-full e mild unheld own (inl wanted) = absurd (not-memory e mild wanted)
+    only-full e mild unheld own (inr (stops, met)) = elim (stopping-mild e stops mild) as (λ _. e ≡ refused.InventoryFull) [
+      | inl full ↦ full
+      | inr busy ↦ absurd (not-held e unheld busy)
+    ]
+
+    ends-none : (b : Behind) (n : ℕ) (it : Outcome) (e : Refusal) (front own : List Event) (all : List Event) (answer : Answer) → all ≡ front ++ own → halt_by e ≡ None → is_held (Some e) ≡ false → answer ≡ answer_refused n e → EndsWork b (Ok it) own (Err e) → IsAnsweredWith b n all answer
+    ends-none no_more n it e front own all answer cut mild unheld said (none, is) = absurd cc
+    ends-none forces n it e front own all answer cut mild unheld said h = absurd (forced-done it e own h mild)
+    ends-none reuses n it e front own all answer cut mild unheld said (Ok more, (xs, ys, apart, reused, forcing)) = absurd (forced-done more e ys forcing mild)
+    ends-none reuses n it e front own all answer cut mild unheld said (Err f, (xs, ys, apart, reused, forcing)) =
         let same : e ≡ f = forced-same f e ys forcing mild in
         let mine : VolumeReuse xs (Err e) = reuse-err it e xs (subst (λ (x : Refusal). Reusing (Ok it) xs (Err x)) (sym same) reused) in
-        inr (e, said, front, xs, ys, cut ∙ ap (λ (l : List Event). front ++ l) apart, mine)
+        let full : e ≡ refused.InventoryFull = only-full e mild unheld xs mine.came in
+        inr (said ∙ ap (answer_refused n) full, front, xs, ys, cut ∙ ap (λ (l : List Event). front ++ l) apart, subst (λ (x : Refusal). VolumeReuse xs (Err x)) full mine)
 
     zero-with : (b : Behind) (n : ℕ) (all : List Event) (answer : Answer) → answer.tally.refused ≡ 0 → IsAnsweredWith b n all answer
     zero-with no_more n all answer h = h
@@ -2087,68 +2102,69 @@ module _ (trusted : Type 0) (places : Places) (actor : ℕ) where
     ends-same forces f e own mild h = forced-same f e own h mild
     ends-same reuses f e own mild (came, (xs, ys, apart, (none, is), forcing)) = forced-same f e ys (subst (λ (c : SaidOf). Forcing c ys (Err e)) is forcing) mild
 
-    held-on : (work : OnTree) (n : ℕ) (e : Refusal) (answer : Answer) → answer ≡ answer_refused n e → IsBusyOn work e → IsHeldOn work n answer
-    held-on (back_up i) n e answer said (h, is) = (h, said ∙ ap (answer_refused n) is)
-    held-on work n e answer said h = absurd h
+    not-held-on : (work : OnTree) (e : Refusal) → is_held (Some e) ≡ false → IsBusyOn work e → ⊥
+    not-held-on (back_up i) e unheld h = not-held e unheld h
+    not-held-on work e unheld h = h
 
-    held-up : (own : Own) (n : ℕ) (e : Refusal) (answer : Answer) → answer ≡ answer_refused n e → IsBusyBy own e → IsHeldUp own n answer
-    held-up (on_tree work) n e answer said h = held-on work n e answer said h
-    held-up checkpoint n e answer said (h, is) = (h, said ∙ ap (answer_refused n) is)
-    held-up empty_filespace n e answer said (user, is) = (user, said ∙ ap (answer_refused n) is)
-    held-up empty_volume n e answer said (inl (h, is)) = inl (h, said ∙ ap (answer_refused n) is)
-    held-up empty_volume n e answer said (inr (user, is)) = inr (user, said ∙ ap (answer_refused n) is)
-    held-up (moves mover) n e answer said (h, is) = (h, said ∙ ap (answer_refused n) is)
-    held-up back_up_pool n e answer said (h, is) = (h, said ∙ ap (answer_refused n) is)
-    held-up back_up_database n e answer said (h, is) = (h, said ∙ ap (answer_refused n) is)
-    held-up back_up_since n e answer said (h, is) = (h, said ∙ ap (answer_refused n) is)
-    held-up (delete_history to) n e answer said (h, is) = (h, said ∙ ap (answer_refused n) is)
-    held-up (put p) n e answer said (h, is) = (h, said ∙ ap (answer_refused n) is)
-    held-up own n e answer said h = absurd h
+    in-use : (own : Own) (n : ℕ) (e : Refusal) (answer : Answer) → answer ≡ answer_refused n e → is_held (Some e) ≡ false → IsBusyBy own e → IsInUse own n answer
+    in-use (on_tree work) n e answer said unheld h = absurd (not-held-on work e unheld h)
+    in-use checkpoint n e answer said unheld h = absurd (not-held e unheld h)
+    in-use (put p) n e answer said unheld h = absurd (not-held e unheld h)
+    in-use empty_filespace n e answer said unheld (user, is) = (user, said ∙ ap (answer_refused n) is)
+    in-use empty_volume n e answer said unheld (inl h) = absurd (not-held e unheld h)
+    in-use empty_volume n e answer said unheld (inr (user, is)) = (user, said ∙ ap (answer_refused n) is)
+    in-use back_up_pool n e answer said unheld h = absurd (not-held e unheld h)
+    in-use back_up_database n e answer said unheld h = absurd (not-held e unheld h)
+    in-use back_up_since n e answer said unheld h = absurd (not-held e unheld h)
+    in-use (delete_history to) n e answer said unheld h = absurd (not-held e unheld h)
+    in-use (moves mover) n e answer said unheld h = absurd (not-held e unheld h)
+    in-use own n e answer said unheld h = absurd h
 
     abbrev Answered : (n : ℕ) → Command → Answer → Type 0
-    Answered n c answer = IsAnsweredWith (behind c) n (events_of actor turns) answer ⊎ IsHeldUp (own_of c) n answer ⊎ IsUnopened (own_of c) n (events_of actor turns) answer
+    Answered n c answer = IsAnsweredWith (behind c) n (events_of actor turns) answer ⊎ IsInUse (own_of c) n answer ⊎ IsUnopened (own_of c) n (events_of actor turns) answer
 
     unopened-so : (own : Own) (n : ℕ) (e : Refusal) (answer : Answer) → answer ≡ answer_refused n e → IsUnopenedBy own e → IsUnopened own n (events_of actor turns) answer
     unopened-so (moves mover) n e answer said (missing, object, a, avoid, met) = (said ∙ ap (answer_refused n) missing, object, a, avoid, met)
     unopened-so own n e answer said h = absurd h
 
-    work-none : (k : Client) (n : ℕ) (c : Command) (work : Result Work Refusal) (e : Refusal) (answer : Answer) (front did : List Event) → events_of actor turns ≡ front ++ did → IsPlainWork work → halt_by e ≡ None → answer ≡ answer_refused n e
+    work-none : (k : Client) (n : ℕ) (c : Command) (work : Result Work Refusal) (e : Refusal) (answer : Answer) (front did : List Event) → events_of actor turns ≡ front ++ did → IsPlainWork work → halt_by e ≡ None → is_held (Some e) ≡ false → answer ≡ answer_refused n e
         → MayBy places Is actor k (own_of c) work → WorksOrWants k c work did (Err e) → Answered n c answer
-    work-none k n c (Err why) e answer front did cut plain mild said may h = absurd may
-    work-none k n c (Ok work) e answer front did cut plain mild said may (inl (Ok it, (xs, ys, apart, does, ends))) =
-        inl (ends-none (behind c) n it e (front ++ xs) ys (events_of actor turns) answer (cut ∙ ap (λ (l : List Event). front ++ l) apart ∙ sym (append_assoc front xs ys)) mild said ends)
-    work-none k n c (Ok work) e answer front did cut plain mild said may (inl (Err f, (xs, ys, apart, does, ends))) =
+    work-none k n c (Err why) e answer front did cut plain mild unheld said may h = absurd may
+    work-none k n c (Ok work) e answer front did cut plain mild unheld said may (inl (Ok it, (xs, ys, apart, does, ends))) =
+        inl (ends-none (behind c) n it e (front ++ xs) ys (events_of actor turns) answer (cut ∙ ap (λ (l : List Event). front ++ l) apart ∙ sym (append_assoc front xs ys)) mild unheld said ends)
+    work-none k n c (Ok work) e answer front did cut plain mild unheld said may (inl (Err f, (xs, ys, apart, does, ends))) =
         let same : e ≡ f = ends-same (behind c) f e ys mild ends in
         let busy = does-none k c work f front xs ys (cut ∙ ap (λ (l : List Event). front ++ l) apart) plain (subst (λ (x : Refusal). halt_by x ≡ None) same mild) may does in
         let as_is : answer ≡ answer_refused n f = said ∙ ap (answer_refused n) same in
-        inr (elim busy as (λ _. IsHeldUp (own_of c) n answer ⊎ IsUnopened (own_of c) n (events_of actor turns) answer) [
-          | inl held ↦ inl (held-up (own_of c) n f answer as_is held)
+        inr (elim busy as (λ _. IsInUse (own_of c) n answer ⊎ IsUnopened (own_of c) n (events_of actor turns) answer) [
+          | inl held ↦ inl (in-use (own_of c) n f answer as_is (subst (λ (x : Refusal). is_held (Some x) ≡ false) same unheld) held)
           | inr unopened ↦ inr (unopened-so (own_of c) n f answer as_is unopened)
         ])
-    work-none k n c (Ok work) e answer front did cut plain mild said may (inr (kept, none, is)) = (let same : e ≡ refused.Memory = cc in absurd (not-memory e mild same))
+    work-none k n c (Ok work) e answer front did cut plain mild unheld said may (inr (kept, none, is)) = (let same : e ≡ refused.Memory = cc in absurd (not-memory e mild same))
 
-    doing-none : (k : Client) (n : ℕ) (c : Command) (e : Refusal) (answer : Answer) → halt_by e ≡ None → answer ≡ answer_refused n e → MayDo places Is actor k c → Doing k c (events_of actor turns) (Err e) → Answered n c answer
-    doing-none k n c e answer mild said may (inl (f, kept, looks, is)) =
+    doing-none : (k : Client) (n : ℕ) (c : Command) (e : Refusal) (answer : Answer) → halt_by e ≡ None → is_held (Some e) ≡ false → answer ≡ answer_refused n e → MayDo places Is actor k c → Doing k c (events_of actor turns) (Err e) → Answered n c answer
+    doing-none k n c e answer mild unheld said may (inl (f, kept, looks, is)) =
         let same : e ≡ f = cc in
         absurd (looked-none (needs c) e [] (events_of actor turns) [] (sym (append-nil (events_of actor turns))) mild may.0 (subst (λ (x : Refusal). OrMemory (AsksAll (needs c)) (events_of actor turns) (Err x)) (sym same) looks))
-    doing-none k n c e answer mild said may (inr (answers, (xs, ys, cut, inl looks, works))) =
-        work-none k n c (work_of c answers) e answer xs ys cut (work-plain c answers) mild said (may.1 answers (looked-answers (needs c) answers [] xs ys cut looks)) works
-    doing-none k n c e answer mild said may (inr (answers, (xs, ys, cut, inr (none, is), works))) = absurd cc
+    doing-none k n c e answer mild unheld said may (inr (answers, (xs, ys, cut, inl looks, works))) =
+        work-none k n c (work_of c answers) e answer xs ys cut (work-plain c answers) mild unheld said (may.1 answers (looked-answers (needs c) answers [] xs ys cut looks)) works
+    doing-none k n c e answer mild unheld said may (inr (answers, (xs, ys, cut, inr (none, is), works))) = absurd cc
 
-    asks-complete : (k : Client) (n : ℕ) (c : Command) (answer : Answer) (why : Option Refusal) (said : SaidOf) → MayDo places Is actor k c → Doing k c (events_of actor turns) said → EndsLine n said (Ok (answer, why)) → Answered n c answer
-    asks-complete k n c answer why (Ok it) may doing ends = inl (zero-with (behind c) n (events_of actor turns) answer (ap (λ (p : Answer × Option Refusal). p.0.tally.refused) ends))
-    asks-complete k n c answer why (Err e) may doing ends = doing-none k n c e answer ends.0 (ap (λ (p : Answer × Option Refusal). p.0) ends.1) may doing
+    asks-complete : (k : Client) (n : ℕ) (c : Command) (answer : Answer) (why : Option Refusal) (said : SaidOf) → is_held why ≡ false → MayDo places Is actor k c → Doing k c (events_of actor turns) said → EndsLine n said (Ok (answer, why)) → Answered n c answer
+    asks-complete k n c answer why (Ok it) unheld may doing ends = inl (zero-with (behind c) n (events_of actor turns) answer (ap (λ (p : Answer × Option Refusal). p.0.tally.refused) ends))
+    asks-complete k n c answer why (Err e) unheld may doing ends =
+        doing-none k n c e answer ends.0 (subst (λ (w : Option Refusal). is_held w ≡ false) (ap (λ (p : Answer × Option Refusal). p.1) ends.1) unheld) (ap (λ (p : Answer × Option Refusal). p.0) ends.1) may doing
 
-    in-job-complete : (k : Client) (in_use : Option ℕ) (n : ℕ) (line : Line) (answer : Answer) (why : Option Refusal) → IsLegal places Is actor k in_use line → DoesInJob k in_use n line (events_of actor turns) (Ok (answer, why))
+    in-job-complete : (k : Client) (in_use : Option ℕ) (n : ℕ) (line : Line) (answer : Answer) (why : Option Refusal) → is_held why ≡ false → IsLegal places Is actor k in_use line → DoesInJob k in_use n line (events_of actor turns) (Ok (answer, why))
         → IsAnswered n line (events_of actor turns) answer
-    in-job-complete k None n comment answer why may (kept, none, is) = (let same : ◌≡◌ {A = Answer × Option Refusal} (answer, why) (nothing, None) = cc in ap (λ (p : Answer × Option Refusal). p.0.tally.refused) same)
-    in-job-complete k (Some number) n comment answer why may (kept, none, is) = (let same : ◌≡◌ {A = Answer × Option Refusal} (answer, why) (nothing, None) = cc in ap (λ (p : Answer × Option Refusal). p.0.tally.refused) same)
-    in-job-complete k None n (refused_line given) answer why may h = absurd may
-    in-job-complete k (Some number) n (refused_line given) answer why may h = absurd may
-    in-job-complete k None n (asks c) answer why may (said, doing, ends) = asks-complete k n c answer why said may doing ends
-    in-job-complete k (Some number) n (asks c) answer why may h = absurd may
+    in-job-complete k None n comment answer why unheld may (kept, none, is) = (let same : ◌≡◌ {A = Answer × Option Refusal} (answer, why) (nothing, None) = cc in ap (λ (p : Answer × Option Refusal). p.0.tally.refused) same)
+    in-job-complete k (Some number) n comment answer why unheld may (kept, none, is) = (let same : ◌≡◌ {A = Answer × Option Refusal} (answer, why) (nothing, None) = cc in ap (λ (p : Answer × Option Refusal). p.0.tally.refused) same)
+    in-job-complete k None n (refused_line given) answer why unheld may h = absurd may
+    in-job-complete k (Some number) n (refused_line given) answer why unheld may h = absurd may
+    in-job-complete k None n (asks c) answer why unheld may (said, doing, ends) = asks-complete k n c answer why said unheld may doing ends
+    in-job-complete k (Some number) n (asks c) answer why unheld may h = absurd may
 
   pub line-complete : (k : Client) (in_use : Option ℕ) (n : ℕ) (line : Line) (answer : Answer) (why : Option Refusal) (turns : List Turn) (old new : Machine) → Turned trusted places turns old new
-      → AnswersInJob k in_use n line (events_of actor turns) (Ok (answer, why)) → IsComplete trusted places actor k in_use n line turns old new answer
-  line-complete k in_use n line answer why turns old new ran (inl h) = λ unrisen legal. in-job-complete turns old new ran unrisen k in_use n line answer why legal h
-  line-complete k in_use n line answer why turns old new ran (inr (kept, none, is)) = absurd cc
+      → is_held why ≡ false → AnswersInJob k in_use n line (events_of actor turns) (Ok (answer, why)) → IsComplete trusted places actor k in_use n line turns old new answer
+  line-complete k in_use n line answer why turns old new ran unheld (inl h) = λ unrisen legal. in-job-complete turns old new ran unrisen k in_use n line answer why unheld legal h
+  line-complete k in_use n line answer why turns old new ran unheld (inr (kept, none, is)) = absurd cc

@@ -24,7 +24,7 @@ use Rattle.block_results.proofs.Lines.{fits-nothing, line-holds}
 pub fate-holds : (w : History) (actor : ℕ) (k : Client) (fate : Fate) (l : JobLine) (events : List Event) (reply : Answer × Option Refusal) (old new : Holding) → old.tickets ≡ [] → Fits w actor old events new → AnswersFate k fate l events (Ok reply)
     → FateHolds w actor k fate l old events reply.0 new
 fate-holds w actor k Beyond l events reply old new free f (kept, none, is) = (kept, none, fits-nothing w actor old new events none f, ap (λ (r : Answer × Option Refusal). r.0) is)
-fate-holds w actor k (Done tree) l events reply old new free f h = line-holds w actor k l.in_use l.line.number (line_in true l.line.text) events reply.0 reply.1 old new free f h
+fate-holds w actor k (Done tree) l events reply old new free f h = line-holds w actor k l.in_use l.line.number (line_in true l.line.text) events reply.0 reply.1 old new free f h.0
 
 pub fate-none : (w : History) (actor : ℕ) (k : Client) (fate : Fate) (l : JobLine) (events : List Event) (answer : Answer) (old new : Holding) → old.tickets ≡ [] → FateHolds w actor k fate l old events answer new → new.tickets ≡ []
 fate-none w actor k Beyond l events answer old new free (kept, none, same, is) = ap (λ (o : Holding). o.tickets) same ∙ free

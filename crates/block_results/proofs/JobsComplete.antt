@@ -26,7 +26,7 @@ module _ (trusted : Type 0) (places : Places) (choice : List Rule) where
     fate-complete : (k : Client) (fate : Fate) (l : JobLine) (reply : Answer × Option Refusal) (turns : List Turn) (old new : Machine) → Turned trusted places turns old new → AnswersFate k fate l (events_of actor turns) (Ok reply)
         → FateComplete trusted places actor k fate l turns old new reply.0
     fate-complete k Beyond l reply turns old new ran h = tt
-    fate-complete k (Done tree) l reply turns old new ran h = line-complete trusted places actor k l.in_use l.line.number (line_in true l.line.text) reply.0 reply.1 turns old new ran h
+    fate-complete k (Done tree) l reply turns old new ran h = line-complete trusted places actor k l.in_use l.line.number (line_in true l.line.text) reply.0 reply.1 turns old new ran h.1 h.0
 
     nothing-complete : (lines : List JobLine) (trees : List Known) (turns : List Turn) (old new : Machine) → AreComplete trusted places actor choice lines trees turns old new []
     nothing-complete [] trees turns old new = tt

@@ -438,7 +438,7 @@ module _ (w : History) (actor : ℕ) (k : Client) where
   fate-sized : (fate : Fate) (l : JobLine) (events : List Event) (reply : Answer × Option Refusal) (old new : Holding) → old.tickets ≡ [] → IsOnce events → Fits w actor old events new → AnswersFate k fate l events (Ok reply)
       → FateSized w actor k fate l old.reached new.reached events
   fate-sized Beyond l events reply old new none once f h = tt
-  fate-sized (Done tree) l events reply old new none once f h = line-sized l.in_use l.line.number (line_in true l.line.text) events reply old new none once f h
+  fate-sized (Done tree) l events reply old new none once f h = line-sized l.in_use l.line.number (line_in true l.line.text) events reply old new none once f h.0
 
 -- ---- a job
 

@@ -271,7 +271,7 @@ module _ (trusted : Type 0) (places : Places) (actor : ℕ) (k : Client) (turns 
 fate-unfailed : (trusted : Type 0) (places : Places) (actor : ℕ) (k : Client) (fate : Fate) (l : JobLine) (turns : List Turn) (old new : Machine) (reply : Answer × Option Refusal) → Turned trusted places turns old new
     → AnswersFate k fate l (events_of actor turns) (Ok reply) → FateUnfailed trusted places actor k fate l turns old new reply.0
 fate-unfailed trusted places actor k Beyond l turns old new reply ran h = tt
-fate-unfailed trusted places actor k (Done tree) l turns old new reply ran h = λ sound. line-unfailed trusted places actor k turns old new ran sound l.in_use l.line.number (line_in true l.line.text) reply h
+fate-unfailed trusted places actor k (Done tree) l turns old new reply ran h = λ sound. line-unfailed trusted places actor k turns old new ran sound l.in_use l.line.number (line_in true l.line.text) reply h.0
 
 -- ---- a job
 

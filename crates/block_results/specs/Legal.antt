@@ -9,7 +9,7 @@ use Rattle.kinds.specs.declared.refusal.By.{By}
 use Rattle.kinds.specs.ValueForms.{digest_with}
 use Rattle.kinds.specs.declared.refusal.Holder.{Holder}
 use Rattle.kinds.specs.declared.refusal.Refusal.{Refusal}
-use Rattle.kinds.specs.declared.refusal.Refusal.TheVariants.{Busy, InUse, NotFound}
+use Rattle.kinds.specs.declared.refusal.Refusal.TheVariants.{Busy, InUse, InventoryFull, NotFound}
 use Rattle.choosers.specs.declared.rule.Rule.{Rule}
 use Rattle.blocks.specs.Shapes.{Placed}
 use Rattle.blocks.specs.declared.block.Fate.{Fate}
@@ -61,7 +61,7 @@ use Rattle.line_results.specs.command_steps.Behind.{Behind, behind, reuses}
 use Rattle.line_results.specs.command_steps.Clients.{Client, Known}
 use Rattle.line_results.specs.command_steps.Doing.{the_number}
 use Rattle.line_results.specs.command_steps.Lines.{Line, asks, comment, line_in, refused}
-use Rattle.line_results.specs.command_steps.Owns.{OnTree, Own, back_up, back_up_database, back_up_pool, back_up_since, checkpoint, delete_history, empty_filespace, empty_volume, erase, get, moves, none_but_reuse, on_tree, own_of, restore, validate, volume_restorer, write, put, row_put}
+use Rattle.line_results.specs.command_steps.Owns.{OnTree, Own, back_up, checkpoint, empty_filespace, empty_volume, erase, get, moves, none_but_reuse, on_tree, own_of, restore, validate, volume_restorer, write, put, row_put}
 use Rattle.line_jobs.specs.Jobs.{AnswersFate, JobLine, between, lines_of}
 use Rattle.line_jobs.specs.Shares.{Came}
 use Rattle.line_jobs.specs.declared.job.Said.{Said}
@@ -225,32 +225,20 @@ IsLegal places Is actor k in_use comment = Unit {0}
 IsLegal places Is actor k in_use (refused why) = ⊥
 IsLegal places Is actor k in_use (asks c) = MayAsk places Is actor k in_use c
 
--- the reuse of volumes, which comes behind its work, was refused
+-- the reuse of volumes, which comes behind its work, was refused since a bound of the database is reached
 abbrev pub IsRefusedBehind : (n : ℕ) → List Event → Answer → Type 0
 IsRefusedBehind n events answer =
-    (why : Refusal) × (answer ≡ refusal n why) × (front : List Event) × (own : List Event) × (back : List Event) × (events ≡ front ++ (own ++ back)) × VolumeReuse own (Err why)
+    (answer ≡ refusal n InventoryFull) × (front : List Event) × (own : List Event) × (back : List Event) × (events ≡ front ++ (own ++ back)) × VolumeReuse own (Err InventoryFull)
 
 abbrev pub IsAnsweredWith : Behind → (n : ℕ) → List Event → Answer → Type 0
 IsAnsweredWith reuses n events answer = (answer.tally.refused ≡ 0) ⊎ IsRefusedBehind n events answer
 IsAnsweredWith b n events answer = answer.tally.refused ≡ 0
 
--- a PUT, a backup of a tree or of a pool, or a process that moves copies, waited for room that others hold, the deletion of a volume for others that have space on it, or a checkpoint, a backup of the database or a deletion of such backups for the end of another image, and the wait was refused; or something is kept in a filespace, or lies on a volume, still when it is to go
-abbrev pub IsHeldOn : OnTree → (n : ℕ) → Answer → Type 0
-IsHeldOn (back_up i) n answer = (h : Holder) × (answer ≡ refusal n (Busy h))
-IsHeldOn work n answer = ⊥
-
-abbrev pub IsHeldUp : Own → (n : ℕ) → Answer → Type 0
-IsHeldUp (on_tree work) n answer = IsHeldOn work n answer
-IsHeldUp checkpoint n answer = (h : Holder) × (answer ≡ refusal n (Busy h))
-IsHeldUp (put p) n answer = (h : Holder) × (answer ≡ refusal n (Busy h))
-IsHeldUp empty_filespace n answer = (user : By) × (answer ≡ refusal n (InUse user))
-IsHeldUp empty_volume n answer = ((h : Holder) × (answer ≡ refusal n (Busy h))) ⊎ ((user : By) × (answer ≡ refusal n (InUse user)))
-IsHeldUp (moves mover) n answer = (h : Holder) × (answer ≡ refusal n (Busy h))
-IsHeldUp back_up_pool n answer = (h : Holder) × (answer ≡ refusal n (Busy h))
-IsHeldUp back_up_database n answer = (h : Holder) × (answer ≡ refusal n (Busy h))
-IsHeldUp back_up_since n answer = (h : Holder) × (answer ≡ refusal n (Busy h))
-IsHeldUp (delete_history to) n answer = (h : Holder) × (answer ≡ refusal n (Busy h))
-IsHeldUp own n answer = ⊥
+-- something is kept in a filespace, or lies on a volume, still when it is to go
+abbrev pub IsInUse : Own → (n : ℕ) → Answer → Type 0
+IsInUse empty_filespace n answer = (user : By) × (answer ≡ refusal n (InUse user))
+IsInUse empty_volume n answer = (user : By) × (answer ≡ refusal n (InUse user))
+IsInUse own n answer = ⊥
 
 -- a process that moves copies got no ticket for one, as the pool that it was to go to, its object or the copy isn't there, and nothing tells what became of it
 abbrev pub IsUnopened : Own → (n : ℕ) → List Event → Answer → Type 0
@@ -258,9 +246,9 @@ IsUnopened (moves mover) n events answer =
     (answer ≡ refusal n NotFound) × (object : ℕ) × (a : Aim) × (avoid : ℕ) × MetBy (λ d. d ≡ OpenCopy object a avoid (Err NotFound)) events
 IsUnopened own n events answer = ⊥
 
--- It doesn't count as refused, unless the reuse of volumes behind its work was; or a wait, of a PUT, of a backup of a tree or of a pool or of a process that moves copies for room, of the deletion of a volume for others, or of a checkpoint, a backup of the database or a deletion of such backups for another image; or since something is kept in a filespace, or lies on a volume, still when it is to go, or a copy that is to move got no ticket.
+-- It doesn't count as refused, unless the reuse of volumes behind its work was, or since something is kept in a filespace, or lies on a volume, still when it is to go, or a copy that is to move got no ticket.
 abbrev pub IsAnswered : (n : ℕ) → Line → List Event → Answer → Type 0
-IsAnswered n (asks c) events answer = IsAnsweredWith (behind c) n events answer ⊎ IsHeldUp (own_of c) n answer ⊎ IsUnopened (own_of c) n events answer
+IsAnswered n (asks c) events answer = IsAnsweredWith (behind c) n events answer ⊎ IsInUse (own_of c) n answer ⊎ IsUnopened (own_of c) n events answer
 IsAnswered n line events answer = answer.tally.refused ≡ 0
 
 -- A line that stands among these turns and was answered so: where it is legal, and no count of faults rose in them, it isn't refused.

@@ -196,14 +196,15 @@ impl<S: Store, B: Origin, R: Wait, G: Gate> Pass<'_, S, B, R, G> {
         is_changed
     }
 
-    /// Waits for what another holds.
+    /// Waits for what another holds. Where nobody is left who would give it back the block can't go on, as for want of memory.
     fn wait_for(&self, holder: Holder) -> Result<(), Refusal>
-        ensures { (result ≡ Ok tt) ⊎ (result ≡ Err (Busy holder)) ⊎ (result ≡ Err Memory) }
+        ensures waits { (result ≡ Ok tt) ⊎ (result ≡ Err (Busy holder)) ⊎ (result ≡ Err Memory) }
+        ensures unrefused { (result ≡ Ok tt) ⊎ (result ≡ Err Memory) }
     {
         if self.wait_for_change() {
             return Ok(());
         }
-        Err(Refusal::Busy(holder))
+        Err(Refusal::Memory)
     }
 
     /// The actor is under way.

@@ -1,5 +1,5 @@
 -- Lines of a job, one after the other.
-use Rattle.std.proofs.Common.{◌≡◌, inl, inr, ℕ, zero, suc, ◌+◌, ◌<◌, ◌==◌, Bool, true, false, if◌then◌else◌, List, [], ◌∷◌, ◌++◌, length, get_or, take, drop, Option, None, Some, Ok, Err, refl, sym, ap, subst, ◌∙◌, append_assoc, arith}
+use Rattle.std.proofs.Common.{◌≡◌, ◌⊎◌, inl, inr, ℕ, zero, suc, ◌+◌, ◌<◌, ◌==◌, Bool, true, false, if◌then◌else◌, List, [], ◌∷◌, ◌++◌, length, get_or, take, drop, Option, None, Some, Result, Ok, Err, IfOk, refl, sym, ap, subst, ◌∙◌, append_assoc, arith}
 use Rattle.std.proofs.lemmas.List.{append-nil}
 use Rattle.kinds.specs.declared.refusal.Refusal.{Refusal}
 use Rattle.choosers.specs.declared.rule.Rule.{Rule}
@@ -9,13 +9,54 @@ use Rattle.script_loop.specs.declared.ends.Halt.TheVariants.{Memory}
 use Rattle.steps.proofs.Joining.{GoesOn, call_of_none, call_then, so_call}
 use Rattle.steps.specs.Calls.{Call}
 use Rattle.steps.specs.Events.{Event}
-use Rattle.command_steps.specs.Clients.{Known}
+use Rattle.command_steps.specs.Answering.{DoesLine}
+use Rattle.command_steps.specs.Answers.{Ends as EndsLine}
+use Rattle.command_steps.specs.Clients.{Client, Known}
+use Rattle.command_steps.specs.Jobs.{AnswersInJob, DoesInJob}
+use Rattle.command_steps.specs.Lines.{Line, asks, comment, refused}
+use Rattle.command_steps.specs.declared.outcome.Outcome.{Outcome}
 use Rattle.blocks.specs.declared.block.Fate.{Fate}
 use Rattle.blocks.specs.declared.block.Fate.TheVariants.{Beyond, Done}
 use Rattle.blocks.specs.Shapes.{Placed}
 use Rattle.blocks.specs.Trees.{in_use}
-use Rattle.line_jobs.specs.Jobs.{AnswersFate, AnswersOne, AreAnswered, DoesLines, JobLine, Takes, between, lines_of, said_of}
+use Rattle.line_jobs.specs.Jobs.{AnswersFate, AnswersOne, AreAnswered, DoesLines, JobLine, Takes, between, is_held, lines_of, said_of}
 use Rattle.line_jobs.specs.declared.job.Said.{Said}
+
+-- ---- what a line came to
+
+module _ {S : Type 0} (did : S → List Event → S → Type 0) (k : Client) (in_use : Option ℕ) (n : ℕ) (line : Line) where
+  abbrev Answered : Type 0
+  Answered = Result (Answer × Option Refusal) Halt
+
+  wants-end : (said : Result Outcome Refusal) → EndsLine n said (Err Memory)
+  wants-end (Ok it) = refl
+  wants-end (Err e) = inr refl
+
+  -- memory may be wanted for its printed line, whatever it did
+  wants-line : (line : Line) (events : List Event) (said : Answered) → DoesLine k n line events said → AnswersInJob k None n line events (Err Memory)
+  wants-line comment events said (kept, none, is) = inr (kept, none, refl)
+  wants-line (refused why) events said (kept, none, is) = inr (kept, none, refl)
+  wants-line (asks c) events said (outcome, doing, ends) = inl (outcome, doing, wants-end outcome)
+
+  wants-in : (in_use : Option ℕ) (line : Line) (events : List Event) (said : Answered) → DoesInJob k in_use n line events said → AnswersInJob k in_use n line events (Err Memory)
+  wants-in None line events said h = wants-line line events said h
+  wants-in (Some number) comment events said (kept, none, is) = inr (kept, none, refl)
+  wants-in (Some number) (refused why) events said (kept, none, is) = inr (kept, none, refl)
+  wants-in (Some number) (asks c) events said (outcome, withholds, ends) = inl (outcome, withholds, wants-end outcome)
+
+  wants-instead : (events : List Event) (said : Answered) → AnswersInJob k in_use n line events said → AnswersInJob k in_use n line events (Err Memory)
+  wants-instead events said (inl h) = wants-in in_use line events said h
+  wants-instead events said (inr (kept, none, is)) = inr (kept, none, refl)
+
+  -- it is answered as it was, or memory was wanted
+  pub settled : (p q : S) (said result : Answered) → (result ≡ said) ⊎ (result ≡ Err Memory) → IfOk result (λ reply. is_held reply.1 ≡ false) → Call did p q (λ events. AnswersInJob k in_use n line events said)
+      → Call did p q (λ events. AnswersInJob k in_use n line events result × IfOk result (λ reply. is_held reply.1 ≡ false))
+  settled p q said result (inl same) unheld a =
+      so_call did (λ events. AnswersInJob k in_use n line events said) (λ events. AnswersInJob k in_use n line events result × IfOk result (λ reply. is_held reply.1 ≡ false)) p q a
+      (λ xs f. (subst (λ (r : Answered). AnswersInJob k in_use n line xs r) (sym same) f, unheld))
+  settled p q said result (inr wanted) unheld a =
+      so_call did (λ events. AnswersInJob k in_use n line events said) (λ events. AnswersInJob k in_use n line events result × IfOk result (λ reply. is_held reply.1 ≡ false)) p q a
+      (λ xs f. (subst (λ (r : Answered). AnswersInJob k in_use n line xs r) (sym wanted) (wants-instead xs said f), unheld))
 
 -- ---- lists
 
@@ -73,7 +114,7 @@ module _ (choice : List Rule) where
   -- memory is wanted before a line
   wants-fate : (fate : Fate) (l : JobLine) (trees : List Known) → AnswersFate (between choice trees trees) fate l [] (Err Memory)
   wants-fate Beyond l trees = (refl, refl, refl)
-  wants-fate (Done tree) l trees = inr (refl, refl, refl)
+  wants-fate (Done tree) l trees = (inr (refl, refl, refl), tt)
 
   -- ---- one line
 

@@ -1,7 +1,7 @@
 -- What a job of a block does: its lines, one after the other.
-use Rattle.std.specs.Prelude.{◌≡◌, ◌⊎◌, ℕ, ◌==◌, true, false, if◌then◌else◌, List, [], ◌∷◌, ◌++◌, Option, None, Some, Result, Ok, Err}
+use Rattle.std.specs.Prelude.{◌≡◌, ◌⊎◌, ℕ, ◌==◌, Bool, true, false, if◌then◌else◌, List, [], ◌∷◌, ◌++◌, Option, None, Some, Result, Ok, Err, IfOk}
 use Rattle.kinds.specs.declared.refusal.Refusal.{Refusal}
-use Rattle.kinds.specs.declared.refusal.Refusal.TheVariants.{Syntax}
+use Rattle.kinds.specs.declared.refusal.Refusal.TheVariants.{Busy, Syntax}
 use Rattle.choosers.specs.declared.rule.Rule.{Rule}
 use Rattle.client_trees.specs.Files.{Files}
 use Rattle.script_loop.specs.Reply.{Answer}
@@ -33,10 +33,16 @@ lines_of all job (l ∷ lines) = if l.job == job then record { line = l; in_use 
 abbrev pub between : List Rule → (old new : List Known) → Client
 between choice old new = record { choice = choice; old = old; new = new }
 
--- A line was answered so, by these steps and by what they did on the tree that it names; or it ended the run so. A line that is one too many is refused.
+-- another actor holds what is wanted
+abbrev pub is_held : Option Refusal → Bool
+is_held (Some (Busy holder)) = true
+is_held why = false
+
+-- A line was answered so, by these steps and by what they did on the tree that it names; or it ended the run so. None is refused for what another actor holds: a job waits for that and tries again, and a wait that is
+-- refused ends the run. A line that is one too many is refused.
 abbrev pub AnswersFate : Client → Fate → JobLine → List Event → Result (Answer × Option Refusal) Halt → Type 0
 AnswersFate k Beyond l events result = IsKept k × (events ≡ []) × IsRefused l.line.number (Syntax 1) result
-AnswersFate k (Done tree) l events result = AnswersInJob k l.in_use l.line.number (line_in true l.line.text) events result
+AnswersFate k (Done tree) l events result = AnswersInJob k l.in_use l.line.number (line_in true l.line.text) events result × IfOk result (λ reply. is_held reply.1 ≡ false)
 
 abbrev pub AnswersOne : Client → JobLine → List Event → Result (Answer × Option Refusal) Halt → Type 0
 AnswersOne k l events result = AnswersFate k l.line.fate l events result

@@ -1,8 +1,11 @@
 // A job of a block.
-ghost use Rattle.std.specs.Prelude.{◌≡◌, ◌≤◌, ◌^◌, ◌++◌, List, length};
+ghost use Rattle.std.specs.Prelude.{◌≡◌, ◌⊎◌, ◌<◌, ◌≤◌, ◌-◌, ◌^◌, ◌++◌, Err, IfOk, List, false, length, true};
+ghost use Rattle.script_loop.specs.declared.ends.Halt.TheVariants.{Memory};
 ghost use Rattle.steps.specs.Calls.{Call};
 ghost use Rattle.command_steps.specs.Clients.{all_seen, client};
-ghost use Rattle.line_jobs.specs.Jobs.{AnswersOne, DoesLines, Takes, lines_of};
+ghost use Rattle.command_steps.specs.Jobs.{AnswersInJob};
+ghost use Rattle.command_steps.specs.Lines.{line_in};
+ghost use Rattle.line_jobs.specs.Jobs.{AnswersOne, DoesLines, Takes, is_held, lines_of};
 ghost use Rattle.line_jobs.specs.Lents.{faults_of, files_of};
 ghost use Rattle.line_jobs.specs.declared.job.Said.{Said as IsSaid};
 
@@ -63,6 +66,53 @@ impl<'a, T: Tree> Model for LineJob<'a, T> {
     ghost invariant = { λ j. (1 ≤ length j.buffer.items) × (length j.buffer.items ≤ 2 ^ 16) };
 }
 
+/// Whether another actor holds what was wanted.
+fn is_held(why: &Option<Refusal>) -> bool
+    ensures { result ≡ is_held why.now }
+{
+    matches!(why, Some(Refusal::Busy(_)))
+}
+
+/// What a line came to. A job waits for what another actor holds and tries again, so no line is refused for that: where the wait was refused, nobody is left who would give it back, and the run ends as for want of memory.
+fn unless_held(
+    answered: Result<(Reply, Option<Refusal>), Halt>,
+) -> Result<(Reply, Option<Refusal>), Halt>
+    ensures same { (result ≡ answered) ⊎ (result ≡ Err Memory) }
+    ensures unheld { IfOk result (λ reply. is_held reply.1 ≡ false) }
+{
+    match answered {
+        Ok(replied) => {
+            let (reply, why) = replied;
+            if is_held(&why) {
+                drop(reply);
+                return Err(Halt::Memory);
+            }
+            Ok((reply, why))
+        }
+        Err(how) => Err(how),
+    }
+}
+
+/// Answers a line of a job that isn't one too many.
+fn answer_done<P: Stepper, T: Tree>(
+    alloc: Global,
+    p: &mut P,
+    trees: &mut [Lent<T>],
+    binder: &Binder,
+    buffer: &mut [u8],
+    number: u32,
+    line: &[u8],
+    in_use: Option<u64>,
+) -> Result<(Reply, Option<Refusal>), Halt>
+    requires some { 1 ≤ length buffer.old }
+    requires few { length buffer.old ≤ 2 ^ 16 }
+    requires short { length line.now < 2 ^ 32 - 1 }
+    ensures answers { Call P.did p.old p.new (λ events. AnswersInJob (client (files_of T.files) (faults_of T.fault_count) binder.now trees.old trees.new) in_use number (line_in true line.now) events result × IfOk result (λ reply. is_held reply.1 ≡ false)) }
+    ensures long { length buffer.new ≡ length buffer.old }
+{
+    unless_held(answer_in_job(alloc, p, trees, binder, buffer, number, line, in_use))
+}
+
 /// Answers a line of a job, which names the tree `in_use`, where an earlier job has that tree.
 fn answer_one<P: Stepper, T: Tree>(
     alloc: Global,
@@ -80,7 +130,7 @@ fn answer_one<P: Stepper, T: Tree>(
 {
     match line.fate {
         Fate::Beyond => refuse_line(alloc, line.number, Refusal::Syntax(1)),
-        Fate::Done(_) => answer_in_job(
+        Fate::Done(_) => answer_done(
             alloc,
             p,
             trees,
