@@ -1,6 +1,5 @@
 pub use Rattle.line_results.proofs as of_line_results
 pub use Rattle.line_jobs.proofs as of_line_jobs
-pub use Rattle.line_results.proofs.of_command_steps as of_command_steps
 pub mod Acked
 pub mod Attempting
 pub mod Based

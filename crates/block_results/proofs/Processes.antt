@@ -20,10 +20,10 @@ use Rattle.inventory_rows.specs.version_groups.Entries.{on_ok}
 use Rattle.inventory_rules.specs.Backups.{backup_at, is_unfinished}
 use Rattle.inventory_rules.specs.Common.{full_at}
 use Rattle.inventory_rules.specs.Transactions.{causes, effect, refused as refused_by, sizes_refused}
-use Rattle.line_results.proofs.of_inventory_laws.BackupCounts.{delete_takes, end_takes}
-use Rattle.line_results.proofs.of_inventory_laws.CopyCounts.{drops_take}
-use Rattle.line_results.proofs.of_inventory_laws.Facts.{facts_of}
-use Rattle.line_results.proofs.of_inventory_laws.Removals.{discard_all_takes, expire_takes}
+use Rattle.inventory_laws.proofs.BackupCounts.{delete_takes, end_takes}
+use Rattle.inventory_laws.proofs.CopyCounts.{drops_take}
+use Rattle.inventory_laws.proofs.Facts.{facts_of}
+use Rattle.inventory_laws.proofs.Removals.{discard_all_takes, expire_takes}
 use Rattle.inventory_work.specs.Copies.{has_pool, has_volume, missing, missing_in}
 use Rattle.inventory_work.specs.declared.lines.MissingLine.{MissingLine}
 use Rattle.inventory_answers.specs.Answered.{answered, rows_of}

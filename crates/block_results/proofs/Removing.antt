@@ -31,11 +31,11 @@ use Rattle.inventory_rows.specs.version_groups.Entries.{if_found, on_ok}
 use Rattle.inventory_rows.specs.version_groups.declared.groups.Filespace.{Filespace}
 use Rattle.inventory_rules.specs.Transactions.{causes, refused as refused_by, sizes_refused}
 use Rattle.inventory_rules.specs.Valid.{is_valid}
-use Rattle.line_results.proofs.of_inventory_laws.ClientCounts.{clients_take}
-use Rattle.line_results.proofs.of_inventory_laws.CopyCounts.{drops_take}
-use Rattle.line_results.proofs.of_inventory_laws.Facts.{facts_of}
-use Rattle.line_results.proofs.of_inventory_laws.Removals.{discard_all_takes}
-use Rattle.line_results.proofs.of_inventory_laws.StoreCounts.{stores_take}
+use Rattle.inventory_laws.proofs.ClientCounts.{clients_take}
+use Rattle.inventory_laws.proofs.CopyCounts.{drops_take}
+use Rattle.inventory_laws.proofs.Facts.{facts_of}
+use Rattle.inventory_laws.proofs.Removals.{discard_all_takes}
+use Rattle.inventory_laws.proofs.StoreCounts.{stores_take}
 use Rattle.inventory_answers.specs.Answered.{answered, rows_of}
 use Rattle.inventory_answers.specs.Clients.{filespace_lines, versions_at}
 use Rattle.inventory_answers.specs.Held.{held_lines}

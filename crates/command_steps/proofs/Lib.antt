@@ -1,17 +1,12 @@
-pub use Rattle.client_files.proofs as of_client_files
 pub use Rattle.incrementals.proofs as of_incrementals
 pub use Rattle.restores.proofs as of_restores
 pub use Rattle.copy_attempts.proofs as of_copy_attempts
 pub use Rattle.copy_runs.proofs as of_copy_runs
 pub use Rattle.copy_pools.proofs as of_copy_pools
-pub use Rattle.migration.proofs as of_migration
 pub use Rattle.pool_restores.proofs as of_pool_restores
 pub use Rattle.reclamation.proofs as of_reclamation
-pub use Rattle.expiration.proofs as of_expiration
 pub use Rattle.reuse_delay.proofs as of_reuse_delay
-pub use Rattle.deletions.proofs as of_deletions
 pub use Rattle.db_backup.proofs as of_db_backup
-pub use Rattle.volume_audits.proofs as of_volume_audits
 pub use Rattle.sessions.proofs as of_sessions
 pub mod Answered
 pub mod Changed

@@ -1,4 +1,3 @@
-pub use Rattle.store_api.proofs as of_store_api
 pub mod Arrived
 pub mod Brought
 pub mod Came

@@ -1,2 +1,1 @@
-pub use Rattle.change_items.proofs as of_change_items
 pub mod Spelling

@@ -1,6 +1,4 @@
-pub use Rattle.inventory_rules.proofs.of_entries as of_entries
 pub use Rattle.inventory_rules.proofs.of_inventory_rows as of_inventory_rows
-pub use Rattle.inventory_rules.proofs as of_inventory_rules
 pub mod Absent
 pub mod Alone
 pub mod Arriving

@@ -1,20 +1,8 @@
-pub use Rattle.command_steps.proofs as of_command_steps
-pub use Rattle.command_steps.proofs.of_client_files as of_client_files
-pub use Rattle.command_steps.proofs.of_incrementals as of_incrementals
 pub use Rattle.command_steps.proofs.of_restores as of_restores
 pub use Rattle.command_steps.proofs.of_copy_attempts as of_copy_attempts
-pub use Rattle.command_steps.proofs.of_copy_runs as of_copy_runs
 pub use Rattle.command_steps.proofs.of_copy_pools as of_copy_pools
-pub use Rattle.command_steps.proofs.of_migration as of_migration
-pub use Rattle.command_steps.proofs.of_pool_restores as of_pool_restores
-pub use Rattle.command_steps.proofs.of_reclamation as of_reclamation
-pub use Rattle.command_steps.proofs.of_expiration as of_expiration
-pub use Rattle.command_steps.proofs.of_reuse_delay as of_reuse_delay
-pub use Rattle.command_steps.proofs.of_deletions as of_deletions
 pub use Rattle.command_steps.proofs.of_db_backup as of_db_backup
-pub use Rattle.command_steps.proofs.of_volume_audits as of_volume_audits
 pub use Rattle.command_steps.proofs.of_sessions as of_sessions
-pub use Rattle.inventory_laws.proofs as of_inventory_laws
 pub mod Asked
 pub mod Backing
 pub mod BackupReason

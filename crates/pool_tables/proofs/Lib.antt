@@ -1,4 +1,3 @@
-pub use Rattle.volume_rows.proofs.of_kinds as of_kinds
 pub use Rattle.volume_rows.proofs as of_volume_rows
 pub mod Tables
 pub mod Names
