@@ -212,18 +212,18 @@ apart (k ∷ ks) h = both (list_all (λ n. not (k == n)) ks) (are_apart ks) (oth
 
 -- ---- what a legal run keeps
 
-pub sound-one : (j : Journal) (c : Change) (v : Inv) → is_valid v ≡ true → HasSoundRows v → refused_by j c v ≡ None → HasSoundRows (effect c v)
-sound-one j c v valid h legal =
+pub sound-one : (j : Journal) (c : Change) (v : Inv) → HasSoundRows v → refused_by j c v ≡ None → HasSoundRows (effect c v)
+sound-one j c v h legal =
     let lists = legal-lists j c v legal in
     let later : is_valid (effect c v) ≡ true = legal-valid j c v legal in
     let once : are_apart (keys_of v.stores.pools) ≡ true = apart (keys_of v.stores.pools) h.pools in
-    let whole = stays j c v valid h.tied h.rows once (day-of c v later) lists.0 lists.1 (fitting j c v valid h.tied h.rows once lists.0 later) in
-    record { pools = stands-one c v h.pools; rows = ordered-one c v h.rows; tied = whole.1 }
+    let whole = stays j c v h.valid h.tied h.rows once (day-of c v later) lists.0 lists.1 (fitting j c v h.valid h.tied h.rows once lists.0 later) in
+    record { valid = later; pools = stands-one c v h.pools; rows = ordered-one c v h.rows; tied = whole.1 }
 
 -- where each transaction was legal where it was made the last database has them as the first one
-pub sound-along : (v : Inv) (entries : List Entry) → is_valid v ≡ true → HasSoundRows v
+pub sound-along : (v : Inv) (entries : List Entry) → HasSoundRows v
     → ((i : ℕ) (e : Entry) → slice_get entries i ≡ Some e → (j : Journal) × (refused_by j e.change (after v (take i entries)) ≡ None)) → HasSoundRows (after v entries)
-sound-along v [] valid h legal = h
-sound-along v (e ∷ entries) valid h legal =
+sound-along v [] h legal = h
+sound-along v (e ∷ entries) h legal =
     let first = legal 0 e refl in
-    sound-along (effect e.change v) entries (legal-valid first.0 e.change v first.1) (sound-one first.0 e.change v valid h first.1) (λ i x at. legal (suc i) x at)
+    sound-along (effect e.change v) entries (sound-one first.0 e.change v h first.1) (λ i x at. legal (suc i) x at)

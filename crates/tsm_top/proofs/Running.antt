@@ -143,7 +143,7 @@ in_order told moment faults hall m is = record {
 sound_rows : {S : Type 0} (told : S → Option History) (moment : S → ℕ) (faults : S → ℕ → ℕ) (hall : Hall S) (m : Machine) → Is told moment faults hall m → AreAscending hall.held.base → HasSoundRows (database m)
 sound_rows told moment faults hall m is ascends =
     let first : AreAscending m.core.base = subst AreAscending (sym is.core.base) ascends in
-    sound-along m.core.base m.core.journal is.good.lawful.valid (record { pools = first.pools; rows = record { by_number = first.filespaces; by_path = first.paths }; tied = is.good.lawful.tied })
+    sound-along m.core.base m.core.journal (record { valid = is.good.lawful.valid; pools = first.pools; rows = record { by_number = first.filespaces; by_path = first.paths }; tied = is.good.lawful.tied })
     (λ i e at. (journal_of m.core.base (take i m.core.journal), is.good.lawful.legal i e at))
 
 module _ {S T : Type 0} (told : S → Option History) (moment : S → ℕ) (faults : S → ℕ → ℕ) (files : T → Option Files) (tree_faults : T → ℕ) (clock : (s : S) → IfSome (told s) (λ h. now h ≡ moment s))
