@@ -38,7 +38,7 @@ use Rattle.vault.proofs.Sounding.{within_recovers}
 use Rattle.vault.proofs.Unique.{one_database}
 use Rattle.machine.specs.State.{Core, inventory}
 use Rattle.hall.specs.Covered.{IsNewFile, inv_at, left_open, written, written_before}
-use Rattle.hall.specs.Protected.{AreBefore, Backs, EachSequential, HadBackups, HasBackups, HasCopy, IsCovered, IsFiled, IsLaid, IsLeft, IsListedAs, IsNoVolume, IsOneOf, IsProtected, IsWritten, IsWrittenOn, KeepsAllBackups, KeepsBackups, StillLies, Taken, WasGiven, files_of, is_protected}
+use Rattle.hall.specs.Protected.{AreBefore, Backs, EachSequential, HadBackups, HasBackups, HasCopy, HoldTheirDatabases, HoldsIn, IsCovered, IsFiled, IsLaid, IsLeft, IsListedAs, IsNoVolume, IsOneOf, IsProtected, IsWritten, IsWrittenOn, KeepsAllBackups, KeepsBackups, StillLies, Taken, WasGiven, files_of, is_protected}
 use Rattle.hall.proofs.BackedUp.{Lies, also_sequential, both_sequential, each_lies}
 use Rattle.hall.proofs.Firm.{frames_firm}
 use Rattle.hall.proofs.JoinedFreed.{contains_back}
@@ -242,6 +242,21 @@ had_left h new c opened job v k there left = had_after h new c job v (contained_
 pub images_keep : (h : History) (c : Core) (opened : ℕ) (job : Option Job) (image : ℕ → List ℕ) → KeepsAllBackups c opened h job → ImageAt h (now h) image → AllByRecursion (KeepsBackups image) (left_open c)
 images_keep h c opened job image k here =
     each_both AreBefore (HasBackups h c job) (KeepsBackups image) (left_open c) (λ v before has. backed_keeps image v (backs_now h c job v image before has here)) k.before k.now
+
+-- and holds the databases of their backups that began in the run
+pub images_hold_theirs : (h : History) (c : Core) (opened : ℕ) (job : Option Job) (image : ℕ → List ℕ) → KeepsAllBackups c opened h job → ImageAt h (now h) image → AllByRecursion (HoldTheirDatabases image c.base c.journal) (left_open c)
+images_hold_theirs h c opened job image k here =
+    each_also (HasBackups h c job) (HoldTheirDatabases image c.base c.journal) (left_open c) (λ v has file b at done own. of_one v file b own (has file b at done (inr own))) k.now
+  where
+    of_one : (v : Inv) (file : ℕ) (b : Backup) → c.base.number ≤ b.number → IsListedAs h c job v file b → HoldsIn image file b (inv_at (b.number - c.base.number) c)
+    of_one v file b own l =
+        let same : l.backup.database ≡ inv_at (b.number - c.base.number) c = l.own own in
+        record {
+          number = ap (λ (d : Inv). d.number) (sym same) ∙ l.readable.row.number;
+          taken = ap (λ (d : Inv). d.today) (sym same) ∙ l.readable.row.taken;
+          increments = l.backup.increments;
+          gives = subst (λ (d : Inv). Gives meaning image file b.number l.backup.increments d) same (l.readable.gives image (λ n one. now_image h image here n));
+        }
 
 -- ---- while it is opened
 

@@ -27,10 +27,11 @@ use Rattle.vault.proofs.Sounding.{within_recovers}
 use Rattle.vault.proofs.Unique.{one_database}
 use Rattle.machine.specs.Machine.{durable}
 use Rattle.machine.specs.State.{Core, inventory}
+use Rattle.hall.specs.Good.{RecoversToOne}
 use Rattle.hall.specs.Covered.{IsNewFile, inv_at, left_open}
 use Rattle.hall.specs.Protected.{AlwaysBacked, EachSequential, HadBackups, HasBackups, HasCopy, IsAside, IsCovered, IsFiled, IsLaid, IsListedAs, IsWatched, IsWriting, IsWrittenOn, KeepsAllBackups, Backs, Taken, WasDone, WasGiven, WasVolume, files_of, is_protected, WritesBackup}
 use Rattle.hall.proofs.BackedUp.{also_sequential, both_sequential}
-use Rattle.hall.proofs.Databases.{first_left, last_left}
+use Rattle.hall.proofs.Databases.{first_left, last_left, left_at}
 use Rattle.hall.proofs.Protecting.{IsSpared, IsSparedWriting, Spares, always_since, backups_over, keeps_over, spares_others, spares_range, writes_over}
 use Rattle.hall.proofs.Sparing.{AreApart}
 
@@ -88,6 +89,10 @@ open_either c d from h same each moment image low high at = by (each moment imag
   by : RecoversWithin meaning image (durable c) ⊎ RecoversWithin meaning image d → (v : Inv) → Recovers meaning image v → Contains (left_open c) v
   by (inl first) = the_one c (durable c) image (durable_there c) first
   by (inr last) = the_one c d image (subst (Contains (left_open c)) (sym same) (last_there c)) last
+
+-- what a stop leaves of a hall recovers to one of them
+pub recovered_open : (c : Core) (image : ℕ → List ℕ) → RecoversToOne c image → (v : Inv) → Recovers meaning image v → Contains (left_open c) v
+recovered_open c image one = the_one c (inv_at one.0 c) image (left_at (Contains (left_open c)) c one.0 one.1 (all_open c)) one.3
 
 -- ---- files and segments that are spared
 

@@ -1,5 +1,5 @@
 -- The databases of a run: each is lawful, and those that a stop may bring back end with the one of now.
-use Rattle.std.proofs.Common.{◌≡◌, ℕ, suc, zero, Bool, true, false, List, [], ◌∷◌, ◌++◌, length, take, drop, Option, Some, None, refl, ap, subst, ◌∙◌, arith}
+use Rattle.std.proofs.Common.{◌≡◌, ℕ, ◌+◌, ◌-◌, ◌≤◌, suc, zero, Bool, true, false, List, [], ◌∷◌, ◌++◌, length, take, drop, Option, Some, None, refl, ap, subst, ◌∙◌, arith}
 use Rattle.std.specs.List.{AllByRecursion, flat_map, slice_get}
 use Rattle.std.proofs.lemmas.List.{drop_all, take_all}
 use Rattle.entries.specs.declared.entry.Entry.{Entry}
@@ -48,17 +48,33 @@ pub run_lawful : (c : Core) → IsLawful c → AllByRecursion (λ v. is_valid v 
 unfolding refused
 run_lawful c l = valid_along c.base c.journal l.valid (λ i e at. (foremost (causes (journal_of c.base (take i c.journal)) e.change (inv_at i c) ++ sizes_refused e.change (inv_at i c)), l.legal i e at))
 
-valid_take : (v : Inv) (es : List Entry) → AllByRecursion IsValid (databases v es) → (k : ℕ) → IsValid (after v (take k es))
-valid_take v [] h zero = h.0
-valid_take v [] h (suc k) = h.0
-valid_take v (e ∷ es) h zero = h.0
-valid_take v (e ∷ es) h (suc k) = valid_take (effect e.change v) es h.1 k
+-- what each database has, the one behind the first so many has
+each_at : (P : Inv → Type 0) (v : Inv) (entries : List Entry) (n : ℕ) → AllByRecursion P (databases v entries) → P (after v (take n entries))
+each_at P v [] zero all = all.0
+each_at P v [] (suc n) all = all.0
+each_at P v (e ∷ entries) zero all = all.0
+each_at P v (e ∷ entries) (suc n) all = each_at P (effect e.change v) entries n all.1
 
 pub valid_at : (c : Core) → IsLawful c → (k : ℕ) → is_valid (inv_at k c) ≡ true
-valid_at c l k = valid_take c.base c.journal (run_lawful c l) k
+valid_at c l k = each_at IsValid c.base c.journal k (run_lawful c l)
 
 pub left_lawful : (c : Core) → IsLawful c → AllByRecursion (λ v. is_valid v ≡ true) (left_open c)
 left_lawful c l = later_databases IsValid (length c.stamps) c.base c.journal (run_lawful c l)
+
+-- ---- one of those that a stop may bring back
+
+-- behind the first so many transactions and so many of the others
+later_at : (first more all : ℕ) (v : Inv) (entries : List Entry) → first + more ≡ all → after (after v (take first entries)) (take more (drop first entries)) ≡ after v (take all entries)
+later_at zero more all v entries is = ap (λ (k : ℕ). after v (take k entries)) (let same : more ≡ all = omega (arith, is) in same)
+later_at (suc first) more zero v entries is = absurd (omega (arith, is))
+later_at (suc first) zero (suc all) v [] is = refl
+later_at (suc first) (suc more) (suc all) v [] is = refl
+later_at (suc first) more (suc all) v (e ∷ entries) is = later_at first more all (effect e.change v) entries (omega (arith, is))
+
+pub left_at : (P : Inv → Type 0) (c : Core) (n : ℕ) → length c.stamps ≤ n → AllByRecursion P (left_open c) → P (inv_at n c)
+left_at P c n le all =
+    let there : P (after (durable c) (take (n - length c.stamps) (unforced c))) = each_at P (durable c) (unforced c) (n - length c.stamps) all in
+    subst P (later_at (length c.stamps) (n - length c.stamps) n c.base c.journal (omega (arith, le))) there
 
 -- ---- the last one
 

@@ -1,5 +1,5 @@
 -- What database backups need as long as they are protected: their files, and the copies that stood on sequential volumes when they were taken.
-use Rattle.std.specs.Prelude.{◌≡◌, ◌⊎◌, ℕ, ◌+◌, ◌-◌, ◌<◌, ◌≤◌, ◌^◌, Bool, true, false, is_some, nat_lt, List, [], ◌∷◌, map, length, Option, None, Some, IfSome}
+use Rattle.std.specs.Prelude.{◌≡◌, ◌⊎◌, ℕ, ◌+◌, ◌-◌, ◌<◌, ◌≤◌, ◌^◌, Bool, true, false, is_some, nat_lt, List, [], ◌∷◌, map, length, take, Option, None, Some, IfSome}
 use Rattle.std.specs.BTreeMap.{is_at}
 use Rattle.std.specs.List.{AllByRecursion, Contains, list_all}
 use Rattle.std.specs.Map.{lookup}
@@ -7,6 +7,7 @@ use Rattle.std.specs.Ordering.{nat_cmp}
 use Rattle.sha2.specs.Sha256.{sha256}
 use Rattle.fields.specs.Editions.{second_form}
 use Rattle.kinds.specs.declared.segment.Segment.{Segment}
+use Rattle.entries.specs.declared.entry.Entry.{Entry}
 use Rattle.entries.specs.Meaning.{Spells}
 use Rattle.store_api.specs.Disk.{History, ImageAt, now}
 use Rattle.store_api.specs.Runs.{LeftNow}
@@ -25,7 +26,7 @@ use Rattle.inventory_rows.specs.Search.{versions}
 use Rattle.inventory_rows.specs.State.{Inv}
 use Rattle.inventory_rules.specs.Backups.{backup_at, is_done}
 use Rattle.vault.specs.Recovery.{Recovers}
-use Rattle.machine.specs.State.{Core, inventory, unforced}
+use Rattle.machine.specs.State.{Core, after, inventory, unforced}
 use Rattle.hall.specs.Covered.{IsNewFile, Written, inv_at, is_any_reuse, left_open, written}
 
 -- ---- which ones
@@ -76,6 +77,21 @@ pub record GivesBack (image : ℕ → List ℕ) (file : ℕ) (b : Backup) (t : T
 -- an image keeps the backups of a database: it gives each back that is whole and protected on the database's day
 abbrev pub KeepsBackups : (ℕ → List ℕ) → Inv → Type 0
 KeepsBackups image v = (file : ℕ) (b : Backup) → IsProtected v file b → (t : Taken) × GivesBack image file b t
+
+-- ---- whose database a file holds
+
+-- A backup's file holds this database in an image: it is the one of the row's number, as of the day on which the row says that it was taken; and the file leads to it, by some chain of increments.
+pub record HoldsIn (image : ℕ → List ℕ) (file : ℕ) (b : Backup) (database : Inv) : Type 0 where
+  pub number : database.number ≡ b.number
+  pub taken : database.today ≡ b.taken
+  pub increments : List Increment
+  pub gives : Gives meaning image file b.number increments database
+
+-- An image holds the databases of the backups that a database lists as whole and that began in the run with this base and these transactions, whether they are protected or not: each one's file holds the run's
+-- database behind the transaction of the row's number, by which the backup began.
+abbrev pub HoldTheirDatabases : (image : ℕ → List ℕ) → (base : Inv) → (journal : List Entry) → Inv → Type 0
+HoldTheirDatabases image base journal v =
+    (file : ℕ) (b : Backup) → backup_at file v ≡ Some b → b.is_done ≡ true → base.number ≤ b.number → HoldsIn image file b (after base (take (b.number - base.number) journal))
 
 -- ---- what a database has of one
 

@@ -30,7 +30,7 @@ ghost use Rattle.hall.specs.Covered.{NumbersAreDrawn, SpaceIsClear, covered, lef
 ghost use Rattle.hall.specs.Good.{Is, IsKept, WasSound};
 ghost use Rattle.hall.specs.Held.{Hall, Held};
 ghost use Rattle.hall.specs.Placed.{hall_places};
-ghost use Rattle.hall.specs.Protected.{AlwaysBacked, HadBackups, KeepsBackups};
+ghost use Rattle.hall.specs.Protected.{AlwaysBacked, HadBackups, HoldTheirDatabases, KeepsBackups};
 ghost use Rattle.hall.specs.Plays.{Plays, RunsTurns};
 ghost use Rattle.hall.specs.Seats.{ended_at};
 ghost use Rattle.hall.specs.Steps.{Goes, IsTrusted, Steps};
@@ -55,6 +55,15 @@ pub fn images_hold_what_is_covered()
 pub fn backups_are_kept()
     ensures now { (m : Machine) (held : Held) (h : History) (image : ℕ → List ℕ) → IsKept m held h → HadBackups held.base held.opened h → ImageAt h (now h) image → AllByRecursion (KeepsBackups image) (left_open m.core) }
     ensures always { (m : Machine) (held : Held) (h : History) → IsKept m held h → HadBackups held.base held.opened h → AlwaysBacked held.opened h }
+{}
+
+/// Where the store had the backups of the base when the hall was opened, each image that a stop right now may leave of a hall that keeps what it should holds the database of each backup of this run that a database
+/// which the stop may bring back lists as whole, be it protected or not: the run's database behind the transaction by which the backup began, and no later one. So it is of the database to which the image recovers.
+pub fn backups_hold_their_databases()
+    ensures now { (m : Machine) (held : Held) (h : History) (image : ℕ → List ℕ) → IsKept m held h → HadBackups held.base held.opened h → ImageAt h (now h) image
+        → AllByRecursion (HoldTheirDatabases image m.core.base m.core.journal) (left_open m.core) }
+    ensures recovered { (m : Machine) (held : Held) (h : History) (image : ℕ → List ℕ) → IsKept m held h → HadBackups held.base held.opened h → ImageAt h (now h) image
+        → (v : Inv) → Recovers meaning image v → HoldTheirDatabases image m.core.base m.core.journal v }
 {}
 
 /// A store of which each image has in the files from 4 on what a stop might have left of such a hall has the backups of each database that the stop may bring back: so a hall that is opened there keeps

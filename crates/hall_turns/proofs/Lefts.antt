@@ -27,34 +27,16 @@ use Rattle.hall.specs.Good.{Is, IsKept, IsSafe, WasSound}
 use Rattle.hall.specs.Held.{Hall, Held}
 use Rattle.hall.specs.Opening.{IsSound}
 use Rattle.hall.proofs.Covering.{images_hold}
+use Rattle.hall.proofs.Databases.{left_at}
 use Rattle.hall.proofs.Exact.{kept_by}
 use Rattle.hall.proofs.Turns.{every_stamp}
 use Rattle.hall_turns.specs.Left.{GivesState, LeavesSound}
-use Rattle.store_api.proofs.Runs.{now_image}
-use Rattle.hall.proofs.BackupsSpared.{all_open}
-use Rattle.hall.specs.Protected.{HadBackups}
-use Rattle.hall.proofs.BackupsOpened.{had_left}
-
--- ---- each database that a stop may bring back
-
-each_at : (P : Inv → Type 0) (v : Inv) (entries : List Entry) (n : ℕ) → AllByRecursion P (databases v entries) → P (after v (take n entries))
-each_at P v [] zero all = all.0
-each_at P v [] (suc n) all = all.0
-each_at P v (e ∷ entries) zero all = all.0
-each_at P v (e ∷ entries) (suc n) all = each_at P (effect e.change v) entries n all.1
-
--- behind the first so many transactions and so many of the others
-later_at : (first more all : ℕ) (v : Inv) (entries : List Entry) → first + more ≡ all → after (after v (take first entries)) (take more (drop first entries)) ≡ after v (take all entries)
-later_at zero more all v entries is = ap (λ (k : ℕ). after v (take k entries)) (let same : more ≡ all = omega (arith, is) in same)
-later_at (suc first) more zero v entries is = absurd (omega (arith, is))
-later_at (suc first) zero (suc all) v [] is = refl
-later_at (suc first) (suc more) (suc all) v [] is = refl
-later_at (suc first) more (suc all) v (e ∷ entries) is = later_at first more all (effect e.change v) entries (omega (arith, is))
-
-left_at : (P : Inv → Type 0) (c : Core) (n : ℕ) → length c.stamps ≤ n → AllByRecursion P (left_open c) → P (inv_at n c)
-left_at P c n le all =
-    let there : P (after (durable c) (take (n - length c.stamps) (unforced c))) = each_at P (durable c) (unforced c) (n - length c.stamps) all in
-    subst P (later_at (length c.stamps) (n - length c.stamps) n c.base c.journal (omega (arith, le))) there
+use Rattle.store_api.proofs.Runs.{left_of_image, now_image}
+use Rattle.inventory_laws.proofs.Origins.{contained_holds}
+use Rattle.vault.specs.Files.{IsOurs}
+use Rattle.hall.proofs.BackupsSpared.{all_open, recovered_open as one_open}
+use Rattle.hall.specs.Protected.{HadBackups, HoldTheirDatabases}
+use Rattle.hall.proofs.BackupsOpened.{had_left, images_hold_theirs}
 
 -- ---- a vault in which nothing waits is good
 
@@ -147,3 +129,9 @@ module _ {S : Type 0} (told : S → Option History) (moment : S → ℕ) (faults
 
     pub left_backups : HadBackups hall.held.base hall.held.opened h → (v : Inv) → Recovers meaning (reads h) v → HadBackups v (now h) h
     left_backups had v is_v = had_left h h m.core hall.held.opened hall.held.job v (kept.backups had) (recovered_open v is_v) (λ image here n from. now_image h image here n)
+
+    -- each image that a stop may leave holds the databases of the run's own
+    pub left_hold : HadBackups hall.held.base hall.held.opened h → (image : ℕ → List ℕ) → ImageAt h (now h) image → (v : Inv) → Recovers meaning image v → HoldTheirDatabases image m.core.base m.core.journal v
+    left_hold had image here v recovers =
+        contained_holds (HoldTheirDatabases image m.core.base m.core.journal) (left_open m.core) v (one_open m.core image (kept.left image (left_of_image IsOurs h image here)) v recovers)
+        (images_hold_theirs h m.core hall.held.opened hall.held.job image (kept.backups had) here)

@@ -5,6 +5,7 @@ use Rattle.store_api.specs.Disk.{History, now, reads}
 use Rattle.store_api.specs.Runs.{GoesOn}
 use Rattle.store_api.specs.Told.{Told}
 use Rattle.kinds.specs.declared.refusal.OpenRefused.{OpenRefused}
+use Rattle.entries.specs.declared.entry.Entry.{Entry}
 use Rattle.inventory.specs.Meant.{meaning}
 use Rattle.inventory_rows.specs.State.{Inv}
 use Rattle.vault.specs.Recovery.{Recovers}
@@ -17,7 +18,7 @@ use Rattle.hall.specs.Protected.{HadBackups}
 use Rattle.hall.specs.Steps.{IsTrusted}
 use Rattle.hall.proofs.BackupsOpened.{had_since}
 use Rattle.hall_turns.proofs.Backups.{told_on}
-use Rattle.hall_turns.proofs.Lefts.{left_backups}
+use Rattle.hall_turns.proofs.Lefts.{left_backups, left_hold}
 use Rattle.tsm_top.specs.Serve.{Had, KeepsBacked, run}
 use Rattle.tsm_top.proofs.There.{AreKept}
 
@@ -42,20 +43,24 @@ had_opened base vault (Some a) (Some b) is opened has = had_since base a b opene
 -- ---- a run
 
 module _ {S : Type 0} (told : S → Option History) (moment : S → ℕ) (faults : S → ℕ → ℕ) (clock : (s : S) → IfSome (told s) (λ h. now h ≡ moment s)) (kept : AreKept told moment faults) where
-  keeps : (hall : Hall S) (m : Machine) (x : Option History) → told hall.store ≡ x → Is told moment faults hall m → IsTrusted x hall.held → IfSome x (HadBackups hall.held.base hall.held.opened) → IfSome x (KeepsBacked hall.held.opened)
+  keeps : (hall : Hall S) (m : Machine) (x : Option History) → told hall.store ≡ x → Is told moment faults hall m → IsTrusted x hall.held → IfSome x (HadBackups hall.held.base hall.held.opened) → IfSome x (KeepsBacked m.core.base m.core.journal hall.held.opened)
   keeps hall m None tells is trusted had = tt
   keeps hall m (Some h) tells is trusted had = record {
     always = ((kept hall m h tells is trusted).backups had).always;
+    hold = left_hold told moment faults clock hall m h tells is trusted had;
     left = λ v recovers. left_backups told moment faults clock hall m h tells is trusted had v recovers;
   }
 
   -- from the hall that was opened to the last one
   pub run_keeps : (first last : Hall S) → first.held.opened ≡ moment first.store → (last.held.base ≡ first.held.base) × (last.held.opened ≡ first.held.opened) × Told (told first.store) (told last.store) (GoesOn (λ file. Unit {0}))
-      → (final : Machine) → Is told moment faults last final → IsTrusted (told last.store) last.held → IfSome (told first.store) (λ h. HadBackups first.held.base (now h) h) → IfSome (told last.store) (KeepsBacked (moment first.store))
-  run_keeps first last fresh on final is trusted had =
+      → (final : Machine) → Is told moment faults last final → IsTrusted (told last.store) last.held → (journal : List Entry) → journal ≡ final.core.journal → IfSome (told first.store) (λ h. HadBackups first.held.base (now h) h)
+      → IfSome (told last.store) (KeepsBacked first.held.base journal (moment first.store))
+  run_keeps first last fresh on final is trusted journal same had =
       let at : last.held.opened ≡ moment first.store = on.1 ∙ fresh in
       let there : IfSome (told last.store) (HadBackups first.held.base (moment first.store)) =
       told_on first.held.base (moment first.store) (told first.store) (told last.store) (before_now (moment first.store) (told first.store) (clock first.store)) on.2 (had_at first.held.base (moment first.store) (told first.store) (clock first.store) had) in
       let own : IfSome (told last.store) (HadBackups last.held.base last.held.opened) =
       subst (λ (v : Inv). IfSome (told last.store) (HadBackups v last.held.opened)) (sym on.0) (subst (λ (n : ℕ). IfSome (told last.store) (HadBackups first.held.base n)) (sym at) there) in
-      subst (λ (n : ℕ). IfSome (told last.store) (KeepsBacked n)) at (keeps last final (told last.store) refl is trusted own)
+      let kept_here : IfSome (told last.store) (KeepsBacked final.core.base final.core.journal (moment first.store)) =
+      subst (λ (n : ℕ). IfSome (told last.store) (KeepsBacked final.core.base final.core.journal n)) at (keeps last final (told last.store) refl is trusted own) in
+      subst (λ (v : Inv). IfSome (told last.store) (KeepsBacked v journal (moment first.store))) (is.core.base ∙ on.0) (subst (λ (l : List Entry). IfSome (told last.store) (KeepsBacked final.core.base l (moment first.store))) (sym same) kept_here)

@@ -202,7 +202,7 @@ module _ {S : Type 0} (told : S → Option History) (moment : S → ℕ) (faults
                 sound = λ n it trusted. ran (Unit {0}) alone turned come ends hold n it (λ t. trusted) journal stamps notes generation journal_is stamps_are notes_are generation_is kept leave;
                 backups = λ n it trusted had.
                     run_keeps told moment faults clock kept hall last.hall fresh.opened (on (Unit {0}) alone turned come ends hold n it (λ t. trusted)) (final (Unit {0}) alone turned come ends hold n it (λ t. trusted))
-                    (is_final (Unit {0}) alone turned come ends hold n it (λ t. trusted)) (known_final (Unit {0}) alone turned come ends hold n it (λ t. trusted) tt) had;
+                    (is_final (Unit {0}) alone turned come ends hold n it (λ t. trusted)) (known_final (Unit {0}) alone turned come ends hold n it (λ t. trusted) tt) journal (journal_is ∙ sym (is_final (Unit {0}) alone turned come ends hold n it (λ t. trusted)).core.journal) had;
               } in
               (subst (λ (s : S). RanFrom told moment faults hall served s end status journal stamps notes generation script left was is) (sym store_is) whole, stays.0, stays.1)
 

@@ -18,21 +18,21 @@ use Rattle.tsm_top.specs.Serve.{Command, Had, KeepsBacked, Opens, RanSafe, RanSc
 -- ---- from the start of a call on
 
 -- a store was opened, and went on from there
-all_along : (x y z : Option History) (opened : ℕ) → IfSome y (λ h. now h ≡ opened) → Told x y SparesAll → Told y z (GoesOn (λ file. Unit {0})) → ((contents : ℕ → List ℕ) → Sure run contents x → Had run x → IfSome z (KeepsBacked opened))
+all_along : (x y z : Option History) (base : Inv) (journal : List Entry) (opened : ℕ) → IfSome y (λ h. now h ≡ opened) → Told x y SparesAll → Told y z (GoesOn (λ file. Unit {0})) → ((contents : ℕ → List ℕ) → Sure run contents x → Had run x → IfSome z (KeepsBacked base journal opened))
     → Throughout run x z
-all_along None y z opened at spared goes keeps = λ contents sure had. absurd sure
-all_along (Some a) None z opened at spared goes keeps = absurd spared
-all_along (Some a) (Some b) None opened at spared goes keeps = absurd goes
-all_along (Some a) (Some b) (Some c) opened at spared goes keeps = λ contents sure had backed.
+all_along None y z base journal opened at spared goes keeps = λ contents sure had. absurd sure
+all_along (Some a) None z base journal opened at spared goes keeps = absurd spared
+all_along (Some a) (Some b) None base journal opened at spared goes keeps = absurd goes
+all_along (Some a) (Some b) (Some c) base journal opened at spared goes keeps = λ contents sure had backed.
     each_then (λ file. Unit {0}) a b c (λ image. (v : Inv) → Recovers meaning image v → Backs image v) goes (spared.backups contents sure backed)
     (subst (λ (n : ℕ). AlwaysBacked n c) (sym at) (keeps contents sure had).always)
 
-throughout : (command : Command) (x y z : Option History) (opened : ℕ) → IfSome y (λ h. now h ≡ opened) → Opens command x y → Told y z (GoesOn (λ file. Unit {0})) → ((contents : ℕ → List ℕ) → Sure command contents x → Had command x → IfSome z (KeepsBacked opened))
+throughout : (command : Command) (x y z : Option History) (base : Inv) (journal : List Entry) (opened : ℕ) → IfSome y (λ h. now h ≡ opened) → Opens command x y → Told y z (GoesOn (λ file. Unit {0})) → ((contents : ℕ → List ℕ) → Sure command contents x → Had command x → IfSome z (KeepsBacked base journal opened))
     → Throughout command x z
-throughout format x y z opened at opens goes keeps = tt
-throughout run x y z opened at opens goes keeps = all_along x y z opened at opens goes keeps
-throughout fresh_run x y z opened at opens goes keeps = tt
-throughout (restore file day skipped) x y z opened at opens goes keeps = tt
+throughout format x y z base journal opened at opens goes keeps = tt
+throughout run x y z base journal opened at opens goes keeps = all_along x y z base journal opened at opens goes keeps
+throughout fresh_run x y z base journal opened at opens goes keeps = tt
+throughout (restore file day skipped) x y z base journal opened at opens goes keeps = tt
 
 -- ---- a run
 
@@ -46,5 +46,5 @@ safe command k told left_told before after opened last end status journal stamps
       let over = (ran.sound contents known).3 in
       (over.final, over.base_stays, sym over.journal_is, sym over.stamps_are, over.images tt, over.left tt);
   backups = ran.backups;
-  throughout = throughout command told opening left_told opened at opens goes ran.backups;
+  throughout = throughout command told opening left_told ran.database journal opened at opens goes ran.backups;
 }

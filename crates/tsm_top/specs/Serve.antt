@@ -2,7 +2,7 @@
 use Rattle.std.specs.Prelude.{◌≡◌, ◌⊎◌, ℕ, ◌-◌, ◌^◌, ◌<◌, ◌≤◌, Bool, true, false, is_some, Option, None, Some, IfSome, Result, IfErr, List, [], ◌∷◌, ◌++◌, map, reverse, codes, decimal, String, string_bytes}
 use Rattle.std.specs.Io.KnownBytes.{Appends}
 use Rattle.std.specs.declared.alloc.Global.{Global}
-use Rattle.store_api.specs.Disk.{History, now, reads}
+use Rattle.store_api.specs.Disk.{History, ImageAt, now, reads}
 use Rattle.store_api.specs.Runs.{EachImage, GoesOn}
 use Rattle.store_api.specs.Told.{Told}
 use Rattle.store_api.specs.Cause.{NoneFell}
@@ -23,7 +23,7 @@ use Rattle.vault.specs.Recovery.{Recovers, IsBase}
 use Rattle.hall.specs.Good.{AlwaysSafe, Is, Rise}
 use Rattle.hall.specs.Held.{Hall}
 use Rattle.hall.specs.Opening.{IsSound}
-use Rattle.hall.specs.Protected.{AlwaysBacked, HadBackups}
+use Rattle.hall.specs.Protected.{AlwaysBacked, HadBackups, HoldTheirDatabases}
 use Rattle.hall.specs.Steps.{IsTrusted}
 use Rattle.hall_turns.specs.Left.{LeavesSound}
 use Rattle.hall_turns.specs.Runs.{HasOwnBackups, IsBacked}
@@ -245,9 +245,11 @@ Had fresh_run told = Unit {0}
 Had (restore file day skipped) told = ⊥
 
 -- What no stop takes of database backups: at every moment since the opening each image that a stop may leave backs the database to which it recovers, so that it gives back each backup that this one lists as whole
--- and that is protected on its day, with every copy that the backup placed on sequential volumes; and the store that is left has the backups of the database to which it recovers, so that a run over it keeps them, too.
-pub record KeepsBacked (opened : ℕ) (h : History) : Type 0 where
+-- and that is protected on its day, with every copy that the backup placed on sequential volumes; each image that a stop may leave at the end holds in the file of each whole backup that its database lists, and that
+-- began in this run, the run's database behind the transaction by which it began, and no later one; and the store that is left has the backups of the database to which it recovers, so that a run over it keeps them, too.
+pub record KeepsBacked (base : Inv) (journal : List Entry) (opened : ℕ) (h : History) : Type 0 where
   pub always : AlwaysBacked opened h
+  pub hold : (image : ℕ → List ℕ) → ImageAt h (now h) image → (v : Inv) → Recovers meaning image v → HoldTheirDatabases image base journal v
   pub left : HasOwnBackups h
 
 -- Where a sound store is run that has the backups of its database, and each image that a stop might have left at the start backs the database to which it recovers, so does each image of each moment from then on, those within opening included.
@@ -304,7 +306,7 @@ pub record RanScript (command : Command) (k : Client) (told left_told : Option H
   pub whole : (first : Machine) × (first.core.generation ≡ start) × Ran ⊥ k database left_told before after opened last end journal stamps notes generation script was is first
   pub sound : (contents : ℕ → List ℕ) → Sure command contents told
       → (first : Machine) × (first.contents ≡ contents) × (first.core.generation ≡ start) × Ran (Unit {0}) k database left_told before after opened last end journal stamps notes generation script was is first
-  pub backups : (contents : ℕ → List ℕ) → Sure command contents told → Had command told → IfSome left_told (KeepsBacked opened)
+  pub backups : (contents : ℕ → List ℕ) → Sure command contents told → Had command told → IfSome left_told (KeepsBacked database journal opened)
 
 -- At every moment since the opening each image is safe, and what is left is a sound store; and where the store had the backups of the database that is run, so does each image of its own database's, at every moment since the start of the call
 -- where each image then did.
@@ -313,7 +315,7 @@ pub record RanSafe (command : Command) (told left_told : Option History) (opened
   pub base_is : base ≡ Some database
   pub safe : (contents : ℕ → List ℕ) → Sure command contents told
       → (final : Machine) × (final.core.base ≡ database) × (final.core.journal ≡ journal) × (final.core.stamps ≡ stamps) × IfSome left_told (AlwaysSafe final.contents final.core opened) × IfSome left_told (LeavesSound final)
-  pub backups : (contents : ℕ → List ℕ) → Sure command contents told → Had command told → IfSome left_told (KeepsBacked opened)
+  pub backups : (contents : ℕ → List ℕ) → Sure command contents told → Had command told → IfSome left_told (KeepsBacked database journal opened)
   pub throughout : Throughout command told left_told
 
 -- The store counted on: its moment and its counts of faults didn't fall.
@@ -336,4 +338,4 @@ pub record RanFrom {S : Type 0} (told : S → Option History) (moment : S → �
       → Ran ⊥ k hall.held.base (told left_store) (faults hall.store) (faults left_store) (moment hall.store) (moment left_store) end journal stamps notes generation script was is m
   pub sound : (m : Machine) → Is told moment faults hall m → IsTrusted (told hall.store) hall.held
       → Ran (Unit {0}) k hall.held.base (told left_store) (faults hall.store) (faults left_store) (moment hall.store) (moment left_store) end journal stamps notes generation script was is m
-  pub backups : (m : Machine) → Is told moment faults hall m → IsTrusted (told hall.store) hall.held → IfSome (told hall.store) (λ h. HadBackups hall.held.base (now h) h) → IfSome (told left_store) (KeepsBacked (moment hall.store))
+  pub backups : (m : Machine) → Is told moment faults hall m → IsTrusted (told hall.store) hall.held → IfSome (told hall.store) (λ h. HadBackups hall.held.base (now h) h) → IfSome (told left_store) (KeepsBacked hall.held.base journal (moment hall.store))
