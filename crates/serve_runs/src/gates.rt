@@ -1,4 +1,5 @@
 //! Gates before the steps of jobs, and what is printed of jobs that run side by side.
+use crate::answer::number;
 use crew::Gate;
 use std::alloc::{AllocError, Global};
 use std::sync::atomic::{AtomicBool, AtomicU32, Ordering};
@@ -49,33 +50,36 @@ impl Gate for Holding {
     }
 }
 
-/// A word that is printed, with `*` in place of an object's number.
-fn without_object(word: &str) -> &str {
-    if word.starts_with("object=") {
-        "object=*"
-    } else {
-        word
+/// A word that is printed, or what stands for it where it is the number of one of the first `many` objects.
+fn without_object<'a>(word: &'a str, many: u32, open: &'a str) -> &'a str {
+    let Some(digits) = word.strip_prefix("object=") else {
+        return word;
+    };
+    match number(digits) {
+        Ok(object) if object >= 1 && object <= many => open,
+        _ => word,
     }
 }
 
-/// A printed line joins the others, with `*` for each object's number.
-fn push_line(text: &mut String, line: &str) -> Result<(), AllocError> {
+/// A printed line joins the others.
+fn push_line(text: &mut String, line: &str, many: u32, open: &str) -> Result<(), AllocError> {
     let mut is_first = true;
     for word in line.split(' ') {
         if !is_first {
             text.push(' ')?;
         }
-        text.push_str(without_object(word))?;
+        text.push_str(without_object(word, many, open))?;
         is_first = false;
     }
     text.push('\n')
 }
 
-/// What was put, with `*` for each object's number: which job gets which one is open.
-pub fn without_objects(alloc: Global, put: &str) -> Result<String, AllocError> {
+/// What was put, with `1..many` for each object's number that is one of these: which of them a job gets is open.
+pub fn without_objects(alloc: Global, put: &str, many: u32) -> Result<String, AllocError> {
+    let open = format!(in alloc; "object=1..{many}")?;
     let mut text = String::new(alloc);
     for line in put.lines() {
-        push_line(&mut text, line)?;
+        push_line(&mut text, line, many, &open)?;
     }
     Ok(text)
 }

@@ -5,8 +5,8 @@
 //!   line of N letters; `letters N`: the same without LF; `empty N`: N lines without a byte; `days N`: N lines `DAY 1`.
 //! - `do WORD..`: the server is called with these words and that script, which is empty again then. Printed are what it put, its status, how
 //!   many transactions it made, of how many it says when they were durable, and the newest image's generation; or, where it opened no
-//!   database, how many bytes of the script it didn't read. `last WORD..`: the same with the last line alone of what it put. `any WORD..`: the same with `*` for each object's number.
-//!   `held N WORD..`: the same, where N actors of the script's blocks are held before their second step, each up to 2^30 turns, until all of them have come there; and at the end whether they had, which they can only where
+//!   database, how many bytes of the script it didn't read. `last WORD..`: the same with the last line alone of what it put. `any N WORD..`: the call, where it is open which of the first N
+//!   objects has which of their numbers: `1..N` stands for each that is one of these, and any other number stands as it is. `held N WORD..`: the same, where N actors of the script's blocks are held before their second step, each up to 2^30 turns, until all of them have come there; and at the end whether they had, which they can only where
 //!   they run side by side, or one was held to its limit.
 //! - `source N CALL..`, `sink N CALL..`: in the next call standard input gives, or standard output takes, at most N bytes at a time, and those
 //!   calls fail; of `sink 0` it takes none. The server reads and writes them as the program does, by `StdSource` and `StdSink`.

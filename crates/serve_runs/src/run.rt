@@ -300,18 +300,20 @@ impl<R: Threads + Wait + Sync> Run<'_, R> {
         Ok(words_of(self.alloc, &answered, last_line(&answered))?)
     }
 
-    /// The same, without the numbers of objects.
-    fn call_any(&mut self, words: &[&str]) -> Result<String, Fault> {
+    /// The same, where it is open which of so many objects has which number.
+    fn call_any(&mut self, many: &str, words: &[&str]) -> Result<String, Fault> {
+        let many = number(many)?;
         let answered = self.ask(words, &OpenGate)?;
-        let put = without_objects(self.alloc, text_of(&answered))?;
+        let put = without_objects(self.alloc, text_of(&answered), many)?;
         Ok(words_of(self.alloc, &answered, &put)?)
     }
 
     /// The same, where so many actors are held, and whether all of them came.
     fn call_held(&mut self, many: &str, words: &[&str]) -> Result<String, Fault> {
-        let gate = Holding::new(number(many)?);
+        let many = number(many)?;
+        let gate = Holding::new(many);
         let answered = self.ask(words, &gate)?;
-        let put = without_objects(self.alloc, text_of(&answered))?;
+        let put = without_objects(self.alloc, text_of(&answered), many)?;
         let told = words_of(self.alloc, &answered, &put)?;
         let came = gate.told();
         Ok(format!(in self.alloc; "{told}\n{came}")?)
@@ -395,7 +397,7 @@ impl<R: Threads + Wait + Sync> Run<'_, R> {
         match words {
             ["do", words @ ..] => self.call(words),
             ["last", words @ ..] => self.call_long(words),
-            ["any", words @ ..] => self.call_any(words),
+            ["any", many, words @ ..] => self.call_any(many, words),
             ["held", many, words @ ..] => self.call_held(many, words),
             ["blank", moment, bytes, words @ ..] => self.call_blank(moment, bytes, words),
             ["source", most, calls @ ..] => self.set_source(most, calls),
