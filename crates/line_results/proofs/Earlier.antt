@@ -182,7 +182,7 @@ module _ (trusted : Type 0) (places : Places) (k : Client) (result : Result Outc
   uncopied-as primary copy e (inr (full, bound)) = inr (full, bound-as (IsBackup primary copy) bound)
 
   stuck-as : (Did : List Event → Type 0) (e : Refusal) → IsStuck places Did (later_of old mid) e → IsStuck places Did old e
-  stuck-as Did e stuck = λ valid. (let s = stuck valid in (s.0, bound-as Did s.1))
+  stuck-as Did e (full, bound) = (full, bound-as Did bound)
 
   move-reason-as : (numbers : List ℕ) (mover : Mover) (e : Refusal) → HasMoveReason places numbers mover (later_of old mid) e → HasMoveReason places numbers mover old e
   move-reason-as numbers data_mover e (inl none) = inl none

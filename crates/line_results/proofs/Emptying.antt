@@ -48,7 +48,7 @@ use Rattle.machine.specs.Alone.{Alone}
 use Rattle.machine.specs.Machine.{Asks, Case, Commits, Places, answer_with, ended}
 use Rattle.machine.specs.State.{Core, Machine, inventory, sight}
 use Rattle.machine.proofs.Elsewhere.{append-all, ended-all, foremost-all, unless-all}
-use Rattle.line_results.specs.Removing.{CanEmpty, IsUnremoved}
+use Rattle.line_results.specs.Removing.{IsUnremoved, has_filespace}
 use Rattle.line_results.specs.Resting.{database}
 use Rattle.line_results.proofs.Bounds.{Common, commit-all, filespace-takes}
 use Rattle.line_results.proofs.Emptied.{Going, handled}
@@ -284,7 +284,7 @@ module _ (trusted : Type 0) (places : Places) (filespace : ℕ) (e : Refusal) (u
       let known = found-names names xs m parts.0 is found parts.1 in
       behind-found names ys parts.0 new known.1 known.0 rest parts.2
 
--- where the filespace may be deleted none is refused so
+-- where the filespace is there none is refused so
 pub unbarred : (trusted : Type 0) (places : Places) (filespace : ℕ) (events : List Event) (e : Refusal) (old new : Machine) → IsUnremoved e → IsInPlace filespace events e → Alone trusted places 0 events old new
-    → IsOrdered (database old) → CanEmpty filespace (database old) → ⊥
-unbarred trusted places filespace events e old new one place f ordered can = placed trusted places filespace e (kept-of e one) (database old) (can.0, can.1, ordered) events old new refl one place f
+    → is_valid (database old) ≡ true → IsOrdered (database old) → has_filespace filespace (database old) ≡ true → ⊥
+unbarred trusted places filespace events e old new one place f valid ordered there = placed trusted places filespace e (kept-of e one) (database old) (there, valid, ordered) events old new refl one place f

@@ -17,7 +17,6 @@ use Rattle.inventory_rows.specs.version_groups.declared.copies.CopyRow.{CopyRow}
 use Rattle.inventory_rows.specs.version_groups.declared.group.Group.{Group}
 use Rattle.inventory_rows.specs.version_groups.declared.versions.Version.{Version}
 use Rattle.inventory_rows.specs.State.{Inv}
-use Rattle.inventory_rules.specs.Valid.{is_valid}
 use Rattle.inventory_work.specs.Copies.{has_volume}
 use Rattle.inventory_work.specs.Rules.{rules_of}
 use Rattle.inventory_work.specs.declared.lines.Rules.{Rules}
@@ -59,7 +58,7 @@ use Rattle.line_results.specs.Files.{Checkpoints, Gets, GetsOf, GetsUnder, Puts,
 use Rattle.line_results.specs.Lines.{Replies, Says}
 use Rattle.line_results.specs.Migrating.{IsAllMigration, IsPoolMigration}
 use Rattle.line_results.specs.Moving.{HasMoveReason, IsDataMove, IsOpen, IsReclamation, IsStuck, IsUncopied, MayCopy, MayMove}
-use Rattle.line_results.specs.Removing.{CanEmpty, CanRemove, IsBarred}
+use Rattle.line_results.specs.Removing.{IsAbsent, has_filespace}
 use Rattle.line_results.specs.Resting.{Commits, EndsRun, Onward, RoseFrom, SameBytes, database, why_not}
 use Rattle.line_results.specs.Returning.{CanBeLost, CannotBeLost, RestoresPool, RestoresVolume}
 use Rattle.admin_words.specs.declared.files.FilesRestore.{FilesRestore}
@@ -657,7 +656,7 @@ module _ (old between mid : Machine) (on : IsBehind between mid) (rose : NoneRos
 
   audited-so : (fix : Bool) (file : ℕ) → IsUnaudited fix file old between f ⊎ ((how : Halt) × (halt_by f ≡ Some how)) → MayAudit fix file old mid → ⊥
   audited-so fix file (inl (inl missing)) may = true≢false (sym may.0 ∙ missing.1)
-  audited-so fix file (inl (inr (fixes, bounded))) may = (let m = may.1 fixes in m.1 (reaches-on old between mid on (bounded m.0).1))
+  audited-so fix file (inl (inr (fixes, bounded))) may = may.1 fixes (reaches-on old between mid on bounded.1)
   audited-so fix file (inr halts) may = some-not f halts.0 mild halts.1
 
   copied-so : (places : Places) (primary copy : ℕ) → IsUncopied places primary copy old f ⊎ ((how : Halt) × (halt_by f ≡ Some how)) → MayCopy places primary copy old → ⊥
@@ -666,7 +665,7 @@ module _ (old between mid : Machine) (on : IsBehind between mid) (rose : NoneRos
   copied-so places primary copy (inr halts) may = some-not f halts.0 mild halts.1
 
   stuck-so : (places : Places) (Did : List Event → Type 0) → IsStuck places Did old f → IsOpen places Did old → ⊥
-  stuck-so places Did stuck may = may.1 (stuck may.0).1
+  stuck-so places Did stuck may = may stuck.1
 
   lost-so : (file : ℕ) → CannotBeLost file old f → CanBeLost file old → ⊥
   lost-so file (inl none) may = (let odd : ◌≡◌ {A = Result Change Refusal} (Err f) (Ok may.0) = sym none ∙ may.1 in cc)
@@ -690,15 +689,15 @@ module _ (old between mid : Machine) (on : IsBehind between mid) (rose : NoneRos
   moved-so places volume_restorer numbers (inl (inr stuck)) may = stuck-so places (RestoresVolume (the_number numbers)) stuck may.1
   moved-so places mover numbers (inr halts) may = some-not f halts.0 mild halts.1
 
-  emptied-so : (filespace : ℕ) → (IsBarred (CanEmpty filespace (database old)) f ⊎ IsBounded old between f) ⊎ ((how : Halt) × (halt_by f ≡ Some how)) → CanEmpty filespace (database old) × StaysWithin old mid → ⊥
-  emptied-so filespace (inl (inl barred)) may = barred.1 may.0
+  emptied-so : (filespace : ℕ) → (IsAbsent (has_filespace filespace (database old)) f ⊎ IsBounded old between f) ⊎ ((how : Halt) × (halt_by f ≡ Some how)) → (has_filespace filespace (database old) ≡ true) × StaysWithin old mid → ⊥
+  emptied-so filespace (inl (inl absent)) may = true≢false (sym may.0 ∙ absent.1)
   emptied-so filespace (inl (inr bounded)) may = may.1 (reaches-on old between mid on bounded.1)
   emptied-so filespace (inr halts) may = some-not f halts.0 mild halts.1
 
-  volume-so : (file : ℕ) → (IsBarred (CanRemove file (database old)) f ⊎ (is_valid (database old) ≡ true → IsBounded old between f)) ⊎ ((how : Halt) × (halt_by f ≡ Some how))
-      → (has_volume file (database old) ≡ true) × (is_valid (database old) ≡ true) × StaysWithin old mid → ⊥
-  volume-so file (inl (inl barred)) may = barred.1 (inl (may.0, may.1))
-  volume-so file (inl (inr bounded)) may = may.2 (reaches-on old between mid on (bounded may.1).1)
+  volume-so : (file : ℕ) → (IsAbsent (has_volume file (database old)) f ⊎ IsBounded old between f) ⊎ ((how : Halt) × (halt_by f ≡ Some how))
+      → (has_volume file (database old) ≡ true) × StaysWithin old mid → ⊥
+  volume-so file (inl (inl absent)) may = true≢false (sym may.0 ∙ absent.1)
+  volume-so file (inl (inr bounded)) may = may.1 (reaches-on old between mid on bounded.1)
   volume-so file (inr halts) may = some-not f halts.0 mild halts.1
 
   never-own : (trusted : Type 0) (places : Places) (k : Client) (own : Own) (numbers : List ℕ) (first : List Entry) → IsProcessOwn own → MayOwn places k numbers own old mid

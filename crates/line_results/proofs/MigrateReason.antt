@@ -198,15 +198,15 @@ module _ (trusted : Type 0) (places : Places) (nobody : NobodyHolds places) (law
 
   -- ---- MIGRATE STGPOOL
 
-  barred : (number low : ℕ) → Migration first_picks number low events (Err e) → IsBarred number low events e → IsWithoutNext number (database old) e ⊎ IsStuck places (IsPoolMigration number low) old e
-  barred number low did (inl (so, told)) = inl (why-at number low told)
-  barred number low did (inr (inl (ten, met))) = inl (inl (ten-is e ten, there-not number ten met))
-  barred number low did (inr (inr (ten, (object, placed, to, next, none)))) = inr (λ valid. absurd (never-gone number low object placed to ten next none valid))
+  barred : is_valid (database old) ≡ true → (number low : ℕ) → Migration first_picks number low events (Err e) → IsBarred number low events e → IsWithoutNext number (database old) e ⊎ IsStuck places (IsPoolMigration number low) old e
+  barred valid number low did (inl (so, told)) = inl (why-at number low told)
+  barred valid number low did (inr (inl (ten, met))) = inl (inl (ten-is e ten, there-not number ten met))
+  barred valid number low did (inr (inr (ten, (object, placed, to, next, none)))) = absurd (never-gone number low object placed to ten next none valid)
 
-  pub migrate-reason : (number low : ℕ) → Migration first_picks number low events (Err e) → IsWithoutNext number (database old) e ⊎ IsStuck places (IsPoolMigration number low) old e
-  migrate-reason number low did = elim did.came.cause as (λ _. IsWithoutNext number (database old) e ⊎ IsStuck places (IsPoolMigration number low) old e) [
+  pub migrate-reason : is_valid (database old) ≡ true → (number low : ℕ) → Migration first_picks number low events (Err e) → IsWithoutNext number (database old) e ⊎ IsStuck places (IsPoolMigration number low) old e
+  migrate-reason valid number low did = elim did.came.cause as (λ _. IsWithoutNext number (database old) e ⊎ IsStuck places (IsPoolMigration number low) old e) [
     | inl stopped ↦ inr (stuck-by trusted places nobody lawful events e old new mild rest tries f (IsPoolMigration number low) (Err e, did) did.came.unheld stopped)
-    | inr h ↦ barred number low did h
+    | inr h ↦ barred valid number low did h
   ]
 
   -- ---- MIGRATE ALL
@@ -219,15 +219,15 @@ module _ (trusted : Type 0) (places : Places) (nobody : NobodyHolds places) (law
       let lines : w.2 ≡ pool_lines None v.stores = told-pools c.m c.next w.1 w.2 w.4 (subst (λ (x : Deed). Case places 0 x c.m c.next) w.3 c.step) in
       subst (λ (ps : List (ℕ × Pool)). IsDue t.pool ps) (pools-at (TellsDue t) c) (is-due w.0 v.stores v.stores.pools t (sym (ap (λ (ls : List PoolLine). due_of w.0 ls) lines) ∙ w.5))
 
-  all-barred : AllMigration first_picks events (Err e) → StandByNumber (database old) → IsBarredIn events e → IsStuck places IsAllMigration old e
-  all-barred did sorted (t, due, inl (so, told)) = absurd (has-one t.pool (database old) e sorted (due-at t due) (why-at t.pool t.low told))
-  all-barred did sorted (t, due, inr (inl (ten, met))) = absurd (has-one t.pool (database old) e sorted (due-at t due) (inl (ten-is e ten, there-not t.pool ten met)))
-  all-barred did sorted (t, due, inr (inr (ten, (object, placed, to, next, none)))) = λ valid. absurd (never-gone t.pool t.low object placed to ten next none valid)
+  all-barred : is_valid (database old) ≡ true → AllMigration first_picks events (Err e) → StandByNumber (database old) → IsBarredIn events e → IsStuck places IsAllMigration old e
+  all-barred valid did sorted (t, due, inl (so, told)) = absurd (has-one t.pool (database old) e sorted (due-at t due) (why-at t.pool t.low told))
+  all-barred valid did sorted (t, due, inr (inl (ten, met))) = absurd (has-one t.pool (database old) e sorted (due-at t due) (inl (ten-is e ten, there-not t.pool ten met)))
+  all-barred valid did sorted (t, due, inr (inr (ten, (object, placed, to, next, none)))) = absurd (never-gone t.pool t.low object placed to ten next none valid)
 
-  pub all-reason : AllMigration first_picks events (Err e) → StandByNumber (database old) → IsStuck places IsAllMigration old e
-  all-reason did sorted = elim did.came.cause as (λ _. IsStuck places IsAllMigration old e) [
+  pub all-reason : is_valid (database old) ≡ true → AllMigration first_picks events (Err e) → StandByNumber (database old) → IsStuck places IsAllMigration old e
+  all-reason valid did sorted = elim did.came.cause as (λ _. IsStuck places IsAllMigration old e) [
     | inl stopped ↦ stuck-by trusted places nobody lawful events e old new mild rest tries f IsAllMigration (Err e, did) did.came.unheld stopped
-    | inr h ↦ all-barred did sorted h
+    | inr h ↦ all-barred valid did sorted h
   ]
 
 -- ---- the steps

@@ -164,7 +164,7 @@ module _ (trusted : Type 0) (places : Places) (nobody : NobodyHolds places) (law
 
   by-stop : (Did : List Event → Type 0) → Did events → IsUnheld events e → (e ≡ refused.InventoryFull) ⊎ ((h : Holder) × (e ≡ refused.Busy h)) → Met e events → IsStuck places Did old e
   by-stop Did did unheld (inl full) met =
-      (let c = cut (Refuses e) met in λ valid. (full, (c.at, c.m, comes Did did (Refuses e) c, full-at-step trusted places nobody true events old new rest tries f e full c)))
+      (let c = cut (Refuses e) met in (full, (c.at, c.m, comes Did did (Refuses e) c, full-at-step trusted places nobody true events old new rest tries f e full c)))
   by-stop Did did unheld (inr busy) met = absurd (never-held trusted places nobody true events old new rest tries f e unheld met busy.0 busy.1)
 
   -- what stopped it is a bound
@@ -193,27 +193,27 @@ module _ (trusted : Type 0) (places : Places) (nobody : NobodyHolds places) (law
       told-pools d.m d.next d.is.0 pools d.is.2 (subst (λ (x : Deed). Case places 0 x d.m d.next) d.is.1 d.step) ∙ ap (λ (v : Inv). pool_lines None v.stores) (at-start places P events old asks d) in
       sym (ap₂ (λ (x : List VolumeLine) (y : List PoolLine). goes file to x y) vs ps) ∙ so
 
-  barred : (file to : ℕ) → DataMove file to events (Err e) → IsBarred file to events e → IsUnmoved places file to old e
-  barred file to did (inl (ten, met, asks)) = inl (ten-is e ten, volume-not file ten met asks)
-  barred file to did (inr (inl (named, history, told))) = inr (inl (named, goes-not file to told))
-  barred file to did (inr (inr (ten, (object, from, placed, none)))) = at_pool (has_pool to (database old)) refl where
-    never : ((to == 0) ≡ false → has_pool to (database old) ≡ true) → is_valid (database old) ≡ true → ⊥
-    never named valid =
+  barred : is_valid (database old) ≡ true → (file to : ℕ) → DataMove file to events (Err e) → IsBarred file to events e → IsUnmoved places file to old e
+  barred valid file to did (inl (ten, met, asks)) = inl (ten-is e ten, volume-not file ten met asks)
+  barred valid file to did (inr (inl (named, history, told))) = inr (inl (named, goes-not file to told))
+  barred valid file to did (inr (inr (ten, (object, from, placed, none)))) = at_pool (has_pool to (database old)) refl where
+    never : ((to == 0) ≡ false → has_pool to (database old) ≡ true) → ⊥
+    never named =
         let t = no-target trusted places lawful events e old new rest tries f ten object from placed (into to from) false file valid none in
         never-there to from (database old) t.0 t.1 named
 
     missing : (own : Bool) → (to == 0) ≡ own → has_pool to (database old) ≡ false → IsUnmoved places file to old e
-    missing true own gone = inr (inr (λ valid. absurd (never (λ other. absurd (true≢false (sym own ∙ other))) valid)))
+    missing true own gone = absurd (never (λ other. absurd (true≢false (sym own ∙ other))))
     missing false other gone = inr (inl (other, subst (λ (x : Refusal). goes_in file to (database old) ≡ Err x) (sym (ten-is e ten)) (goes-missing file to (database old) gone)))
 
     at_pool : (there : Bool) → has_pool to (database old) ≡ there → IsUnmoved places file to old e
-    at_pool true there = inr (inr (λ valid. absurd (never (λ other. there) valid)))
+    at_pool true there = absurd (never (λ other. there))
     at_pool false gone = missing (to == 0) refl gone
 
-  pub move-reason : (file to : ℕ) → DataMove file to events (Err e) → IsUnmoved places file to old e
-  move-reason file to did = elim did.came.cause as (λ _. IsUnmoved places file to old e) [
+  pub move-reason : is_valid (database old) ≡ true → (file to : ℕ) → DataMove file to events (Err e) → IsUnmoved places file to old e
+  move-reason valid file to did = elim did.came.cause as (λ _. IsUnmoved places file to old e) [
     | inl stopped ↦ inr (inr (stuck-by (IsDataMove file to) (Err e, did) did.came.unheld stopped))
-    | inr h ↦ barred file to did h
+    | inr h ↦ barred valid file to did h
   ]
 
   -- ---- RECLAIM STGPOOL
@@ -233,22 +233,22 @@ module _ (trusted : Type 0) (places : Places) (nobody : NobodyHolds places) (law
       told-pools c.m c.next w.0 w.1 w.3 (subst (λ (x : Deed). Case places 0 x c.m c.next) w.2 c.step) ∙ ap (λ (v : Inv). pool_lines None v.stores) (at-start places P events old asks c) in
       sym (ap (is_sequential_in pool) ps) ∙ w.4
 
-  unopened : (pool threshold : ℕ) → Reclamation pool threshold events (Err e) → IsNotThere pool threshold events e → IsUnreclaimed places pool threshold old e
-  unopened pool threshold did (inl (ten, met, asks)) = inl (ten-is e ten, pool-not pool threshold ten met asks)
-  unopened pool threshold did (inr (inl (is, history, told))) = inl (is, sequential-not pool told)
-  unopened pool threshold did (inr (inr (ten, (file, object, from, placed, none)))) =
+  unopened : is_valid (database old) ≡ true → (pool threshold : ℕ) → Reclamation pool threshold events (Err e) → IsNotThere pool threshold events e → IsUnreclaimed places pool threshold old e
+  unopened valid pool threshold did (inl (ten, met, asks)) = inl (ten-is e ten, pool-not pool threshold ten met asks)
+  unopened valid pool threshold did (inr (inl (is, history, told))) = inl (is, sequential-not pool told)
+  unopened valid pool threshold did (inr (inr (ten, (file, object, from, placed, none)))) =
       at_pool (has_pool pool (database old)) refl
     where
       at_pool : (there : Bool) → has_pool pool (database old) ≡ there → IsUnreclaimed places pool threshold old e
-      at_pool true there = inr (λ valid. absurd (
+      at_pool true there = absurd (
           let t = no-target trusted places lawful events e old new rest tries f ten object from placed (into pool from) false file valid none in
-          never-there pool from (database old) t.0 t.1 (λ other. there)))
+          never-there pool from (database old) t.0 t.1 (λ other. there))
       at_pool false gone = inl (ten-is e ten, no-pool pool (database old) gone)
 
-  pub reclaim-reason : (pool threshold : ℕ) → Reclamation pool threshold events (Err e) → IsUnreclaimed places pool threshold old e
-  reclaim-reason pool threshold did = elim did.came.cause as (λ _. IsUnreclaimed places pool threshold old e) [
+  pub reclaim-reason : is_valid (database old) ≡ true → (pool threshold : ℕ) → Reclamation pool threshold events (Err e) → IsUnreclaimed places pool threshold old e
+  reclaim-reason valid pool threshold did = elim did.came.cause as (λ _. IsUnreclaimed places pool threshold old e) [
     | inl stopped ↦ inr (stuck-by (IsReclamation pool threshold) (Err e, did) did.came.unheld stopped)
-    | inr h ↦ unopened pool threshold did h
+    | inr h ↦ unopened valid pool threshold did h
   ]
 
 -- ---- the steps

@@ -410,7 +410,7 @@ module _ (trusted : Type 0) (places : Places) (choice : List Rule) (b : Behind) 
       (λ leave. moves-settled events said leave data_mover (the_number numbers) (the_second numbers) h.0 h.1 h.2) (
         unreasoned numbers (moves data_mover) old mid said (λ e. tt),
         copy-reasoned places numbers (moves data_mover) old (λ (m : Moved). Said (moved_line data_mover m)) h.0 said h.2
-            (λ e is mild. move-reason trusted places nobody lawful events e old mid mild rest (moves-try (the_number numbers) (the_second numbers) events h.1.only) f (the_number numbers) (the_second numbers)
+            (λ e is mild. move-reason trusted places nobody lawful events e old mid mild rest (moves-try (the_number numbers) (the_second numbers) events h.1.only) f sound.valid (the_number numbers) (the_second numbers)
             (subst (λ (r : Result Moved Refusal). DataMove (the_number numbers) (the_second numbers) events r) is h.1)),
       ) f
   moves-began nobody lawful reclaimer numbers said events old mid rest sound h f =
@@ -419,7 +419,7 @@ module _ (trusted : Type 0) (places : Places) (choice : List Rule) (b : Behind) 
       (λ leave. moves-settled events said leave reclaimer (the_number numbers) (the_second numbers) h.0 h.1 h.2) (
         unreasoned numbers (moves reclaimer) old mid said (λ e. tt),
         copy-reasoned places numbers (moves reclaimer) old (λ (m : Moved). Said (moved_line reclaimer m)) h.0 said h.2
-            (λ e is mild. reclaim-reason trusted places nobody lawful events e old mid mild rest (reclaims-try h.1.files (the_number numbers) events h.1.only) f (the_number numbers) (min (the_second numbers) 100)
+            (λ e is mild. reclaim-reason trusted places nobody lawful events e old mid mild rest (reclaims-try h.1.files (the_number numbers) events h.1.only) f sound.valid (the_number numbers) (min (the_second numbers) 100)
             (subst (λ (r : Result Moved Refusal). Reclamation (the_number numbers) (min (the_second numbers) 100) events r) is h.1)),
       ) f
   moves-began nobody lawful pool_restorer numbers said events old mid rest sound h f =
@@ -427,7 +427,7 @@ module _ (trusted : Type 0) (places : Places) (choice : List Rule) (b : Behind) 
       (λ leave. moves-settled events said leave pool_restorer (the_number numbers) (the_second numbers) h.0 h.1 h.2) (
         unreasoned numbers (moves pool_restorer) old mid said (λ e. tt),
         copy-reasoned places numbers (moves pool_restorer) old (λ (m : Moved). Said (moved_line pool_restorer m)) h.0 said h.2
-            (λ e is mild. restore-pool-reason trusted places nobody lawful events e old mid mild rest (restores-try events h.1.only) f (the_number numbers)
+            (λ e is mild. restore-pool-reason trusted places nobody lawful events e old mid mild rest (restores-try events h.1.only) f sound.valid (the_number numbers)
             (subst (λ (r : Result Moved Refusal). PoolRestore (the_number numbers) events r) is h.1)),
       ) f
   moves-began nobody lawful volume_restorer numbers said events old mid rest sound h f =
@@ -436,7 +436,7 @@ module _ (trusted : Type 0) (places : Places) (choice : List Rule) (b : Behind) 
       (λ leave. moves-settled events said leave volume_restorer (the_number numbers) (the_second numbers) h.0 h.1 h.2) (
         unreasoned numbers (moves volume_restorer) old mid said (λ e. tt),
         copy-reasoned places numbers (moves volume_restorer) old (λ (m : Moved). Said (moved_line volume_restorer m)) h.0 said h.2
-            (λ e is mild. restore-volume-reason trusted places nobody lawful (the_number numbers) events e old mid mild rest f
+            (λ e is mild. restore-volume-reason trusted places nobody lawful (the_number numbers) events e old mid mild rest sound.valid f
             (subst (λ (r : Result Moved Refusal). VolumeRestore (the_number numbers) events r) is h.1)),
       ) f
   moves-began nobody lawful migrator numbers said events old mid rest sound h f =
@@ -444,7 +444,7 @@ module _ (trusted : Type 0) (places : Places) (choice : List Rule) (b : Behind) 
       (λ leave. moves-settled events said leave migrator (the_number numbers) (the_second numbers) h.0 h.1 h.2) (
         unreasoned numbers (moves migrator) old mid said (λ e. tt),
         copy-reasoned places numbers (moves migrator) old (λ (m : Moved). Said (moved_line migrator m)) h.0 said h.2
-            (λ e is mild. migrate-reason trusted places nobody lawful events e old mid mild rest (migrations-try (the_number numbers) events h.1.only) f (the_number numbers) (min (the_second numbers) 100)
+            (λ e is mild. migrate-reason trusted places nobody lawful events e old mid mild rest (migrations-try (the_number numbers) events h.1.only) f sound.valid (the_number numbers) (min (the_second numbers) 100)
             (subst (λ (r : Result Moved Refusal). Migration first_picks (the_number numbers) (min (the_second numbers) 100) events r) is h.1)),
       ) f
   moves-began nobody lawful all_migrator numbers said events old mid rest sound h f =
@@ -452,7 +452,7 @@ module _ (trusted : Type 0) (places : Places) (choice : List Rule) (b : Behind) 
       (λ leave. moves-settled events said leave all_migrator (the_number numbers) (the_second numbers) h.0 h.1 h.2) (
         unreasoned numbers (moves all_migrator) old mid said (λ e. tt),
         copy-reasoned places numbers (moves all_migrator) old (λ (m : Moved). Said (moved_line all_migrator m)) h.0 said h.2
-            (λ e is mild. all-reason trusted places nobody lawful events e old mid mild rest (sweeps-try events h.1.only) f
+            (λ e is mild. all-reason trusted places nobody lawful events e old mid mild rest (sweeps-try events h.1.only) f sound.valid
             (subst (λ (r : Result Moved Refusal). AllMigration first_picks events r) is h.1) sound.pools),
       ) f
 
@@ -463,13 +463,13 @@ module _ (trusted : Type 0) (places : Places) (choice : List Rule) (b : Behind) 
   alone-began nobody lawful empty_filespace numbers said events old mid so rest sound h f =
       process-began numbers empty_filespace said events old mid rest h (all-walk (filespaces.IsDeleting (the_number numbers)) (MayMake numbers empty_filespace) (filespace-walks numbers) events h.1.only) (
         reasoned numbers empty_filespace old mid (λ discarded. Said (DiscardedFilespace discarded 0)) h.0 said h.2
-            (λ e is mild. filespace-reason trusted places (the_number numbers) events e old mid mild (rest.tickets, rest.image) sound.rows (subst (λ (r : Result ℕ Refusal). FilespaceDeletion (the_number numbers) events r) is h.1) f),
+            (λ e is mild. filespace-reason trusted places (the_number numbers) events e old mid mild (rest.tickets, rest.image) sound.valid sound.rows (subst (λ (r : Result ℕ Refusal). FilespaceDeletion (the_number numbers) events r) is h.1) f),
         copy-unreasoned places numbers empty_filespace old said (λ e. tt),
       ) f
   alone-began nobody lawful empty_volume numbers said events old mid so rest sound h f =
       process-began numbers empty_volume said events old mid rest h (all-walk (volumes.IsDeleting true (the_number numbers)) (MayMake numbers empty_volume) (volume-walks numbers) events h.1.only) (
         reasoned numbers empty_volume old mid (λ (went : Removed). Said (DeletedVolume went.discarded went.dropped)) h.0 said h.2
-            (λ e is mild. volume-reason trusted places (the_number numbers) events e old mid mild (rest.tickets, rest.image) sound.rows sound.tied (subst (λ (r : Result Removed Refusal). VolumeDeletion true (the_number numbers) events r) is h.1) f),
+            (λ e is mild. volume-reason trusted places (the_number numbers) events e old mid mild (rest.tickets, rest.image) (sound.valid, sound.rows, sound.tied) (subst (λ (r : Result Removed Refusal). VolumeDeletion true (the_number numbers) events r) is h.1) f),
         copy-unreasoned places numbers empty_volume old said (λ e. tt),
       ) f
   alone-began nobody lawful back_up_pool numbers said events old mid so rest sound h f =
@@ -497,7 +497,7 @@ module _ (trusted : Type 0) (places : Places) (choice : List Rule) (b : Behind) 
       process-began numbers (audit_volume fix) said events old mid rest h
       (all-may-walk (IsAuditing fix (the_number numbers)) (MayMake numbers (audit_volume fix)) (auditing-walks fix numbers) events h.1.only) (
         reasoned numbers (audit_volume fix) old mid came.Audited h.0 said h.2
-            (λ e is mild. audit-reason trusted places fix (the_number numbers) events e old mid mild (rest.tickets, rest.image) (subst (λ (r : Result Audit Refusal). VolumeAudit fix (the_number numbers) events r) is h.1) f),
+            (λ e is mild. audit-reason trusted places fix (the_number numbers) events e old mid mild (rest.tickets, rest.image) sound.valid (subst (λ (r : Result Audit Refusal). VolumeAudit fix (the_number numbers) events r) is h.1) f),
         copy-unreasoned places numbers (audit_volume fix) old said (λ e. tt),
       ) f
   alone-began nobody lawful none_but_reuse numbers said events old mid so rest sound h f = none-began (Ok (Said (Reused 0))) said events old mid rest h.0 h.1 f

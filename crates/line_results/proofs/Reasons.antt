@@ -23,7 +23,6 @@ use Rattle.inventory_rows.specs.Items.{count_items, most_items}
 use Rattle.inventory_rows.specs.Search.{version}
 use Rattle.inventory_rows.specs.version_groups.Entries.{on_ok}
 use Rattle.inventory_rows.specs.version_groups.declared.versions.Version.{Version}
-use Rattle.inventory_rules.specs.Held.{IsTied}
 use Rattle.inventory_rules.specs.Journal.{Journal}
 use Rattle.inventory_rules.specs.Ordered.{IsOrdered}
 use Rattle.inventory_rules.specs.Transactions.{effect}
@@ -73,8 +72,9 @@ use Rattle.command_steps.specs.Owns.{Own}
 use Rattle.command_steps.specs.declared.outcome.Outcome.{Outcome}
 use Rattle.line_results.specs.Bounds.{HasReason, IsBounded, IsReasoned, IsReused, IsUnaudited}
 use Rattle.line_results.specs.Moving.{HasCopyReason, IsCopyReasoned}
-use Rattle.line_results.specs.Removing.{CanEmpty, CanRemove, IsBarred, IsUnremoved}
+use Rattle.line_results.specs.Removing.{IsAbsent, IsUnremoved, has_filespace}
 use Rattle.line_results.specs.Resting.{database}
+use Rattle.line_results.proofs.Clearing.{IsSound}
 use Rattle.line_results.proofs.Bounds.{filespace-takes, volume-takes, Common, IsFew, IsNoHolder, Takes, ask-all, ask-other, ask-unheld, commit-full, commit-unheld, delete-takes, discard-takes, drop-takes, expire-takes, force-other, force-unheld, legal-few, legal-valid, reuse-full, reuse-unheld}
 use Rattle.line_results.proofs.Emptying.{unbarred}
 use Rattle.line_results.proofs.ForceEnds.{forced-done, forced-same}
@@ -461,15 +461,10 @@ module _ (trusted : Type 0) (places : Places) (fix : Bool) (file : ℕ) (events 
   audit-goes : (d : Deed) (m next : Machine) → IsAuditing fix file d → Case places 0 d m next → Goes IsMend m.core next.core
   audit-goes d m next so step = step-goes IsMend places d m next (auditing-makes fix file d so) step
 
-  audit-full : MetBy (Refuses e) events → e ≡ refused.InventoryFull → IsUnaudited fix file old new e
-  audit-full met full =
-      let at = met-at trusted places (IsAuditing fix file) (λ c. Unit {0}) (λ d m next so step h. tt) (Refuses e) events old new all tt f met in
-      inr (auditing-fix places fix file at.deed at.before at.after e at.kind at.is at.step full, by-valid)
-    where
-      by-valid : is_valid (database old) ≡ true → IsBounded old new e
-      by-valid valid =
-          let at = met-at trusted places (IsAuditing fix file) (λ c. is_valid (inventory c) ≡ true) (λ d m next so step h. valid-goes IsMend m.core next.core (audit-goes d m next so step) h) (Refuses e) events old new all valid f met in
-          last-number old at.before new e full at.grown (auditing-full places fix file at.deed at.before at.after e at.kind at.is at.step at.holds full)
+  audit-full : is_valid (database old) ≡ true → MetBy (Refuses e) events → e ≡ refused.InventoryFull → IsUnaudited fix file old new e
+  audit-full valid met full =
+      let at = met-at trusted places (IsAuditing fix file) (λ c. is_valid (inventory c) ≡ true) (λ d m next so step h. valid-goes IsMend m.core next.core (audit-goes d m next so step) h) (Refuses e) events old new all valid f met in
+      inr (auditing-fix places fix file at.deed at.before at.after e at.kind at.is at.step full, last-number old at.before new e full at.grown (auditing-full places fix file at.deed at.before at.after e at.kind at.is at.step at.holds full))
 
   audit-missing : (number_of e == 10) ≡ true → MetBy (λ d. d ≡ Ask (query.OnVolume file) (Err e)) events → IsUnaudited fix file old new e
   audit-missing ten met =
@@ -478,18 +473,18 @@ module _ (trusted : Type 0) (places : Places) (fix : Bool) (file : ℕ) (events 
       let asks : Asks 0 (query.OnVolume file) at.before at.after (Err e) = subst (λ (x : Deed). Case places 0 x at.before at.after) at.is at.step in
       inl (ask-all Missing common-missing at.before at.after e (λ ten. refl) (query.OnVolume file) asks ten, sym at.holds ∙ volume-missing file at.before at.after e ten asks)
 
-  audit-stopped : IsFree old.core → halt_by e ≡ None → IsStopped events e → IsUnaudited fix file old new e
-  audit-stopped free mild (inl memory) = absurd (no-memory e memory mild)
-  audit-stopped free mild (inr (stops, met)) = elim (stopping-mild e stops mild) as (λ _. IsUnaudited fix file old new e) [
-    | inl full ↦ audit-full met full
+  audit-stopped : is_valid (database old) ≡ true → IsFree old.core → halt_by e ≡ None → IsStopped events e → IsUnaudited fix file old new e
+  audit-stopped valid free mild (inl memory) = absurd (no-memory e memory mild)
+  audit-stopped valid free mild (inr (stops, met)) = elim (stopping-mild e stops mild) as (λ _. IsUnaudited fix file old new e) [
+    | inl full ↦ audit-full valid met full
     | inr busy ↦ (let at = met-at trusted places (IsAuditing fix file) IsFree (auditing-free places fix file) (Refuses e) events old new all free f met in
         absurd (auditing-unheld places fix file at.deed at.before at.after e at.kind at.is at.step at.holds busy.0 busy.1))
   ]
 
-pub audit-reason : (trusted : Type 0) (places : Places) (fix : Bool) (file : ℕ) (events : List Event) (e : Refusal) (old new : Machine) → halt_by e ≡ None → IsFree old.core → VolumeAudit fix file events (Err e)
+pub audit-reason : (trusted : Type 0) (places : Places) (fix : Bool) (file : ℕ) (events : List Event) (e : Refusal) (old new : Machine) → halt_by e ≡ None → IsFree old.core → is_valid (database old) ≡ true → VolumeAudit fix file events (Err e)
     → Alone trusted places 0 events old new → IsUnaudited fix file old new e
-audit-reason trusted places fix file events e old new mild free h f = elim h.came as (λ _. IsUnaudited fix file old new e) [
-  | inl stopped ↦ audit-stopped trusted places fix file events e old new h.only f free mild stopped
+audit-reason trusted places fix file events e old new mild free valid h f = elim h.came as (λ _. IsUnaudited fix file old new e) [
+  | inl stopped ↦ audit-stopped trusted places fix file events e old new h.only f valid free mild stopped
   | inr missing ↦ audit-missing trusted places fix file events e old new h.only f missing.0 missing.1
 ]
 
@@ -501,6 +496,10 @@ kept-so refused.NotFound h = inl refl
 kept-so (refused.InUse user) h = inr (inl (user, refl))
 kept-so (refused.NotYet file day) h = inr (inr (file, day, refl))
 kept-so e h = absurd cc
+
+not-there : (b : Bool) → (b ≡ true → ⊥) → b ≡ false
+not-there true never = absurd (never refl)
+not-there false never = refl
 
 missing-so : (e : Refusal) → (number_of e == 10) ≡ true → IsUnremoved e
 missing-so refused.NotFound h = inl refl
@@ -542,14 +541,14 @@ module _ (places : Places) (filespace : ℕ) where
   space-unheld d m next e (inr (inl h)) why step free = removing-unheld places (filespaces.reason_of filespace) d m next e h why step free
   space-unheld d m next e (inr (inr (name, answer, is))) why step free = plain-unheld places m next e _ answer d (filespace-takes name filespace) free is why step
 
-pub filespace-reason : (trusted : Type 0) (places : Places) (filespace : ℕ) (events : List Event) (e : Refusal) (old new : Machine) → halt_by e ≡ None → IsFree old.core → IsOrdered (database old) → FilespaceDeletion filespace events (Err e)
-    → Alone trusted places 0 events old new → IsBarred (CanEmpty filespace (database old)) e ⊎ IsBounded old new e
-filespace-reason trusted places filespace events e old new mild free ordered h f = elim h.came as (λ _. IsBarred (CanEmpty filespace (database old)) e ⊎ IsBounded old new e) [
+pub filespace-reason : (trusted : Type 0) (places : Places) (filespace : ℕ) (events : List Event) (e : Refusal) (old new : Machine) → halt_by e ≡ None → IsFree old.core → is_valid (database old) ≡ true → IsOrdered (database old) → FilespaceDeletion filespace events (Err e)
+    → Alone trusted places 0 events old new → IsAbsent (has_filespace filespace (database old)) e ⊎ IsBounded old new e
+filespace-reason trusted places filespace events e old new mild free valid ordered h f = elim h.came as (λ _. IsAbsent (has_filespace filespace (database old)) e ⊎ IsBounded old new e) [
   | inl stopped ↦ inr (stopped-bounded trusted places (filespaces.IsDeleting filespace) (space-makes places filespace) (space-free places filespace) (space-full places filespace) (space-unheld places filespace)
       events e old new mild free h.only stopped f)
-  | inr other ↦ (elim other as (λ _. IsBarred (CanEmpty filespace (database old)) e ⊎ IsBounded old new e) [
-    | inl missing ↦ (let one : IsUnremoved e = missing-so e missing.0 in inl (one, λ can. unbarred trusted places filespace events e old new one h.place f ordered can))
-    | inr kept ↦ (let one : IsUnremoved e = kept-so e kept.0 in inl (one, λ can. unbarred trusted places filespace events e old new one h.place f ordered can))
+  | inr other ↦ (elim other as (λ _. IsAbsent (has_filespace filespace (database old)) e ⊎ IsBounded old new e) [
+    | inl missing ↦ (let one : IsUnremoved e = missing-so e missing.0 in inl (one, not-there (has_filespace filespace (database old)) (unbarred trusted places filespace events e old new one h.place f valid ordered)))
+    | inr kept ↦ (let one : IsUnremoved e = kept-so e kept.0 in inl (one, not-there (has_filespace filespace (database old)) (unbarred trusted places filespace events e old new one h.place f valid ordered)))
   ])
 ]
 
@@ -583,14 +582,14 @@ module _ (places : Places) (file : ℕ) where
   volume-unheld d m next e (inr (inl (lines, answer, is))) why step free = plain-unheld places m next e _ answer d (drop-takes _) free is why step
   volume-unheld d m next e (inr (inr h)) why step free = removing-unheld places (for_volume file) d m next e h why step free
 
-pub volume-reason : (trusted : Type 0) (places : Places) (file : ℕ) (events : List Event) (e : Refusal) (old new : Machine) → halt_by e ≡ None → IsFree old.core → IsOrdered (database old) → IsTied (database old) → VolumeDeletion true file events (Err e)
-    → Alone trusted places 0 events old new → IsBarred (CanRemove file (database old)) e ⊎ (is_valid (database old) ≡ true → IsBounded old new e)
-volume-reason trusted places file events e old new mild free ordered tied h f = elim h.came as (λ _. IsBarred (CanRemove file (database old)) e ⊎ (is_valid (database old) ≡ true → IsBounded old new e)) [
-  | inl stopped ↦ inr (λ valid. stopped-valid trusted places (volumes.IsDeleting true file) (volume-makes places file) (volume-free places file) (volume-full places file) (volume-unheld places file)
-      events e old new mild free valid h.only stopped f)
-  | inr other ↦ (elim other as (λ _. IsBarred (CanRemove file (database old)) e ⊎ (is_valid (database old) ≡ true → IsBounded old new e)) [
-    | inl missing ↦ (let one : IsUnremoved e = missing-so e missing.0 in inl (one, λ can. unbarred-volume trusted places file events e old new free one h.place f ordered tied can))
-    | inr kept ↦ (let one : IsUnremoved e = kept-so e kept.0 in inl (one, λ can. unbarred-volume trusted places file events e old new free one h.place f ordered tied can))
+pub volume-reason : (trusted : Type 0) (places : Places) (file : ℕ) (events : List Event) (e : Refusal) (old new : Machine) → halt_by e ≡ None → IsFree old.core → IsSound (database old) → VolumeDeletion true file events (Err e)
+    → Alone trusted places 0 events old new → IsAbsent (has_volume file (database old)) e ⊎ IsBounded old new e
+volume-reason trusted places file events e old new mild free sound h f = elim h.came as (λ _. IsAbsent (has_volume file (database old)) e ⊎ IsBounded old new e) [
+  | inl stopped ↦ inr (stopped-valid trusted places (volumes.IsDeleting true file) (volume-makes places file) (volume-free places file) (volume-full places file) (volume-unheld places file)
+      events e old new mild free sound.0 h.only stopped f)
+  | inr other ↦ (elim other as (λ _. IsAbsent (has_volume file (database old)) e ⊎ IsBounded old new e) [
+    | inl missing ↦ (let one : IsUnremoved e = missing-so e missing.0 in inl (one, not-there (has_volume file (database old)) (unbarred-volume trusted places file events e old new free one h.place f sound)))
+    | inr kept ↦ (let one : IsUnremoved e = kept-so e kept.0 in inl (one, not-there (has_volume file (database old)) (unbarred-volume trusted places file events e old new free one h.place f sound)))
   ])
 ]
 

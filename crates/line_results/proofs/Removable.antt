@@ -21,9 +21,7 @@ use Rattle.inventory_rows.specs.volume_rows.Holdings.{least_object}
 use Rattle.inventory_rows.specs.volume_rows.declared.volume.Volume.{Volume}
 use Rattle.inventory_rows.specs.Search.{is_primary, version}
 use Rattle.inventory_rows.proofs.of_object_rows.Stands.{at-eqb}
-use Rattle.inventory_rules.specs.Held.{IsTied}
 use Rattle.inventory_rules.specs.Journal.{Journal}
-use Rattle.inventory_rules.specs.Ordered.{IsOrdered}
 use Rattle.inventory_rules.specs.Transactions.{causes}
 use Rattle.inventory_rules.specs.Valid.{is_valid}
 use Rattle.inventory_rules.specs.Versions.{all_lie_on, primary_lies_on}
@@ -46,7 +44,7 @@ use Rattle.command_steps.specs.deletions.Volumes.{Cleared, HasNotFound, HasNotGo
 use Rattle.machine.specs.Alone.{Alone}
 use Rattle.machine.specs.Machine.{Case, Commits, Places}
 use Rattle.machine.specs.State.{Core, Machine, inventory, sight}
-use Rattle.line_results.specs.Removing.{CanRemove, HasNothing, IsUnremoved, IsVolume}
+use Rattle.line_results.specs.Removing.{IsUnremoved, IsVolume}
 use Rattle.line_results.specs.Resting.{database}
 use Rattle.line_results.proofs.Bounds.{commit-all, commit-unheld, volume-takes}
 use Rattle.line_results.proofs.Cited.{IsOf, are-listed, in-its-pool, line-pool, primary-there}
@@ -99,15 +97,6 @@ told-if c x = if c then Ok x else Err refused.NotFound
 there-lines : {A : Type 0} (b : Bool) (x : A) → b ≡ true → (y : A) × ((if b then Ok x else Err refused.NotFound) ≡ Ok y)
 there-lines b x h = (x, ap (λ (c : Bool). told-if c x) h)
 
--- where it may be deleted it is there, under its name
-volume-there : (file : ℕ) (v : Inv) → CanRemove file v → IsVolume file v
-volume-there file v (inr (there, nothing)) = there
-volume-there file v (inl (has, valid)) = volume-shown file v valid has
-
-and-so : (file : ℕ) (v : Inv) → IsOrdered v → IsTied v → CanRemove file v → IsSound v ⊎ HasNothing file v
-and-so file v ordered tied (inl (has, valid)) = inl (valid, ordered, tied)
-and-so file v ordered tied (inr (there, nothing)) = inr nothing
-
 module _ (file : ℕ) (v : Inv) (there : IsVolume file v) where
   abbrev pub its-row : Row
   its-row = record { name = there.0.name; capacity = there.0.capacity; access = there.0.access }
@@ -157,7 +146,7 @@ no-wait trusted places row file (suc number) events m new free (xs, ys, cut, wai
 
 -- ---- the whole
 
-module _ (trusted : Type 0) (places : Places) (file : ℕ) (e : Refusal) (un : is_kept_by e ≡ true) (v : Inv) (there : IsVolume file v) (can : IsSound v ⊎ HasNothing file v) where
+module _ (trusted : Type 0) (places : Places) (file : ℕ) (e : Refusal) (un : is_kept_by e ≡ true) (v : Inv) (there : IsVolume file v) (can : IsSound v) where
   abbrev its : Row
   its = its-row file v there
 
@@ -232,18 +221,8 @@ module _ (trusted : Type 0) (places : Places) (file : ℕ) (e : Refusal) (un : i
       same-ok copies-in (rows.OnVolume lines) (rows.OnVolume (its-lines file v there).0) (rows_of (query.OnVolume file) v) (ap (rows_of (query.OnVolume file)) (sym is) ∙ a.1) (copies-are file v there) in
       by parts.0 ((its-lines file v there).1 ∙ sym (ap-ok same)) (ap inventory a.0 ∙ is) (subst IsFree (sym a.0) free) taken parts.2 can
     where
-      by : (mid : Machine) → on_volume file v ≡ Ok lines → inventory mid.core ≡ v → IsFree mid.core → TakenOf (pool_of lines) file lines ys removed → Alone trusted places 0 ys mid new → IsSound v ⊎ HasNothing file v
-          → Ready file v new.core
-      by mid all here free_there taken_there f_there (inr nothing) =
-          let quiet = subst (λ (l : List CopyLine). TakenOf (pool_of l) file l ys removed) (ok-same lines [] (sym all ∙ nothing.1)) taken_there in
-          let same : new.core ≡ mid.core = ap (λ (x : Machine). x.core) (alone-none trusted places 0 ys mid new quiet.0 f_there) in
-          record {
-            row = (there.0, ap (λ (c : Core). row_at file (inventory c).stores.volumes) same ∙ ap (λ (x : Inv). row_at file x.stores.volumes) here ∙ there.1);
-            none = nothing.0 there.0 there.1;
-            named = λ name. ap (λ (c : Core). volume_named name (inventory c).stores) same ∙ ap (λ (x : Inv). volume_named name x.stores) here;
-            free = subst IsFree (sym same) free_there;
-          }
-      by mid all here free_there taken_there f_there (inl (valid, ordered, tied)) =
+      by : (mid : Machine) → on_volume file v ≡ Ok lines → inventory mid.core ≡ v → IsFree mid.core → TakenOf (pool_of lines) file lines ys removed → Alone trusted places 0 ys mid new → IsSound v → Ready file v new.core
+      by mid all here free_there taken_there f_there (valid, ordered, tied) =
           let first : Leaving file v (map doomed lines) mid.core = record {
             sound = subst IsSound (sym here) (valid, ordered, tied);
             row = (there.0, ap (λ (x : Inv). row_at file x.stores.volumes) here ∙ there.1);
@@ -290,8 +269,8 @@ module _ (trusted : Type 0) (places : Places) (file : ℕ) (e : Refusal) (un : i
       let named : row ≡ its = ok-same row its (sym told ∙ named-row file v there lines (ap (rows_of (query.Volumes None None)) (sym is) ∙ a.1)) in
       behind-found row ys parts.0 new named (ap inventory a.0 ∙ is) (ap (λ (c : Core). c.tickets) a.0 ∙ free.0, ap (λ (c : Core). c.image) a.0 ∙ free.1) rest parts.2
 
--- where the volume may be deleted none is refused so
+-- where the volume is there none is refused so
 pub unbarred-volume : (trusted : Type 0) (places : Places) (file : ℕ) (events : List Event) (e : Refusal) (old new : Machine) → IsFree old.core → IsUnremoved e → IsInPlace true file events e → Alone trusted places 0 events old new
-    → IsOrdered (database old) → IsTied (database old) → CanRemove file (database old) → ⊥
-unbarred-volume trusted places file events e old new free one place f ordered tied can =
-    placed trusted places file e (kept-of e one) (database old) (volume-there file (database old) can) (and-so file (database old) ordered tied can) events old new refl free one place f
+    → IsSound (database old) → has_volume file (database old) ≡ true → ⊥
+unbarred-volume trusted places file events e old new free one place f sound there =
+    placed trusted places file e (kept-of e one) (database old) (volume-shown file (database old) sound.0 there) sound events old new refl free one place f

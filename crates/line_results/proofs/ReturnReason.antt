@@ -213,18 +213,18 @@ module _ (trusted : Type 0) (places : Places) (nobody : NobodyHolds places) (law
       lost-there file (database old).stores (database old).stores.volumes (subst (λ (ls : List VolumeLine). IsIn file (destroyed_of ls)) vs among) in
       true≢false (sym there ∙ volume-not trusted places nobody lawful events e old new mild rest tries f file ten met asks)
 
-  barred : (pool : ℕ) → PoolRestore pool events (Err e) → IsPoolBarred pool events e → HasNoPool pool old e ⊎ IsStuck places (RestoresPool pool) old e
-  barred pool did (inl (is, history, gone)) = inl (is, pool-gone pool gone)
-  barred pool did (inr (inl (volumes, (file, among, inl stopped), asks, told))) =
+  barred : is_valid (database old) ≡ true → (pool : ℕ) → PoolRestore pool events (Err e) → IsPoolBarred pool events e → HasNoPool pool old e ⊎ IsStuck places (RestoresPool pool) old e
+  barred valid pool did (inl (is, history, gone)) = inl (is, pool-gone pool gone)
+  barred valid pool did (inr (inl (volumes, (file, among, inl stopped), asks, told))) =
       inr (stuck-by trusted places nobody lawful events e old new mild rest tries f (RestoresPool pool) (Err e, did) did.came.unheld stopped)
-  barred pool did (inr (inl (volumes, (file, among, inr (ten, met)), asks, told))) = absurd (never-unlisted volumes file ten among told met asks)
-  barred pool did (inr (inr (ten, (object, in_pool, placed, none)))) = inr (λ valid.
-      (let t = no-target trusted places lawful events e old new rest tries f ten object in_pool placed in_pool true 0 valid none in absurd (true≢false (sym t.1 ∙ t.0))))
+  barred valid pool did (inr (inl (volumes, (file, among, inr (ten, met)), asks, told))) = absurd (never-unlisted volumes file ten among told met asks)
+  barred valid pool did (inr (inr (ten, (object, in_pool, placed, none)))) =
+      (let t = no-target trusted places lawful events e old new rest tries f ten object in_pool placed in_pool true 0 valid none in absurd (true≢false (sym t.1 ∙ t.0)))
 
-  pub restore-pool-reason : (pool : ℕ) → PoolRestore pool events (Err e) → HasNoPool pool old e ⊎ IsStuck places (RestoresPool pool) old e
-  restore-pool-reason pool did = elim did.came.cause as (λ _. HasNoPool pool old e ⊎ IsStuck places (RestoresPool pool) old e) [
+  pub restore-pool-reason : is_valid (database old) ≡ true → (pool : ℕ) → PoolRestore pool events (Err e) → HasNoPool pool old e ⊎ IsStuck places (RestoresPool pool) old e
+  restore-pool-reason valid pool did = elim did.came.cause as (λ _. HasNoPool pool old e ⊎ IsStuck places (RestoresPool pool) old e) [
     | inl stopped ↦ inr (stuck-by trusted places nobody lawful events e old new mild rest tries f (RestoresPool pool) (Err e, did) did.came.unheld stopped)
-    | inr h ↦ barred pool did h
+    | inr h ↦ barred valid pool did h
   ]
 
   -- ---- RESTORE VOLUME, in front of its transaction
@@ -293,7 +293,7 @@ module _ (trusted : Type 0) (places : Places) (file : ℕ) (volumes : List Volum
       (changed.leaves.rests refl, ap (has_volume file) now ∙ loss-stays file c (database old) volumes is ∙ there, λ valid. ap is_valid now ∙ legal-valid (sight 0 old.core).journal c (database old) (none-legal c old.core why))
 
 module _ (trusted : Type 0) (places : Places) (nobody : NobodyHolds places) (lawful : RefusesElsewhere places) (file : ℕ) (xs ys : List Event) (e : Refusal) (old mid new : Machine) (mild : halt_by e ≡ None) (rest : IsAtRest mid.core)
-    (there : has_volume file (database mid) ≡ true) (stays : is_valid (database old) ≡ true → is_valid (database mid) ≡ true) (f : Alone trusted places 0 xs old mid) (g : Alone trusted places 0 ys mid new) (h : EndsBehind file ys e) (Did : List Event → Type 0) (did : Did (xs ++ ys)) where
+    (there : has_volume file (database mid) ≡ true) (valid : is_valid (database mid) ≡ true) (f : Alone trusted places 0 xs old mid) (g : Alone trusted places 0 ys mid new) (h : EndsBehind file ys e) (Did : List Event → Type 0) (did : Did (xs ++ ys)) where
   tries-behind : AreTrying true ys
   tries-behind = restores-try ys h.only
 
@@ -313,7 +313,7 @@ module _ (trusted : Type 0) (places : Places) (nobody : NobodyHolds places) (law
 
   stopped-so : (e ≡ refused.InventoryFull) ⊎ ((k : Holder) × (e ≡ refused.Busy k)) → MetBy (Refuses e) ys → IsStuck places Did old e
   stopped-so (inl full) met =
-      (let c = cut-behind (Refuses e) met in λ valid. (full, (c.at, c.m, comes-behind (Refuses e) c, full-at-step trusted places nobody true ys mid new rest tries-behind g e full c)))
+      (let c = cut-behind (Refuses e) met in (full, (c.at, c.m, comes-behind (Refuses e) c, full-at-step trusted places nobody true ys mid new rest tries-behind g e full c)))
   stopped-so (inr busy) met = absurd (never-held trusted places nobody true ys mid new rest tries-behind g e h.unheld met busy.0 busy.1)
 
   stopped-behind : IsStopped ys e → IsStuck places Did old e
@@ -321,8 +321,8 @@ module _ (trusted : Type 0) (places : Places) (nobody : NobodyHolds places) (law
   stopped-behind (inr (stops, met)) = stopped-so (stopping-mild e stops mild) met
 
   aimless-behind : IsAimless ys e → IsStuck places Did old e
-  aimless-behind (ten, (object, pool, placed, none)) = λ valid.
-      (let t = no-target trusted places lawful ys e mid new rest tries-behind g ten object pool placed pool true 0 (stays valid) none in absurd (true≢false (sym t.1 ∙ t.0)))
+  aimless-behind (ten, (object, pool, placed, none)) =
+      (let t = no-target trusted places lawful ys e mid new rest tries-behind g ten object pool placed pool true 0 valid none in absurd (true≢false (sym t.1 ∙ t.0)))
 
   never-missing : (n : ℕ) → IsIn n (file ∷ []) → (number_of e == 10) ≡ true → MetBy (λ d. d ≡ Ask (query.OnVolume n) (Err e)) ys → AreAsking ys → ⊥
   never-missing n (inl same) ten met asks =
@@ -342,7 +342,7 @@ module _ (trusted : Type 0) (places : Places) (nobody : NobodyHolds places) (law
   ]
 
 module _ (trusted : Type 0) (places : Places) (nobody : NobodyHolds places) (lawful : RefusesElsewhere places) (file : ℕ) (events : List Event) (e : Refusal) (old new : Machine) (mild : halt_by e ≡ None) (rest : IsAtRest old.core)
-    (f : Alone trusted places 0 events old new) (did : VolumeRestore file events (Err e)) where
+    (valid : is_valid (database old) ≡ true) (f : Alone trusted places 0 events old new) (did : VolumeRestore file events (Err e)) where
   undestroyed : IsUndestroyed file events e → CannotBeLost file old e
   undestroyed (volumes, c, why, is, same, (xs, us, cut, asked, changing)) =
       let p = alone-parts trusted places 0 events xs us old new cut f in
@@ -357,7 +357,7 @@ module _ (trusted : Type 0) (places : Places) (nobody : NobodyHolds places) (law
       let p = alone-parts trusted places 0 events xs ys old new is f in
       let q = alone-parts trusted places 0 xs zs us old p.0 cut p.1 in
       let made = loss-made trusted places file volumes c old rest found zs us number q.0 p.0 asked changing q.1 q.2 in
-      stuck-behind trusted places nobody lawful file xs ys e old p.0 new mild made.0 made.1 made.2 p.1 p.2 h (RestoresVolume file) (subst (RestoresVolume file) is (Err e, did))
+      stuck-behind trusted places nobody lawful file xs ys e old p.0 new mild made.0 made.1 (made.2 valid) p.1 p.2 h (RestoresVolume file) (subst (RestoresVolume file) is (Err e, did))
 
   pub restore-volume-reason : CannotBeLost file old e ⊎ IsStuck places (RestoresVolume file) old e
   restore-volume-reason = elim did.came.place as (λ _. CannotBeLost file old e ⊎ IsStuck places (RestoresVolume file) old e) [

@@ -9,7 +9,6 @@ use Rattle.inventory_rows.specs.Items.{count_items, most_items}
 use Rattle.inventory_rows.specs.declared.backup.Backup.{Backup}
 use Rattle.inventory_rules.specs.Backups.{backup_at, is_done}
 use Rattle.inventory_rules.specs.Transactions.{refused}
-use Rattle.inventory_rules.specs.Valid.{is_valid}
 use Rattle.inventory_work.specs.Copies.{has_volume}
 use Rattle.inventory_answers.specs.Stores.{backup_lines}
 use Rattle.script_loop.specs.declared.ends.Halt.{Halt}
@@ -21,7 +20,7 @@ use Rattle.command_steps.specs.Behind.{Behind, reuses}
 use Rattle.command_steps.specs.Doing.{the_number}
 use Rattle.command_steps.specs.Owns.{Own, audit_volume, back_up_database, back_up_since, delete_history, empty_filespace, empty_volume, expire}
 use Rattle.command_steps.specs.declared.outcome.Outcome.{Outcome}
-use Rattle.line_results.specs.Removing.{CanEmpty, CanRemove, IsBarred}
+use Rattle.line_results.specs.Removing.{IsAbsent, has_filespace}
 use Rattle.line_results.specs.Resting.{RoseFrom, database}
 
 -- ---- bounds
@@ -83,16 +82,16 @@ IsUnfollowed old new why =
 
 -- ---- processes
 
--- The volume isn't there; or, where damaged copies are to go and the database is valid, a bound of it is reached.
+-- The volume isn't there; or, where damaged copies are to go, a bound of the database's is reached.
 abbrev pub IsUnaudited : (fix : Bool) → (file : ℕ) → (old new : Machine) → Refusal → Type 0
 IsUnaudited fix file old new why =
-    ((why ≡ NotFound) × (has_volume file (database old) ≡ false)) ⊎ ((fix ≡ true) × (is_valid (database old) ≡ true → IsBounded old new why))
+    ((why ≡ NotFound) × (has_volume file (database old) ≡ false)) ⊎ ((fix ≡ true) × IsBounded old new why)
 
 -- why a process is refused over the numbers of the things that it names; of those that aren't told apart here its steps alone say why
 abbrev pub HasReason : (numbers : List ℕ) → Own → (old new : Machine) → Refusal → Type 0
 HasReason numbers expire old new why = IsBounded old new why
-HasReason numbers empty_filespace old new why = IsBarred (CanEmpty (the_number numbers) (database old)) why ⊎ IsBounded old new why
-HasReason numbers empty_volume old new why = IsBarred (CanRemove (the_number numbers) (database old)) why ⊎ (is_valid (database old) ≡ true → IsBounded old new why)
+HasReason numbers empty_filespace old new why = IsAbsent (has_filespace (the_number numbers) (database old)) why ⊎ IsBounded old new why
+HasReason numbers empty_volume old new why = IsAbsent (has_volume (the_number numbers) (database old)) why ⊎ IsBounded old new why
 HasReason numbers back_up_database old new why = IsUnmade None old new why
 HasReason numbers back_up_since old new why = IsUnfollowed old new why
 HasReason numbers (delete_history to) old new why = IsBounded old new why

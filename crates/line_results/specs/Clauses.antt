@@ -18,7 +18,6 @@ use Rattle.inventory_rows.specs.version_groups.declared.copies.CopyRow.{CopyRow}
 use Rattle.inventory_rows.specs.version_groups.declared.versions.Version.{Version}
 use Rattle.inventory_rows.specs.Search.{version}
 use Rattle.inventory_rows.specs.State.{Inv}
-use Rattle.inventory_rules.specs.Valid.{is_valid}
 use Rattle.inventory_work.specs.Copies.{has_volume}
 use Rattle.inventory_work.specs.Rules.{rules_of}
 use Rattle.inventory_work.specs.declared.lines.Rules.{Rules}
@@ -58,7 +57,7 @@ use Rattle.line_results.specs.Bounds.{HasNoneToFollow, IsBounded, ReachesBound, 
 use Rattle.line_results.specs.Commands.{Does, DoesThere, EndsWith, IsReuse, MayMake, Works, drawn, validated, work_over}
 use Rattle.line_results.specs.Files.{Gets, IsPlacedIn, Puts, backed_up, filespace_defined, why_no_place}
 use Rattle.line_results.specs.Moving.{MayCopy, MayMove}
-use Rattle.line_results.specs.Removing.{CanEmpty}
+use Rattle.line_results.specs.Removing.{has_filespace}
 use Rattle.line_results.specs.Resting.{Makes, RoseFrom, database, entry, why_not}
 use Rattle.line_results.specs.Room.{NoneFails}
 use Rattle.line_results.specs.Trees.{HasBytes, IsChosen, IsOfTree, new_versions}
@@ -343,9 +342,9 @@ abbrev pub MayFollow : (old : Machine) → Type 0
 MayFollow old =
     (file : ℕ) × (newest_file (backup_lines (database old).backups) ≡ Some file) × (is_of_run file old.core ≡ true) × (is_near file old.core ≡ true) × MayBackUpDatabase (Some file) old
 
--- a volume that is there may be audited; and where damaged copies are to go, so it is in a valid database within its bounds
+-- a volume that is there may be audited; and where damaged copies are to go, so it is within the database's bounds
 abbrev pub MayAudit : (fix : Bool) → (file : ℕ) → (old mid : Machine) → Type 0
-MayAudit fix file old mid = (has_volume file (database old) ≡ true) × (fix ≡ true → (is_valid (database old) ≡ true) × StaysWithin old mid)
+MayAudit fix file old mid = (has_volume file (database old) ≡ true) × (fix ≡ true → StaysWithin old mid)
 
 -- Work of a command's own is legal over the numbers of the things that it names. `mid` is the state behind it. None is that isn't done so far.
 abbrev pub MayOwn : Places → Client → (numbers : List ℕ) → Own → (old mid : Machine) → Type 0
@@ -355,8 +354,8 @@ MayOwn places k numbers (get g) old mid = MayGet g (database old)
 MayOwn places k numbers checkpoint old mid = old.core.generation + 1 < 2 ^ 62
 MayOwn places k numbers (on_tree work) old mid = MayOn k work old
 MayOwn places k numbers expire old mid = StaysWithin old mid
-MayOwn places k numbers empty_filespace old mid = CanEmpty (the_number numbers) (database old) × StaysWithin old mid
-MayOwn places k numbers empty_volume old mid = (has_volume (the_number numbers) (database old) ≡ true) × (is_valid (database old) ≡ true) × StaysWithin old mid
+MayOwn places k numbers empty_filespace old mid = (has_filespace (the_number numbers) (database old) ≡ true) × StaysWithin old mid
+MayOwn places k numbers empty_volume old mid = (has_volume (the_number numbers) (database old) ≡ true) × StaysWithin old mid
 MayOwn places k numbers back_up_database old mid = MayBackUpDatabase None old
 MayOwn places k numbers back_up_since old mid = MayFollow old
 MayOwn places k numbers (delete_history to) old mid = StaysWithin old mid

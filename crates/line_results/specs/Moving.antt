@@ -5,7 +5,6 @@ use Rattle.kinds.specs.declared.refusal.Refusal.TheVariants.{InventoryFull, NotF
 use Rattle.entries.specs.declared.change.Change.{Change}
 use Rattle.inventory_answers.specs.Stores.{pool_lines, volume_lines}
 use Rattle.inventory_rows.specs.State.{Inv}
-use Rattle.inventory_rules.specs.Valid.{is_valid}
 use Rattle.inventory_work.specs.Copies.{has_pool, has_volume}
 use Rattle.command_steps.specs.copy_pools.Backups.{Backup, are_kinds, pool_kind}
 use Rattle.command_steps.specs.copy_runs.declared.wanted.Moved.{Moved}
@@ -68,14 +67,13 @@ IsUncopied places primary copy old why =
 
 -- ---- copies that are to move
 
--- In a valid database: on its way it came to a bound. (What is listed stays there until it moves, and where it isn't there any more the transaction that moved it tells so; and a valid database names no
--- pool that isn't there.)
+-- On its way it came to a bound. (What is listed stays there until it moves, and where it isn't there any more the transaction that moved it tells so; and the database names no pool that isn't there.)
 abbrev pub IsStuck : Places → (Did : List Event → Type 0) → (old : Machine) → Refusal → Type 0
-IsStuck places Did old why = is_valid (database old) ≡ true → (why ≡ InventoryFull) × ComesToBound places Did old
+IsStuck places Did old why = (why ≡ InventoryFull) × ComesToBound places Did old
 
--- the database is valid, and it comes to none
+-- it comes to none
 abbrev pub IsOpen : Places → (Did : List Event → Type 0) → (old : Machine) → Type 0
-IsOpen places Did old = (is_valid (database old) ≡ true) × (ComesToBound places Did old → ⊥)
+IsOpen places Did old = ComesToBound places Did old → ⊥
 
 -- ---- MOVE DATA
 
