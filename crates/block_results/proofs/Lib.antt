@@ -8,6 +8,7 @@ pub mod Came
 pub mod Changed
 pub mod Completing
 pub mod Drawn
+pub mod Ended
 pub mod Entering
 pub mod Filespaces
 pub mod Fitting

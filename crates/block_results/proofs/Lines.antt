@@ -110,7 +110,7 @@ question-unmade : (d : Deed) → IsQuestion d → is_made d ≡ false
 question-unmade (Ask q answer) h = refl
 question-unmade d h = absurd h
 
-questions-unmade : (events : List Event) → AreQuestions events → AllByRecursion (λ e. is_made e.deed ≡ false) events
+pub questions-unmade : (events : List Event) → AreQuestions events → AllByRecursion (λ e. is_made e.deed ≡ false) events
 questions-unmade events h = all-so (λ e. IsQuestion e.deed) (λ e. is_made e.deed ≡ false) (λ e q. question-unmade e.deed q) events h
 
 pub questions-made : (events : List Event) → AreQuestions events → made events ≡ []
@@ -210,7 +210,7 @@ withheld-holds w actor k number n c old new events answer said m answered (e, ke
   none = looks-questions (needs c) events (Ok answers) looks;
 }
 
-withheld-questions : (k : Client) (number : ℕ) (c : Command) (events : List Event) (said : Said) → Withholds k number c events said → AreQuestions events
+pub withheld-questions : (k : Client) (number : ℕ) (c : Command) (events : List Event) (said : Said) → Withholds k number c events said → AreQuestions events
 withheld-questions k number c events said (e, kept, is, inl looks) = looks-questions (needs c) events (Err e) looks
 withheld-questions k number c events said (e, kept, is, inr (answers, looks, why)) = looks-questions (needs c) events (Ok answers) looks
 

@@ -75,7 +75,7 @@ use Rattle.block_results.proofs.Fitting.{fits-parts, met-first, met-next}
 use Rattle.block_results.proofs.Drawn.{opened-once}
 use Rattle.block_results.proofs.Jobs.{fate-holds, fate-none, nothing-in}
 use Rattle.block_results.proofs.Leaving.{looks-none}
-use Rattle.block_results.proofs.Lines.{looks-questions, questions-made}
+use Rattle.block_results.proofs.Lines.{fits-nothing, looks-questions, questions-made}
 use Rattle.block_results.proofs.Treed.{planned-at, planned-to}
 use Rattle.block_results.proofs.Walks.{puts-all}
 
@@ -423,56 +423,72 @@ module _ (w : History) (actor : ℕ) (k : Client) where
 
   -- ---- a line
 
-  in-job-sized : (in_use : Option ℕ) (n : ℕ) (line : Line) (events : List Event) (reply : Answer × Option Refusal) (old new : Holding) → old.tickets ≡ [] → IsOnce events → Fits w actor old events new → DoesInJob k in_use n line events (Ok reply)
+  in-job-sized : (in_use : Option ℕ) (n : ℕ) (line : Line) (events : List Event) (result : Result (Answer × Option Refusal) Halt) (old new : Holding) → old.tickets ≡ [] → IsOnce events → Fits w actor old events new → DoesInJob k in_use n line events result
       → LineSized in_use w actor k line old.reached new.reached events
-  in-job-sized in_use n comment events reply old new none once f h = tt
-  in-job-sized in_use n (refused why) events reply old new none once f h = tt
-  in-job-sized None n (asks c) events reply old new none once f (said, doing, ends) = command-sized c events old new said none once f doing
-  in-job-sized (Some number) n (asks c) events reply old new none once f h = tt
+  in-job-sized in_use n comment events result old new none once f h = tt
+  in-job-sized in_use n (refused why) events result old new none once f h = tt
+  in-job-sized None n (asks c) events result old new none once f (said, doing, ends) = command-sized c events old new said none once f doing
+  in-job-sized (Some number) n (asks c) events result old new none once f h = tt
 
-  line-sized : (in_use : Option ℕ) (n : ℕ) (line : Line) (events : List Event) (reply : Answer × Option Refusal) (old new : Holding) → old.tickets ≡ [] → IsOnce events → Fits w actor old events new → AnswersInJob k in_use n line events (Ok reply)
+  -- memory was wanted before it was known what the line is
+  command-unmade : (c : Command) (events : List Event) (since until : ℕ) → events ≡ [] → CommandSized w actor k c since until events
+  command-unmade (commands.File (files.Incremental i)) events since until nothing = entered-none w actor (λ n c. HasListedSizes w since until k i c) events (ap made nothing)
+  command-unmade (commands.File (files.Put p)) events since until nothing = entered-none w actor (λ n c. HasTextSize p c) events (ap made nothing)
+  command-unmade c events since until nothing = tt
+
+  wanted-sized : (in_use : Option ℕ) (line : Line) (events : List Event) (since until : ℕ) → events ≡ [] → LineSized in_use w actor k line since until events
+  wanted-sized in_use comment events since until nothing = tt
+  wanted-sized in_use (refused why) events since until nothing = tt
+  wanted-sized None (asks c) events since until nothing = command-unmade c events since until nothing
+  wanted-sized (Some number) (asks c) events since until nothing = tt
+
+  line-sized : (in_use : Option ℕ) (n : ℕ) (line : Line) (events : List Event) (result : Result (Answer × Option Refusal) Halt) (old new : Holding) → old.tickets ≡ [] → IsOnce events → Fits w actor old events new → AnswersInJob k in_use n line events result
       → LineSized in_use w actor k line old.reached new.reached events
-  line-sized in_use n line events reply old new none once f (inl h) = in-job-sized in_use n line events reply old new none once f h
-  line-sized in_use n line events reply old new none once f (inr (kept, nothing, is)) = absurd cc
+  line-sized in_use n line events result old new none once f (inl h) = in-job-sized in_use n line events result old new none once f h
+  line-sized in_use n line events result old new none once f (inr (kept, nothing, is)) = wanted-sized in_use line events old.reached new.reached nothing
 
-  fate-sized : (fate : Fate) (l : JobLine) (events : List Event) (reply : Answer × Option Refusal) (old new : Holding) → old.tickets ≡ [] → IsOnce events → Fits w actor old events new → AnswersFate k fate l events (Ok reply)
+  fate-sized : (fate : Fate) (l : JobLine) (events : List Event) (result : Result (Answer × Option Refusal) Halt) (old new : Holding) → old.tickets ≡ [] → IsOnce events → Fits w actor old events new → AnswersFate k fate l events result
       → FateSized w actor k fate l old.reached new.reached events
-  fate-sized Beyond l events reply old new none once f h = tt
-  fate-sized (Done tree) l events reply old new none once f h = line-sized l.in_use l.line.number (line_in true l.line.text) events reply old new none once f h.0
+  fate-sized Beyond l events result old new none once f h = tt
+  fate-sized (Done tree) l events result old new none once f h = line-sized l.in_use l.line.number (line_in true l.line.text) events result old new none once f h.0
 
 -- ---- a job
 
 module _ (w : History) (actor : ℕ) (choice : List Rule) where
-  nothing-sized : (lines : List JobLine) (trees : List Known) (old : Holding) (events : List Event) → AreSized w actor choice lines trees old events []
-  nothing-sized [] trees old events = tt
-  nothing-sized (l ∷ lines) trees old events = tt
-
   -- some of its lines, in front of others
-  front-sized : (front others : List JobLine) (trees left : List Known) (events xs ys : List Event) (said : List Said) (old mid : Holding) → old.tickets ≡ [] → IsOnce events → events ≡ xs ++ ys → Fits w actor old xs mid
-      → AreAnswered choice front trees xs said left → AreSized w actor choice (front ++ others) trees old events said
-  front-sized [] others trees left events xs ys said old mid free once cut f (none, is, same) = subst (λ (s : List Said). AreSized w actor choice others trees old events s) (sym is) (nothing-sized others trees old events)
-  front-sized (l ∷ front) others trees left events xs ys said old mid free once cut f (reply, next, more, is, (us, vs, apart, one, rest)) =
+  front-sized : (front others : List JobLine) (trees mids left : List Known) (events xs ys : List Event) (said : List Said) (ended : Option Halt) (old mid : Holding) → old.tickets ≡ [] → IsOnce events → events ≡ xs ++ ys → Fits w actor old xs mid
+      → AreAnswered choice front trees xs said mids → (mid.tickets ≡ [] → AreSized w actor choice others mids left mid ys [] ended) → AreSized w actor choice (front ++ others) trees left old events said ended
+  front-sized [] others trees mids left events xs ys said ended old mid free once cut f (none, is, same) rest =
+      let still = fits-nothing w actor old mid xs none f in
+      let all : ys ≡ events = sym (cut ∙ ap (λ (es : List Event). es ++ ys) none) in
+      let first = subst (λ (ts : List Known). AreSized w actor choice others ts left mid ys [] ended) same (rest (ap (λ (o : Holding). o.tickets) still ∙ free)) in
+      let second = subst (λ (o : Holding). AreSized w actor choice others trees left o ys [] ended) still first in
+      subst (λ (s : List Said). AreSized w actor choice others trees left old events s ended) (sym is) (subst (λ (es : List Event). AreSized w actor choice others trees left old es [] ended) all second)
+  front-sized (l ∷ front) others trees mids left events xs ys said ended old mid free once cut f (reply, next, more, is, (us, vs, apart, one, rest)) behind =
       let parts = fits-parts w actor old mid xs us vs apart f in
       let all : events ≡ us ++ (vs ++ ys) = cut ∙ ap (λ (es : List Event). es ++ ys) apart ∙ append_assoc us vs ys in
       let holds = fate-holds w actor (between choice trees next) l.line.fate l us reply old parts.0 free parts.1 one in
-      subst (λ (s : List Said). AreSized w actor choice (l ∷ (front ++ others)) trees old events s) (sym is) (
+      subst (λ (s : List Said). AreSized w actor choice (l ∷ (front ++ others)) trees left old events s ended) (sym is) (
         next,
         parts.0,
         us,
         vs ++ ys,
         all,
         parts.1,
-        fate-sized w actor (between choice trees next) l.line.fate l us reply old parts.0 free (once-first events us (vs ++ ys) all once) parts.1 one,
-        front-sized front others next left (vs ++ ys) vs ys more parts.0 mid (fate-none w actor (between choice trees next) l.line.fate l us reply.0 old parts.0 free holds) (once-next events us (vs ++ ys) all once) refl parts.2 rest,
+        fate-sized w actor (between choice trees next) l.line.fate l us (Ok reply) old parts.0 free (once-first events us (vs ++ ys) all once) parts.1 one,
+        front-sized front others next mids left (vs ++ ys) vs ys more ended parts.0 mid (fate-none w actor (between choice trees next) l.line.fate l us reply.0 old parts.0 free holds) (once-next events us (vs ++ ys) all once) refl parts.2 rest behind,
       )
 
   job-sized : (lines : List JobLine) (trees left : List Known) (events : List Event) (said : List Said) (ended : Option Halt) (old new : Holding) → old.tickets ≡ [] → IsOnce events → Fits w actor old events new
-      → DoesLines choice lines trees events said ended left → AreSized w actor choice lines trees old events said
+      → DoesLines choice lines trees events said ended left → AreSized w actor choice lines trees left old events said ended
   job-sized lines trees left events said None old new free once f h =
-      subst (λ (ls : List JobLine). AreSized w actor choice ls trees old events said) (append-nil lines) (front-sized lines [] trees left events events [] said old new free once (sym (append-nil events)) f h)
+      subst (λ (ls : List JobLine). AreSized w actor choice ls trees left old events said None) (append-nil lines)
+      (front-sized lines [] trees left left events events [] said None old new free once (sym (append-nil events)) f h (λ free. refl))
   job-sized lines trees left events said (Some how) old new free once f (front, l, back, mid, is, (xs, ys, cut, answered, ended)) =
       let parts = fits-parts w actor old new events xs ys cut f in
-      subst (λ (ls : List JobLine). AreSized w actor choice ls trees old events said) (sym is) (front-sized front (l ∷ back) trees mid events xs ys said old parts.0 free once cut parts.1 answered)
+      subst (λ (ls : List JobLine). AreSized w actor choice ls trees left old events said (Some how)) (sym is)
+      (front-sized front (l ∷ back) trees mid left events xs ys said (Some how) old parts.0 free once cut parts.1 answered
+      (λ none. (new, parts.2, fate-sized w actor (between choice mid left) l.line.fate l ys (Err how) parts.0 new none (once-next events xs ys cut once) parts.2 ended)))
 
 -- each of these jobs
 jobs-sized-by : (w : History) (choice : List Rule) (all : List Placed) (job first reached : ℕ) (turns : List Turn) (trees : List (List Known)) (came : List Came) → ((actor : ℕ) → IsOnce (events_of actor turns))

@@ -13,6 +13,7 @@ use Rattle.admin_words.specs.declared.command.FileCommand.TheVariants as files
 use Rattle.admin_words.specs.declared.files.FilePut.{FilePut}
 use Rattle.admin_words.specs.declared.files.IncrementalBackup.{IncrementalBackup}
 use Rattle.line_results.specs.incrementals.declared.planning.Begun.{Begun}
+use Rattle.script_loop.specs.declared.ends.Halt.{Halt}
 use Rattle.steps.specs.Events.{Event}
 use Rattle.steps.specs.Receipts.{made}
 use Rattle.machine.specs.Fits.{Fits, History, Own as Holding}
@@ -23,6 +24,7 @@ use Rattle.line_jobs.specs.Jobs.{JobLine, between, lines_of}
 use Rattle.line_jobs.specs.Shares.{Came}
 use Rattle.line_jobs.specs.declared.job.Said.{Said}
 use Rattle.line_results.specs.Trees.{IsOrdered, new_versions}
+use Rattle.block_results.specs.Ended.{EndsWith}
 use Rattle.block_results.specs.Jobs.{nothing_at}
 use Rattle.block_results.specs.Standing.{IsEntered}
 use Rattle.block_results.specs.Works.{IsPlannedAt}
@@ -40,7 +42,7 @@ HasListedSizes w since until k i c =
 
 -- ---- a line
 
--- Each transaction by which a PUT or a backup of a tree joined the history, and that was answered, has such sizes, whatever the line was answered then.
+-- Each transaction by which a PUT or a backup of a tree joined the history, and that was answered, has such sizes, whatever the line was answered then, or whether it ended the run.
 abbrev pub FileSized : History → (actor : ℕ) → Client → FileCommand → (since until : ℕ) → List Event → Type 0
 FileSized w actor k (files.Put p) since until events = AllByRecursion (IsEntered w actor (λ n c. HasTextSize p c)) (made events)
 FileSized w actor k (files.Incremental i) since until events = AllByRecursion (IsEntered w actor (λ n c. HasListedSizes w since until k i c)) (made events)
@@ -66,18 +68,19 @@ abbrev pub FateSized : History → (actor : ℕ) → Client → Fate → JobLine
 FateSized w actor k Beyond l since until events = Unit {0}
 FateSized w actor k (Done tree) l since until events = LineSized l.in_use w actor k (line_in true l.line.text) since until events
 
--- These lines, of which this is said, were answered one after the other, from the one state of the trees on, by these steps, and so each has such sizes.
-abbrev pub AreSized : History → (actor : ℕ) → List Rule → List JobLine → (trees : List Known) → Holding → List Event → List Said → Type 0
-AreSized w actor choice lines trees old events [] = Unit {0}
-AreSized w actor choice [] trees old events (s ∷ said) = ⊥
-AreSized w actor choice (l ∷ lines) trees old events (s ∷ said) =
+-- These lines, of which this is said, were answered one after the other, from the one state of the trees on, by these steps, and so each has such sizes, and so has the line at which the run ended, where it did.
+abbrev pub AreSized : History → (actor : ℕ) → List Rule → List JobLine → (trees left : List Known) → Holding → List Event → List Said → (ended : Option Halt) → Type 0
+AreSized w actor choice lines trees left old events [] ended =
+    EndsWith ended lines events (λ l. (new : Holding) × Fits w actor old events new × FateSized w actor (between choice trees left) l.line.fate l old.reached new.reached events)
+AreSized w actor choice [] trees left old events (s ∷ said) ended = ⊥
+AreSized w actor choice (l ∷ lines) trees left old events (s ∷ said) ended =
     (mid : List Known) × (next : Holding) × (xs : List Event) × (ys : List Event) × (events ≡ xs ++ ys) × Fits w actor old xs next
-    × FateSized w actor (between choice trees mid) l.line.fate l old.reached next.reached xs × AreSized w actor choice lines mid next ys said
+    × FateSized w actor (between choice trees mid) l.line.fate l old.reached next.reached xs × AreSized w actor choice lines mid left next ys said ended
 
 -- So it is of each job, from the one at this place on. The actors have numbers in the order of the jobs, from `first` on, and each has reached this number, and has nothing, where the block begins.
 abbrev pub JobsSized : History → List Rule → (all : List Placed) → (job first reached : ℕ) → List Turn → (trees : List (List Known)) → List Came → Type 0
 JobsSized w choice all job first reached turns [] came = Unit {0}
 JobsSized w choice all job first reached turns trees [] = Unit {0}
 JobsSized w choice all job first reached turns (own ∷ trees) (c ∷ came) =
-    AreSized w (first + job) choice (lines_of all job all) own (nothing_at reached) (events_of (first + job) turns) c.said
+    AreSized w (first + job) choice (lines_of all job all) own c.left (nothing_at reached) (events_of (first + job) turns) c.said c.ended
     × JobsSized w choice all (job + 1) first reached turns trees came

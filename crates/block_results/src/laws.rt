@@ -36,13 +36,13 @@ pub fn job_lines_hold()
         → Fits w actor old events new → AnswersInJob k in_use n line events (Ok (answer, why)) → Holds w actor k in_use n line old events answer new }
 {}
 
-/// So each line of a job holds that was answered, however the job ended.
+/// So each line of a job holds that was answered, however the job ended; and of a line at which the run ended each transaction by a step that was answered is one that it orders.
 pub fn jobs_hold()
     ensures { (w : History) (actor : ℕ) (choice : List Rule) (lines : List JobLine) (trees left : List Known) (events : List Event) (said : List Said) (ended : Option Halt) (old new : Own) → old.tickets ≡ []
-        → Fits w actor old events new → DoesLines choice lines trees events said ended left → AreHeld w actor choice lines trees old events said }
+        → Fits w actor old events new → DoesLines choice lines trees events said ended left → AreHeld w actor choice lines trees left old events said ended }
 {}
 
-/// So each answered line of each job of a block holds, in every history that what each of its actors did fits, each from the number at which the block begins on, with no ticket and no image in progress.
+/// So each answered line of each job of a block holds, and each transaction by a step that was answered of a line at which a job ended the run is one that it orders, in every history that what each of its actors did fits, each from the number at which the block begins on, with no ticket and no image in progress.
 pub fn blocks_hold()
     ensures { (w : History) (choice : List Rule) (all : List Placed) (job first reached : ℕ) (turns : List Turn) (trees : List (List Known)) (came : List Came)
         → ((actor : ℕ) → (last : Own) × Fits w actor (nothing_at reached) (events_of actor turns) last) → AreDone choice all job first turns trees came → JobsHold w choice all job first reached turns trees came }
@@ -76,7 +76,7 @@ pub fn blocks_are_complete()
 {}
 
 /// What the jobs of a block stored has as many bytes as the client gave: a version that a PUT brings as many as the text, and one that a backup of a tree brings as many as were listed of its file, which has as many where the tree
-/// tells it. So it is in every history that what each of the block's actors did fits, since no ticket of a run has a number that another one had.
+/// tells it, also in a line at which the run ended. So it is in every history that what each of the block's actors did fits, since no ticket of a run has a number that another one had.
 pub fn blocks_have_sizes()
     ensures trusted { (w : History) (choice : List Rule) (all : List Placed) (job first reached : ℕ) (turns : List Turn) (old new : Machine) (trees : List (List Known)) (came : List Came) → Turned (Unit {0}) hall_places turns old new
         → ((actor : ℕ) → (last : Own) × Fits w actor (nothing_at reached) (events_of actor turns) last) → AreDone choice all job first turns trees came → JobsSized w choice all job first reached turns trees came }
