@@ -32,7 +32,7 @@ module _ (trusted : Type 0) (choice : List Rule) (told : Option History) where
   still old new same = subst (λ (s : Stand). NoneFell old.site.machine.counts s.site.machine.counts) (sym same) (λ file. omega arith)
 
   -- counts don't fall in a line, nor in a block, nor over lines
-  line_counts : (old new : Site) (n : ℕ) (line : List ℕ) (answer : Answer) → RepliesAt trusted choice told old n line answer new → NoneFell old.machine.counts new.machine.counts
+  pub line_counts : (old new : Site) (n : ℕ) (line : List ℕ) (answer : Answer) → RepliesAt trusted choice told old n line answer new → NoneFell old.machine.counts new.machine.counts
   line_counts old new n line answer is =
       let first : NoneFell old.machine.counts is.1.mid.counts = is.1.first.counts in
       let later : NoneFell is.1.mid.counts new.machine.counts = is.1.behind.counts in
@@ -56,13 +56,13 @@ module _ (trusted : Type 0) (choice : List Rule) (told : Option History) where
   inside_counts true g old new n line answer is = block_counts g (old.jobs + 1) old.site new.site n answer is.0
   inside_counts false g old new n line answer is = kept_counts old new (Some (with_line g n line)) is.1
 
-  counts_in : (x : Option Gathered) (old new : Stand) (n : ℕ) (given : Option (List ℕ)) (answer : Answer) → AnswersIn trusted choice told x old n given answer new → NoneFell old.site.machine.counts new.site.machine.counts
+  pub counts_in : (x : Option Gathered) (old new : Stand) (n : ℕ) (given : Option (List ℕ)) (answer : Answer) → AnswersIn trusted choice told x old n given answer new → NoneFell old.site.machine.counts new.site.machine.counts
   counts_in None old new n (Some line) answer is = here_counts (begins line) old new n line answer is
   counts_in (Some g) old new n (Some line) answer is = inside_counts (is_end (part line)) g old new n line answer is
   counts_in None old new n None answer is = still old new is.1
   counts_in (Some g) old new n None answer is = block_counts g (old.jobs + 1) old.site new.site n answer is.0
 
-  runs_counts : (lines : List (List ℕ)) (n : ℕ) (old new : Stand) (text : List ℕ) (tally : Tally) → Runs (AnswersAt trusted choice told) n old lines text tally new → NoneFell old.site.machine.counts new.site.machine.counts
+  pub runs_counts : (lines : List (List ℕ)) (n : ℕ) (old new : Stand) (text : List ℕ) (tally : Tally) → Runs (AnswersAt trusted choice told) n old lines text tally new → NoneFell old.site.machine.counts new.site.machine.counts
   runs_counts [] n old new text tally run = still old new run.2
   runs_counts (line ∷ more) n old new text tally (answer, mid, rest, others, is, text_is, tally_is, run) =
       let first : NoneFell old.site.machine.counts mid.site.machine.counts = counts_in old.block old mid n (Some line) answer is in
@@ -99,7 +99,7 @@ module _ (trusted : Type 0) (choice : List Rule) (told : Option History) where
     halts_rose script taken mid new (inr (inl (whole, ended))) = rose_in mid.block mid new (length taken + 1) None ended
     halts_rose script taken mid new (inr (inr memory)) = absurd (cc (memory.0))
 
-    prints_rose : (old new : Stand) (script : Option (List ℕ)) (put : List ℕ) → Prints (AnswersAt trusted choice told) (EndsAt trusted choice told) old script (Halted (halt.LogFault file)) put new → RoseSince old.site.machine new.site.machine
+    pub prints_rose : (old new : Stand) (script : Option (List ℕ)) (put : List ℕ) → Prints (AnswersAt trusted choice told) (EndsAt trusted choice told) old script (Halted (halt.LogFault file)) put new → RoseSince old.site.machine new.site.machine
     prints_rose old new script printed (text, whole, (taken, tally, mid, run, halts)) =
         let rose = halts_rose script taken mid new halts in
         let before = runs_counts taken 1 old mid text tally run in

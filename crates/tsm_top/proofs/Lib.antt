@@ -1,6 +1,7 @@
 pub mod Backing
 pub mod Blocked
 pub mod Causes
+pub mod Completing
 pub mod Making
 pub mod Noted
 pub mod Noting

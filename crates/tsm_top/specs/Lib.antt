@@ -1,4 +1,5 @@
 pub mod InBlock
+pub mod Legal
 pub mod Notes
 pub mod OneLine
 pub mod Restored

@@ -1,16 +1,23 @@
 // What the definitions mean, as laws. Each stands on a function that does nothing.
-ghost use Rattle.std.specs.Prelude.{◌≡◌, ℕ, ◌≤◌, List, Option, Some, Result};
+ghost use Rattle.std.specs.Prelude.{◌≡◌, ℕ, ◌≤◌, List, [], Option, Some, Result};
+ghost use Rattle.std.specs.Str.Lines.{lines};
 ghost use Rattle.store_api.specs.Disk.{History, ImageAt, now, reads};
 ghost use Rattle.entries.specs.declared.entry.Entry.{Entry};
 ghost use Rattle.inventory.specs.Meant.{meaning};
 ghost use Rattle.inventory_rows.specs.declared.backup.Backup.{Backup};
 ghost use Rattle.inventory_rows.specs.State.{Inv};
+ghost use Rattle.script_loop.specs.declared.ends.End.{End};
 ghost use Rattle.vault.specs.Recovery.{Recovers};
+ghost use Rattle.machine.specs.State.{Machine};
 ghost use Rattle.hall.specs.Protected.{AlwaysBacked, IsProtected, IsRow, Taken};
+ghost use Rattle.block_results.specs.command_steps.Clients.{Client};
 ghost use Rattle.db_restore.specs.declared.done.RestoreDone.{RestoreDone};
 ghost use Rattle.db_restore.specs.declared.refused.NotRestored.{NotRestored};
+ghost use Rattle.tsm_top.specs.Legal.{AreLegal, EndsWell, IsPlain, NoneRose, StartsWith};
 ghost use Rattle.tsm_top.specs.Restored.{ComesBack, IsRestored};
-ghost use Rattle.tsm_top.specs.Serve.{Command, Had, RanSafe, Sure};
+ghost use Rattle.tsm_top.specs.Serve.{Command, Had, RanSafe, RanScript, Sure};
+ghost use Rattle.tsm_top.specs.Sites.{site};
+ghost use Rattle.tsm_top.specs.declared.note.Note.{Note};
 
 /// A database backup that is younger than the reuse delays, once restored, finds every version that it placed on sequential volumes. What `serve` says of a run and of a restore is joined here: the run was over a store that
 /// was sound and had its backups; an image that a stop may have left at some moment since the opening recovers to a database that lists the backup as whole, and on whose day it is protected; and the backup is restored where
@@ -24,4 +31,16 @@ pub fn kept_backups_return()
     ensures always { (since : ℕ) (h : History) → AlwaysBacked since h → (moment : ℕ) (image : ℕ → List ℕ) → since ≤ moment → moment ≤ now h → ImageAt h moment image → (v : Inv) → Recovers meaning image v → (file : ℕ) (b : Backup) → IsProtected v file b
         → (day : ℕ) (skipped : List ℕ) (came : Result RestoreDone NotRestored) (old new : History) → ((other : ℕ) → 4 ≤ other → reads old other ≡ image other) → IsRestored file day skipped came old new
         → (t : Taken) × IsRow b t × ComesBack file day skipped t came new }
+{}
+
+/// A script whose lines are legal in turn, with room, ends well. What `serve` says of a run (`RanScript`) is joined here, line by line: the source tells the script, which is within its limits and has no block (`IsPlain`);
+/// no file's count of faults rose; and from whatever state the run may have begun in, each line is legal where it runs, with room (`AreLegal`). Then the status is 0, with no refused line and no failed file; or memory was wanted, with status 8;
+/// or the source or the sink failed, with 3 or 4; or the moment was all but the last, with 9 (`EndsWell`). So it is over whatever store (`whole`); and over a store that is known to be sound it is enough that the lines are legal there, with the bytes of its objects (`sound`).
+pub fn legal_scripts_end_well()
+    ensures whole { (command : Command) (k : Client) (told left_told : Option History) (before after : ℕ → ℕ) (opened last : ℕ) (end : End) (status : ℕ) (journal : List Entry) (stamps : List ℕ) (notes : List Note) (base : Option Inv) (generation : ℕ) (script left was is : Option (List ℕ)) → RanScript command k told left_told before after opened last end status journal stamps notes base generation script left was is
+        → (all : List ℕ) → IsPlain script all → NoneRose before after
+        → ((first : Machine) → StartsWith command told base opened before first → AreLegal ⊥ k.choice left_told 1 (site first k.old []) (lines all)) → EndsWell end status last }
+    ensures sound { (command : Command) (k : Client) (told left_told : Option History) (before after : ℕ → ℕ) (opened last : ℕ) (end : End) (status : ℕ) (journal : List Entry) (stamps : List ℕ) (notes : List Note) (base : Option Inv) (generation : ℕ) (script left was is : Option (List ℕ)) → RanScript command k told left_told before after opened last end status journal stamps notes base generation script left was is
+        → (all : List ℕ) → IsPlain script all → NoneRose before after → (contents : ℕ → List ℕ) → Sure command contents told
+        → ((first : Machine) → StartsWith command told base opened before first → first.contents ≡ contents → AreLegal (Unit {0}) k.choice left_told 1 (site first k.old []) (lines all)) → EndsWell end status last }
 {}
