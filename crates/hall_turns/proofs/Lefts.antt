@@ -1,7 +1,7 @@
 -- What a hall leaves in a store that was sound when it was opened.
-use Rattle.std.proofs.Common.{◌≡◌, ℕ, ◌+◌, ◌-◌, ◌≤◌, zero, suc, List, [], ◌∷◌, ◌++◌, length, take, drop, reverse, Option, None, Some, refl, sym, ap, subst, ◌∙◌, arith}
+use Rattle.std.proofs.Common.{◌≡◌, ℕ, ◌+◌, ◌-◌, ◌≤◌, List, [], length, reverse, Option, None, Some, sym, ap, subst, ◌∙◌, arith}
 use Rattle.std.specs.Prelude.{IfSome}
-use Rattle.std.specs.List.{AllByRecursion, Contains}
+use Rattle.std.specs.List.{Contains}
 use Rattle.std.proofs.lemmas.List.{drop_all, take_all}
 use Rattle.store_api.specs.Disk.{History, ImageAt, now, reads}
 use Rattle.store_api.proofs.Pieces.{image_reads}
@@ -11,7 +11,6 @@ use Rattle.entries.specs.declared.entry.Entry.{Entry}
 use Rattle.inventory.specs.Meaningful.{is_meaning}
 use Rattle.inventory.specs.Meant.{meaning}
 use Rattle.inventory_rows.specs.State.{Inv}
-use Rattle.inventory_rules.specs.Transactions.{effect}
 use Rattle.log_file.specs.Blocks.{blocks}
 use Rattle.log_file.specs.Safety.{acknowledged}
 use Rattle.vault.specs.Recovery.{Recovers, RecoversWithin, after_all, records_of}
@@ -21,7 +20,7 @@ use Rattle.vault.proofs.Goodness.{whole_image}
 use Rattle.vault.proofs.Sounding.{within_recovers}
 use Rattle.vault.proofs.Unique.{one_database}
 use Rattle.machine.specs.Machine.{durable}
-use Rattle.machine.specs.State.{Core, Machine, after, inventory, unforced}
+use Rattle.machine.specs.State.{Core, Machine, after, inventory}
 use Rattle.hall.specs.Covered.{databases, inv_at, left_open}
 use Rattle.hall.specs.Good.{Is, IsKept, IsSafe, WasSound}
 use Rattle.hall.specs.Held.{Hall, Held}
