@@ -170,6 +170,7 @@ use Rattle.block_results.proofs.Reasons.{moved-for}
 use Rattle.block_results.proofs.Removing.{IsUsed, unemptied, unremoved}
 use Rattle.block_results.proofs.Rows.{limited-same, rows-told as rows-of-told}
 use Rattle.block_results.proofs.Single.{validity-is}
+use Rattle.block_results.proofs.Sounding.{AreSound, met-sound, turned-sound}
 use Rattle.block_results.proofs.Ticketed.{HasTicket, Keeps, Opens, opened-to}
 use Rattle.block_results.proofs.Turned.{here, moved, rose-within, turned_on}
 
@@ -415,9 +416,13 @@ module _ (trusted : Type 0) (places : Places) (actor : ℕ) where
 
   -- ---- a line
 
-  module _ (turns : List Turn) (old new : Machine) (ran : Turned trusted places turns old new) (unrisen : (file : ℕ) → RoseFrom old new file → ⊥) where
+  module _ (turns : List Turn) (old new : Machine) (ran : Turned trusted places turns old new) (sounds : AreSound old.core) (unrisen : (file : ℕ) → RoseFrom old new file → ⊥) where
     abbrev Is : Machine → Type 0
     Is m = Passes trusted places turns old new m
+
+    -- no fault has halted the hall, or its rows are sound
+    passed-sound : (m : Machine) → Is m → AreSound m.core
+    passed-sound m at = turned-sound trusted places at.0 old m at.3 sounds
 
     none-rose : (Q : Deed → Type 0) (s : Stands Q turns old new) (file : ℕ) → RoseAt s.before.counts s.after.counts file → ⊥
     none-rose Q s file rose = unrisen file (rose-within old s.before s.after new file s.first rose s.last)
@@ -1322,6 +1327,7 @@ module _ (trusted : Type 0) (places : Places) (actor : ℕ) where
           answers = λ q a un is. (rows-of-told (rows_of q (database s.before)) (database s.before).number (database s.before).today a
               (told-same s.before.core.log_length q (database s.before) a un (answer-in q a s.did.deed s.before is s.made.seen s.made.next s.made.made.step))).0;
           unrisen = none-rose (λ d. Q d × K d) s;
+          sound = λ e is mild. met-sound trusted places actor s.did e s.before s.after mild is s.made (passed-sound s.before s.passes);
         }
 
     unrun : (k : Client) (own : Own) (numbers : List ℕ) (e : Refusal) (front did back : List Event) → events_of actor turns ≡ front ++ (did ++ back) → halt_by e ≡ None → MayProcess places Is actor numbers own → DoesOwn k own numbers did (Err e)
@@ -2165,6 +2171,6 @@ module _ (trusted : Type 0) (places : Places) (actor : ℕ) where
     in-job-complete k (Some number) n (asks c) answer why unheld may h = absurd may
 
   pub line-complete : (k : Client) (in_use : Option ℕ) (n : ℕ) (line : Line) (answer : Answer) (why : Option Refusal) (turns : List Turn) (old new : Machine) → Turned trusted places turns old new
-      → is_held why ≡ false → AnswersInJob k in_use n line (events_of actor turns) (Ok (answer, why)) → IsComplete trusted places actor k in_use n line turns old new answer
-  line-complete k in_use n line answer why turns old new ran unheld (inl h) = λ unrisen legal. in-job-complete turns old new ran unrisen k in_use n line answer why unheld legal h
-  line-complete k in_use n line answer why turns old new ran unheld (inr (kept, none, is)) = absurd cc
+      → AreSound old.core → is_held why ≡ false → AnswersInJob k in_use n line (events_of actor turns) (Ok (answer, why)) → IsComplete trusted places actor k in_use n line turns old new answer
+  line-complete k in_use n line answer why turns old new ran sound unheld (inl h) = λ unrisen legal. in-job-complete turns old new ran sound unrisen k in_use n line answer why unheld legal h
+  line-complete k in_use n line answer why turns old new ran sound unheld (inr (kept, none, is)) = absurd cc

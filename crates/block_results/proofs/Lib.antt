@@ -33,6 +33,7 @@ pub mod Rows
 pub mod Settled
 pub mod Single
 pub mod Sized
+pub mod Sounding
 pub mod Stored
 pub mod Ticketed
 pub mod Treed

@@ -20,6 +20,7 @@ use Rattle.inventory_rows.specs.version_groups.Entries.{on_ok}
 use Rattle.inventory_rules.specs.Backups.{backup_at, is_unfinished}
 use Rattle.inventory_rules.specs.Common.{full_at}
 use Rattle.inventory_rules.specs.Transactions.{causes, effect, refused as refused_by, sizes_refused}
+use Rattle.inventory_rules.specs.Valid.{is_valid}
 use Rattle.inventory_laws.proofs.BackupCounts.{delete_takes, end_takes}
 use Rattle.inventory_laws.proofs.CopyCounts.{drops_take}
 use Rattle.inventory_laws.proofs.Facts.{facts_of}
@@ -61,6 +62,7 @@ use Rattle.line_results.specs.expiration.Expiring.{Expiration, IsExpiring, named
 use Rattle.line_results.specs.expiration.Expiring as expiring
 use Rattle.line_results.specs.volume_audits.Auditing.{IsAuditing, VolumeAudit}
 use Rattle.line_results.specs.Resting.{database}
+use Rattle.line_results.specs.Sound.{HasSoundRows}
 use Rattle.line_results.proofs.Asked.{is_log}
 use Rattle.line_results.proofs.Bounds.{IsNoHolder, Named, Takes, delete-takes, discard-takes, drop-takes, expire-takes, listed-all, refused-all, version-all}
 use Rattle.line_results.proofs.CopyReason.{no-copy-kind, no-kinds}
@@ -238,14 +240,13 @@ module _ (places : Places) (actor : ℕ) (before after : Machine) (e : Refusal) 
   deleting-busy files d (inl h) within for = absurd (ending-never d h for)
   deleting-busy files d (inr (file, answer, among, is)) within for = delete-busy file answer within (subst For is for)
 
-  pub auditing-never : (fix : Bool) (file : ℕ) (d : Deed) → IsAuditing fix file d → MayAudit fix file before → For d → ⊥
-  auditing-never fix file d (inl h) may for = ending-never d h for
-  auditing-never fix file d (inr (inl (line, offset, wanted, answer, is))) may for = read-never line.object line.digest line.pool offset wanted answer (subst For is for)
-  auditing-never fix file d (inr (inr (asked, (line, found, answer, inl is)))) may for =
-      let sound = may.1 asked in
-      none-first e [] refl (take-held _ answer (drop-takes _) sound.1 (drops_take _ (inventory before.core) (facts_of (inventory before.core) sound.0).objects_apart) (subst For is for))
-  auditing-never fix file d (inr (inr (asked, (line, found, answer, inr is)))) may for =
-      none-first e [] refl (take-held _ answer (discard-takes _) (may.1 asked).1 (discard_all_takes _ (inventory before.core)) (subst For is for))
+  pub auditing-never : (fix : Bool) (file : ℕ) (d : Deed) → IsAuditing fix file d → is_valid (inventory before.core) ≡ true → MayAudit fix file before → For d → ⊥
+  auditing-never fix file d (inl h) valid may for = ending-never d h for
+  auditing-never fix file d (inr (inl (line, offset, wanted, answer, is))) valid may for = read-never line.object line.digest line.pool offset wanted answer (subst For is for)
+  auditing-never fix file d (inr (inr (asked, (line, found, answer, inl is)))) valid may for =
+      none-first e [] refl (take-held _ answer (drop-takes _) (may.1 asked) (drops_take _ (inventory before.core) (facts_of (inventory before.core) valid).objects_apart) (subst For is for))
+  auditing-never fix file d (inr (inr (asked, (line, found, answer, inr is)))) valid may for =
+      none-first e [] refl (take-held _ answer (discard-takes _) (may.1 asked) (discard_all_takes _ (inventory before.core)) (subst For is for))
 
   -- a backup of the database
   progress-busy : (i : Option Picture) → foremost (in_progress i) ≡ Some e → IsBusy e
@@ -324,7 +325,7 @@ module _ (places : Places) (actor : ℕ) (before after : Machine) where
 -- ---- processes
 
 module _ (places : Places) (actor : ℕ) (Is : Machine → Type 0) where
-  -- a step that stood at one of the states, whose rows it was answered, and made no count of faults rise
+  -- a step that stood at one of the states, whose rows it was answered, and made no count of faults rise; where it was refused, by which no run ends, these rows are sound
   pub record Stood (Q : Deed → Type 0) : Type 0 where
     pub deed : Deed
     pub is : Q deed
@@ -334,6 +335,7 @@ module _ (places : Places) (actor : ℕ) (Is : Machine → Type 0) where
     pub for : (e : Refusal) → refusal deed ≡ Some e → IsRefusedFor places actor deed before after e
     pub answers : (q : Query) (a : Answer) → is_log q ≡ false → deed ≡ Ask q (Ok a) → rows_of q (database before) ≡ Ok a.rows
     pub unrisen : (file : ℕ) → RoseAt before.counts after.counts file → ⊥
+    pub sound : (e : Refusal) → refusal deed ≡ Some e → halt_by e ≡ None → HasSoundRows (database before)
 
   -- Of steps that are each of one kind, one that is of another kind too stood at one of the states.
   abbrev pub AllStood : List Event → Type 1
@@ -368,7 +370,7 @@ module _ (places : Places) (actor : ℕ) (Is : Machine → Type 0) where
     unaudited fix file may h = elim h.came as (λ _. ⊥) [
       | inl (inl memory) ↦ not-memory e mild memory
       | inl (inr met) ↦ (let s = stood (IsAuditing fix file) Refuses h.only met.1 in
-          auditing-never places actor s.before s.after e (stopping-stops e met.0 mild) s.unrisen fix file s.deed s.is.1 (may s.before s.passes) (s.for e s.is.0))
+          auditing-never places actor s.before s.after e (stopping-stops e met.0 mild) s.unrisen fix file s.deed s.is.1 (s.sound e s.is.0 mild).valid (may s.before s.passes) (s.for e s.is.0))
       | inr missing ↦ (let s = stood (IsAuditing fix file) (λ d. d ≡ Ask (query.OnVolume file) (Err e)) h.only missing.1 in
           let same : e ≡ refused.NotFound = missing-is e missing.0 in
           volume-there places actor s.before s.after file (Err e) (may s.before s.passes).0

@@ -311,8 +311,7 @@ module _ (places : Places) (actor : ℕ) (Is : Machine → Type 0) (events : Lis
   stopped-busy (inl memory) = absurd (not-memory e mild memory)
   stopped-busy (inr met) =
       let s = stood (volumes.IsDeleting true file) (λ d. refusal d ≡ Some e) did.only met.1 in
-      let sound = may.1 s.before s.passes in
-      clearing-busy places actor s.before s.after e (stopping-stops e met.0 mild) s.unrisen file s.deed s.is.1 sound.1 sound.2 (s.for e s.is.0)
+      clearing-busy places actor s.before s.after e (stopping-stops e met.0 mild) s.unrisen file s.deed s.is.1 (s.sound e s.is.0 mild).valid (may.1 s.before s.passes).1 (s.for e s.is.0)
 
   abbrev there-at : (m : Machine) → Is m → IsThere file (database m)
   there-at m at = (let it = (may.1 m at).0 in (it.0, it.1, ap (λ (n : List ℕ). volume_named n (database m).stores) it.2 ∙ it.3))

@@ -56,12 +56,12 @@ use Rattle.line_results.specs.Room.{IsCalm, IsOfOne}
 use Rattle.line_jobs.specs.Jobs.{AnswersFate, JobLine, between, lines_of}
 use Rattle.line_jobs.specs.Shares.{AreDone, Came}
 use Rattle.line_jobs.specs.declared.job.Said.{Said}
-use Rattle.block_results.specs.Legal.{AreComplete, JobsComplete, Passes}
+use Rattle.block_results.specs.Legal.{Passes}
 use Rattle.block_results.specs.Refusing.{Failed, HasNoPlace, HasRisen, IsRefusedFor, Meets, held_reasons}
 use Rattle.block_results.specs.Room.{AreUnfailed, CanGiveAll, CommandUnfailed, FateUnfailed, HasRoomForAll, JobsUnfailed, LineUnfailed}
 use Rattle.block_results.proofs.Based.{basis-in}
 use Rattle.block_results.proofs.Came.{Said as SaidOf}
-use Rattle.block_results.proofs.JobsComplete.{jobs-complete}
+use Rattle.block_results.proofs.JobsComplete.{AreCut, JobsCut, jobs-cut}
 use Rattle.block_results.proofs.Restored.{restored-none}
 use Rattle.block_results.proofs.Sized.{IsRun, found-run}
 use Rattle.block_results.proofs.Turned.{have-causes, rose-within, turned_on}
@@ -276,11 +276,11 @@ fate-unfailed trusted places actor k (Done tree) l turns old new reply ran h = �
 -- ---- a job
 
 module _ (trusted : Type 0) (places : Places) (choice : List Rule) where
-  lines-unfailed : (actor : ℕ) (lines : List JobLine) (trees : List Known) (turns : List Turn) (old new : Machine) (said : List Said) → AreComplete trusted places actor choice lines trees turns old new said
+  lines-unfailed : (actor : ℕ) (lines : List JobLine) (trees : List Known) (turns : List Turn) (old new : Machine) (said : List Said) → AreCut trusted places choice actor lines trees turns old new said
       → AreUnfailed trusted places actor choice lines trees turns old new said
   lines-unfailed actor lines trees turns old new [] h = tt
   lines-unfailed actor [] trees turns old new (s ∷ said) h = absurd h
-  lines-unfailed actor (l ∷ lines) trees turns old new (s ∷ said) (mid, mine, others, next, parts, led, leads, did, complete, rest) = (
+  lines-unfailed actor (l ∷ lines) trees turns old new (s ∷ said) (mid, mine, others, next, parts, led, leads, did, rest) = (
     mid,
     mine,
     others,
@@ -293,7 +293,7 @@ module _ (trusted : Type 0) (places : Places) (choice : List Rule) where
     lines-unfailed actor lines mid others next new said rest,
   )
 
-  all-unfailed : (all : List Placed) (job first : ℕ) (turns : List Turn) (old new : Machine) (trees : List (List Known)) (came : List Came) → JobsComplete trusted places choice all job first turns old new trees came
+  all-unfailed : (all : List Placed) (job first : ℕ) (turns : List Turn) (old new : Machine) (trees : List (List Known)) (came : List Came) → JobsCut trusted places choice all job first turns old new trees came
       → JobsUnfailed trusted places choice all job first turns old new trees came
   all-unfailed all job first turns old new [] [] h = tt
   all-unfailed all job first turns old new (own ∷ trees) [] h = tt
@@ -303,4 +303,4 @@ module _ (trusted : Type 0) (places : Places) (choice : List Rule) where
 
   pub jobs-unfailed : (all : List Placed) (job first : ℕ) (turns : List Turn) (old new : Machine) (trees : List (List Known)) (came : List Came) → Turned trusted places turns old new → AreDone choice all job first turns trees came
       → JobsUnfailed trusted places choice all job first turns old new trees came
-  jobs-unfailed all job first turns old new trees came ran h = all-unfailed all job first turns old new trees came (jobs-complete trusted places choice all job first turns old new trees came ran h)
+  jobs-unfailed all job first turns old new trees came ran h = all-unfailed all job first turns old new trees came (jobs-cut trusted places choice all job first turns old new trees came ran h)

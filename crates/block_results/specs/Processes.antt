@@ -14,7 +14,6 @@ use Rattle.inventory_rows.specs.volume_rows.declared.volume.Volume.{Volume}
 use Rattle.inventory_rows.specs.Search.{version}
 use Rattle.inventory_rows.specs.State.{Inv}
 use Rattle.inventory_rules.specs.Transactions.{refused}
-use Rattle.inventory_rules.specs.Valid.{is_valid}
 use Rattle.inventory_work.specs.Copies.{has_pool, has_volume, missing}
 use Rattle.inventory_work.specs.Found.{filespace_asked}
 use Rattle.inventory_work.specs.declared.lines.MissingLine.{MissingLine}
@@ -44,9 +43,9 @@ use Rattle.line_results.specs.Resting.{database}
 abbrev pub IsWithin : Machine → Type 0
 IsWithin m = (count_items (database m) ≤ most_items) × ((database m).number + 1 < 2 ^ 62)
 
--- the volume is there; and where damaged copies are to go, the database is valid and within its bounds
+-- the volume is there; and where damaged copies are to go, the database is within its bounds
 abbrev pub MayAudit : (fix : Bool) → (file : ℕ) → Machine → Type 0
-MayAudit fix file m = (has_volume file (database m) ≡ true) × (fix ≡ true → (is_valid (database m) ≡ true) × IsWithin m)
+MayAudit fix file m = (has_volume file (database m) ≡ true) × (fix ≡ true → IsWithin m)
 
 -- the database is within its bounds, and there is no reason against the beginning of such a backup of it
 abbrev pub MayBackUpDatabase : (actor : ℕ) → ImageKind → Machine → Type 0
@@ -90,9 +89,9 @@ MayEmpty Is filespace = (node : List ℕ) × (name : List ℕ) × ((m : Machine)
 abbrev pub IsVolume : (file : ℕ) → (name : List ℕ) → Inv → Type 0
 IsVolume file name v = (x : Volume) × (row_at file v.stores.volumes ≡ Some x) × (x.name ≡ name) × (volume_named name v.stores ≡ Some file)
 
--- at each of them the volume is there, under the same name, and the database is valid and within its bounds
+-- at each of them the volume is there, under the same name, and the database within its bounds
 abbrev pub MayRemove : (Is : Machine → Type 0) → (file : ℕ) → Type 0
-MayRemove Is file = (name : List ℕ) × ((m : Machine) → Is m → IsVolume file name (database m) × (is_valid (database m) ≡ true) × IsWithin m)
+MayRemove Is file = (name : List ℕ) × ((m : Machine) → Is m → IsVolume file name (database m) × IsWithin m)
 
 -- ---- copies that move
 

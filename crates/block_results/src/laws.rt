@@ -19,7 +19,8 @@ ghost use Rattle.line_jobs.specs.Jobs.{DoesLines, JobLine};
 ghost use Rattle.line_jobs.specs.Shares.{AreDone, Came};
 ghost use Rattle.line_jobs.specs.declared.job.Said.{Said};
 ghost use Rattle.line_results.specs.copy_attempts.Outcomes.{Met};
-ghost use Rattle.line_results.specs.Resting.{Adds};
+ghost use Rattle.line_results.specs.Resting.{Adds, database};
+ghost use Rattle.line_results.specs.Sound.{HasSoundRows};
 ghost use Rattle.line_results.specs.Trees.{HaveBytes};
 ghost use Rattle.block_results.specs.Clauses.{Holds};
 ghost use Rattle.block_results.specs.Standing.{IsRefusedAt};
@@ -67,11 +68,11 @@ pub fn transactions_are_by_steps()
         → AreBySteps ⊥ hall_places turns old new (inventory old.core).number added }
 {}
 
-/// A line of a job of a block that is legal, and in which no count of faults rose, isn't refused, unless the reuse of volumes behind its work is, or a filespace or a volume is in use still when it is to go, or there is no ticket for a copy that is to move.
+/// Where the rows of the database are sound before a block, a line of a job of it that is legal, and in which no count of faults rose, isn't refused, unless the reuse of volumes behind its work is, or a filespace or a volume is in use still when it is to go, or there is no ticket for a copy that is to move.
 pub fn blocks_are_complete()
-    ensures trusted { (choice : List Rule) (all : List Placed) (job first : ℕ) (turns : List Turn) (old new : Machine) (trees : List (List Known)) (came : List Came) → Turned (Unit {0}) hall_places turns old new
+    ensures trusted { (choice : List Rule) (all : List Placed) (job first : ℕ) (turns : List Turn) (old new : Machine) (trees : List (List Known)) (came : List Came) → HasSoundRows (database old) → Turned (Unit {0}) hall_places turns old new
         → AreDone choice all job first turns trees came → JobsComplete (Unit {0}) hall_places choice all job first turns old new trees came }
-    ensures unknown { (choice : List Rule) (all : List Placed) (job first : ℕ) (turns : List Turn) (old new : Machine) (trees : List (List Known)) (came : List Came) → Turned ⊥ hall_places turns old new
+    ensures unknown { (choice : List Rule) (all : List Placed) (job first : ℕ) (turns : List Turn) (old new : Machine) (trees : List (List Known)) (came : List Came) → HasSoundRows (database old) → Turned ⊥ hall_places turns old new
         → AreDone choice all job first turns trees came → JobsComplete ⊥ hall_places choice all job first turns old new trees came }
 {}
 

@@ -344,7 +344,7 @@ module _ {S T : Type 0} (told : S → Option History) (moment : S → ℕ) (faul
                 block-sized trusted hall_places w choice b.lines first (inventory m.core).number worked.turns m run.0 (shared b.lines (b.job + 1) (knows old.trees.items)) came run.1 at.rests.tickets at.rests.image
                 (λ actor. (let fits = run.5 sure w goes actor (inventory m.core).number (omega arith) in (own_in actor fits.0 run.0.core, fits.2))) worked.done;
             causes = have-causes trusted hall_places worked.turns m run.0 run.1;
-            complete = jobs-complete trusted hall_places choice b.lines 0 first worked.turns m run.0 (shared b.lines (b.job + 1) (knows old.trees.items)) came run.1 worked.done;
+            complete = jobs-complete trusted hall_places choice b.lines 0 first worked.turns m run.0 (shared b.lines (b.job + 1) (knows old.trees.items)) came (sound_rows told moment faults old.hall m at.is at.ascends) run.1 worked.done;
             none_fails = jobs-unfailed trusted hall_places choice b.lines 0 first worked.turns m run.0 (shared b.lines (b.job + 1) (knows old.trees.items)) came run.1 worked.done;
             added = joined.0;
             adds = joined.1;
