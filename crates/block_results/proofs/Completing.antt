@@ -151,7 +151,8 @@ use Rattle.line_results.specs.Clauses.{MayGive}
 use Rattle.line_results.specs.Commands.{drawn, validated}
 use Rattle.line_results.specs.Files.{filespace_defined}
 use Rattle.line_results.specs.Resting.{Onward, RoseFrom, database}
-use Rattle.block_results.specs.Legal.{AreAnswers, AreThere, IsAnswered, IsAnsweredWith, IsComplete, IsHome, IsInUse, IsLegal, IsNoBackup, IsReadable, IsUnopened, MayBackUp, MayBy, MayCheckpoint, MayCommit, MayDo, MayGet, MayLose, MayOn, MayOwn, Passes, Remains, IsThereOrDefined, HasRoom, IsBound, MayStore, IsKeptIn, StaysKept, stored_with, MayPut}
+use Rattle.block_results.specs.Filled.{IsFilled, IsInUse}
+use Rattle.block_results.specs.Legal.{AreAnswers, AreThere, IsAnswered, IsAnsweredWith, IsComplete, IsHome, IsLegal, IsNoBackup, IsReadable, IsUnopened, MayBackUp, MayBy, MayCheckpoint, MayCommit, MayDo, MayGet, MayLose, MayOn, MayOwn, Passes, Remains, IsThereOrDefined, HasRoom, IsBound, MayStore, IsKeptIn, StaysKept, stored_with, MayPut}
 use Rattle.block_results.specs.Processes.{MayProcess}
 use Rattle.block_results.specs.Refusing.{HasNoPlace, IsRefusedFor, IsUnended, IsUnread, bounds, held_reasons, own_reasons}
 use Rattle.block_results.proofs.Came.{Said as SaidOf}
@@ -167,7 +168,7 @@ use Rattle.line_results.specs.copy_runs.Ends.{IsStopped}
 use Rattle.line_jobs.specs.Jobs.{is_held}
 use Rattle.block_results.proofs.Processes.{AllStood, unaudited, unbacked-whole, uncopied, undeleted, unexpired, unfollowed}
 use Rattle.block_results.proofs.Reasons.{moved-for}
-use Rattle.block_results.proofs.Removing.{IsUsed, unemptied, unremoved}
+use Rattle.block_results.proofs.Removing.{unemptied, unremoved}
 use Rattle.block_results.proofs.Rows.{limited-same, rows-told as rows-of-told}
 use Rattle.block_results.proofs.Single.{validity-is}
 use Rattle.block_results.proofs.Sounding.{AreSound, met-sound, turned-sound}
@@ -810,8 +811,8 @@ module _ (trusted : Type 0) (places : Places) (actor : ℕ) where
     abbrev IsBusyBy : Own → Refusal → Type 0
     IsBusyBy (on_tree work) e = IsBusyOn work e
     IsBusyBy checkpoint e = IsBusy e
-    IsBusyBy empty_filespace e = IsUsed e
-    IsBusyBy empty_volume e = IsBusy e ⊎ IsUsed e
+    IsBusyBy empty_filespace e = IsFilled Is empty_filespace (events_of actor turns) e
+    IsBusyBy empty_volume e = IsBusy e ⊎ IsFilled Is empty_volume (events_of actor turns) e
     IsBusyBy (moves mover) e = IsBusy e
     IsBusyBy back_up_pool e = IsBusy e
     IsBusyBy back_up_database e = IsBusy e
@@ -1337,9 +1338,13 @@ module _ (trusted : Type 0) (places : Places) (actor : ℕ) where
     unrun k (audit_volume fix) numbers e front did back cut mild may h =
         absurd (unaudited places actor Is did (all-stood front did back cut) e mild fix (the_number numbers) may (gives-err (VolumeAudit fix (the_number numbers)) Audited did e h.1))
     unrun k empty_filespace numbers e front did back cut mild may h =
-        inl (unemptied places actor Is did (all-stood front did back cut) e mild (the_number numbers) may (gives-err (FilespaceDeletion (the_number numbers)) _ did e h.1))
+        let it = unemptied places actor Is did (all-stood front did back cut) e mild (the_number numbers) may (gives-err (FilespaceDeletion (the_number numbers)) _ did e h.1) in
+        inl (the_number numbers, it.0, front, did, back, cut, it.1, it.2, it.3)
     unrun k empty_volume numbers e front did back cut mild may h =
-        inl (unremoved places actor Is did (all-stood front did back cut) e mild (the_number numbers) may (gives-err (VolumeDeletion true (the_number numbers)) _ did e h.1))
+        inl (elim (unremoved places actor Is did (all-stood front did back cut) e mild (the_number numbers) may (gives-err (VolumeDeletion true (the_number numbers)) _ did e h.1)) as (λ _. IsBusyBy empty_volume e) [
+          | inl busy ↦ inl busy
+          | inr it ↦ inr (the_number numbers, it.0, front, did, back, cut, it.1, it.2, it.3)
+        ])
     unrun k back_up_pool numbers e front did back cut mild may h =
         inl (uncopied places actor Is did (all-stood front did back cut) e mild (the_number numbers) (the_second numbers) may (gives-err (PoolBackup (the_number numbers) (the_second numbers)) _ did e h.1))
     unrun k back_up_database numbers e front did back cut mild may h = inl (unbacked-whole places actor Is did (all-stood front did back cut) e mild may (gives-err (DatabaseBackup None) backed_up_as did e h.1))
@@ -2112,13 +2117,13 @@ module _ (trusted : Type 0) (places : Places) (actor : ℕ) where
     not-held-on (back_up i) e unheld h = not-held e unheld h
     not-held-on work e unheld h = h
 
-    in-use : (own : Own) (n : ℕ) (e : Refusal) (answer : Answer) → answer ≡ answer_refused n e → is_held (Some e) ≡ false → IsBusyBy own e → IsInUse own n answer
+    in-use : (own : Own) (n : ℕ) (e : Refusal) (answer : Answer) → answer ≡ answer_refused n e → is_held (Some e) ≡ false → IsBusyBy own e → IsInUse Is own n (events_of actor turns) answer
     in-use (on_tree work) n e answer said unheld h = absurd (not-held-on work e unheld h)
     in-use checkpoint n e answer said unheld h = absurd (not-held e unheld h)
     in-use (put p) n e answer said unheld h = absurd (not-held e unheld h)
-    in-use empty_filespace n e answer said unheld (user, is) = (user, said ∙ ap (answer_refused n) is)
+    in-use empty_filespace n e answer said unheld h = (e, said, h)
     in-use empty_volume n e answer said unheld (inl h) = absurd (not-held e unheld h)
-    in-use empty_volume n e answer said unheld (inr (user, is)) = (user, said ∙ ap (answer_refused n) is)
+    in-use empty_volume n e answer said unheld (inr h) = (e, said, h)
     in-use back_up_pool n e answer said unheld h = absurd (not-held e unheld h)
     in-use back_up_database n e answer said unheld h = absurd (not-held e unheld h)
     in-use back_up_since n e answer said unheld h = absurd (not-held e unheld h)
@@ -2127,7 +2132,7 @@ module _ (trusted : Type 0) (places : Places) (actor : ℕ) where
     in-use own n e answer said unheld h = absurd h
 
     abbrev Answered : (n : ℕ) → Command → Answer → Type 0
-    Answered n c answer = IsAnsweredWith (behind c) n (events_of actor turns) answer ⊎ IsInUse (own_of c) n answer ⊎ IsUnopened (own_of c) n (events_of actor turns) answer
+    Answered n c answer = IsAnsweredWith (behind c) n (events_of actor turns) answer ⊎ IsInUse Is (own_of c) n (events_of actor turns) answer ⊎ IsUnopened (own_of c) n (events_of actor turns) answer
 
     unopened-so : (own : Own) (n : ℕ) (e : Refusal) (answer : Answer) → answer ≡ answer_refused n e → IsUnopenedBy own e → IsUnopened own n (events_of actor turns) answer
     unopened-so (moves mover) n e answer said (missing, object, a, avoid, met) = (said ∙ ap (answer_refused n) missing, object, a, avoid, met)
@@ -2142,7 +2147,7 @@ module _ (trusted : Type 0) (places : Places) (actor : ℕ) where
         let same : e ≡ f = ends-same (behind c) f e ys mild ends in
         let busy = does-none k c work f front xs ys (cut ∙ ap (λ (l : List Event). front ++ l) apart) plain (subst (λ (x : Refusal). halt_by x ≡ None) same mild) may does in
         let as_is : answer ≡ answer_refused n f = said ∙ ap (answer_refused n) same in
-        inr (elim busy as (λ _. IsInUse (own_of c) n answer ⊎ IsUnopened (own_of c) n (events_of actor turns) answer) [
+        inr (elim busy as (λ _. IsInUse Is (own_of c) n (events_of actor turns) answer ⊎ IsUnopened (own_of c) n (events_of actor turns) answer) [
           | inl held ↦ inl (in-use (own_of c) n f answer as_is (subst (λ (x : Refusal). is_held (Some x) ≡ false) same unheld) held)
           | inr unopened ↦ inr (unopened-so (own_of c) n f answer as_is unopened)
         ])
@@ -2162,7 +2167,7 @@ module _ (trusted : Type 0) (places : Places) (actor : ℕ) where
         doing-none k n c e answer ends.0 (subst (λ (w : Option Refusal). is_held w ≡ false) (ap (λ (p : Answer × Option Refusal). p.1) ends.1) unheld) (ap (λ (p : Answer × Option Refusal). p.0) ends.1) may doing
 
     in-job-complete : (k : Client) (in_use : Option ℕ) (n : ℕ) (line : Line) (answer : Answer) (why : Option Refusal) → is_held why ≡ false → IsLegal places Is actor k in_use line → DoesInJob k in_use n line (events_of actor turns) (Ok (answer, why))
-        → IsAnswered n line (events_of actor turns) answer
+        → IsAnswered Is n line (events_of actor turns) answer
     in-job-complete k None n comment answer why unheld may (kept, none, is) = (let same : ◌≡◌ {A = Answer × Option Refusal} (answer, why) (nothing, None) = cc in ap (λ (p : Answer × Option Refusal). p.0.tally.refused) same)
     in-job-complete k (Some number) n comment answer why unheld may (kept, none, is) = (let same : ◌≡◌ {A = Answer × Option Refusal} (answer, why) (nothing, None) = cc in ap (λ (p : Answer × Option Refusal). p.0.tally.refused) same)
     in-job-complete k None n (refused_line given) answer why unheld may h = absurd may

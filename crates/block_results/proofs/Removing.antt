@@ -12,7 +12,6 @@ use Rattle.kinds.specs.declared.change.ObjectChange.TheVariants as client
 use Rattle.kinds.specs.declared.change.PoolChange.TheVariants as store
 use Rattle.kinds.specs.declared.change.Verb.TheVariants as verb
 use Rattle.kinds.specs.declared.pool.Access.{Access}
-use Rattle.kinds.specs.declared.refusal.By.{By}
 use Rattle.kinds.specs.declared.refusal.By.TheVariants as by
 use Rattle.kinds.specs.declared.refusal.Holder.TheVariants as holder
 use Rattle.kinds.specs.declared.refusal.Refusal.{Refusal}
@@ -47,6 +46,7 @@ use Rattle.inventory_answers.specs.declared.query.Query.TheVariants as query
 use Rattle.inventory_answers.specs.declared.reply.Answer.{Answer}
 use Rattle.inventory_answers.specs.declared.reply.Rows.{Rows}
 use Rattle.inventory_answers.specs.declared.reply.Rows.TheVariants as rows
+use Rattle.steps.specs.Calls.{Then}
 use Rattle.steps.specs.Events.{Deed, Event, refusal}
 use Rattle.steps.specs.Events.Deed.{Ask, Commit}
 use Rattle.machine.specs.Causes.{change_illegal, change_refused}
@@ -57,7 +57,7 @@ use Rattle.machine.proofs.Elsewhere.{append-all, ended-all, foremost-all, unless
 use Rattle.line_results.specs.command_steps.Answers.{halt_by}
 use Rattle.line_results.specs.copy_attempts.Outcomes.{MetBy}
 use Rattle.line_results.specs.copy_runs.Ends.{IsStopped}
-use Rattle.line_results.specs.deletions.Filespaces.{FilespaceDeletion, Found, IsDeleting, IsInPlace, IsRowKept, IsUnfound, IsUnlisted, deleting, is_kept_by, names_in, with_node}
+use Rattle.line_results.specs.deletions.Filespaces.{FilespaceDeletion, Found, IsDeleting, IsInPlace, IsKept, IsRowKept, IsUnfound, IsUnlisted, deleting, is_kept_by, names_in, with_node}
 use Rattle.line_results.specs.deletions.Volumes as volumes
 use Rattle.line_results.specs.deletions.Volumes.{VolumeDeletion, row_in}
 use Rattle.line_results.specs.Removing.{IsUnremoved, IsVolume as IsThere}
@@ -68,6 +68,7 @@ use Rattle.line_results.proofs.Emptying.{bare-sizes, names-shown, unstopped}
 use Rattle.line_results.proofs.Reasons.{kept-so}
 use Rattle.line_results.proofs.Removable.{its-row, named-row}
 use Rattle.line_results.proofs.Types.{Names, Row}
+use Rattle.block_results.specs.Filled.{IsKeptBehind, IsLeastIn, IsLeastOn, IsLeftBehind}
 use Rattle.block_results.specs.Processes.{IsFilespace, IsWithin, MayEmpty, MayRemove}
 use Rattle.block_results.specs.Refusing.{Failed, HasNoPlace, IsRefusedFor, bounds, held_reasons, own_reasons}
 use Rattle.block_results.proofs.Attempting.{none-first}
@@ -75,33 +76,34 @@ use Rattle.block_results.proofs.Fitting.{met-next}
 use Rattle.block_results.proofs.Mild.{not-memory}
 use Rattle.block_results.proofs.Processes.{AllStood, IsBusy, Stops, ending-never, missing-is, missing-never, stopping-stops, take-held, volume-there}
 
--- something uses it still
-abbrev pub IsUsed : Refusal → Type 0
-IsUsed e = (user : By) × (e ≡ refused.InUse user)
+-- an object of which this holds uses it still
+abbrev IsUsed : (Uses : ℕ → Type 0) → Refusal → Type 0
+IsUsed Uses e = (object : ℕ) × (e ≡ refused.InUse (by.Object object)) × Uses object
 
--- a refusal of a row's own transaction is that something uses it
-abbrev OnlyUsed : Refusal → Type 0
-OnlyUsed e = is_kept_by e ≡ true → IsUsed e
+-- a refusal of a row's own transaction is that one uses it
+abbrev OnlyUsed : (Uses : ℕ → Type 0) → Refusal → Type 0
+OnlyUsed Uses e = is_kept_by e ≡ true → IsUsed Uses e
 
 -- ---- the filespace's row
 
 -- a filespace that is there is refused to go only while something uses it
-user-only : (user : Option By) (left : List (ℕ × Filespace)) (clients : Clients) → AllByRecursion OnlyUsed (refusal_of (with_filespaces clients (unless_used user left)))
-user-only None left clients = tt
-user-only (Some user) left clients = ((λ kept. (user, refl)), tt)
+user-only : (Uses : ℕ → Type 0) (user : Option ℕ) (left : List (ℕ × Filespace)) (clients : Clients) → ((object : ℕ) → user ≡ Some object → Uses object)
+    → AllByRecursion (OnlyUsed Uses) (refusal_of (with_filespaces clients (unless_used (by_object user) left)))
+user-only Uses None left clients uses = tt
+user-only Uses (Some object) left clients uses = ((λ kept. (object, refl, uses object refl)), tt)
 
 module _ (places : Places) (actor : ℕ) (before after : Machine) where
   abbrev v : Inv
   v = inventory before.core
 
   row-own : (name : List ℕ) (filespace : ℕ) (x : Filespace) → filespace_at filespace v.clients.filespaces ≡ Some x
-      → AllByRecursion OnlyUsed (causes (sight actor before.core).journal (change.Object (client.Filespace two.Delete 0 name filespace)) v)
+      → AllByRecursion (OnlyUsed (λ object. IsLeastIn filespace object v)) (causes (sight actor before.core).journal (change.Object (client.Filespace two.Delete 0 name filespace)) v)
   row-own name filespace x at =
-      append-all OnlyUsed (refusal_of (rows_changed (client.Filespace two.Delete 0 name filespace) v.next_node v.clients)) []
+      append-all (OnlyUsed (λ object. IsLeastIn filespace object v)) (refusal_of (rows_changed (client.Filespace two.Delete 0 name filespace) v.next_node v.clients)) []
       (subst
-      (λ (o : Option Filespace). AllByRecursion OnlyUsed (refusal_of (with_filespaces v.clients
+      (λ (o : Option Filespace). AllByRecursion (OnlyUsed (λ object. IsLeastIn filespace object v)) (refusal_of (with_filespaces v.clients
       (if_found o (λ (f : Filespace). unless_used (by_object (lesser (spaces.least_object f.groups) (least_in filespace v.clients.held))) (remove_entry (at_number filespace) v.clients.filespaces)))))) (sym at)
-      (user-only (by_object (lesser (spaces.least_object x.groups) (least_in filespace v.clients.held))) (remove_entry (at_number filespace) v.clients.filespaces) v.clients)) tt
+      (user-only (λ object. IsLeastIn filespace object v) (lesser (spaces.least_object x.groups) (least_in filespace v.clients.held)) (remove_entry (at_number filespace) v.clients.filespaces) v.clients (λ object least. (x, at, least)))) tt
 
   failed-kept : (d : Deed) (e : Refusal) → IsUnremoved e → Failed actor d before after e → ⊥
   failed-kept d e (inl is) h = subst (λ (x : Refusal). Failed actor d before after x) is h
@@ -109,53 +111,53 @@ module _ (places : Places) (actor : ℕ) (before after : Machine) where
   failed-kept d e (inr (inr (file, day, is))) h = subst (λ (x : Refusal). Failed actor d before after x) is h
 
   -- a row's own transaction is refused so only while something uses it
-  bare-used : (list : List Refusal) → AllByRecursion (λ y. is_kept_by y ≡ false) list → AllByRecursion OnlyUsed list
-  bare-used [] h = tt
-  bare-used (y ∷ list) h = ((λ kept. absurd (false≢true (sym h.0 ∙ kept))), bare-used list h.1)
+  bare-used : (Uses : ℕ → Type 0) (list : List Refusal) → AllByRecursion (λ y. is_kept_by y ≡ false) list → AllByRecursion (OnlyUsed Uses) list
+  bare-used Uses [] h = tt
+  bare-used Uses (y ∷ list) h = ((λ kept. absurd (false≢true (sym h.0 ∙ kept))), bare-used Uses list h.1)
 
-  change-used : (w : Change) → AllByRecursion OnlyUsed (causes (sight actor before.core).journal w v) → AllByRecursion OnlyUsed (change_refused actor (Some w) (sight actor before.core))
-  change-used w own =
-      append-all OnlyUsed (change_illegal w (sight actor before.core)) _
-      (listed-all OnlyUsed (refused_by (sight actor before.core).journal w v)
-      (λ y is. refused-all OnlyUsed (sight actor before.core).journal w v y (λ odd. absurd cc) own (bare-used (sizes_refused w v) (bare-sizes w v)) is)) (unless-all OnlyUsed _ refused.RecordFull (λ odd. absurd cc))
+  change-used : (Uses : ℕ → Type 0) (w : Change) → AllByRecursion (OnlyUsed Uses) (causes (sight actor before.core).journal w v) → AllByRecursion (OnlyUsed Uses) (change_refused actor (Some w) (sight actor before.core))
+  change-used Uses w own =
+      append-all (OnlyUsed Uses) (change_illegal w (sight actor before.core)) _
+      (listed-all (OnlyUsed Uses) (refused_by (sight actor before.core).journal w v)
+      (λ y is. refused-all (OnlyUsed Uses) (sight actor before.core).journal w v y (λ odd. absurd cc) own (bare-used Uses (sizes_refused w v) (bare-sizes w v)) is)) (unless-all (OnlyUsed Uses) _ refused.RecordFull (λ odd. absurd cc))
 
-  kept-for : (d : Deed) (e : Refusal) → is_kept_by e ≡ true → AllByRecursion OnlyUsed (own_reasons actor d (sight actor before.core)) → AllByRecursion OnlyUsed (held_reasons actor d before.core) → bounds d before.core ≡ []
-      → (HasNoPlace places actor d before e → ⊥) → IsRefusedFor places actor d before after e → IsUsed e
-  kept-for d e kept own held bound place (inl h) = foremost-all OnlyUsed (own_reasons actor d (sight actor before.core)) own e h kept
-  kept-for d e kept own held bound place (inr (inl h)) = absurd (place h)
-  kept-for d e kept own held bound place (inr (inr (inl h))) = foremost-all OnlyUsed (held_reasons actor d before.core) held e h kept
-  kept-for d e kept own held bound place (inr (inr (inr (inl h)))) = absurd (none-first e (bounds d before.core) bound h)
-  kept-for d e kept own held bound place (inr (inr (inr (inr (inl h))))) = foremost-all OnlyUsed (ended before) (ended-all OnlyUsed (λ odd. absurd cc) (λ log count odd. absurd cc) before) e h kept
-  kept-for d e kept own held bound place (inr (inr (inr (inr (inr (inl h)))))) = absurd (failed-kept d e (kept-so e kept) h)
-  kept-for d e kept own held bound place (inr (inr (inr (inr (inr (inr h)))))) = (let odd : is_kept_by refused.Memory ≡ true = subst (λ (y : Refusal). is_kept_by y ≡ true) h kept in absurd cc)
+  kept-for : (Uses : ℕ → Type 0) (d : Deed) (e : Refusal) → is_kept_by e ≡ true → AllByRecursion (OnlyUsed Uses) (own_reasons actor d (sight actor before.core)) → AllByRecursion (OnlyUsed Uses) (held_reasons actor d before.core) → bounds d before.core ≡ []
+      → (HasNoPlace places actor d before e → ⊥) → IsRefusedFor places actor d before after e → IsUsed Uses e
+  kept-for Uses d e kept own held bound place (inl h) = foremost-all (OnlyUsed Uses) (own_reasons actor d (sight actor before.core)) own e h kept
+  kept-for Uses d e kept own held bound place (inr (inl h)) = absurd (place h)
+  kept-for Uses d e kept own held bound place (inr (inr (inl h))) = foremost-all (OnlyUsed Uses) (held_reasons actor d before.core) held e h kept
+  kept-for Uses d e kept own held bound place (inr (inr (inr (inl h)))) = absurd (none-first e (bounds d before.core) bound h)
+  kept-for Uses d e kept own held bound place (inr (inr (inr (inr (inl h))))) = foremost-all (OnlyUsed Uses) (ended before) (ended-all (OnlyUsed Uses) (λ odd. absurd cc) (λ log count odd. absurd cc) before) e h kept
+  kept-for Uses d e kept own held bound place (inr (inr (inr (inr (inr (inl h)))))) = absurd (failed-kept d e (kept-so e kept) h)
+  kept-for Uses d e kept own held bound place (inr (inr (inr (inr (inr (inr h)))))) = (let odd : is_kept_by refused.Memory ≡ true = subst (λ (y : Refusal). is_kept_by y ≡ true) h kept in absurd cc)
 
   row-used : (name : List ℕ) (filespace : ℕ) (x : Filespace) (e : Refusal) → filespace_at filespace v.clients.filespaces ≡ Some x → is_kept_by e ≡ true
-      → IsRefusedFor places actor (Commit (deleting name filespace) [] (Err e)) before after e → IsUsed e
+      → IsRefusedFor places actor (Commit (deleting name filespace) [] (Err e)) before after e → IsUsed (λ object. IsLeastIn filespace object v) e
   row-used name filespace x e at kept for =
-      kept-for (Commit (deleting name filespace) [] (Err e)) e kept (change-used (change.Object (client.Filespace two.Delete 0 name filespace)) (row-own name filespace x at)) tt refl (λ h. h) for
+      kept-for (λ object. IsLeastIn filespace object v) (Commit (deleting name filespace) [] (Err e)) e kept (change-used (λ object. IsLeastIn filespace object v) (change.Object (client.Filespace two.Delete 0 name filespace)) (row-own name filespace x at)) tt refl (λ h. h) for
 
   -- so is a volume's
-  object-only : (file : ℕ) (s : PoolRows) (o : Option ℕ) → AllByRecursion OnlyUsed (refusal_of (unless_held file s o))
+  object-only : (file : ℕ) (s : PoolRows) (o : Option ℕ) → AllByRecursion (OnlyUsed (λ object. o ≡ Some object)) (refusal_of (unless_held file s o))
   object-only file s None = tt
-  object-only file s (Some object) = ((λ kept. (by.Object object, refl)), tt)
+  object-only file s (Some object) = ((λ kept. (object, refl, refl)), tt)
 
   volume-own : (name : List ℕ) (file capacity : ℕ) (access : Access) → volume_named name v.stores ≡ Some file
-      → AllByRecursion OnlyUsed (causes (sight actor before.core).journal (change.Pool (store.Volume verb.Delete name 0 file capacity access)) v)
+      → AllByRecursion (OnlyUsed (λ object. IsLeastOn file object v)) (causes (sight actor before.core).journal (change.Pool (store.Volume verb.Delete name 0 file capacity access)) v)
   volume-own name file capacity access named =
-      append-all OnlyUsed (refusal_of (delete_volume name v.stores)) []
-      (subst (λ (o : Option ℕ). AllByRecursion OnlyUsed (refusal_of (delete_filed v.stores o))) (sym named) (object-only file v.stores (object_on (row_at file v.stores.volumes)))) tt
+      append-all (OnlyUsed (λ object. IsLeastOn file object v)) (refusal_of (delete_volume name v.stores)) []
+      (subst (λ (o : Option ℕ). AllByRecursion (OnlyUsed (λ object. IsLeastOn file object v)) (refusal_of (delete_filed v.stores o))) (sym named) (object-only file v.stores (object_on (row_at file v.stores.volumes)))) tt
 
-  tickets-only : (tickets : List Ticket) (o : Option ℕ) → AllByRecursion OnlyUsed (option_map_or (λ (it : ℕ). held_by (has_file it) tickets) o [])
-  tickets-only tickets None = tt
-  tickets-only tickets (Some it) = elim (find (has_file it) tickets) as (λ o. AllByRecursion OnlyUsed (option_map_or (λ t. refused.Busy (holder.Ticket t.number) ∷ []) o [])) [
+  tickets-only : (Uses : ℕ → Type 0) (tickets : List Ticket) (o : Option ℕ) → AllByRecursion (OnlyUsed Uses) (option_map_or (λ (it : ℕ). held_by (has_file it) tickets) o [])
+  tickets-only Uses tickets None = tt
+  tickets-only Uses tickets (Some it) = elim (find (has_file it) tickets) as (λ o. AllByRecursion (OnlyUsed Uses) (option_map_or (λ t. refused.Busy (holder.Ticket t.number) ∷ []) o [])) [
     | None ↦ tt
     | Some t ↦ ((λ odd. absurd cc), tt)
   ]
 
-  volume-used : (row : Row) (file : ℕ) (e : Refusal) → volume_named row.name v.stores ≡ Some file → is_kept_by e ≡ true → IsRefusedFor places actor (Commit (volumes.deleting row file) [] (Err e)) before after e → IsUsed e
+  volume-used : (row : Row) (file : ℕ) (e : Refusal) → volume_named row.name v.stores ≡ Some file → is_kept_by e ≡ true → IsRefusedFor places actor (Commit (volumes.deleting row file) [] (Err e)) before after e → IsUsed (λ object. IsLeastOn file object v) e
   volume-used row file e named kept for =
-      kept-for (Commit (volumes.deleting row file) [] (Err e)) e kept
-      (change-used (change.Pool (store.Volume verb.Delete row.name 0 file row.capacity row.access)) (volume-own row.name file row.capacity row.access named)) (tickets-only before.core.tickets (volume_named row.name v.stores)) refl
+      kept-for (λ object. IsLeastOn file object v) (Commit (volumes.deleting row file) [] (Err e)) e kept
+      (change-used (λ object. IsLeastOn file object v) (change.Pool (store.Volume verb.Delete row.name 0 file row.capacity row.access)) (volume-own row.name file row.capacity row.access named)) (tickets-only (λ object. IsLeastOn file object v) before.core.tickets (volume_named row.name v.stores)) refl
       (λ h. h) for
 
   -- only a volume's row is waited for
@@ -267,12 +269,6 @@ module _ (places : Places) (actor : ℕ) (Is : Machine → Type 0) (events : Lis
         (subst (λ (x : Refusal). IsRefusedFor places actor (Ask (query.Held filespace) (Err x)) before after refused.NotFound) same
         (subst (λ (x : Deed). IsRefusedFor places actor x before after refused.NotFound) is (as-missing d before after (for (ap refusal is)) same)))
 
-  kept-used : is_kept_by e ≡ true → MetBy (IsRowKept filespace e) events → IsUsed e
-  kept-used kept met =
-      let s = stood (IsDeleting filespace) (IsRowKept filespace e) did.only met in
-      row-used places actor s.before s.after s.is.0.0 filespace (may.2 s.before s.passes).0.0 e (may.2 s.before s.passes).0.1 kept
-      (subst (λ (d : Deed). IsRefusedFor places actor d s.before s.after e) s.is.0.1 (s.for e (ap refusal s.is.0.1)))
-
   found-its : (names : Names) (xs ys : List Event) → events ≡ xs ++ ys → Found filespace xs names → names ≡ its
   found-its names xs ys cut (answer, lines, (n, one), shown, told) =
       let met : MetBy (λ d. d ≡ Ask (query.Filespaces None) (Ok answer)) events =
@@ -281,25 +277,33 @@ module _ (places : Places) (actor : ℕ) (Is : Machine → Type 0) (events : Lis
       let both : ◌≡◌ {A = Result Names Refusal} (Ok names) (Ok its) = sym told ∙ names-told answer lines s.before s.passes (s.answers (query.Filespaces None) answer refl s.is.0) shown in
       cc
 
-  -- what it names is there
-  placed-used : e ≡ refused.NotFound → IsInPlace filespace events e → IsUsed e
-  placed-used same (inl stopped) = absurd (unstopped e events (inl same) stopped)
-  placed-used same (inr (inl (ten, asks, met))) = absurd (unfound-not same met)
-  placed-used same (inr (inr (names, (xs, ys, cut, found, inl (ten, asks, met))))) =
+  abbrev pub IsKeptStill : Type 0
+  IsKeptStill = (object : ℕ) × (e ≡ refused.InUse (by.Object object)) × IsKeptBehind filespace events e × ((m : Machine) × Is m × IsLeastIn filespace object (database m))
+
+  -- what it names is there, so that only its own transaction was refused, behind all that comes before it
+  row-kept : is_kept_by e ≡ true → IsInPlace filespace events e → IsKeptStill
+  row-kept kept (inl stopped) = absurd (unstopped e events (kept-so e kept) stopped)
+  row-kept kept (inr (inl (ten, asks, met))) = absurd (unfound-not (missing-is e ten) met)
+  row-kept kept (inr (inr (names, (xs, ys, cut, found, inl (ten, asks, met))))) =
       absurd
-      (unlisted-not names (found-its names xs ys cut found) same
+      (unlisted-not names (found-its names xs ys cut found) (missing-is e ten)
       (subst (λ (l : List Event). MetBy (IsUnlisted filespace names e) l) (sym cut) (met-next xs ys (IsUnlisted filespace names e) met)))
-  placed-used same (inr (inr (names, (xs, ys, cut, found, inr (count, (us, ws, apart, cleared, (n, name, one))))))) =
+  row-kept kept (inr (inr (names, (xs, ys, cut, found, inr (count, (us, ws, apart, cleared, (n, name, one))))))) =
       let met : MetBy (IsRowKept filespace e) ws = subst (λ (l : List Event). MetBy (IsRowKept filespace e) l) (sym one) (inl (name, refl)) in
       let more : MetBy (IsRowKept filespace e) ys = subst (λ (l : List Event). MetBy (IsRowKept filespace e) l) (sym apart) (met-next us ws (IsRowKept filespace e) met) in
-      kept-used (ap is_kept_by same) (subst (λ (l : List Event). MetBy (IsRowKept filespace e) l) (sym cut) (met-next xs ys (IsRowKept filespace e) more))
+      let s = stood (IsDeleting filespace) (IsRowKept filespace e) did.only (subst (λ (l : List Event). MetBy (IsRowKept filespace e) l) (sym cut) (met-next xs ys (IsRowKept filespace e) more)) in
+      let used = row-used places actor s.before s.after s.is.0.0 filespace (may.2 s.before s.passes).0.0 e (may.2 s.before s.passes).0.1 kept
+      (subst (λ (d : Deed). IsRefusedFor places actor d s.before s.after e) s.is.0.1 (s.for e (ap refusal s.is.0.1))) in
+      let all : Then (λ l. Found filespace l its) (λ l. IsKept filespace its l e) events =
+      subst (λ (x : Names). Then (λ l. Found filespace l x) (λ l. IsKept filespace x l e) events) (found-its names xs ys cut found) (xs, ys, cut, found, (count, (us, ws, apart, cleared, (n, name, one)))) in
+      (used.0, used.1, (may.0, may.1, all), (s.before, s.passes, used.2))
 
-  pub unemptied : IsUsed e
-  unemptied = elim did.came as (λ _. IsUsed e) [
+  pub unemptied : IsKeptStill
+  unemptied = elim did.came as (λ _. IsKeptStill) [
     | inl stopped ↦ absurd (unstopped-here stopped)
-    | inr rest ↦ elim rest as (λ _. IsUsed e) [
-      | inl missing ↦ placed-used (missing-is e missing.0) did.place
-      | inr kept ↦ kept-used kept.0 kept.1
+    | inr rest ↦ elim rest as (λ _. IsKeptStill) [
+      | inl missing ↦ row-kept (ap is_kept_by (missing-is e missing.0)) did.place
+      | inr kept ↦ row-kept kept.0 did.place
     ]
   ]
 
@@ -348,13 +352,17 @@ module _ (places : Places) (actor : ℕ) (Is : Machine → Type 0) (events : Lis
       let same : row ≡ its-row file (database s.before) (there-at s.before s.passes) = cc in
       ap (λ (r : Row). r.name) same ∙ (may.1 s.before s.passes).0.2
 
-  refused-used : (row : Row) → row.name ≡ may.0 → is_kept_by e ≡ true → MetBy (λ d. d ≡ Commit (volumes.deleting row file) [] (Err e)) events → IsUsed e
-  refused-used row named kept met =
-      let s = stood (volumes.IsDeleting true file) (λ d. d ≡ Commit (volumes.deleting row file) [] (Err e)) did.only met in
-      volume-used places actor s.before s.after row file e (ap (λ (n : List ℕ). volume_named n (database s.before).stores) named ∙ (may.1 s.before s.passes).0.3) kept
-      (subst (λ (d : Deed). IsRefusedFor places actor d s.before s.after e) s.is.0 (s.for e (ap refusal s.is.0)))
+  abbrev pub IsLeftStill : Type 0
+  IsLeftStill = (object : ℕ) × (e ≡ refused.InUse (by.Object object)) × IsLeftBehind file events e × ((m : Machine) × Is m × IsLeastOn file object (database m))
 
-  kept-here : is_kept_by e ≡ true → volumes.IsInPlace true file events e → IsUsed e
+  refused-used : (row : Row) → row.name ≡ may.0 → is_kept_by e ≡ true → IsLeftBehind file events e → MetBy (λ d. d ≡ Commit (volumes.deleting row file) [] (Err e)) events → IsLeftStill
+  refused-used row named kept left met =
+      let s = stood (volumes.IsDeleting true file) (λ d. d ≡ Commit (volumes.deleting row file) [] (Err e)) did.only met in
+      let used = volume-used places actor s.before s.after row file e (ap (λ (n : List ℕ). volume_named n (database s.before).stores) named ∙ (may.1 s.before s.passes).0.3) kept
+      (subst (λ (d : Deed). IsRefusedFor places actor d s.before s.after e) s.is.0 (s.for e (ap refusal s.is.0))) in
+      (used.0, used.1, left, (s.before, s.passes, used.2))
+
+  kept-here : is_kept_by e ≡ true → volumes.IsInPlace true file events e → IsLeftStill
   kept-here kept (inl stopped) = absurd (unstopped e events (kept-so e kept) stopped)
   kept-here kept (inr (inl (ten, asks, met))) = absurd (volume-unfound (missing-is e ten) met)
   kept-here kept (inr (inr (row, (xs, ys, cut, found, inl (ten, asks, met))))) =
@@ -366,12 +374,13 @@ module _ (places : Places) (actor : ℕ) (Is : Machine → Type 0) (events : Lis
       let last : MetBy So qs = subst (λ (l : List Event). MetBy So l) (sym one) (inl refl) in
       let third : MetBy So ws = subst (λ (l : List Event). MetBy So l) (sym split) (met-next ps qs So last) in
       let second : MetBy So ys = subst (λ (l : List Event). MetBy So l) (sym apart) (met-next us ws So third) in
-      refused-used row (found-name row xs ys cut found) kept (subst (λ (l : List Event). MetBy So l) (sym cut) (met-next xs ys So second))
+      let left : IsLeftBehind file events e = (row.name, row.capacity, row.access, m.discarded, m.dropped, (xs, ys, cut, found, (us, ws, apart, cleared, (number, (ps, qs, split, waited, (n, one)))))) in
+      refused-used row (found-name row xs ys cut found) kept left (subst (λ (l : List Event). MetBy So l) (sym cut) (met-next xs ys So second))
 
-  pub unremoved : IsBusy e ⊎ IsUsed e
-  unremoved = elim did.came as (λ _. IsBusy e ⊎ IsUsed e) [
+  pub unremoved : IsBusy e ⊎ IsLeftStill
+  unremoved = elim did.came as (λ _. IsBusy e ⊎ IsLeftStill) [
     | inl stopped ↦ inl (stopped-busy stopped)
-    | inr rest ↦ elim rest as (λ _. IsBusy e ⊎ IsUsed e) [
+    | inr rest ↦ elim rest as (λ _. IsBusy e ⊎ IsLeftStill) [
       | inl missing ↦ inr (kept-here (ap is_kept_by (missing-is e missing.0)) did.place)
       | inr kept ↦ inr (kept-here kept.0 did.place)
     ]

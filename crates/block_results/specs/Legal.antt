@@ -5,11 +5,10 @@ use Rattle.std.specs.Prelude.{◌≡◌, ◌⊎◌, ℕ, ◌+◌, ◌^◌, ◌<�
 use Rattle.std.specs.List.{AllByRecursion}
 use Rattle.sha2.specs.Sha256.{sha256}
 use Rattle.kinds.specs.Refusals.{foremost}
-use Rattle.kinds.specs.declared.refusal.By.{By}
 use Rattle.kinds.specs.ValueForms.{digest_with}
 use Rattle.kinds.specs.declared.refusal.Holder.{Holder}
 use Rattle.kinds.specs.declared.refusal.Refusal.{Refusal}
-use Rattle.kinds.specs.declared.refusal.Refusal.TheVariants.{Busy, InUse, InventoryFull, NotFound}
+use Rattle.kinds.specs.declared.refusal.Refusal.TheVariants.{Busy, InventoryFull, NotFound}
 use Rattle.choosers.specs.declared.rule.Rule.{Rule}
 use Rattle.blocks.specs.Shapes.{Placed}
 use Rattle.blocks.specs.declared.block.Fate.{Fate}
@@ -61,7 +60,7 @@ use Rattle.line_results.specs.command_steps.Behind.{Behind, behind, reuses}
 use Rattle.line_results.specs.command_steps.Clients.{Client, Known}
 use Rattle.line_results.specs.command_steps.Doing.{the_number}
 use Rattle.line_results.specs.command_steps.Lines.{Line, asks, comment, line_in, refused}
-use Rattle.line_results.specs.command_steps.Owns.{OnTree, Own, back_up, checkpoint, empty_filespace, empty_volume, erase, get, moves, none_but_reuse, on_tree, own_of, restore, validate, volume_restorer, write, put, row_put}
+use Rattle.line_results.specs.command_steps.Owns.{OnTree, Own, back_up, checkpoint, erase, get, moves, none_but_reuse, on_tree, own_of, restore, validate, volume_restorer, write, put, row_put}
 use Rattle.line_jobs.specs.Jobs.{AnswersFate, JobLine, between, lines_of}
 use Rattle.line_jobs.specs.Shares.{Came}
 use Rattle.line_jobs.specs.declared.job.Said.{Said}
@@ -69,6 +68,7 @@ use Rattle.line_results.specs.Clauses.{IsSound, MayGive}
 use Rattle.line_results.specs.Files.{filespace_defined}
 use Rattle.line_results.specs.Commands.{drawn, validated}
 use Rattle.line_results.specs.Resting.{RoseFrom, database}
+use Rattle.block_results.specs.Filled.{IsInUse}
 use Rattle.block_results.specs.Processes.{HaveNumbers, MayProcess}
 
 -- ---- states
@@ -234,27 +234,21 @@ abbrev pub IsAnsweredWith : Behind → (n : ℕ) → List Event → Answer → T
 IsAnsweredWith reuses n events answer = (answer.tally.refused ≡ 0) ⊎ IsRefusedBehind n events answer
 IsAnsweredWith b n events answer = answer.tally.refused ≡ 0
 
--- something is kept in a filespace, or lies on a volume, still when it is to go
-abbrev pub IsInUse : Own → (n : ℕ) → Answer → Type 0
-IsInUse empty_filespace n answer = (user : By) × (answer ≡ refusal n (InUse user))
-IsInUse empty_volume n answer = (user : By) × (answer ≡ refusal n (InUse user))
-IsInUse own n answer = ⊥
-
 -- a process that moves copies got no ticket for one, as the pool that it was to go to, its object or the copy isn't there, and nothing tells what became of it
 abbrev pub IsUnopened : Own → (n : ℕ) → List Event → Answer → Type 0
 IsUnopened (moves mover) n events answer =
     (answer ≡ refusal n NotFound) × (object : ℕ) × (a : Aim) × (avoid : ℕ) × MetBy (λ d. d ≡ OpenCopy object a avoid (Err NotFound)) events
 IsUnopened own n events answer = ⊥
 
--- It doesn't count as refused, unless the reuse of volumes behind its work was, or since something is kept in a filespace, or lies on a volume, still when it is to go, or a copy that is to move got no ticket.
-abbrev pub IsAnswered : (n : ℕ) → Line → List Event → Answer → Type 0
-IsAnswered n (asks c) events answer = IsAnsweredWith (behind c) n events answer ⊎ IsInUse (own_of c) n answer ⊎ IsUnopened (own_of c) n events answer
-IsAnswered n line events answer = answer.tally.refused ≡ 0
+-- It doesn't count as refused, unless the reuse of volumes behind its work was, or since something is kept in a filespace, or lies on a volume, when it is to go, behind steps that took away what they had found there (`IsInUse` of Filled), or a copy that is to move got no ticket.
+abbrev pub IsAnswered : (Is : Machine → Type 0) → (n : ℕ) → Line → List Event → Answer → Type 0
+IsAnswered Is n (asks c) events answer = IsAnsweredWith (behind c) n events answer ⊎ IsInUse Is (own_of c) n events answer ⊎ IsUnopened (own_of c) n events answer
+IsAnswered Is n line events answer = answer.tally.refused ≡ 0
 
 -- A line that stands among these turns and was answered so: where it is legal, and no count of faults rose in them, it isn't refused.
 abbrev pub IsComplete : (trusted : Type 0) → Places → (actor : ℕ) → Client → (in_use : Option ℕ) → (n : ℕ) → Line → List Turn → (old new : Machine) → Answer → Type 0
 IsComplete trusted places actor k in_use n line turns old new answer =
-    ((file : ℕ) → RoseFrom old new file → ⊥) → IsLegal places (Passes trusted places turns old new) actor k in_use line → IsAnswered n line (events_of actor turns) answer
+    ((file : ℕ) → RoseFrom old new file → ⊥) → IsLegal places (Passes trusted places turns old new) actor k in_use line → IsAnswered (Passes trusted places turns old new) n line (events_of actor turns) answer
 
 -- ---- a job, and all of a block
 

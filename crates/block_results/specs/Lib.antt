@@ -3,6 +3,7 @@ pub use Rattle.line_jobs.specs as line_jobs
 pub use Rattle.line_results.specs.command_steps as command_steps
 pub mod Clauses
 pub mod Ended
+pub mod Filled
 pub mod Jobs
 pub mod Joining
 pub mod Legal
