@@ -1,4 +1,4 @@
--- No file fails in a backup of a tree that has room at each state that its steps meet.
+-- No file fails in a backup of a tree that has room at each state that its steps meet, and no object in a process that has room for its copies and can read them.
 use Rattle.std.proofs.Common.{◌≡◌, ◌∙◌, inl, inr, ℕ, ◌+◌, ◌≤◌, ◌==◌, if◌then◌else◌, Bool, true, false, List, [], ◌∷◌, ◌++◌, length, Option, None, Some, Result, Ok, Err, refl, sym, ap, subst, append_assoc, arith}
 use Rattle.std.proofs.lemmas.Bool.{eqb-true}
 use Rattle.std.proofs.lemmas.List.Sorted.{length_permutation}
@@ -19,7 +19,7 @@ use Rattle.admin_words.specs.declared.files.FilesRestore.{FilesRestore}
 use Rattle.admin_words.specs.declared.files.IncrementalBackup.{IncrementalBackup}
 use Rattle.admin_commands.specs.Found.{filespace_named, number_found}
 use Rattle.admin_commands.specs.Orders.{run, work_of}
-use Rattle.inventory_rows.specs.version_groups.Entries.{if_found}
+use Rattle.inventory_rows.specs.version_groups.Entries.{if_found, on_ok}
 use Rattle.admin_commands.specs.declared.work.Work.{Work}
 use Rattle.admin_commands.specs.declared.work.Work.TheVariants.{Commit as CommitWork, Run, Show}
 use Rattle.client_trees.specs.Files.{Files}
@@ -31,6 +31,8 @@ use Rattle.line_results.specs.incrementals.Process.{Increments}
 use Rattle.line_results.specs.incrementals.declared.answering.Failure.{Failure}
 use Rattle.line_results.specs.incrementals.declared.answering.Sent.{Sent}
 use Rattle.line_results.specs.incrementals.declared.planning.Begun.{Begun}
+use Rattle.line_results.proofs.Copyable.{backed-none as pool-none, mover-none}
+use Rattle.line_results.proofs.Roomy.{last-failed, reused-done}
 use Rattle.line_results.proofs.Unfailed.{AreFine, IsFine, failed-none, fine-parts, finishes-none}
 use Rattle.steps.specs.declared.asked.Asked.{Asked}
 use Rattle.steps.specs.Events.{Deed, Event, refusal}
@@ -44,10 +46,11 @@ use Rattle.crew.specs.Ran.{Turned}
 use Rattle.tree_api.specs.Cause.{Rose}
 use Rattle.line_results.specs.command_steps.Answers.{Ends, failed_in}
 use Rattle.line_results.specs.command_steps.Clients.{Client, Known, Turns}
-use Rattle.line_results.specs.command_steps.Doing.{DoesWork, Doing, Forcing, within_run}
+use Rattle.line_results.specs.command_steps.Behind.{Behind, behind, forces, no_more, reuses}
+use Rattle.line_results.specs.command_steps.Doing.{Does, DoesOwn, DoesWork, Doing, EndsWork, Forcing, Reusing, within_run}
 use Rattle.line_results.specs.command_steps.Jobs.{AnswersInJob, DoesInJob}
 use Rattle.line_results.specs.command_steps.Lines.{Line, asks, comment, line_in, refused as refused_line}
-use Rattle.line_results.specs.command_steps.Owns.{back_up, restore}
+use Rattle.line_results.specs.command_steps.Owns.{Own, back_up, back_up_pool, last_of, moves, own_of, restore}
 use Rattle.line_results.specs.command_steps.Trees.{BacksUp, DoesThere, ShowsSent}
 use Rattle.line_results.specs.command_steps.declared.outcome.Outcome.{Outcome}
 use Rattle.line_results.specs.command_steps.declared.outcome.Outcome.TheVariants as came
@@ -58,9 +61,10 @@ use Rattle.line_jobs.specs.Shares.{AreDone, Came}
 use Rattle.line_jobs.specs.declared.job.Said.{Said}
 use Rattle.block_results.specs.Legal.{Passes}
 use Rattle.block_results.specs.Refusing.{Failed, HasNoPlace, HasRisen, IsRefusedFor, Meets, held_reasons}
-use Rattle.block_results.specs.Room.{AreUnfailed, CanGiveAll, CommandUnfailed, FateUnfailed, HasRoomForAll, JobsUnfailed, LineUnfailed}
+use Rattle.block_results.specs.Room.{AreUnfailed, CanGiveAll, CommandUnfailed, FateUnfailed, HasRoomForAll, HasRoomForCopies, JobsUnfailed, LineUnfailed, OwnUnfailed}
 use Rattle.block_results.proofs.Based.{basis-in}
 use Rattle.block_results.proofs.Came.{Said as SaidOf}
+use Rattle.block_results.proofs.Copyable.{refuses-none}
 use Rattle.block_results.proofs.JobsComplete.{AreCut, JobsCut, jobs-cut}
 use Rattle.block_results.proofs.Restored.{restored-none}
 use Rattle.block_results.proofs.Sized.{IsRun, found-run}
@@ -252,11 +256,63 @@ module _ (trusted : Type 0) (places : Places) (actor : ℕ) (k : Client) (r : Fi
       given-works (work_of (commands.File (files.RestoreFiles r)) answers) (filespace-run (filespace_named r.filespace answers) (λ f. f.number)) xs ys it cut works
   given-doing (Ok it) (inr (answers, (xs, ys, cut, looks, inr (kept, nothing, is)))) = absurd cc
 
+-- ---- copies
+
+abbrev MakesCopies : Own → Type 0
+MakesCopies back_up_pool = Unit {0}
+MakesCopies (moves mover) = Unit {0}
+MakesCopies own = ⊥
+
+-- what came behind a work changes nothing of what failed
+behind-done : (b : Behind) (said : SaidOf) (it : Outcome) (events : List Event) → EndsWork b said events (Ok it) → (x : Outcome) × (said ≡ Ok x) × (failed_in it ≡ failed_in x)
+behind-done no_more said it events (none, is) = (it, sym is, refl)
+behind-done forces said it events forcing = (it, forced-done said it events forcing, refl)
+behind-done reuses said it events (came_so, (xs, ys, cut, reusing, forcing)) =
+    reused-done said it xs (subst (λ (r : SaidOf). Reusing said xs r) (forced-done came_so it ys forcing) reusing)
+
+on-failed : {A : Type 0} (f : A → Outcome) → ((x : A) → failed_in (f x) ≡ 0) → (r : Result A Refusal) → failed_by (on_ok f r) ≡ 0
+on-failed f none (Ok x) = none x
+on-failed f none (Err e) = refl
+
+module _ (trusted : Type 0) (places : Places) (actor : ℕ) (k : Client) (c : Command) (turns : List Turn) (old new : Machine) (ran : Turned trusted places turns old new) (sound : (file : ℕ) → RoseFrom old new file → ⊥)
+    (room : HasRoomForCopies trusted places actor turns old new) where
+  copied-own : (own : Own) → MakesCopies own → (numbers : List ℕ) (front events back : List Event) (it : Outcome) → events_of actor turns ≡ front ++ (events ++ back) → DoesOwn k own numbers events (Ok it) → failed_in it ≡ 0
+  copied-own back_up_pool makes numbers front events back it all (kept, did) =
+      pool-none k.choice numbers events it (λ moving P gentle copies. refuses-none trusted places actor turns old new ran room sound moving P gentle front events back all copies) did
+  copied-own (moves mover) makes numbers front events back it all (kept, did) =
+      mover-none k.choice mover numbers events it (λ moving P gentle copies. refuses-none trusted places actor turns old new ran room sound moving P gentle front events back all copies) did
+  copied-own own makes numbers front events back it all h = absurd makes
+
+  copied-does : (w : Work) → MakesCopies (own_of c) → (front events back : List Event) (it : Outcome) → events_of actor turns ≡ front ++ (events ++ back) → Does k c w events (Ok it) → failed_in it ≡ 0
+  copied-does (CommitWork what) makes front events back it all (kept, (answer, made, is)) = ap failed_by is ∙ on-failed (λ number. came.Said (last_of what)) (λ number. last-failed what) answer
+  copied-does (Show q) makes front events back it all (kept, (answer, made, is)) = ap failed_by is ∙ on-failed came.Rows (λ x. refl) answer
+  copied-does (Run numbers) makes front events back it all h = copied-own (own_of c) makes numbers front events back it all h
+
+  copied-works : (work : Result Work Refusal) → MakesCopies (own_of c) → (front events : List Event) (it : Outcome) → events_of actor turns ≡ front ++ events → DoesWork k c work events (Ok it) → failed_in it ≡ 0
+  copied-works (Ok w) makes front events it all (said, (us, vs, cut, does, ends)) =
+      let done = behind-done (behind c) said it vs ends in
+      done.2 ∙ copied-does w makes front us vs done.0 (all ∙ ap (λ (l : List Event). front ++ l) cut) (subst (λ (r : SaidOf). Does k c w us r) done.1 does)
+  copied-works (Err why) makes front events it all (kept, nothing, is) = absurd cc
+
+  copied-doing : MakesCopies (own_of c) → (said : SaidOf) → Doing k c (events_of actor turns) said → failed_by said ≡ 0
+  copied-doing makes (Err e) h = refl
+  copied-doing makes (Ok it) (inl (e, kept, looks, is)) = absurd cc
+  copied-doing makes (Ok it) (inr (answers, (xs, ys, cut, looks, inl works))) = copied-works (work_of c answers) makes xs ys it cut works
+  copied-doing makes (Ok it) (inr (answers, (xs, ys, cut, looks, inr (kept, nothing, is)))) = absurd cc
+
 module _ (trusted : Type 0) (places : Places) (actor : ℕ) (k : Client) (turns : List Turn) (old new : Machine) (ran : Turned trusted places turns old new) (sound : (file : ℕ) → RoseFrom old new file → ⊥) where
+  own-unfailed : (c : Command) (own : Own) → own_of c ≡ own → (n : ℕ) (said : SaidOf) (reply : Answer × Option Refusal) → Doing k c (events_of actor turns) said → Ends n said (Ok reply) → OwnUnfailed trusted places actor own turns old new reply.0
+  own-unfailed c back_up_pool is n said reply doing ends = λ room.
+      failed-said n said reply ends ∙ copied-doing trusted places actor k c turns old new ran sound room (subst MakesCopies (sym is) tt) said doing
+  own-unfailed c (moves mover) is n said reply doing ends = λ room.
+      failed-said n said reply ends ∙ copied-doing trusted places actor k c turns old new ran sound room (subst MakesCopies (sym is) tt) said doing
+  own-unfailed c own is n said reply doing ends = tt
+
   command-unfailed : (c : Command) (n : ℕ) (said : SaidOf) (reply : Answer × Option Refusal) → Doing k c (events_of actor turns) said → Ends n said (Ok reply) → CommandUnfailed trusted places actor k c turns old new reply.0
   command-unfailed (commands.File (files.Incremental i)) n said reply doing ends = λ calm room. failed-said n said reply ends ∙ doing-none trusted places actor k i turns old new ran sound calm room said doing
   command-unfailed (commands.File (files.RestoreFiles r)) n said reply doing ends = λ calm trust can. failed-said n said reply ends ∙ given-doing trusted places actor k r turns old new ran sound calm trust can said doing
-  command-unfailed c n said reply doing ends = tt
+  command-unfailed (commands.File c) n said reply doing ends = tt
+  command-unfailed c n said reply doing ends = own-unfailed c (own_of c) refl n said reply doing ends
 
   in-job-unfailed : (in_use : Option ℕ) (n : ℕ) (line : Line) (reply : Answer × Option Refusal) → DoesInJob k in_use n line (events_of actor turns) (Ok reply) → LineUnfailed in_use trusted places actor k line turns old new reply.0
   in-job-unfailed in_use n comment reply h = tt

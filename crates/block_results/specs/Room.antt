@@ -1,5 +1,5 @@
--- When no file fails in a line of a job. The line stands among turns of several actors (specs/Legal), and each step of its own met a state that these turns pass: there it has room.
-use Rattle.std.specs.Prelude.{◌≡◌, true, ℕ, ◌+◌, Contains, List, [], ◌∷◌, ◌++◌, length, Option, None, Some, Result, Ok, Err}
+-- When no file and no object fails in a line of a job. The line stands among turns of several actors (specs/Legal), and each step of its own met a state that these turns pass: there it has room.
+use Rattle.std.specs.Prelude.{◌≡◌, true, false, ℕ, ◌+◌, Contains, List, [], ◌∷◌, ◌++◌, length, Option, None, Some, Result, Ok, Err}
 use Rattle.std.specs.List.{AllByRecursion}
 use Rattle.sha2.specs.Sha256.{sha256}
 use Rattle.kinds.specs.Refusals.{foremost}
@@ -8,6 +8,7 @@ use Rattle.kinds.specs.declared.refusal.Holder.{Holder}
 use Rattle.kinds.specs.declared.refusal.Refusal.{Refusal}
 use Rattle.kinds.specs.declared.refusal.Refusal.TheVariants.{Busy}
 use Rattle.choosers.specs.declared.rule.Rule.{Rule}
+use Rattle.entries.specs.declared.change.Change.{Change}
 use Rattle.blocks.specs.Shapes.{Placed}
 use Rattle.blocks.specs.declared.block.Fate.{Fate}
 use Rattle.blocks.specs.declared.block.Fate.TheVariants.{Beyond, Done}
@@ -17,6 +18,7 @@ use Rattle.inventory_rows.specs.version_groups.declared.versions.Version.{Versio
 use Rattle.inventory_rows.specs.Search.{version}
 use Rattle.inventory_work.specs.Rules.{rules_of}
 use Rattle.placing.specs.Placing.{can_read}
+use Rattle.space.specs.declared.aim.Aim.{Aim}
 use Rattle.space.specs.declared.aim.Aim.TheVariants as aim
 use Rattle.admin_words.specs.declared.command.Command.{Command}
 use Rattle.admin_words.specs.declared.command.Command.TheVariants as commands
@@ -32,17 +34,20 @@ use Rattle.line_results.specs.incrementals.declared.asking.Basis.{Basis}
 use Rattle.line_results.specs.incrementals.declared.planning.Begun.{Begun}
 use Rattle.line_results.specs.restores.declared.choosing.RestoreLine.{RestoreLine}
 use Rattle.steps.specs.declared.asked.Asked.{Asked}
-use Rattle.steps.specs.Events.Deed.{Commit, OpenNew}
+use Rattle.steps.specs.Calls.{fails_object}
+use Rattle.steps.specs.Events.Deed.{Commit, CopyPiece, OpenCopy, OpenNew}
 use Rattle.machine.specs.Causes.{commit_refused, new_refused}
-use Rattle.machine.specs.Machine.{Places, space}
-use Rattle.machine.specs.State.{Machine, inventory, sight}
+use Rattle.machine.specs.Machine.{IsTicket, Places, asked_change, size_of, space}
+use Rattle.machine.specs.State.{Machine, Ticket, inventory, sight}
 use Rattle.machine.specs.Turns.{Turn, events_of}
 use Rattle.crew.specs.Ran.{Turned}
 use Rattle.line_results.specs.command_steps.Clients.{Client, Known, Turns}
 use Rattle.line_results.specs.command_steps.Lines.{Line, asks, comment, line_in, refused}
+use Rattle.line_results.specs.command_steps.Owns.{Own, back_up_pool, moves, own_of}
 use Rattle.line_jobs.specs.Jobs.{AnswersFate, JobLine, between, lines_of}
 use Rattle.line_jobs.specs.Shares.{Came}
 use Rattle.line_jobs.specs.declared.job.Said.{Said}
+use Rattle.line_results.specs.Copied.{CanTake, IsShortBy}
 use Rattle.line_results.specs.Resting.{RoseFrom, database}
 use Rattle.line_results.specs.Room.{CanBeSent, IsCalm, IsOfOne}
 use Rattle.line_results.specs.Trees.{HasVersions, IsChosen}
@@ -88,6 +93,21 @@ CanBeGiven Is l = (bytes : List ℕ) × (length bytes ≡ l.stored.size) × (l.s
 abbrev pub CanGiveAll : (Is : Machine → Type 0) → FilesRestore → Type 0
 CanGiveAll Is r = (m : Machine) (lines : List RestoreLine) → Is m → IsChosen r (database m) lines → AllByRecursion (CanBeGiven Is) lines
 
+-- ---- copies
+
+-- The copy has a place. Or it has none for another reason than those for which an object fails, as where others hold the room: for that a process waits.
+abbrev pub HasPlaceAt : Places → (actor object : ℕ) → Aim → (avoid : ℕ) → Machine → Type 0
+HasPlaceAt places actor object a avoid m = (why : Refusal) → places (inventory m.core) (space m.core) actor (size_of object (inventory m.core)) a 0 avoid (Err why) → fails_object why ≡ false
+
+-- A process that makes further copies of objects, or moves copies, has room for these and can read them. Wherever one of its steps opens a ticket for a copy this has a place; wherever one copies a piece, one of the object's copies has
+-- that on volumes that may be read; and the record of each transaction that one tries has at most 2^24 bytes.
+pub record HasRoomForCopies (trusted : Type 0) (places : Places) (actor : ℕ) (turns : List Turn) (old new : Machine) : Type 0 where
+  pub placed : (t : Turn) (m : Meets trusted places turns old new t) → t.actor ≡ actor → (object : ℕ) (a : Aim) (avoid : ℕ) (answer : Result ℕ Refusal) → t.did.deed ≡ OpenCopy object a avoid answer → HasPlaceAt places actor object a avoid m.before
+  pub read : (t : Turn) (m : Meets trusted places turns old new t) → t.actor ≡ actor → (number : ℕ) (answer : Result ℕ Refusal) (own : Ticket) → t.did.deed ≡ CopyPiece number answer → IsTicket actor number m.before own
+      → CanTake own (inventory m.before.core)
+  pub short : (t : Turn) (m : Meets trusted places turns old new t) → t.actor ≡ actor → (asked : Asked) (tickets : List ℕ) (answer : Result ℕ Refusal) (c : Change) → t.did.deed ≡ Commit asked tickets answer
+      → asked_change actor asked tickets m.before.core ≡ Some c → IsShortBy actor c
+
 -- ---- a line
 
 -- In a backup of a tree whose count of faults doesn't rise, and that has room for all files, none fails: its answer counts none. Nor does one in a restore into such a tree, from a store that is trusted to have the objects' bytes, of versions
@@ -98,9 +118,15 @@ FileUnfailed trusted places actor k (files.Incremental i) turns old new answer =
 FileUnfailed trusted places actor k (files.RestoreFiles r) turns old new answer = IsCalm r.tree k → trusted → CanGiveAll (Passes trusted places turns old new) r → answer.tally.failed ≡ 0
 FileUnfailed trusted places actor k c turns old new answer = Unit {0}
 
+-- In what makes further copies of objects, or moves copies, and has room for these and can read them, no object fails: its answer counts none.
+abbrev pub OwnUnfailed : (trusted : Type 0) → Places → (actor : ℕ) → Own → List Turn → (old new : Machine) → Answer → Type 0
+OwnUnfailed trusted places actor back_up_pool turns old new answer = HasRoomForCopies trusted places actor turns old new → answer.tally.failed ≡ 0
+OwnUnfailed trusted places actor (moves mover) turns old new answer = HasRoomForCopies trusted places actor turns old new → answer.tally.failed ≡ 0
+OwnUnfailed trusted places actor own turns old new answer = Unit {0}
+
 abbrev pub CommandUnfailed : (trusted : Type 0) → Places → (actor : ℕ) → Client → Command → List Turn → (old new : Machine) → Answer → Type 0
 CommandUnfailed trusted places actor k (commands.File c) turns old new answer = FileUnfailed trusted places actor k c turns old new answer
-CommandUnfailed trusted places actor k c turns old new answer = Unit {0}
+CommandUnfailed trusted places actor k c turns old new answer = OwnUnfailed trusted places actor (own_of c) turns old new answer
 
 -- of one that names a tree which an earlier job of the block has nothing is said here
 abbrev pub AsksUnfailed : Option ℕ → (trusted : Type 0) → Places → (actor : ℕ) → Client → Command → List Turn → (old new : Machine) → Answer → Type 0

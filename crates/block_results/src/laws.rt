@@ -86,7 +86,7 @@ pub fn blocks_have_sizes()
 {}
 
 /// Where no count of faults rose no file fails in a DSMC INCREMENTAL of a job of a block that has room for all of its files at each state that its steps meet, nor in a DSMC RESTORE of versions that can be given back at each state
-/// that its turns pass.
+/// that its turns pass; and no object fails in a process that makes further copies or moves copies, where at each state that its steps meet each copy has a place but for room that others hold, and each piece can be read.
 pub fn blocks_fail_none()
     ensures trusted { (choice : List Rule) (all : List Placed) (job first : ℕ) (turns : List Turn) (old new : Machine) (trees : List (List Known)) (came : List Came) → Turned (Unit {0}) hall_places turns old new
         → AreDone choice all job first turns trees came → JobsUnfailed (Unit {0}) hall_places choice all job first turns old new trees came }

@@ -36,10 +36,10 @@ use Rattle.line_results.proofs.Spent.{ticket-step}
 -- ---- counts
 
 -- none of these steps was refused as that of an object that can't be copied
-abbrev NoneFailing : List Event → Type 0
+abbrev pub NoneFailing : List Event → Type 0
 NoneFailing events = AllByRecursion (λ e. is_failing e.deed ≡ false) events
 
-none-counted : (events : List Event) → NoneFailing events → failing_in events ≡ 0
+pub none-counted : (events : List Event) → NoneFailing events → failing_in events ≡ 0
 none-counted [] h = refl
 none-counted (e ∷ events) h =
     ap (λ b. length (if b then e ∷ filter (λ x. is_failing x.deed) events else filter (λ x. is_failing x.deed) events)) h.0 ∙ none-counted events h.1
@@ -70,7 +70,7 @@ module _ (trusted : Type 0) (places : Places) (choice : List Rule) (numbers : Li
     never-rose file rose = sound file (rose-on old next new file (rose-from old m next file (onward-then old start m still.onward (alone-onward trusted places first start m made)) rose) more)
 
     gentle-by : (asked : Asked) (tickets : List ℕ) (answer : Result ℕ Refusal) → Copies moving P (Commit asked tickets answer) → (c : Change) → asked_change 0 asked tickets m.core ≡ Some c → IsGentle c
-    gentle-by asked tickets answer (inl (number, is, one)) c joins = joined-gentle tickets c m.core (subst (λ (a : Asked). asked_change 0 a tickets m.core ≡ Some c) is joins)
+    gentle-by asked tickets answer (inl (number, is, one)) c joins = joined-gentle 0 tickets c m.core (subst (λ (a : Asked). asked_change 0 a tickets m.core ≡ Some c) is joins)
     gentle-by asked tickets answer (inr (none, so)) c joins = gentle c (so c m.core (subst (λ (ts : List ℕ). asked_change 0 asked ts m.core ≡ Some c) none joins))
 
     deed-harmless : (d : Deed) → whole ≡ first ++ event n d ∷ later → Copies moving P d → Case places 0 d m next → is_failing d ≡ false
@@ -111,53 +111,57 @@ abbrev failed_by : Result Outcome Refusal → ℕ
 failed_by (Ok it) = failed_in it
 failed_by (Err e) = 0
 
+-- none of these steps was refused as that of an object that can't be copied, if they are those of such a process
+abbrev pub RefusesNone : List Event → Type 1
+RefusesNone events = (moving : Bool) (P : Change → Type 0) → ((c : Change) → P c → IsGentle c) → AllCopy moving P events → failing_in events ≡ 0
+
 no-gentle : (c : Change) → NoOther c → IsGentle c
 no-gentle c h = absurd h
 
 loss-as : (file : ℕ) (c : Change) → IsLoss file c → IsGentle c
 loss-as file c (name, capacity, is) = subst IsGentle (sym is) (loss-gentle name file capacity)
 
+line-failed : (mover : Mover) (m : Moved) → failed_in (came.Said (moved_line mover m)) ≡ m.failed
+line-failed data_mover m = refl
+line-failed reclaimer m = refl
+line-failed pool_restorer m = refl
+line-failed volume_restorer m = refl
+line-failed migrator m = refl
+line-failed all_migrator m = refl
+
+moved-none : (mover : Mover) (numbers : List ℕ) (events : List Event) (m : Moved) → RefusesNone events → MovesSo mover (the_number numbers) (the_second numbers) events (Ok m) → m.failed ≡ 0
+moved-none data_mover numbers events m none did =
+    no-more m.failed (failing_in events) did.came.risen
+    (none true NoOther no-gentle (all-copies true NoOther (IsMoving (the_number numbers) (the_second numbers)) (data-moves (the_number numbers) (the_second numbers)) events did.only))
+moved-none reclaimer numbers events m none did =
+    no-more m.failed (failing_in events) did.came.risen
+    (none true NoOther no-gentle (all-copies true NoOther (IsReclaiming did.files (the_number numbers)) (reclaim-moves did.files (the_number numbers)) events did.only))
+moved-none pool_restorer numbers events m none did = no-more m.failed (failing_in events) did.came.counts.risen (none true NoOther no-gentle (all-copies true NoOther IsRestore (restore-moves NoOther) events did.only))
+moved-none volume_restorer numbers events m none did =
+    no-more m.failed (failing_in events) did.came.counts.risen
+    (none true (IsLoss (the_number numbers)) (loss-as (the_number numbers)) (all-copies true (IsLoss (the_number numbers)) (IsVolumeRestore (the_number numbers)) (volume-moves (the_number numbers)) events did.only))
+moved-none migrator numbers events m none did =
+    no-more m.failed (failing_in events) did.came.risen (none true NoOther no-gentle (all-copies true NoOther (IsMigration (the_number numbers)) (migration-moves (the_number numbers)) events did.only))
+moved-none all_migrator numbers events m none did = no-more m.failed (failing_in events) did.came.risen (none true NoOther no-gentle (all-copies true NoOther IsSweep sweep-moves events did.only))
+
+-- where none was, what such a process answers counts no object as failed
+pub backed-none : (choice : List Rule) (numbers : List ℕ) (events : List Event) (it : Outcome) → RefusesNone events → DoesAlone choice back_up_pool numbers events (Ok it) → failed_in it ≡ 0
+backed-none choice numbers events it none (Err e, did, is) = absurd cc
+backed-none choice numbers events it none (Ok m, did, is) =
+    ap failed_by is ∙ no-more m.failed (failing_in events) did.came.risen (none false NoOther no-gentle (backup-copies (the_second numbers) events did.only))
+
+pub mover-none : (choice : List Rule) (mover : Mover) (numbers : List ℕ) (events : List Event) (it : Outcome) → RefusesNone events → DoesAlone choice (moves mover) numbers events (Ok it) → failed_in it ≡ 0
+mover-none choice mover numbers events it none (Err e, did, is) = absurd cc
+mover-none choice mover numbers events it none (Ok m, did, is) = ap failed_by is ∙ line-failed mover m ∙ moved-none mover numbers events m none did
+
+-- ---- where one actor has the machine alone
+
 module _ (trusted : Type 0) (places : Places) (choice : List Rule) (numbers : List ℕ) (old start new : Machine) (still : IsStill old start) (sound : (file : ℕ) → RoseFrom old new file → ⊥) (events : List Event)
     (alone : Alone trusted places 0 events start new) where
   pub copies-none : (it : Outcome) → HasRoomForCopies trusted places choice numbers back_up_pool old → DoesAlone choice back_up_pool numbers events (Ok it) → failed_in it ≡ 0
-  copies-none it room (Err e, did, is) = absurd cc
-  copies-none it room (Ok m, did, is) =
-      ap failed_by is
-      ∙ no-more m.failed (failing_in events) did.came.risen
-      (none-failing trusted places choice numbers back_up_pool it old start new events room still (Ok m, did, is) sound false NoOther no-gentle (backup-copies (the_second numbers) events did.only) alone)
-
-  line-failed : (mover : Mover) (m : Moved) → failed_in (came.Said (moved_line mover m)) ≡ m.failed
-  line-failed data_mover m = refl
-  line-failed reclaimer m = refl
-  line-failed pool_restorer m = refl
-  line-failed volume_restorer m = refl
-  line-failed migrator m = refl
-  line-failed all_migrator m = refl
-
-  module _ (mover : Mover) (it : Outcome) (room : HasRoomForCopies trusted places choice numbers (moves mover) old) (order : DoesAlone choice (moves mover) numbers events (Ok it)) where
-    none-of : (moving : Bool) (P : Change → Type 0) → ((c : Change) → P c → IsGentle c) → AllCopy moving P events → failing_in events ≡ 0
-    none-of moving P gentle all = none-failing trusted places choice numbers (moves mover) it old start new events room still order sound moving P gentle all alone
-
-  moved-none : (mover : Mover) (it : Outcome) (m : Moved) → HasRoomForCopies trusted places choice numbers (moves mover) old → DoesAlone choice (moves mover) numbers events (Ok it)
-      → MovesSo mover (the_number numbers) (the_second numbers) events (Ok m) → m.failed ≡ 0
-  moved-none data_mover it m room order did =
-      no-more m.failed (failing_in events) did.came.risen
-      (none-of data_mover it room order true NoOther no-gentle (all-copies true NoOther (IsMoving (the_number numbers) (the_second numbers)) (data-moves (the_number numbers) (the_second numbers)) events did.only))
-  moved-none reclaimer it m room order did =
-      no-more m.failed (failing_in events) did.came.risen
-      (none-of reclaimer it room order true NoOther no-gentle (all-copies true NoOther (IsReclaiming did.files (the_number numbers)) (reclaim-moves did.files (the_number numbers)) events did.only))
-  moved-none pool_restorer it m room order did =
-      no-more m.failed (failing_in events) did.came.counts.risen (none-of pool_restorer it room order true NoOther no-gentle (all-copies true NoOther IsRestore (restore-moves NoOther) events did.only))
-  moved-none volume_restorer it m room order did =
-      no-more m.failed (failing_in events) did.came.counts.risen
-      (none-of volume_restorer it room order true (IsLoss (the_number numbers)) (loss-as (the_number numbers))
-      (all-copies true (IsLoss (the_number numbers)) (IsVolumeRestore (the_number numbers)) (volume-moves (the_number numbers)) events did.only))
-  moved-none migrator it m room order did =
-      no-more m.failed (failing_in events) did.came.risen
-      (none-of migrator it room order true NoOther no-gentle (all-copies true NoOther (IsMigration (the_number numbers)) (migration-moves (the_number numbers)) events did.only))
-  moved-none all_migrator it m room order did =
-      no-more m.failed (failing_in events) did.came.risen (none-of all_migrator it room order true NoOther no-gentle (all-copies true NoOther IsSweep sweep-moves events did.only))
+  copies-none it room did =
+      backed-none choice numbers events it (λ moving P gentle all. none-failing trusted places choice numbers back_up_pool it old start new events room still did sound moving P gentle all alone) did
 
   pub moves-none : (mover : Mover) (it : Outcome) → HasRoomForCopies trusted places choice numbers (moves mover) old → DoesAlone choice (moves mover) numbers events (Ok it) → failed_in it ≡ 0
-  moves-none mover it room (Err e, did, is) = absurd cc
-  moves-none mover it room (Ok m, did, is) = ap failed_by is ∙ line-failed mover m ∙ moved-none mover it m room (Ok m, did, is) did
+  moves-none mover it room did =
+      mover-none choice mover numbers events it (λ moving P gentle all. none-failing trusted places choice numbers (moves mover) it old start new events room still did sound moving P gentle all alone) did

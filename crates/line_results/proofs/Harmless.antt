@@ -52,7 +52,7 @@ use Rattle.machine.specs.Machine.{Asks, Commits, CopiesPiece, Drops, Forces, IsL
 use Rattle.machine.specs.Pieces.{IsCopyLost, RoseAt}
 use Rattle.machine.specs.State.{Core, Machine, Place, Sight, Ticket, inventory, is_storing, object_of, sight, ticket}
 use Rattle.machine.proofs.Elsewhere.{append-all, ended-all, foremost-all, unless-all}
-use Rattle.line_results.specs.Copied.{CanTake, HasPlace, IsCopyPlaced, IsReadableIn, IsShort}
+use Rattle.line_results.specs.Copied.{CanTake, HasPlace, IsCopyPlaced, IsReadableIn, IsShort, IsShortBy}
 use Rattle.line_results.proofs.Bounds.{Named, flat-all, listed-all, refused-all, stale-or, version-all}
 use Rattle.line_results.proofs.Readable.{contained_holds}
 use Rattle.line_results.proofs.Unfound.{IsFound, answered-found}
@@ -63,26 +63,26 @@ use Rattle.line_results.proofs.Unfound.{IsFound, answered-found}
 abbrev pub IsHarmless : Refusal → Type 0
 IsHarmless e = fails_object e ≡ false
 
-abbrev AreHarmless : List Refusal → Type 0
+abbrev pub AreHarmless : List Refusal → Type 0
 AreHarmless list = AllByRecursion IsHarmless list
 
 h-named : Named IsHarmless
 h-named = record { bad = refl; missing = refl; used = λ by. refl; gone = λ n. refl; stale = λ n. refl; early = λ file day. refl }
 
-h-unless : (b : Bool) (e : Refusal) → IsHarmless e → AreHarmless (unless b e)
+pub h-unless : (b : Bool) (e : Refusal) → IsHarmless e → AreHarmless (unless b e)
 h-unless b e h = unless-all IsHarmless b e h
 
 h-and : (xs ys : List Refusal) → AreHarmless xs → AreHarmless ys → AreHarmless (xs ++ ys)
 h-and xs ys a b = append-all IsHarmless xs ys a b
 
-h-ended : (m : Machine) → AreHarmless (ended m)
+pub h-ended : (m : Machine) → AreHarmless (ended m)
 h-ended m = ended-all IsHarmless refl (λ file count. refl) m
 
 -- what is answered is one of these, or want of memory
-h-answered : (list : List Refusal) (e : Refusal) → AreHarmless list → foremost list ≡ Some e → IsHarmless e
+pub h-answered : (list : List Refusal) (e : Refusal) → AreHarmless list → foremost list ≡ Some e → IsHarmless e
 h-answered list e all h = foremost-all IsHarmless list all e h
 
-h-as : (e f : Refusal) → IsHarmless f → e ≡ f → IsHarmless e
+pub h-as : (e f : Refusal) → IsHarmless f → e ≡ f → IsHarmless e
 h-as e f h is = subst IsHarmless (sym is) h
 
 -- ---- transactions
@@ -156,10 +156,10 @@ if-gentle : (b : Bool) (x c : Change) → IsGentle x → (if b then Some x else 
 if-gentle true x c h is = subst IsGentle (same_Some x c is) h
 if-gentle false x c h is = (let odd : ◌≡◌ {A = Option Change} None (Some c) = is in absurd cc)
 
-pub joined-gentle : (numbers : List ℕ) (c : Change) (k : Core) → asked_change 0 asked.Placed numbers k ≡ Some c → IsGentle c
-joined-gentle numbers c k is =
-    (let tickets : List Ticket = all_tickets numbers (sight 0 k) in
-    if-gentle (are_so_many (length numbers) numbers (sight 0 k) && not (is_nil numbers)) (placed_change (inventory k) tickets) c (placed-gentle (inventory k) tickets) is)
+pub joined-gentle : (actor : ℕ) (numbers : List ℕ) (c : Change) (k : Core) → asked_change actor asked.Placed numbers k ≡ Some c → IsGentle c
+joined-gentle actor numbers c k is =
+    (let tickets : List Ticket = all_tickets numbers (sight actor k) in
+    if-gentle (are_so_many (length numbers) numbers (sight actor k) && not (is_nil numbers)) (placed_change (inventory k) tickets) c (placed-gentle (inventory k) tickets) is)
 
 h-sizes : (c : Change) (v : Inv) → AreHarmless (sizes_refused c v)
 h-sizes c v =
@@ -174,12 +174,12 @@ h-short : (b : Bool) → b ≡ true → AreHarmless (unless b refused.RecordFull
 h-short true is = tt
 h-short false is = absurd (false≢true is)
 
-h-change : (o : Option Change) (s : Sight) → ((c : Change) → o ≡ Some c → IsGentle c) → ((c : Change) → o ≡ Some c → IsShort c) → AreHarmless (change_refused 0 o s)
-h-change None s gentle short = tt
-h-change (Some c) s gentle short =
-    h-and (change_illegal c s) _ (h-illegal c s (gentle c refl)) (h-short (nat_le (length (entry_form.spell (record { actor = 0; change = c }))) (2 ^ 24)) (le-leb _ (2 ^ 24) (short c refl)))
+h-change : (actor : ℕ) (o : Option Change) (s : Sight) → ((c : Change) → o ≡ Some c → IsGentle c) → ((c : Change) → o ≡ Some c → IsShortBy actor c) → AreHarmless (change_refused actor o s)
+h-change actor None s gentle short = tt
+h-change actor (Some c) s gentle short =
+    h-and (change_illegal c s) _ (h-illegal c s (gentle c refl)) (h-short (nat_le (length (entry_form.spell (record { actor = actor; change = c }))) (2 ^ 24)) (le-leb _ (2 ^ 24) (short c refl)))
 
-h-others : (o : Option Change) (k : Core) → ((c : Change) → o ≡ Some c → IsGentle c) → AreHarmless (option_map_or (λ c. held_refused c k) o [])
+pub h-others : (o : Option Change) (k : Core) → ((c : Change) → o ≡ Some c → IsGentle c) → AreHarmless (option_map_or (λ c. held_refused c k) o [])
 h-others None k gentle = tt
 h-others (Some c) k gentle = (gentle c refl).held k
 
@@ -211,12 +211,13 @@ h-asked (asked.Backup filespace items) numbers s = h-storing (map (λ i. i.diges
 h-asked (asked.Hold filespace items) numbers s = h-storing (map (λ i. i.digest) items) numbers s
 h-asked asked.Placed numbers s = h-and (unless (not (is_nil numbers)) bad_value) _ (h-unless (not (is_nil numbers)) bad_value refl) (h-unless _ bad_value refl)
 
-h-commit : (a : Asked) (numbers : List ℕ) (s : Sight) → ((c : Change) → change_of a numbers s ≡ Some c → IsGentle c) → ((c : Change) → change_of a numbers s ≡ Some c → IsShort c) → AreHarmless (commit_refused 0 a numbers s)
-h-commit a numbers s gentle short =
+pub h-commit : (actor : ℕ) (a : Asked) (numbers : List ℕ) (s : Sight) → ((c : Change) → change_of a numbers s ≡ Some c → IsGentle c) → ((c : Change) → change_of a numbers s ≡ Some c → IsShortBy actor c)
+    → AreHarmless (commit_refused actor a numbers s)
+h-commit actor a numbers s gentle short =
     h-and _ _ (flat-all IsHarmless (λ number. unless (is_some (ticket number s.tickets)) refused.NotFound) (λ number. h-unless (is_some (ticket number s.tickets)) refused.NotFound refl) numbers)
     (h-and (unless (name_once numbers && nat_le (length numbers) 256) bad_value) _ (h-unless (name_once numbers && nat_le (length numbers) 256) bad_value refl)
     (h-and (asked_refused a numbers s) _ (h-asked a numbers s)
-    (h-and (of_tickets (λ t. unless t.is_sealed (ticket_in_use t.number)) numbers s) _ (h-tickets _ numbers s (λ t. h-unless t.is_sealed (ticket_in_use t.number) refl)) (h-change (change_of a numbers s) s gentle short))))
+    (h-and (of_tickets (λ t. unless t.is_sealed (ticket_in_use t.number)) numbers s) _ (h-tickets _ numbers s (λ t. h-unless t.is_sealed (ticket_in_use t.number) refl)) (h-change actor (change_of a numbers s) s gentle short))))
 
 -- ---- pieces and copies
 
@@ -230,11 +231,20 @@ h-taking number s t false =
     h-and (unless (not t.is_sealed) (ticket_in_use number)) (object_gone (object_of t.purpose) s) (h-unless (not t.is_sealed) (ticket_in_use number) refl)
     (version-all IsHarmless h-named s.journal (object_of t.purpose) (λ w. []) (λ w. tt) (version (object_of t.purpose) s.inventory))
 
+pub h-copying : (number : ℕ) (s : Sight) → AreHarmless (copying_refused number s)
+h-copying number s = h-of-ticket _ (ticket number s.tickets) (λ t. h-taking number s t (is_storing t.purpose))
+
+pub h-sealing : (number : ℕ) (s : Sight) → AreHarmless (seal_refused number s)
+h-sealing number s = h-of-ticket _ (ticket number s.tickets) (λ t. h-unless (length t.bytes == t.size) (refused.Changed t.size (length t.bytes)) refl)
+
+pub h-dropping : (number : ℕ) (s : Sight) → AreHarmless (drop_refused number s)
+h-dropping number s = h-of-ticket _ (ticket number s.tickets) (λ t. tt)
+
 h-already : (o : Option CopyRow) → AreHarmless (copied_already o)
 h-already None = tt
 h-already (Some copy) = (refl, tt)
 
-h-opening : (object : ℕ) (a : Aim) (s : Sight) → AreHarmless (copy_refused_by object a s)
+pub h-opening : (object : ℕ) (a : Aim) (s : Sight) → AreHarmless (copy_refused_by object a s)
 h-opening object (aim.New number) s = (refl, tt)
 h-opening object (aim.Move from placed to along) s =
     h-and (unless (is_some (pool to s.inventory)) refused.NotFound) _ (h-unless (is_some (pool to s.inventory)) refused.NotFound refl)
@@ -249,14 +259,38 @@ h-placing true (Ok place) h = tt
 h-placing true (Err e) h = (h, tt)
 h-placing false placed h = tt
 
+-- ---- questions
+
+found-harmless : {A : Type 0} (r : Result A Refusal) → IsFound r → AreHarmless (refusal_of r)
+found-harmless (Ok x) h = tt
+found-harmless (Err f) h = (h-as f refused.NotFound refl h, tt)
+
+pub h-asking : (q : Query) (v : Inv) → AreHarmless (refusal_of (answered q v))
+h-asking q v = found-harmless (answered q v) (answered-found q v)
+
+-- ---- what can be read
+
+-- a copy that can be read isn't lost, where no count of faults rose
+copy-kept : (m next : Machine) (t : Ticket) → ((file : ℕ) → RoseAt m.counts next.counts file → ⊥) → (copy : CopyRow) → IsReadableIn (length t.bytes) (next_count t) copy (inventory m.core)
+    → IsCopyLost (RoseAt m.counts next.counts) (inventory m.core) (length t.bytes) (next_count t) copy → ⊥
+copy-kept m next t never copy all (s, has, inl unreadable) =
+    false≢true (sym unreadable ∙ contained_holds (λ (x : Segment). is_readable x.file (inventory m.core) ≡ true) (segments_in 0 (length t.bytes) (next_count t) copy.segments) s has all)
+copy-kept m next t never copy all (s, has, inr rose) = never s.file rose
+
+-- nor is the piece that a ticket takes next lost for each copy
+pub read-never : (m next : Machine) (t : Ticket) → CanTake t (inventory m.core) → ((file : ℕ) → RoseAt m.counts next.counts file → ⊥) → (o : Option Version) → version (object_of t.purpose) (inventory m.core) ≡ o
+    → IsLostFor m next 0 (length t.bytes) (next_count t) o → ⊥
+read-never m next t can never None is lost = lost
+read-never m next t can never (Some w) is lost =
+    let k = can w is in
+    let one = contained_holds (IsCopyLost (RoseAt m.counts next.counts) (inventory m.core) (length t.bytes) (next_count t)) w.copies k.0 k.1 lost in
+    copy-kept m next t never k.0 k.2 one
+
 -- ---- steps
 
 module _ (m next : Machine) (e : Refusal) where
   pub ask-harmless : (q : Query) → Asks 0 q m next (Err e) → IsHarmless e
-  ask-harmless q (inl (inl why, stays)) = h-answered _ e (h-and (ended m) _ (h-ended m) (found-harmless (answered q (inventory m.core)) (answered-found q (inventory m.core)))) why where
-    found-harmless : {A : Type 0} (r : Result A Refusal) → IsFound r → AreHarmless (refusal_of r)
-    found-harmless (Ok x) h = tt
-    found-harmless (Err f) h = (h-as f refused.NotFound refl h, tt)
+  ask-harmless q (inl (inl why, stays)) = h-answered _ e (h-and (ended m) _ (h-ended m) (h-asking q (inventory m.core))) why
   ask-harmless q (inl (inr memory, stays)) = h-as e refused.Memory refl memory
   ask-harmless q (inr (none, never)) = absurd never
 
@@ -275,35 +309,21 @@ module _ (m next : Machine) (e : Refusal) where
   open-harmless places object a avoid room (placed, at, inl (inr memory, stays)) = h-as e refused.Memory refl memory
   open-harmless places object a avoid room (placed, at, inr (none, never)) = absurd never
 
-  -- what has a copy that can be read isn't lost
-  read-never : (t : Ticket) → CanTake t (inventory m.core) → ((file : ℕ) → RoseAt m.counts next.counts file → ⊥) → (o : Option Version) → version (object_of t.purpose) (inventory m.core) ≡ o
-      → IsLostFor m next 0 (length t.bytes) (next_count t) o → ⊥
-  read-never t can never None is lost = lost
-  read-never t can never (Some w) is lost =
-      let k = can w is in
-      let one = contained_holds (IsCopyLost (RoseAt m.counts next.counts) (inventory m.core) (length t.bytes) (next_count t)) w.copies k.0 k.1 lost in
-      copy-kept k.0 k.2 one
-    where
-      copy-kept : (copy : CopyRow) → IsReadableIn (length t.bytes) (next_count t) copy (inventory m.core) → IsCopyLost (RoseAt m.counts next.counts) (inventory m.core) (length t.bytes) (next_count t) copy → ⊥
-      copy-kept copy all (s, has, inl unreadable) =
-          false≢true (sym unreadable ∙ contained_holds (λ (x : Segment). is_readable x.file (inventory m.core) ≡ true) (segments_in 0 (length t.bytes) (next_count t) copy.segments) s has all)
-      copy-kept copy all (s, has, inr rose) = never s.file rose
-
   pub piece-harmless : (number : ℕ) → ((t : Ticket) → IsTicket 0 number m t → CanTake t (inventory m.core)) → ((file : ℕ) → RoseAt m.counts next.counts file → ⊥) → CopiesPiece 0 number m next (Err e) → IsHarmless e
   piece-harmless number can never (inl (inl why, stays)) =
-      h-answered _ e (h-and (ended m) (copying_refused number (sight 0 m.core)) (h-ended m) (h-of-ticket _ (ticket number (sight 0 m.core).tickets) (λ t. h-taking number (sight 0 m.core) t (is_storing t.purpose)))) why
+      h-answered _ e (h-and (ended m) (copying_refused number (sight 0 m.core)) (h-ended m) (h-copying number (sight 0 m.core))) why
   piece-harmless number can never (inl (inr memory, stays)) = h-as e refused.Memory refl memory
-  piece-harmless number can never (inr (none, inl (t, is, why, cant, stays))) = absurd (read-never t (can t is) never (version (object_of t.purpose) (inventory m.core)) refl cant)
+  piece-harmless number can never (inr (none, inl (t, is, why, cant, stays))) = absurd (read-never m next t (can t is) never (version (object_of t.purpose) (inventory m.core)) refl cant)
   piece-harmless number can never (inr (none, inr (t, file, is, has, why, rose, becomes))) = absurd (never file rose)
 
   pub seal-harmless : (number : ℕ) → ((file : ℕ) → RoseAt m.counts next.counts file → ⊥) → Seals 0 number m next (Err e) → IsHarmless e
   seal-harmless number never (inl (inl why, stays)) =
-      h-answered _ e (h-and (ended m) (seal_refused number (sight 0 m.core)) (h-ended m) (h-of-ticket _ (ticket number (sight 0 m.core).tickets) (λ t. h-unless (length t.bytes == t.size) (refused.Changed t.size (length t.bytes)) refl))) why
+      h-answered _ e (h-and (ended m) (seal_refused number (sight 0 m.core)) (h-ended m) (h-sealing number (sight 0 m.core))) why
   seal-harmless number never (inl (inr memory, stays)) = h-as e refused.Memory refl memory
   seal-harmless number never (inr (none, (t, file, is, has, why, rose, becomes))) = absurd (never file rose)
 
   pub drop-harmless : (number : ℕ) → Drops 0 number m next (Err e) → IsHarmless e
-  drop-harmless number (inl (inl why, stays)) = h-answered _ e (h-and (ended m) (drop_refused number (sight 0 m.core)) (h-ended m) (h-of-ticket _ (ticket number (sight 0 m.core).tickets) (λ t. tt))) why
+  drop-harmless number (inl (inl why, stays)) = h-answered _ e (h-and (ended m) (drop_refused number (sight 0 m.core)) (h-ended m) (h-dropping number (sight 0 m.core))) why
   drop-harmless number (inl (inr memory, stays)) = h-as e refused.Memory refl memory
   drop-harmless number (inr (none, never)) = absurd never
 
@@ -312,6 +332,6 @@ module _ (m next : Machine) (e : Refusal) where
   commit-harmless a numbers gentle short (inl (inl why, stays)) =
       h-answered _ e
       (h-and (ended m) _ (h-ended m)
-      (h-and (commit_refused 0 a numbers (sight 0 m.core)) _ (h-commit a numbers (sight 0 m.core) gentle short) (h-others (asked_change 0 a numbers m.core) m.core gentle))) why
+      (h-and (commit_refused 0 a numbers (sight 0 m.core)) _ (h-commit 0 a numbers (sight 0 m.core) gentle short) (h-others (asked_change 0 a numbers m.core) m.core gentle))) why
   commit-harmless a numbers gentle short (inl (inr memory, stays)) = h-as e refused.Memory refl memory
   commit-harmless a numbers gentle short (inr (none, (c, file, count, is, why, fault, joins))) = h-as e (refused.LogFault file count) refl why

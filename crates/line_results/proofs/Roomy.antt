@@ -474,7 +474,7 @@ same-reused : (number : ℕ) (it : Outcome) → failed_in (with_reused number it
 same-reused number (came.Said line) = line-reused number line
 same-reused number it = refl
 
-reused-done : (said : Result Outcome Refusal) (it : Outcome) (events : List Event) → Reusing said events (Ok it) → (x : Outcome) × (said ≡ Ok x) × (failed_in it ≡ failed_in x)
+pub reused-done : (said : Result Outcome Refusal) (it : Outcome) (events : List Event) → Reusing said events (Ok it) → (x : Outcome) × (said ≡ Ok x) × (failed_in it ≡ failed_in x)
 reused-done (Ok x) it events (Ok number, reuse, is) = (x, refl, ap failed_by is ∙ same-reused number x)
 reused-done (Ok x) it events (Err e, reuse, is) = absurd cc
 reused-done (Err e) it events (none, is) = absurd cc

@@ -23,7 +23,7 @@ use Rattle.command_steps.specs.Doing.{DoesAlone}
 use Rattle.command_steps.specs.Owns.{Own}
 use Rattle.command_steps.specs.declared.outcome.Outcome.{Outcome}
 use Rattle.line_results.specs.Commands.{IsStill}
-use Rattle.line_results.specs.Resting.{RoseFrom, entry}
+use Rattle.line_results.specs.Resting.{RoseFrom}
 
 -- The process, over the numbers of the things that it names, may come to this step: by the steps before it, which one that answers may begin with, the machine went from the one state to the other, and by
 -- them no file's count of faults rose.
@@ -75,9 +75,12 @@ HasPieces trusted places choice numbers own old =
 
 -- ---- transactions
 
--- the record of the transaction has at most 2^24 bytes
+-- the record of the transaction of this actor has at most 2^24 bytes
+abbrev pub IsShortBy : (actor : ℕ) → Change → Type 0
+IsShortBy actor c = length (entry_form.spell (record { actor = actor; change = c })) ≤ 2 ^ 24
+
 abbrev pub IsShort : Change → Type 0
-IsShort c = length (entry_form.spell (entry c)) ≤ 2 ^ 24
+IsShort c = IsShortBy 0 c
 
 -- so has each that it tries, of which each is of one copy
 abbrev pub HasRecords : (trusted : Type 0) → Places → List Rule → (numbers : List ℕ) → Own → (old : Machine) → Type 0
