@@ -152,7 +152,7 @@ use Rattle.line_results.specs.Commands.{drawn, validated}
 use Rattle.line_results.specs.Files.{filespace_defined}
 use Rattle.line_results.specs.Resting.{Onward, RoseFrom, database}
 use Rattle.block_results.specs.Filled.{IsFilled, IsInUse}
-use Rattle.block_results.specs.Legal.{AreAnswers, AreThere, IsAnswered, IsAnsweredWith, IsComplete, IsHome, IsLegal, IsNoBackup, IsReadable, IsUnopened, MayBackUp, MayBy, MayCheckpoint, MayCommit, MayDo, MayGet, MayLose, MayOn, MayOwn, Passes, Remains, IsThereOrDefined, HasRoom, IsBound, MayStore, IsKeptIn, StaysKept, stored_with, MayPut}
+use Rattle.block_results.specs.Legal.{AreAnswers, AreThere, HasRoom, IsAnswered, IsAnsweredWith, IsBound, IsComplete, IsHome, IsKeptIn, IsLegal, IsNoBackup, IsReadable, IsThereOrDefined, IsUnopened, MayBackUp, MayBy, MayCheckpoint, MayCommit, MayDo, MayGet, MayLose, MayOn, MayOwn, MayPut, MayStore, OpensAt, Passes, Remains, StaysKept, stored_with}
 use Rattle.block_results.specs.Processes.{MayProcess}
 use Rattle.block_results.specs.Refusing.{HasNoPlace, IsRefusedFor, IsUnended, IsUnread, bounds, held_reasons, own_reasons}
 use Rattle.block_results.proofs.Came.{Said as SaidOf}
@@ -424,6 +424,9 @@ module _ (trusted : Type 0) (places : Places) (actor : ℕ) where
     -- no fault has halted the hall, or its rows are sound
     passed-sound : (m : Machine) → Is m → AreSound m.core
     passed-sound m at = turned-sound trusted places at.0 old m at.3 sounds
+
+    abbrev Opening : (pool size : ℕ) → Machine → Type 0
+    Opening pool size m = OpensAt trusted places actor turns old new pool size m
 
     none-rose : (Q : Deed → Type 0) (s : Stands Q turns old new) (file : ℕ) → RoseAt s.before.counts s.after.counts file → ⊥
     none-rose Q s file rose = unrisen file (rose-within old s.before s.after new file s.first rose s.last)
@@ -1386,7 +1389,11 @@ module _ (trusted : Type 0) (places : Places) (actor : ℕ) where
     -- what holds of each state
     abbrev AreReady : List Rule → FilePut → ℕ → Home → Type 0
     AreReady choice p node home =
-        (m : Machine) → Is m → IsHome actor p.node p.filespace node m × IsBound node choice p home (database m) × HasRoom places actor home.pool (length p.text) m × MayStore actor node p home.class m
+        (m : Machine) → Is m → IsHome actor p.node p.filespace node m × IsBound node choice p home (database m) × MayStore actor node p home.class m
+
+    -- and of each at which a ticket is opened for it
+    abbrev IsRoomy : FilePut → Home → Type 0
+    IsRoomy p home = (m : Machine) → Opening home.pool (length p.text) m → HasRoom places actor home.pool (length p.text) m
 
     -- ---- where it goes
 
@@ -1589,11 +1596,12 @@ module _ (trusted : Type 0) (places : Places) (actor : ℕ) where
 
     -- ---- its place
 
-    unopened-not : (choice : List Rule) (p : FilePut) (node : ℕ) (home : Home) (e : Refusal) → halt_by e ≡ None → (((h : Holder) → e ≡ refused.Busy h → ⊥)) → AreReady choice p node home
-        → (s : Stands (λ d. d ≡ OpenNew home.pool (length p.text) 0 (Err e)) turns old new) → ⊥
-    unopened-not choice p node home e mild free ready s =
+    unopened-not : (choice : List Rule) (p : FilePut) (node : ℕ) (home : Home) (e : Refusal) → halt_by e ≡ None → (((h : Holder) → e ≡ refused.Busy h → ⊥)) → IsRoomy p home
+        → Stood trusted places actor (λ d. d ≡ OpenNew home.pool (length p.text) 0 (Err e)) turns old new → ⊥
+    unopened-not choice p node home e mild free roomy st =
+        let s = stands-as (λ d. d ≡ OpenNew home.pool (length p.text) 0 (Err e)) turns old new st in
         let for : IsRefusedFor places actor s.did.deed s.before s.after e = moved-for trusted places actor s.did s.before s.after e s.made (ap refusal s.is) in
-        let room = (ready s.before s.passes).2 in
+        let room = roomy s.before (st.turn, st.meets, st.mine, Err e, st.is, refl) in
         never places actor (OpenNew home.pool (length p.text) 0 (Err e)) s.before s.after e (subst (λ (d : Deed). IsRefusedFor places actor d s.before s.after e) s.is for) mild
         (λ h. nothing-held e (new_refused home.pool (length p.text) (sight actor s.before.core)) room.0 h) (λ h. (let held = room.1 e h in free held.0 held.1)) refl
         (two-rooms (nat_lt (s.before.core.next_object + 1) (2 ^ 62)) (nat_lt (s.before.core.next_ticket + 1) (2 ^ 62)) (lt-ltb (s.before.core.next_object + 1) (2 ^ 62) room.2) (lt-ltb (s.before.core.next_ticket + 1) (2 ^ 62) room.3))
@@ -1669,14 +1677,14 @@ module _ (trusted : Type 0) (places : Places) (actor : ℕ) where
     unopened-as f e is = (failing-as f e (is_unopened f) is, λ h odd. cc)
 
     -- one try
-    untried : (choice : List Rule) (p : FilePut) (node : ℕ) (home : Home) (e : Refusal) (front own back : List Event) → events_of actor turns ≡ front ++ (own ++ back) → halt_by e ≡ None → (e ≡ refused.TreeFault → ⊥) → AreReady choice p node home
+    untried : (choice : List Rule) (p : FilePut) (node : ℕ) (home : Home) (e : Refusal) (front own back : List Event) → events_of actor turns ≡ front ++ (own ++ back) → halt_by e ≡ None → (e ≡ refused.TreeFault → ⊥) → IsRoomy p home
         → holder_in {A = Sealed} (Err e) ≡ None → SendsOnce (Some (file_put p)) home.pool (length p.text) (Err e) own → ⊥
-    untried choice p node home e front own back cut mild sound ready free (before, after_it, Ok (sent.Written ticket digest), sending, is) = absurd cc
-    untried choice p node home e front own back cut mild sound ready free (before, after_it, Ok (sent.Held h), sending, is) =
+    untried choice p node home e front own back cut mild sound roomy free (before, after_it, Ok (sent.Written ticket digest), sending, is) = absurd cc
+    untried choice p node home e front own back cut mild sound roomy free (before, after_it, Ok (sent.Held h), sending, is) =
         let same : e ≡ refused.Busy h = cc in
         let odd : Some h ≡ None = ap (λ (x : Refusal). holder_in {A = Sealed} (Err x)) (sym same) ∙ free in
         cc
-    untried choice p node home e front own back cut mild sound ready free (before, after_it, Err f, sending, is) =
+    untried choice p node home e front own back cut mild sound roomy free (before, after_it, Err f, sending, is) =
         let same : e ≡ f = cc in
         ends-halt e (subst Ends (sym same) (sends-ends home.pool (length p.text) before after_it own f sending.order)) mild
       where
@@ -1684,7 +1692,7 @@ module _ (trusted : Type 0) (places : Places) (actor : ℕ) where
         sends-ends pool size before after_it events f (inl (why, made, is)) = unopened-ends f why is
         sends-ends pool size before after_it events f (inr (ticket, (xs, ys, apart, made, inl (digest, fills, is)))) = absurd cc
         sends-ends pool size before after_it events f (inr (ticket, (xs, ys, apart, made, inr (why, (us, vs, cut_in, fills, gives))))) = given-up-ends ticket why f vs gives
-    untried choice p node home e front own back cut mild sound ready free (before, after_it, Ok (sent.Failed g), sending, is) =
+    untried choice p node home e front own back cut mild sound roomy free (before, after_it, Ok (sent.Failed g), sending, is) =
         let same : e ≡ g = cc in
         failed-not g (subst (λ (x : Refusal). halt_by x ≡ None) same mild) (λ tree. sound (same ∙ tree)) sending.order
       where
@@ -1692,8 +1700,8 @@ module _ (trusted : Type 0) (places : Places) (actor : ℕ) where
         failed-not g mild_g sound_g (inl (f, made, opened)) =
             let was = unopened-as f g opened in
             let mild_f : halt_by f ≡ None = subst (λ (x : Refusal). halt_by x ≡ None) was.0 mild_g in
-            unopened-not choice p node home f mild_f was.1 ready
-            (stands (λ d. d ≡ OpenNew home.pool (length p.text) 0 (Err f)) turns old new ran
+            unopened-not choice p node home f mild_f was.1 roomy
+            (stood trusted places actor (λ d. d ≡ OpenNew home.pool (length p.text) 0 (Err f)) turns old new ran
             (among (λ d. d ≡ OpenNew home.pool (length p.text) 0 (Err f)) front own back cut (met-made (OpenNew home.pool (length p.text) 0 (Err f)) f own refl mild_f made)))
         failed-not g mild_g sound_g (inr (ticket, (xs, ys, apart, made, inl (digest, fills, odd)))) = absurd cc
         failed-not g mild_g sound_g (inr (ticket, (xs, ys, apart, made, inr (f, (us, vs, cut_in, fills, gives))))) =
@@ -1711,13 +1719,13 @@ module _ (trusted : Type 0) (places : Places) (actor : ℕ) where
     waited-busy (holder.Image other) own e mild (none, inr (inl same)) = (holder.Image other, cc)
     waited-busy (holder.Image other) own e mild (none, inr (inr same)) = (let one : e ≡ refused.Memory = cc in absurd (not-memory e mild one))
 
-    unsent : (choice : List Rule) (p : FilePut) (node : ℕ) (home : Home) (e : Refusal) (front own back : List Event) → events_of actor turns ≡ front ++ (own ++ back) → halt_by e ≡ None → (e ≡ refused.TreeFault → ⊥) → AreReady choice p node home
+    unsent : (choice : List Rule) (p : FilePut) (node : ℕ) (home : Home) (e : Refusal) (front own back : List Event) → events_of actor turns ≡ front ++ (own ++ back) → halt_by e ≡ None → (e ≡ refused.TreeFault → ⊥) → IsRoomy p home
         → SendsSealed (Some (file_put p)) home.pool (length p.text) own (Err e) → IsBusy e
-    unsent choice p node home e front own back cut mild sound ready (waited, (xs, ys, apart, waits, inl (free, tries))) =
-        absurd (untried choice p node home e (front ++ xs) ys back (parts-next front own back xs ys cut apart) mild sound ready free tries)
-    unsent choice p node home e front own back cut mild sound ready (waited, (xs, ys, apart, waits, inr (inl (f, (h, (us, vs, cut_in, tries, awaits)), is)))) =
+    unsent choice p node home e front own back cut mild sound roomy (waited, (xs, ys, apart, waits, inl (free, tries))) =
+        absurd (untried choice p node home e (front ++ xs) ys back (parts-next front own back xs ys cut apart) mild sound roomy free tries)
+    unsent choice p node home e front own back cut mild sound roomy (waited, (xs, ys, apart, waits, inr (inl (f, (h, (us, vs, cut_in, tries, awaits)), is)))) =
         let same : e ≡ f = cc in subst IsBusy (sym same) (waited-busy h vs f (subst (λ (x : Refusal). halt_by x ≡ None) same mild) awaits)
-    unsent choice p node home e front own back cut mild sound ready (waited, (xs, ys, apart, waits, inr (inr (many, none, is)))) = (let same : e ≡ refused.Memory = cc in absurd (not-memory e mild same))
+    unsent choice p node home e front own back cut mild sound roomy (waited, (xs, ys, apart, waits, inr (inr (many, none, is)))) = (let same : e ≡ refused.Memory = cc in absurd (not-memory e mild same))
 
     -- what was sent has the text's digest, and lies in a ticket that is there
     abbrev Opened : (ticket : ℕ) → List Event → Type 0
@@ -1856,7 +1864,7 @@ module _ (trusted : Type 0) (places : Places) (actor : ℕ) where
         let s = stands-as (λ x. x ≡ d) turns old new t.two in
         let m : Machine = t.two.meets.before in
         let at = still-told p node filespace number home.class a (Err why) (λ n there. (ready n there).0) stays has t in
-        let may : MayCommit actor (stored_with filespace p home.class t.has.0 (database m)) m = (ready m s.passes).3 filespace number t.has.0 at t.has.1 in
+        let may : MayCommit actor (stored_with filespace p home.class t.has.0 (database m)) m = (ready m s.passes).2 filespace number t.has.0 at t.has.1 in
         let for : IsRefusedFor places actor s.did.deed s.before s.after why = moved-for trusted places actor s.did s.before s.after why s.made (ap refusal s.is) in
         let free : held_reasons actor d m.core ≡ [] = ap (λ (o : Option Change). option_map_or (λ it. held_refused it m.core) o []) (change-is filespace p home.class number t.has.0 m t.has.1) in
         let reason = only-own places actor d s.before s.after why (subst (λ (x : Deed). IsRefusedFor places actor x s.before s.after why) s.is for) mild (λ h. h) free refl (none-rose (λ x. x ≡ d) s) (λ h. h) (λ h. h) in
@@ -2005,11 +2013,11 @@ module _ (trusted : Type 0) (places : Places) (actor : ℕ) where
         let all = at ∙ ap (λ (l : List Event). (pre ++ front) ++ (o ∷ (fills ++ (c ∷ l)))) (append_assoc vs ys back) in
         unnamed choice p node filespace number x home e (pre ++ front) fills vs ys back o c refl all mild ready stays keeps (a, has, met-first pre front (λ d. d ≡ Ask (space_query p) (Ok a)) met) opens keep names
 
-    unput : (choice : List Rule) (p : FilePut) (e : Refusal) (front own back : List Event) → events_of actor turns ≡ front ++ (own ++ back) → halt_by e ≡ None → (e ≡ refused.TreeFault → ⊥) → MayPut places Is actor choice p
+    unput : (choice : List Rule) (p : FilePut) (e : Refusal) (front own back : List Event) → events_of actor turns ≡ front ++ (own ++ back) → halt_by e ≡ None → (e ≡ refused.TreeFault → ⊥) → MayPut places Is Opening actor choice p
         → Puts p.node p.filespace choice (Some (file_put p)) (row_put p) own (Err e) → IsBusy e
-    unput choice p e front own back cut mild sound (node, home, ready, stays, keeps) (inl (f, finds, is)) =
+    unput choice p e front own back cut mild sound (node, home, ready, room, stays, keeps) (inl (f, finds, is)) =
         let same : e ≡ f = cc in absurd (unhomed choice p node home f front own back cut (subst (λ (x : Refusal). halt_by x ≡ None) same mild) ready finds)
-    unput choice p e front own back cut mild sound (node, home, ready, stays, keeps) (inr (other, (xs, ys, apart, finds, under))) =
+    unput choice p e front own back cut mild sound (node, home, ready, room, stays, keeps) (inr (other, (xs, ys, apart, finds, under))) =
         under-home (subst (λ (h : Home). PutsUnder p.node p.filespace (Some (file_put p)) (row_put p) h ys (Err e)) (homed choice p node home other front xs (ys ++ back) (parts-first front own back xs ys cut apart) ready finds) under)
       where
         at : events_of actor turns ≡ (front ++ xs) ++ (ys ++ back)
@@ -2022,7 +2030,7 @@ module _ (trusted : Type 0) (places : Places) (actor : ℕ) where
         put-in filespace us vs cut_in spaces (inl (f, sends, is)) =
             let same : e ≡ f = cc in
             subst IsBusy (sym same)
-            (unsent choice p node home f ((front ++ xs) ++ us) vs back (parts-next (front ++ xs) ys back us vs at cut_in) (subst (λ (x : Refusal). halt_by x ≡ None) same mild) (λ tree. sound (same ∙ tree)) ready sends)
+            (unsent choice p node home f ((front ++ xs) ++ us) vs back (parts-next (front ++ xs) ys back us vs at cut_in) (subst (λ (x : Refusal). halt_by x ≡ None) same mild) (λ tree. sound (same ∙ tree)) room sends)
         put-in filespace us vs cut_in spaces (inr (s, (ps, qs, cut_more, sends, stores))) =
             let so = sent-so p home.pool s ps sends in
             let same : s ≡ record { ticket = s.ticket; digest = digest_with (sha256 p.text) } = ap (λ (d : Digest). record { ticket = s.ticket; digest = d }) so.0 in
@@ -2040,13 +2048,13 @@ module _ (trusted : Type 0) (places : Places) (actor : ℕ) where
         under-home (inr (filespace, (us, vs, cut_in, spaces, puts))) =
             put-in filespace us vs cut_in (subst (λ (n : ℕ). FindsFilespace p.node p.filespace n us (Ok filespace)) node-is spaces) puts
 
-    unput-text : (choice : List Rule) (p : FilePut) (e : Refusal) (front own back : List Event) → events_of actor turns ≡ front ++ (own ++ back) → halt_by e ≡ None → MayPut places Is actor choice p → OrMemory (PutsText choice p) own (Err e) → IsBusy e
+    unput-text : (choice : List Rule) (p : FilePut) (e : Refusal) (front own back : List Event) → events_of actor turns ≡ front ++ (own ++ back) → halt_by e ≡ None → MayPut places Is Opening actor choice p → OrMemory (PutsText choice p) own (Err e) → IsBusy e
     unput-text choice p e front own back cut mild may (inl (inl (puts, sound))) = unput choice p e front own back cut mild (λ tree. sound (ap (λ (x : Refusal). Err x) tree)) may puts
     unput-text choice p e front own back cut mild may (inl (inr (puts, is))) = (let same : e ≡ refused.Memory = cc in absurd (not-memory e mild same))
     unput-text choice p e front own back cut mild may (inr (none, is)) = (let same : e ≡ refused.Memory = cc in absurd (not-memory e mild same))
 
     -- work of a command's own
-    undone : (k : Client) (own : Own) (numbers : List ℕ) (e : Refusal) (front did back : List Event) → events_of actor turns ≡ front ++ (did ++ back) → halt_by e ≡ None → MayOwn places Is actor k own → DoesOwn k own numbers did (Err e) → IsBusyBy own e
+    undone : (k : Client) (own : Own) (numbers : List ℕ) (e : Refusal) (front did back : List Event) → events_of actor turns ≡ front ++ (did ++ back) → halt_by e ≡ None → MayOwn places Is Opening actor k own → DoesOwn k own numbers did (Err e) → IsBusyBy own e
     undone k (validate set) numbers e front did back cut mild may h = absurd (invalid set e front did back cut mild may h.1)
     undone k (on_tree work) numbers e front did back cut mild may h = unwritten k work e front did back cut mild may h
     undone k none_but_reuse numbers e front did back cut mild may h =
@@ -2067,7 +2075,7 @@ module _ (trusted : Type 0) (places : Places) (actor : ℕ) where
     undone k (audit_volume fix) numbers e front did back cut mild may h = absurd may
     undone k none_yet numbers e front did back cut mild may h = absurd may
 
-    does-none : (k : Client) (c : Command) (work : Work) (e : Refusal) (front did back : List Event) → events_of actor turns ≡ front ++ (did ++ back) → IsPlainWork (Ok work) → halt_by e ≡ None → MayBy places Is actor k (own_of c) (Ok work)
+    does-none : (k : Client) (c : Command) (work : Work) (e : Refusal) (front did back : List Event) → events_of actor turns ≡ front ++ (did ++ back) → IsPlainWork (Ok work) → halt_by e ≡ None → MayBy places Is Opening actor k (own_of c) (Ok work)
         → Does k c work did (Err e) → IsBusyBy (own_of c) e ⊎ IsUnopenedBy (own_of c) e
     does-none k c (CommitWork what) e front did back cut plain mild may h =
         absurd (unchanged what e front did back cut (and_parts (is_plain what) _ plain).0 mild may (gives-err (Changing what) (λ number. Said (last_of what)) did e h.1))
@@ -2139,7 +2147,7 @@ module _ (trusted : Type 0) (places : Places) (actor : ℕ) where
     unopened-so own n e answer said h = absurd h
 
     work-none : (k : Client) (n : ℕ) (c : Command) (work : Result Work Refusal) (e : Refusal) (answer : Answer) (front did : List Event) → events_of actor turns ≡ front ++ did → IsPlainWork work → halt_by e ≡ None → is_held (Some e) ≡ false → answer ≡ answer_refused n e
-        → MayBy places Is actor k (own_of c) work → WorksOrWants k c work did (Err e) → Answered n c answer
+        → MayBy places Is Opening actor k (own_of c) work → WorksOrWants k c work did (Err e) → Answered n c answer
     work-none k n c (Err why) e answer front did cut plain mild unheld said may h = absurd may
     work-none k n c (Ok work) e answer front did cut plain mild unheld said may (inl (Ok it, (xs, ys, apart, does, ends))) =
         inl (ends-none (behind c) n it e (front ++ xs) ys (events_of actor turns) answer (cut ∙ ap (λ (l : List Event). front ++ l) apart ∙ sym (append_assoc front xs ys)) mild unheld said ends)
@@ -2153,7 +2161,7 @@ module _ (trusted : Type 0) (places : Places) (actor : ℕ) where
         ])
     work-none k n c (Ok work) e answer front did cut plain mild unheld said may (inr (kept, none, is)) = (let same : e ≡ refused.Memory = cc in absurd (not-memory e mild same))
 
-    doing-none : (k : Client) (n : ℕ) (c : Command) (e : Refusal) (answer : Answer) → halt_by e ≡ None → is_held (Some e) ≡ false → answer ≡ answer_refused n e → MayDo places Is actor k c → Doing k c (events_of actor turns) (Err e) → Answered n c answer
+    doing-none : (k : Client) (n : ℕ) (c : Command) (e : Refusal) (answer : Answer) → halt_by e ≡ None → is_held (Some e) ≡ false → answer ≡ answer_refused n e → MayDo places Is Opening actor k c → Doing k c (events_of actor turns) (Err e) → Answered n c answer
     doing-none k n c e answer mild unheld said may (inl (f, kept, looks, is)) =
         let same : e ≡ f = cc in
         absurd (looked-none (needs c) e [] (events_of actor turns) [] (sym (append-nil (events_of actor turns))) mild may.0 (subst (λ (x : Refusal). OrMemory (AsksAll (needs c)) (events_of actor turns) (Err x)) (sym same) looks))
@@ -2161,12 +2169,12 @@ module _ (trusted : Type 0) (places : Places) (actor : ℕ) where
         work-none k n c (work_of c answers) e answer xs ys cut (work-plain c answers) mild unheld said (may.1 answers (looked-answers (needs c) answers [] xs ys cut looks)) works
     doing-none k n c e answer mild unheld said may (inr (answers, (xs, ys, cut, inr (none, is), works))) = absurd cc
 
-    asks-complete : (k : Client) (n : ℕ) (c : Command) (answer : Answer) (why : Option Refusal) (said : SaidOf) → is_held why ≡ false → MayDo places Is actor k c → Doing k c (events_of actor turns) said → EndsLine n said (Ok (answer, why)) → Answered n c answer
+    asks-complete : (k : Client) (n : ℕ) (c : Command) (answer : Answer) (why : Option Refusal) (said : SaidOf) → is_held why ≡ false → MayDo places Is Opening actor k c → Doing k c (events_of actor turns) said → EndsLine n said (Ok (answer, why)) → Answered n c answer
     asks-complete k n c answer why (Ok it) unheld may doing ends = inl (zero-with (behind c) n (events_of actor turns) answer (ap (λ (p : Answer × Option Refusal). p.0.tally.refused) ends))
     asks-complete k n c answer why (Err e) unheld may doing ends =
         doing-none k n c e answer ends.0 (subst (λ (w : Option Refusal). is_held w ≡ false) (ap (λ (p : Answer × Option Refusal). p.1) ends.1) unheld) (ap (λ (p : Answer × Option Refusal). p.0) ends.1) may doing
 
-    in-job-complete : (k : Client) (in_use : Option ℕ) (n : ℕ) (line : Line) (answer : Answer) (why : Option Refusal) → is_held why ≡ false → IsLegal places Is actor k in_use line → DoesInJob k in_use n line (events_of actor turns) (Ok (answer, why))
+    in-job-complete : (k : Client) (in_use : Option ℕ) (n : ℕ) (line : Line) (answer : Answer) (why : Option Refusal) → is_held why ≡ false → IsLegal places Is Opening actor k in_use line → DoesInJob k in_use n line (events_of actor turns) (Ok (answer, why))
         → IsAnswered Is n line (events_of actor turns) answer
     in-job-complete k None n comment answer why unheld may (kept, none, is) = (let same : ◌≡◌ {A = Answer × Option Refusal} (answer, why) (nothing, None) = cc in ap (λ (p : Answer × Option Refusal). p.0.tally.refused) same)
     in-job-complete k (Some number) n comment answer why unheld may (kept, none, is) = (let same : ◌≡◌ {A = Answer × Option Refusal} (answer, why) (nothing, None) = cc in ap (λ (p : Answer × Option Refusal). p.0.tally.refused) same)

@@ -48,7 +48,7 @@ use Rattle.line_results.specs.pool_restores.Listing.{destroying_of}
 use Rattle.line_results.specs.reuse_delay.Reusing.{VolumeReuse}
 use Rattle.space.specs.declared.aim.Aim.{Aim}
 use Rattle.steps.specs.Events.{Event}
-use Rattle.steps.specs.Events.Deed.{OpenCopy}
+use Rattle.steps.specs.Events.Deed.{OpenCopy, OpenNew}
 use Rattle.machine.specs.Causes.{change_refused, new_refused}
 use Rattle.machine.specs.Machine.{IsAnswer, Places, held_refused, IsTicket, space}
 use Rattle.machine.specs.State.{Image as Picture, Machine, checkpoint as checkpoint_image, own_image, sight, Ticket}
@@ -70,6 +70,7 @@ use Rattle.line_results.specs.Commands.{drawn, validated}
 use Rattle.line_results.specs.Resting.{RoseFrom, database}
 use Rattle.block_results.specs.Filled.{IsInUse}
 use Rattle.block_results.specs.Processes.{HaveNumbers, MayProcess}
+use Rattle.block_results.specs.Refusing.{Meets}
 
 -- ---- states
 
@@ -77,9 +78,14 @@ use Rattle.block_results.specs.Processes.{HaveNumbers, MayProcess}
 abbrev pub Passes : (trusted : Type 0) → Places → List Turn → (old new m : Machine) → Type 0
 Passes trusted places turns old new m = (front : List Turn) × (back : List Turn) × (turns ≡ front ++ back) × Turned trusted places front old m × Turned trusted places back m new
 
+-- a step of the actor that opens a ticket for a new object of this size in this pool met this state
+abbrev pub OpensAt : (trusted : Type 0) → Places → (actor : ℕ) → List Turn → (old new : Machine) → (pool size : ℕ) → Machine → Type 0
+OpensAt trusted places actor turns old new pool size m =
+    (t : Turn) × (at : Meets trusted places turns old new t) × (t.actor ≡ actor) × (answer : Result ℕ Refusal) × (t.did.deed ≡ OpenNew pool size 0 answer) × (at.before ≡ m)
+
 -- ---- a command
 
--- In what follows `Is` says which states are meant.
+-- In what follows `Is` says which states are meant, and `Opening` at which of them a ticket is opened for a new object of this size in this pool.
 
 -- each look-up is answered at each of them
 abbrev pub AreThere : (Is : Machine → Type 0) → List Query → Type 0
@@ -159,12 +165,13 @@ IsKeptIn p v =
 abbrev pub StaysKept : (Is : Machine → Type 0) → FilePut → Type 0
 StaysKept Is p = (m n : Machine) → Is m → Is n → (database m).number ≤ (database n).number → IsKeptIn p (database m) → IsKeptIn p (database n)
 
--- A file may be put: at each of them its node is there, its filespace is or may be defined, its path is bound to the same class and pool, it has a place, and may be stored there; its filespace stays once it is there, and so does a version
--- that tells of it, until its object's number was asked.
-abbrev pub MayPut : Places → (Is : Machine → Type 0) → (actor : ℕ) → List Rule → FilePut → Type 0
-MayPut places Is actor choice p =
+-- A file may be put: at each of them its node is there, its filespace is or may be defined, its path is bound to the same class and pool, and it may be stored there; wherever a ticket is opened for it it has a place; its filespace stays
+-- once it is there, and so does a version that tells of it, until its object's number was asked.
+abbrev pub MayPut : Places → (Is : Machine → Type 0) → (Opening : (pool size : ℕ) → Machine → Type 0) → (actor : ℕ) → List Rule → FilePut → Type 0
+MayPut places Is Opening actor choice p =
     (node : ℕ) × (home : Home)
-    × ((m : Machine) → Is m → IsHome actor p.node p.filespace node m × IsBound node choice p home (database m) × HasRoom places actor home.pool (length p.text) m × MayStore actor node p home.class m)
+    × ((m : Machine) → Is m → IsHome actor p.node p.filespace node m × IsBound node choice p home (database m) × MayStore actor node p home.class m)
+    × ((m : Machine) → Opening home.pool (length p.text) m → HasRoom places actor home.pool (length p.text) m)
     × Remains Is node p.filespace × StaysKept Is p
 
 -- A file may be written or erased where no call on its tree fails, and so may a tree be backed up whose node is there at each of them, and whose filespace is there or may be defined; and files may be restored into a tree that is there, where at each of them what is
@@ -185,14 +192,14 @@ abbrev pub MayCheckpoint : (actor : ℕ) → Machine → Type 0
 MayCheckpoint actor m = (m.core.generation + 1 < 2 ^ 62) × IsNoBackup (own_image actor m.core.image)
 
 -- Work of a command's own. Of what isn't told apart here, the processes among it, none is said to be legal.
-abbrev pub MayOwn : Places → (Is : Machine → Type 0) → (actor : ℕ) → Client → Own → Type 0
-MayOwn places Is actor k checkpoint = (m : Machine) → Is m → MayCheckpoint actor m
-MayOwn places Is actor k (validate set) = (m : Machine) → Is m → validated set (database m) ≡ Ok tt
-MayOwn places Is actor k (get g) = MayGet Is g
-MayOwn places Is actor k (on_tree work) = MayOn Is actor k work
-MayOwn places Is actor k none_but_reuse = Unit {0}
-MayOwn places Is actor k (put p) = MayPut places Is actor k.choice p
-MayOwn places Is actor k own = ⊥
+abbrev pub MayOwn : Places → (Is : Machine → Type 0) → (Opening : (pool size : ℕ) → Machine → Type 0) → (actor : ℕ) → Client → Own → Type 0
+MayOwn places Is Opening actor k checkpoint = (m : Machine) → Is m → MayCheckpoint actor m
+MayOwn places Is Opening actor k (validate set) = (m : Machine) → Is m → validated set (database m) ≡ Ok tt
+MayOwn places Is Opening actor k (get g) = MayGet Is g
+MayOwn places Is Opening actor k (on_tree work) = MayOn Is actor k work
+MayOwn places Is Opening actor k none_but_reuse = Unit {0}
+MayOwn places Is Opening actor k (put p) = MayPut places Is Opening actor k.choice p
+MayOwn places Is Opening actor k own = ⊥
 
 -- RESTORE VOLUME is legal where at each of them the volume is there, no bound stands in the way of a copy, wherever it is aimed, and the transaction by which what the volume held is made known as lost may be made at each of them.
 abbrev pub MayLose : Places → (Is : Machine → Type 0) → (actor : ℕ) → (numbers : List ℕ) → Own → Type 0
@@ -203,27 +210,27 @@ MayLose places Is actor numbers (moves volume_restorer) =
 MayLose places Is actor numbers own = ⊥
 
 -- at each of them the change may be made, the query shows rows, or the work of its own may be done; so may a process (specs/Processes), and RESTORE VOLUME
-abbrev pub MayBy : Places → (Is : Machine → Type 0) → (actor : ℕ) → Client → Own → Result Work Refusal → Type 0
-MayBy places Is actor k own (Err why) = ⊥
-MayBy places Is actor k own (Ok (Commit what)) = (m : Machine) → Is m → MayCommit actor what m
-MayBy places Is actor k own (Ok (Show query)) = (m : Machine) → Is m → (shown : rows.Answer) × (answered query (database m) ≡ Ok shown)
-MayBy places Is actor k own (Ok (Run numbers)) = MayOwn places Is actor k own ⊎ MayProcess places Is actor numbers own ⊎ MayLose places Is actor numbers own
+abbrev pub MayBy : Places → (Is : Machine → Type 0) → (Opening : (pool size : ℕ) → Machine → Type 0) → (actor : ℕ) → Client → Own → Result Work Refusal → Type 0
+MayBy places Is Opening actor k own (Err why) = ⊥
+MayBy places Is Opening actor k own (Ok (Commit what)) = (m : Machine) → Is m → MayCommit actor what m
+MayBy places Is Opening actor k own (Ok (Show query)) = (m : Machine) → Is m → (shown : rows.Answer) × (answered query (database m) ≡ Ok shown)
+MayBy places Is Opening actor k own (Ok (Run numbers)) = MayOwn places Is Opening actor k own ⊎ MayProcess places Is actor numbers own ⊎ MayLose places Is actor numbers own
 
 -- its look-ups are answered, and whatever they are answered, so is what it asks for then
-abbrev pub MayDo : Places → (Is : Machine → Type 0) → (actor : ℕ) → Client → Command → Type 0
-MayDo places Is actor k c = AreThere Is (needs c) × ((answers : List rows.Answer) → AreAnswers Is (needs c) answers → MayBy places Is actor k (own_of c) (work_of c answers))
+abbrev pub MayDo : Places → (Is : Machine → Type 0) → (Opening : (pool size : ℕ) → Machine → Type 0) → (actor : ℕ) → Client → Command → Type 0
+MayDo places Is Opening actor k c = AreThere Is (needs c) × ((answers : List rows.Answer) → AreAnswers Is (needs c) answers → MayBy places Is Opening actor k (own_of c) (work_of c answers))
 
 -- ---- a line
 
 -- no line is legal that names a tree which an earlier job of the block has
-abbrev pub MayAsk : Places → (Is : Machine → Type 0) → (actor : ℕ) → Client → (in_use : Option ℕ) → Command → Type 0
-MayAsk places Is actor k (Some number) c = ⊥
-MayAsk places Is actor k None c = MayDo places Is actor k c
+abbrev pub MayAsk : Places → (Is : Machine → Type 0) → (Opening : (pool size : ℕ) → Machine → Type 0) → (actor : ℕ) → Client → (in_use : Option ℕ) → Command → Type 0
+MayAsk places Is Opening actor k (Some number) c = ⊥
+MayAsk places Is Opening actor k None c = MayDo places Is Opening actor k c
 
-abbrev pub IsLegal : Places → (Is : Machine → Type 0) → (actor : ℕ) → Client → (in_use : Option ℕ) → Line → Type 0
-IsLegal places Is actor k in_use comment = Unit {0}
-IsLegal places Is actor k in_use (refused why) = ⊥
-IsLegal places Is actor k in_use (asks c) = MayAsk places Is actor k in_use c
+abbrev pub IsLegal : Places → (Is : Machine → Type 0) → (Opening : (pool size : ℕ) → Machine → Type 0) → (actor : ℕ) → Client → (in_use : Option ℕ) → Line → Type 0
+IsLegal places Is Opening actor k in_use comment = Unit {0}
+IsLegal places Is Opening actor k in_use (refused why) = ⊥
+IsLegal places Is Opening actor k in_use (asks c) = MayAsk places Is Opening actor k in_use c
 
 -- the reuse of volumes, which comes behind its work, was refused since a bound of the database is reached
 abbrev pub IsRefusedBehind : (n : ℕ) → List Event → Answer → Type 0
@@ -248,7 +255,7 @@ IsAnswered Is n line events answer = answer.tally.refused ≡ 0
 -- A line that stands among these turns and was answered so: where it is legal, and no count of faults rose in them, it isn't refused.
 abbrev pub IsComplete : (trusted : Type 0) → Places → (actor : ℕ) → Client → (in_use : Option ℕ) → (n : ℕ) → Line → List Turn → (old new : Machine) → Answer → Type 0
 IsComplete trusted places actor k in_use n line turns old new answer =
-    ((file : ℕ) → RoseFrom old new file → ⊥) → IsLegal places (Passes trusted places turns old new) actor k in_use line → IsAnswered (Passes trusted places turns old new) n line (events_of actor turns) answer
+    ((file : ℕ) → RoseFrom old new file → ⊥) → IsLegal places (Passes trusted places turns old new) (OpensAt trusted places actor turns old new) actor k in_use line → IsAnswered (Passes trusted places turns old new) n line (events_of actor turns) answer
 
 -- ---- a job, and all of a block
 
