@@ -100,7 +100,9 @@ use Rattle.line_results.specs.sessions.Getting.{Chooses, Gets, Misses, active_li
 use Rattle.line_results.specs.sessions.Changing.{Changes as ChangesOf, Changing, IsOf as IsOfChange}
 use Rattle.line_results.specs.sessions.Homes.{home_of}
 use Rattle.line_results.specs.sessions.InTurn.{OrMemory}
+use Rattle.inventory_work.specs.Copies.{has_pool}
 use Rattle.space.specs.declared.aim.Aim.{Aim}
+use Rattle.space.specs.declared.aim.Aim.TheVariants as aim
 use Rattle.line_results.specs.sessions.Putting.{AsksFor as AsksForSpace, Defines, FindsFilespace, FindsHome, Looks, Sends as SendsSealed, SendsOnce, defined_by, is_unplaced, there_or_not, unplaced, CommitsOne, ForcesOne, GivesBack as GivesBackOne, Names, OrGivesBack, Puts, PutsIn, PutsUnder, StoresAndNames, backed_up, found_or, object_among, object_stored}
 use Rattle.line_results.specs.sessions.Waiting.{holder_in}
 use Rattle.line_results.specs.sessions.declared.homes.Home.{Home}
@@ -132,7 +134,7 @@ use Rattle.line_results.specs.command_steps.Clients.{Client, Known}
 use Rattle.line_results.specs.command_steps.Doing.{Asked as AskedOf, AsksAll, Does, DoesOwn, Doing, EndsWork, Forcing, Gives, MovesSo, Reusing, Told, Validates, WorksOrWants, backed_up as backed_up_as, the_number, the_second, validated_by, PutsText}
 use Rattle.line_results.specs.command_steps.Jobs.{AnswersInJob, DoesInJob}
 use Rattle.line_results.specs.command_steps.Lines.{Line, asks, comment, refused as refused_line}
-use Rattle.line_results.specs.command_steps.Owns.{OnTree, Own, audit_volume, back_up, back_up_database, back_up_pool, back_up_since, checkpoint, delete_history, empty_filespace, empty_volume, erase, expire, get, last_of, moves, none_but_reuse, none_yet, on_tree, own_of, put, restore, validate, volume_restorer, write, file_put, row_put}
+use Rattle.line_results.specs.command_steps.Owns.{Mover, OnTree, Own, audit_volume, back_up, back_up_database, back_up_pool, back_up_since, checkpoint, delete_history, empty_filespace, empty_volume, erase, expire, get, last_of, moves, none_but_reuse, none_yet, on_tree, own_of, put, restore, validate, volume_restorer, write, file_put, row_put}
 use Rattle.line_results.specs.command_steps.Trees.{DoesThere, GivesWanted, ShowsSent, is_absent, which_of}
 use Rattle.line_results.specs.command_steps.declared.outcome.Outcome.{Outcome}
 use Rattle.line_results.specs.command_steps.declared.outcome.Outcome.TheVariants as came
@@ -152,28 +154,32 @@ use Rattle.line_results.specs.Commands.{drawn, validated}
 use Rattle.line_results.specs.Files.{filespace_defined}
 use Rattle.line_results.specs.Resting.{Onward, RoseFrom, database}
 use Rattle.block_results.specs.Filled.{IsFilled, IsInUse}
-use Rattle.block_results.specs.Legal.{AreAnswers, AreThere, HasRoom, IsAnswered, IsAnsweredWith, IsBound, IsComplete, IsHome, IsKeptIn, IsLegal, IsNoBackup, IsReadable, IsThereOrDefined, IsUnopened, MayBackUp, MayBy, MayCheckpoint, MayCommit, MayDo, MayGet, MayLose, MayOn, MayOwn, MayPut, MayStore, OpensAt, Passes, Remains, StaysKept, stored_with}
-use Rattle.block_results.specs.Processes.{MayProcess}
+use Rattle.block_results.specs.Gone.{IsPoolGone, IsUnopened}
+use Rattle.block_results.specs.Legal.{AreAnswers, AreThere, HasRoom, IsAnswered, IsAnsweredWith, IsBound, IsComplete, IsHome, IsKeptIn, IsLegal, IsNoBackup, IsReadable, IsThereOrDefined, MayBackUp, MayBy, MayCheckpoint, MayCommit, MayDo, MayGet, MayLose, MayOn, MayOwn, MayPut, MayStore, OpensAt, Passes, Remains, StaysKept, stored_with}
+use Rattle.block_results.specs.Processes.{HaveNumbers, MayProcess}
 use Rattle.block_results.specs.Refusing.{HasNoPlace, IsRefusedFor, IsUnended, IsUnread, bounds, held_reasons, own_reasons}
 use Rattle.block_results.proofs.Came.{Said as SaidOf}
 use Rattle.block_results.proofs.Fitting.{met-first, met-next}
 use Rattle.block_results.proofs.BySteps.{core-left}
 use Rattle.block_results.proofs.Filespaces.{exists-so}
-use Rattle.block_results.proofs.InOrder.{Stood, Two, moved-number, passes-after, passes-before, stood, stood-within, turned-number}
+use Rattle.block_results.proofs.InOrder.{Stood, Two, moved-number, passes-after, passes-before, stood, stood-within, turned-grows, turned-number}
 use Rattle.block_results.proofs.Looking.{told-as}
 use Rattle.block_results.proofs.Mild.{not-memory}
-use Rattle.block_results.proofs.Moving.{unmoved, unrestored-volume}
+use Rattle.block_results.proofs.Moving.{no-ticket, numbers-of, unmoved, unrestored-volume}
 use Rattle.line_results.proofs.Reasons.{stopping-mild}
 use Rattle.line_results.specs.copy_runs.Ends.{IsStopped}
+use Rattle.line_results.specs.copy_runs.Tickets.{GotNoTicket, ListsCopy}
+use Rattle.line_results.proofs.Ticketed.{copy-there, no-pool-since}
+use Rattle.block_results.proofs.Attempting.{none-full}
 use Rattle.line_jobs.specs.Jobs.{is_held}
 use Rattle.block_results.proofs.Processes.{AllStood, unaudited, unbacked-whole, uncopied, undeleted, unexpired, unfollowed}
 use Rattle.block_results.proofs.Reasons.{moved-for}
 use Rattle.block_results.proofs.Removing.{unemptied, unremoved}
 use Rattle.block_results.proofs.Rows.{limited-same, rows-told as rows-of-told}
 use Rattle.block_results.proofs.Single.{validity-is}
-use Rattle.block_results.proofs.Sounding.{AreSound, met-sound, turned-sound}
+use Rattle.block_results.proofs.Sounding.{AreSound, asked-free, met-sound, turned-sound}
 use Rattle.block_results.proofs.Ticketed.{HasTicket, Keeps, Opens, opened-to}
-use Rattle.block_results.proofs.Turned.{here, moved, rose-within, turned_on}
+use Rattle.block_results.proofs.Turned.{here, moved, rose-within, turned-join, turned_on}
 
 -- ---- a step among the turns
 
@@ -1312,9 +1318,10 @@ module _ (trusted : Type 0) (places : Places) (actor : ℕ) where
 
     -- ---- processes
 
-    -- a ticket for a copy was refused
+    -- a ticket for a copy was refused, since its pool isn't there
     abbrev IsUnopenedBy : Own → Refusal → Type 0
-    IsUnopenedBy (moves mover) e = (e ≡ refused.NotFound) × (object : ℕ) × (a : Aim) × (avoid : ℕ) × MetBy (λ d. d ≡ OpenCopy object a avoid (Err refused.NotFound)) (events_of actor turns)
+    IsUnopenedBy (moves mover) e =
+        (e ≡ refused.NotFound) × (object : ℕ) × (a : Aim) × (avoid : ℕ) × MetBy (λ d. d ≡ OpenCopy object a avoid (Err refused.NotFound)) (events_of actor turns) × (m : Machine) × Is m × IsPoolGone a (database m)
     IsUnopenedBy own e = ⊥
 
     -- a step of a process stands at one of the states
@@ -1333,6 +1340,54 @@ module _ (trusted : Type 0) (places : Places) (actor : ℕ) where
           unrisen = none-rose (λ d. Q d × K d) s;
           sound = λ e is mild. met-sound trusted places actor s.did e s.before s.after mild is s.made (passed-sound s.before s.passes);
         }
+
+    -- where one that was listed got no ticket, as something isn't there, it is the pool to which it was to go
+    listed-free : (object from : ℕ) (d : Deed) (m next : Machine) → ListsCopy object from d → Case places actor d m next → m.core.fault ≡ None
+    listed-free object from d m next (inl (file, answer, lines, l, is, told, among_them, named, lies)) h = asked-free places actor (query.OnVolume file) answer m next (subst (λ (x : Deed). Case places actor x m next) is h)
+    listed-free object from d m next (inr (answer, lines, l, is, told, among_them, named)) h = asked-free places actor (query.OnPool from) answer m next (subst (λ (x : Deed). Case places actor x m next) is h)
+
+    numbered : (m : Machine) → m.core.next_ticket + 1 < 2 ^ 62 → unless (nat_lt (m.core.next_ticket + 1) (2 ^ 62)) refused.InventoryFull ≡ []
+    numbered m low = none-full (nat_lt (m.core.next_ticket + 1) (2 ^ 62)) (lt-ltb (m.core.next_ticket + 1) (2 ^ 62) low)
+
+    unpooled : (front did back : List Event) → events_of actor turns ≡ front ++ (did ++ back) → HaveNumbers places Is actor → (object from placed to : ℕ) (along : Bool) (avoid : ℕ) → GotNoTicket object from placed to along avoid did refused.NotFound
+        → (m : Machine) × Is m × (has_pool to (database m) ≡ false)
+    unpooled front did back cut free object from placed to along avoid (xs, ys, apart, listed, met) =
+        let a_move : Aim = aim.Move from placed to along in
+        let Lists : Deed → Type 0 = ListsCopy object from in
+        let Opens : Deed → Type 0 = (λ d. d ≡ OpenCopy object a_move avoid (Err refused.NotFound)) in
+        let all : events_of actor turns ≡ (front ++ xs) ++ (ys ++ back) =
+        cut ∙ ap (λ (l : List Event). front ++ (l ++ back)) apart ∙ ap (λ (l : List Event). front ++ l) (append_assoc xs ys back) ∙ sym (append_assoc front xs (ys ++ back)) in
+        let s = split (front ++ xs) (ys ++ back) turns old new all ran in
+        let a = stood trusted places actor Lists s.mine old s.mid s.led (subst (λ (l : List Event). MetBy Lists l) (sym s.own) (met-next front xs Lists listed)) in
+        let b = stood trusted places actor Opens s.others s.mid new s.leads (subst (λ (l : List Event). MetBy Opens l) (sym s.rest) (met-first ys back Opens met)) in
+        let one = stands-as Lists turns old new (stood-within trusted places actor Lists [] s.mine s.others turns old old s.mid new s.parts refl s.leads a) in
+        let two = stands-as Opens turns old new (stood-within trusted places actor Opens s.mine s.others [] turns old s.mid new new (s.parts ∙ ap (λ (l : List Turn). s.mine ++ l) (sym (append-nil s.others))) s.led refl b) in
+        let g = turned-grows trusted places (a.turn ∷ (a.meets.back ++ b.meets.front)) a.meets.before b.meets.before
+        (a.meets.after, a.meets.made, turned-join trusted places a.meets.back b.meets.front a.meets.after s.mid b.meets.before a.meets.leads b.meets.led) in
+        let valid = (passed-sound one.before one.passes (listed-free object from one.did.deed (with_contents one.made.seen one.before) one.made.next one.is one.made.made.step)).valid in
+        let there = copy-there object from one.did.deed (database one.before) valid one.is
+        (λ q x un is. (rows-of-told (rows_of q (database one.before)) (database one.before).number (database one.before).today x
+        (told-same one.before.core.log_length q (database one.before) x un (answer-in q x one.did.deed one.before is one.made.seen one.made.next one.made.made.step))).0) in
+        let for = subst (λ (d : Deed). IsRefusedFor places actor d two.before two.after refused.NotFound) two.is (moved-for trusted places actor two.did two.before two.after refused.NotFound two.made (ap refusal two.is)) in
+        let bare = free two.before two.passes a_move avoid in
+        let own = only-own places actor (OpenCopy object a_move avoid (Err refused.NotFound)) two.before two.after refused.NotFound for refl (λ h. (bare.1 object refused.NotFound h).1 refl) refl (numbered two.before bare.0) (none-rose Opens two) (λ h. h) (λ h. h) in
+        (two.before, two.passes, no-pool-since actor object from placed to along one.before.core two.before.core (g.1, g.0, g.2) there own)
+
+    unopened-by : (mover : Mover) (front did back : List Event) → events_of actor turns ≡ front ++ (did ++ back) → HaveNumbers places Is actor → (e : Refusal) → e ≡ refused.NotFound → (object from placed to : ℕ) (along : Bool) (avoid : ℕ)
+        → GotNoTicket object from placed to along avoid did e → IsUnopenedBy (moves mover) e
+    unopened-by mover front did back cut free e missing object from placed to along avoid got =
+        let here_got : GotNoTicket object from placed to along avoid did refused.NotFound = subst (λ (x : Refusal). GotNoTicket object from placed to along avoid did x) missing got in
+        let none = unpooled front did back cut free object from placed to along avoid here_got in
+        let a_move : Aim = aim.Move from placed to along in (
+          missing,
+          object,
+          a_move,
+          avoid,
+          among (λ d. d ≡ OpenCopy object a_move avoid (Err refused.NotFound)) front did back cut (no-ticket object from placed to avoid along refused.NotFound did here_got),
+          none.0,
+          none.1,
+          none.2,
+        )
 
     unrun : (k : Client) (own : Own) (numbers : List ℕ) (e : Refusal) (front did back : List Event) → events_of actor turns ≡ front ++ (did ++ back) → halt_by e ≡ None → MayProcess places Is actor numbers own → DoesOwn k own numbers did (Err e)
         → IsBusyBy own e ⊎ IsUnopenedBy own e
@@ -1358,7 +1413,7 @@ module _ (trusted : Type 0) (places : Places) (actor : ℕ) where
     unrun k (moves mover) numbers e front did back cut mild may h =
         elim (unmoved places actor Is did (all-stood front did back cut) e mild numbers mover may (gives-err (MovesSo mover (the_number numbers) (the_second numbers)) _ did e h.1)) as (λ _. IsBusyBy (moves mover) e ⊎ IsUnopenedBy (moves mover) e) [
           | inl busy ↦ inl busy
-          | inr (missing, object, a, avoid, met) ↦ inr (missing, object, a, avoid, among (λ d. d ≡ OpenCopy object a avoid (Err refused.NotFound)) front did back cut met)
+          | inr (missing, object, from, placed, to, along, avoid, got) ↦ inr (unopened-by mover front did back cut (numbers-of places actor Is did (all-stood front did back cut) e mild numbers mover may) e missing object from placed to along avoid got)
         ]
     unrun k own numbers e front did back cut mild may h = absurd may
 
@@ -1371,7 +1426,7 @@ module _ (trusted : Type 0) (places : Places) (actor : ℕ) where
         (λ m at. ((may.1 m at).1, (may.1 m at).2)) (λ m at c xs ys apart plain is why mild_why. unchanged c why (front ++ xs) ys back (behind_it xs ys apart) plain mild_why (subst (λ (x : Change). (n : Machine) → Is n → MayCommit actor x n) is (may.1 m at).3))
         (gives-err (VolumeRestore (the_number numbers)) _ did e h.1)) as (λ _. IsBusyBy (moves volume_restorer) e ⊎ IsUnopenedBy (moves volume_restorer) e) [
           | inl busy ↦ inl busy
-          | inr (missing, object, a, avoid, met) ↦ inr (missing, object, a, avoid, among (λ d. d ≡ OpenCopy object a avoid (Err refused.NotFound)) front did back cut met)
+          | inr (missing, object, from, placed, to, along, avoid, got) ↦ inr (unopened-by volume_restorer front did back cut may.0 e missing object from placed to along avoid got)
         ]
     unlost k own numbers e front did back cut mild may h = absurd may
 
@@ -2140,10 +2195,10 @@ module _ (trusted : Type 0) (places : Places) (actor : ℕ) where
     in-use own n e answer said unheld h = absurd h
 
     abbrev Answered : (n : ℕ) → Command → Answer → Type 0
-    Answered n c answer = IsAnsweredWith (behind c) n (events_of actor turns) answer ⊎ IsInUse Is (own_of c) n (events_of actor turns) answer ⊎ IsUnopened (own_of c) n (events_of actor turns) answer
+    Answered n c answer = IsAnsweredWith (behind c) n (events_of actor turns) answer ⊎ IsInUse Is (own_of c) n (events_of actor turns) answer ⊎ IsUnopened Is (own_of c) n (events_of actor turns) answer
 
-    unopened-so : (own : Own) (n : ℕ) (e : Refusal) (answer : Answer) → answer ≡ answer_refused n e → IsUnopenedBy own e → IsUnopened own n (events_of actor turns) answer
-    unopened-so (moves mover) n e answer said (missing, object, a, avoid, met) = (said ∙ ap (answer_refused n) missing, object, a, avoid, met)
+    unopened-so : (own : Own) (n : ℕ) (e : Refusal) (answer : Answer) → answer ≡ answer_refused n e → IsUnopenedBy own e → IsUnopened Is own n (events_of actor turns) answer
+    unopened-so (moves mover) n e answer said (missing, object, a, avoid, met, m, at, gone) = (said ∙ ap (answer_refused n) missing, object, a, avoid, met, m, at, gone)
     unopened-so own n e answer said h = absurd h
 
     work-none : (k : Client) (n : ℕ) (c : Command) (work : Result Work Refusal) (e : Refusal) (answer : Answer) (front did : List Event) → events_of actor turns ≡ front ++ did → IsPlainWork work → halt_by e ≡ None → is_held (Some e) ≡ false → answer ≡ answer_refused n e
@@ -2155,7 +2210,7 @@ module _ (trusted : Type 0) (places : Places) (actor : ℕ) where
         let same : e ≡ f = ends-same (behind c) f e ys mild ends in
         let busy = does-none k c work f front xs ys (cut ∙ ap (λ (l : List Event). front ++ l) apart) plain (subst (λ (x : Refusal). halt_by x ≡ None) same mild) may does in
         let as_is : answer ≡ answer_refused n f = said ∙ ap (answer_refused n) same in
-        inr (elim busy as (λ _. IsInUse Is (own_of c) n (events_of actor turns) answer ⊎ IsUnopened (own_of c) n (events_of actor turns) answer) [
+        inr (elim busy as (λ _. IsInUse Is (own_of c) n (events_of actor turns) answer ⊎ IsUnopened Is (own_of c) n (events_of actor turns) answer) [
           | inl held ↦ inl (in-use (own_of c) n f answer as_is (subst (λ (x : Refusal). is_held (Some x) ≡ false) same unheld) held)
           | inr unopened ↦ inr (unopened-so (own_of c) n f answer as_is unopened)
         ])

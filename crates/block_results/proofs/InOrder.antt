@@ -25,7 +25,7 @@ use Rattle.block_results.proofs.Turned.{turned-join, turned-more}
 -- ---- the number of the database
 
 -- transactions join behind those that were there, or none does
-abbrev Grows : (old new : Core) → Type 0
+abbrev pub Grows : (old new : Core) → Type 0
 Grows old new = (new.base ≡ old.base) × (more : List Entry) × (new.journal ≡ old.journal ++ more)
 
 grows-none : (old new : Core) → new ≡ old → Grows old new
@@ -71,6 +71,9 @@ grows places actor (Image kind answer) old new h = grows-placed actor (Image kin
 grows places actor (Reuse file answer) old new h = grows-placed actor (Reuse file answer) old new h
 grows places actor (Force answer) old new h = grows-placed actor (Force answer) old new h
 
+grows-then : (a b c : Core) → Grows a b → Grows b c → Grows a c
+grows-then a b c (base, more, journal) (on, others, further) = (on ∙ base, more ++ others, further ∙ ap (λ (l : List Entry). l ++ others) journal ∙ append_assoc a.journal more others)
+
 number-grows : (old new : Core) → Grows old new → (inventory old).number ≤ (inventory new).number
 number-grows old new (base, more, journal) =
     let a : (inventory old).number ≡ old.base.number + length old.journal = after-number old.base old.journal in
@@ -83,6 +86,14 @@ pub moved-number : (trusted : Type 0) (places : Places) (actor : ℕ) (e : Event
 moved-number trusted places actor e old new m =
     let core : new.core ≡ m.next.core = ap (λ (x : Machine). x.core) m.left ∙ core-left e.deed old.contents m.next in
     subst (λ (c : Core). (database old).number ≤ (inventory c).number) (sym core) (number-grows old.core m.next.core (grows places actor e.deed (with_contents m.seen old) m.next m.made.step))
+
+-- transactions that were made stay
+pub turned-grows : (trusted : Type 0) (places : Places) (turns : List Turn) (old new : Machine) → Turned trusted places turns old new → Grows old.core new.core
+turned-grows trusted places [] old new is = grows-none old.core new.core (ap (λ (m : Machine). m.core) is)
+turned-grows trusted places (t ∷ turns) old new (next, made, rest) =
+    let core : next.core ≡ made.next.core = ap (λ (x : Machine). x.core) made.left ∙ core-left t.did.deed old.contents made.next in
+    let one : Grows old.core made.next.core = grows places t.actor t.did.deed (with_contents made.seen old) made.next made.made.step in
+    grows-then old.core next.core new.core (subst (λ (c : Core). Grows old.core c) (sym core) one) (turned-grows trusted places turns next new rest)
 
 pub turned-number : (trusted : Type 0) (places : Places) (turns : List Turn) (old new : Machine) → Turned trusted places turns old new → (database old).number ≤ (database new).number
 turned-number trusted places [] old new is = (let same : (database new).number ≡ (database old).number = ap (λ (m : Machine). (database m).number) is in omega (arith, same))

@@ -1,5 +1,5 @@
 -- What moves copies isn't refused in a block, but where a wait for room is, or a ticket for a copy, as something isn't there.
-use Rattle.std.proofs.Common.{◌≡◌, ◌⊎◌, inl, inr, ℕ, min, true, false, List, [], ◌∷◌, ◌++◌, Bool, Option, None, Some, Result, Ok, Err, refl, sym, ap, subst, ◌∙◌, true≢false}
+use Rattle.std.proofs.Common.{◌≡◌, ◌⊎◌, inl, inr, ℕ, min, true, false, List, [], ◌∷◌, ◌++◌, Bool, Option, None, Some, Result, Ok, Err, refl, sym, ap, subst, ◌∙◌, append_assoc, true≢false}
 use Rattle.std.proofs.lemmas.Option.{same_Some}
 use Rattle.std.specs.List.{AllByRecursion, find}
 use Rattle.std.specs.Option.{option_map}
@@ -32,7 +32,7 @@ use Rattle.line_results.specs.command_steps.Doing.{MovesSo, the_number, the_seco
 use Rattle.line_results.specs.command_steps.Owns.{Mover, all_migrator, data_mover, migrator, pool_restorer, reclaimer}
 use Rattle.line_results.specs.copy_attempts.Outcomes.{IsOf, MetBy}
 use Rattle.line_results.specs.copy_runs.Ends.{AreAsking, IsAsking, IsEnding, IsStopped}
-use Rattle.line_results.specs.copy_runs.Tickets.{GotNoTicket}
+use Rattle.line_results.specs.copy_runs.Tickets.{GotNoTicket, ListsCopy}
 use Rattle.line_results.specs.copy_runs.Wanting.{IsIn}
 use Rattle.line_results.specs.migration.Marks.{target}
 use Rattle.line_results.specs.migration.Migrating as migrating
@@ -92,7 +92,7 @@ mapped-from f y None h = absurd cc
 mapped-from f y (Some x) h = (x, refl, same_Some (f x) y h)
 
 -- a copy that was listed got no ticket
-no-ticket : (object from placed to avoid : ℕ) (along : Bool) (e : Refusal) (events : List Event) → GotNoTicket object from placed to along avoid events e
+pub no-ticket : (object from placed to avoid : ℕ) (along : Bool) (e : Refusal) (events : List Event) → GotNoTicket object from placed to along avoid events e
     → MetBy (λ d. d ≡ OpenCopy object (aim.Move from placed to along) avoid (Err e)) events
 no-ticket object from placed to avoid along e events (xs, ys, cut, listed, met) =
     subst (λ (l : List Event). MetBy (λ d. d ≡ OpenCopy object (aim.Move from placed to along) avoid (Err e)) l) (sym cut) (met-next xs ys (λ d. d ≡ OpenCopy object (aim.Move from placed to along) avoid (Err e)) met)
@@ -101,12 +101,9 @@ module _ (places : Places) (actor : ℕ) (Is : Machine → Type 0) (events : Lis
   abbrev Refuses : Deed → Type 0
   Refuses d = refusal d ≡ Some e
 
-  -- a ticket for a copy was refused, as something isn't there
+  -- a copy that was listed got no ticket, as something isn't there
   abbrev pub IsTicketless : Type 0
-  IsTicketless = (e ≡ refused.NotFound) × (object : ℕ) × (a : Aim) × (avoid : ℕ) × MetBy (λ d. d ≡ OpenCopy object a avoid (Err refused.NotFound)) events
-
-  ticketless : e ≡ refused.NotFound → (object : ℕ) (a : Aim) (avoid : ℕ) → MetBy (λ d. d ≡ OpenCopy object a avoid (Err e)) events → IsTicketless
-  ticketless same object a avoid met = (same, object, a, avoid, subst (λ (x : Refusal). MetBy (λ d. d ≡ OpenCopy object a avoid (Err x)) events) same met)
+  IsTicketless = (e ≡ refused.NotFound) × (object : ℕ) × (from : ℕ) × (placed : ℕ) × (to : ℕ) × (along : Bool) × (avoid : ℕ) × GotNoTicket object from placed to along avoid events e
 
   -- what stops it is a wait
   module _ (free : HaveNumbers places Is actor) (all : AllByRecursion (λ x. IsTry x.deed) events) where
@@ -170,7 +167,7 @@ module _ (places : Places) (actor : ℕ) (Is : Machine → Type 0) (events : Lis
         ap (λ (l : List VolumeLine). goes file to l pools) a.2 ∙ ap (goes file to (volume_lines None None (database a.0).stores)) b.2 ∙ may.1 named a.0 b.0 a.1 b.1 in
         let none : ◌≡◌ {A = Result (Unit {0}) Refusal} (Ok tt) (Err e) = sym fine ∙ odd in
         absurd cc
-    data-barred file to may (inr (inr (ten, (object, from, placed, met)))) = ticketless (missing-is e ten) object (aim.Move from placed (into to from) false) file (no-ticket object from placed (into to from) file false e events met)
+    data-barred file to may (inr (inr (ten, (object, from, placed, met)))) = (missing-is e ten, object, from, placed, into to from, false, file, met)
 
     -- ---- RECLAIM STGPOOL
 
@@ -179,7 +176,7 @@ module _ (places : Places) (actor : ℕ) (Is : Machine → Type 0) (events : Lis
         absurd
         (unasked-there (query.Eligible pool threshold) (λ m at h. told-there places actor m m (has_pool pool (database m)) _ (λ r. refusal_of (on_ok (shape (database m)) (on_ok rows.Eligible r))) refl (may m at).0 h) (missing-is e ten) met)
     reclaim-barred pool threshold may (inr (inl (same, so, (asks, met)))) = (let t = told-so (λ lines. is_sequential_in pool lines ≡ false) met in absurd (true≢false (sym (may t.0 t.1).1 ∙ t.2)))
-    reclaim-barred pool threshold may (inr (inr (ten, (file, object, from, placed, met)))) = ticketless (missing-is e ten) object (aim.Move from placed (into pool from) false) file (no-ticket object from placed (into pool from) file false e events met)
+    reclaim-barred pool threshold may (inr (inr (ten, (file, object, from, placed, met)))) = (missing-is e ten, object, from, placed, into pool from, false, file, met)
 
     -- ---- MIGRATE STGPOOL
 
@@ -190,7 +187,7 @@ module _ (places : Places) (actor : ℕ) (Is : Machine → Type 0) (events : Lis
         absurd cc
     migrate-barred pool low may (inr (inl (ten, met))) =
         absurd (unasked-there (query.OnPool pool) (λ m at h. told-there places actor m m (has_pool pool (database m)) _ (λ r. refusal_of (on_ok (shape (database m)) (on_ok rows.OnPool r))) refl (may m at).0 h) (missing-is e ten) met)
-    migrate-barred pool low may (inr (inr (ten, (object, placed, to, next, met)))) = ticketless (missing-is e ten) object (aim.Move pool placed to true) 0 (no-ticket object pool placed to 0 true e events met)
+    migrate-barred pool low may (inr (inr (ten, (object, placed, to, next, met)))) = (missing-is e ten, object, pool, placed, to, true, 0, met)
 
     -- ---- MIGRATE ALL
 
@@ -215,7 +212,16 @@ module _ (places : Places) (actor : ℕ) (Is : Machine → Type 0) (events : Lis
         let a = volumes-told volumes met in
         absurd
         (unasked-there (query.OnVolume file) (λ m at. on-volume file m (may.1 a.0 m a.1 at file (subst (λ (l : List VolumeLine). IsIn file (destroyed_of l)) a.2 among))) (missing-is e ten) unlisted)
-    restore-barred pool may (inr (inr (ten, (object, from, placed, met)))) = inr (ticketless (missing-is e ten) object (aim_of from placed) 0 (no-ticket object from placed from 0 true e events met))
+    restore-barred pool may (inr (inr (ten, (object, from, placed, met)))) = inr (missing-is e ten, object, from, placed, from, true, 0, met)
+
+  -- no bound stands in their way
+  pub numbers-of : (numbers : List ℕ) (mover : Mover) → MayMove places Is actor numbers mover → HaveNumbers places Is actor
+  numbers-of numbers data_mover may = may.0
+  numbers-of numbers reclaimer may = may.0
+  numbers-of numbers migrator may = may.0
+  numbers-of numbers all_migrator may = may.0
+  numbers-of numbers pool_restorer may = may.0
+  numbers-of numbers mover may = absurd may
 
   pub unmoved : (numbers : List ℕ) (mover : Mover) → MayMove places Is actor numbers mover → MovesSo mover (the_number numbers) (the_second numbers) events (Err e) → IsBusy e ⊎ IsTicketless
   unmoved numbers data_mover may did =
@@ -292,8 +298,16 @@ module _ (places : Places) (actor : ℕ) (Is : Machine → Type 0) (events : Lis
     | inl stopped ↦ inl (stopped-in stopped)
     | inr rest ↦ elim rest as (λ _. IsBusy e ⊎ Unticketed) [
       | inl (uncollected, asks) ↦ inl (collected uncollected)
-      | inr (ten, (object, from, placed, met)) ↦ inr (ticketless places actor Is events stood e mild (missing-is e ten) object (aim_of from placed) 0
-          (subst (λ (l : List Event). MetBy (λ d. d ≡ OpenCopy object (aim_of from placed) 0 (Err e)) l) (sym cut) (met-next xs ys (λ d. d ≡ OpenCopy object (aim_of from placed) 0 (Err e)) (no-ticket object from placed from 0 true e ys met))))
+      | inr (ten, (object, from, placed, (us, vs, apart, listed, met))) ↦ inr (
+        missing-is e ten,
+        object,
+        from,
+        placed,
+        from,
+        true,
+        0,
+        (xs ++ us, vs, cut ∙ ap (λ (l : List Event). xs ++ l) apart ∙ sym (append_assoc xs us vs), met-next xs us (ListsCopy object from) listed, met),
+      )
     ]
   ] where
     stopped-in : IsStopped ys e → IsBusy e

@@ -11,6 +11,8 @@ use Rattle.entries.specs.declared.change.Change.TheVariants as change
 use Rattle.entries.specs.declared.entry.Entry.{Entry}
 use Rattle.inventory_rows.specs.State.{Inv}
 use Rattle.inventory_rules.specs.Transactions.{effect, refused as refused_by}
+use Rattle.inventory_answers.specs.declared.query.Query.{Query}
+use Rattle.inventory_answers.specs.declared.reply.Answer.{Answer}
 use Rattle.steps.specs.declared.asked.Asked.{Asked}
 use Rattle.steps.specs.declared.image.ImageKind.{ImageKind}
 use Rattle.steps.specs.declared.image.ImageKind.TheVariants as image
@@ -316,6 +318,10 @@ case-free places actor (Reuse file (Ok x)) e old new mild is h = absurd cc
 case-free places actor (Reuse file (Err f)) e old new mild is h = ends-free old f (mild-as f e mild is) _ _ _ h
 case-free places actor (Force (Ok x)) e old new mild is h = absurd cc
 case-free places actor (Force (Err f)) e old new mild is h = force-free old f (mild-as f e mild is) actor new h
+
+-- nor was it halted where a question was answered
+pub asked-free : (places : Places) (actor : ℕ) (q : Query) (a : Answer) (m new : Machine) → Case places actor (Ask q (Ok a)) m new → m.core.fault ≡ None
+asked-free places actor q a m new h = halted-none (nat_lt m.moment last_moment) m.core.fault _ (none-held _ h.0)
 
 -- a step that was refused, by which no run ends, met a state with sound rows
 pub met-sound : (trusted : Type 0) (places : Places) (actor : ℕ) (did : Event) (e : Refusal) (old new : Machine) → halt_by e ≡ None → refusal did.deed ≡ Some e → Moves trusted places actor did old new → AreSound old.core → HasSoundRows (database old)

@@ -8,7 +8,7 @@ use Rattle.kinds.specs.Refusals.{foremost}
 use Rattle.kinds.specs.ValueForms.{digest_with}
 use Rattle.kinds.specs.declared.refusal.Holder.{Holder}
 use Rattle.kinds.specs.declared.refusal.Refusal.{Refusal}
-use Rattle.kinds.specs.declared.refusal.Refusal.TheVariants.{Busy, InventoryFull, NotFound}
+use Rattle.kinds.specs.declared.refusal.Refusal.TheVariants.{Busy, InventoryFull}
 use Rattle.choosers.specs.declared.rule.Rule.{Rule}
 use Rattle.blocks.specs.Shapes.{Placed}
 use Rattle.blocks.specs.declared.block.Fate.{Fate}
@@ -43,12 +43,10 @@ use Rattle.admin_commands.specs.Orders.{needs, work_of}
 use Rattle.admin_commands.specs.declared.work.Work.{Work}
 use Rattle.admin_commands.specs.declared.work.Work.TheVariants.{Commit, Show, Run}
 use Rattle.script_loop.specs.Reply.{Answer}
-use Rattle.line_results.specs.copy_attempts.Outcomes.{MetBy}
 use Rattle.line_results.specs.pool_restores.Listing.{destroying_of}
 use Rattle.line_results.specs.reuse_delay.Reusing.{VolumeReuse}
-use Rattle.space.specs.declared.aim.Aim.{Aim}
 use Rattle.steps.specs.Events.{Event}
-use Rattle.steps.specs.Events.Deed.{OpenCopy, OpenNew}
+use Rattle.steps.specs.Events.Deed.{OpenNew}
 use Rattle.machine.specs.Causes.{change_refused, new_refused}
 use Rattle.machine.specs.Machine.{IsAnswer, Places, held_refused, IsTicket, space}
 use Rattle.machine.specs.State.{Image as Picture, Machine, checkpoint as checkpoint_image, own_image, sight, Ticket}
@@ -69,6 +67,7 @@ use Rattle.line_results.specs.Files.{filespace_defined}
 use Rattle.line_results.specs.Commands.{drawn, validated}
 use Rattle.line_results.specs.Resting.{RoseFrom, database}
 use Rattle.block_results.specs.Filled.{IsInUse}
+use Rattle.block_results.specs.Gone.{IsUnopened}
 use Rattle.block_results.specs.Processes.{HaveNumbers, MayProcess}
 use Rattle.block_results.specs.Refusing.{Meets}
 
@@ -241,15 +240,9 @@ abbrev pub IsAnsweredWith : Behind → (n : ℕ) → List Event → Answer → T
 IsAnsweredWith reuses n events answer = (answer.tally.refused ≡ 0) ⊎ IsRefusedBehind n events answer
 IsAnsweredWith b n events answer = answer.tally.refused ≡ 0
 
--- a process that moves copies got no ticket for one, as the pool that it was to go to, its object or the copy isn't there, and nothing tells what became of it
-abbrev pub IsUnopened : Own → (n : ℕ) → List Event → Answer → Type 0
-IsUnopened (moves mover) n events answer =
-    (answer ≡ refusal n NotFound) × (object : ℕ) × (a : Aim) × (avoid : ℕ) × MetBy (λ d. d ≡ OpenCopy object a avoid (Err NotFound)) events
-IsUnopened own n events answer = ⊥
-
--- It doesn't count as refused, unless the reuse of volumes behind its work was, or since something is kept in a filespace, or lies on a volume, when it is to go, behind steps that took away what they had found there (`IsInUse` of Filled), or a copy that is to move got no ticket.
+-- It doesn't count as refused, unless the reuse of volumes behind its work was, or since something is kept in a filespace, or lies on a volume, when it is to go, behind steps that took away what they had found there (`IsInUse` of Filled), or a copy that is to move got no ticket, as its pool isn't there (`IsUnopened` of Gone).
 abbrev pub IsAnswered : (Is : Machine → Type 0) → (n : ℕ) → Line → List Event → Answer → Type 0
-IsAnswered Is n (asks c) events answer = IsAnsweredWith (behind c) n events answer ⊎ IsInUse Is (own_of c) n events answer ⊎ IsUnopened (own_of c) n events answer
+IsAnswered Is n (asks c) events answer = IsAnsweredWith (behind c) n events answer ⊎ IsInUse Is (own_of c) n events answer ⊎ IsUnopened Is (own_of c) n events answer
 IsAnswered Is n line events answer = answer.tally.refused ≡ 0
 
 -- A line that stands among these turns and was answered so: where it is legal, and no count of faults rose in them, it isn't refused.

@@ -4,6 +4,7 @@ pub use Rattle.line_results.specs.command_steps as command_steps
 pub mod Clauses
 pub mod Ended
 pub mod Filled
+pub mod Gone
 pub mod Jobs
 pub mod Joining
 pub mod Legal

@@ -8,8 +8,11 @@ use Rattle.kinds.specs.declared.refusal.Refusal.{Refusal}
 use Rattle.kinds.specs.declared.refusal.Refusal.TheVariants as refused
 use Rattle.entries.specs.declared.change.Change.{Change}
 use Rattle.entries.specs.declared.entry.Entry.{Entry}
+use Rattle.inventory_answers.specs.Answered.{rows_of}
+use Rattle.inventory_answers.specs.declared.query.Query.{Query}
 use Rattle.inventory_answers.specs.declared.query.Query.TheVariants as query
 use Rattle.inventory_answers.specs.declared.reply.Answer.{Answer}
+use Rattle.inventory_answers.specs.declared.reply.Rows.{Rows}
 use Rattle.inventory_answers.specs.declared.reply.Rows.TheVariants as rows
 use Rattle.inventory_rows.specs.pool_tables.Rows.{row_at}
 use Rattle.inventory_rows.specs.pool_tables.declared.pool.Pool.{Pool}
@@ -45,6 +48,7 @@ use Rattle.machine.specs.State.{Core, Machine, after, inventory, sight}
 use Rattle.machine.proofs.Elsewhere.{append-all, foremost-all, unless-all}
 use Rattle.machine.proofs.Histories.{after-append}
 use Rattle.line_results.specs.Resting.{IsAtRest, database}
+use Rattle.line_results.proofs.Asked.{is_log}
 use Rattle.line_results.proofs.CopiesStay.{grew-pools}
 use Rattle.line_results.proofs.Copying.{copied-none, copies-walk}
 use Rattle.line_results.proofs.CopyReason.{NotTen, answer_in, elsewhere-not, ended-not, placed-not, ten-is}
@@ -238,6 +242,34 @@ listed-there places object from d m next valid (inr (answer, lines, l, is, told,
     let those : lines ≡ lines_of_copies (λ c. c.pool == from) (database m) = lines-in from m next answer lines told h in
     let k = line-held (λ c. c.pool == from) (database m) l valid (subst (λ (ls : List CopyLine). IsIn l ls) those among) in
     (there-by object from (database m) l k.0 named (eqb-true k.0.pool from k.4) k.1 k.3, h.1.1.core)
+
+-- ---- where other actors take turns
+
+lines-told-on : (b : Bool) (xs lines : List CopyLine) → ◌≡◌ {A = Result Rows Refusal} (on_ok rows.OnVolume (if b then Ok xs else Err refused.NotFound)) (Ok (rows.OnVolume lines)) → lines ≡ xs
+lines-told-on true xs lines is = cc
+lines-told-on false xs lines is = absurd cc
+
+lines-told-in : (b : Bool) (xs lines : List CopyLine) → ◌≡◌ {A = Result Rows Refusal} (on_ok rows.OnPool (if b then Ok xs else Err refused.NotFound)) (Ok (rows.OnPool lines)) → lines ≡ xs
+lines-told-in true xs lines is = cc
+lines-told-in false xs lines is = absurd cc
+
+-- a step that lists an object's copy in a pool was answered of a valid database: that one has the copy
+pub copy-there : (object from : ℕ) (d : Deed) (v : Inv) → is_valid v ≡ true → ListsCopy object from d → ((q : Query) (a : Answer) → is_log q ≡ false → d ≡ Ask q (Ok a) → rows_of q v ≡ Ok a.rows) → is_some (copy_of object from v) ≡ true
+copy-there object from d v valid (inl (file, answer, lines, l, is, told, among, named, lies)) answers =
+    let those : lines ≡ lines_of_copies (lies_on file) v = lines-told-on (has_volume file v) (lines_of_copies (lies_on file) v) lines (answers (query.OnVolume file) answer refl is ∙ ap (λ (r : Rows). Ok r) told) in
+    let k = line-held (lies_on file) v l valid (subst (λ (ls : List CopyLine). IsIn l ls) those among) in
+    (there-by object from v l k.0 named (k.2 ∙ lies) k.1 k.3).copy
+copy-there object from d v valid (inr (answer, lines, l, is, told, among, named)) answers =
+    let those : lines ≡ lines_of_copies (λ c. c.pool == from) v = lines-told-in (has_pool from v) (lines_of_copies (λ c. c.pool == from) v) lines (answers (query.OnPool from) answer refl is ∙ ap (λ (r : Rows). Ok r) told) in
+    let k = line-held (λ c. c.pool == from) v l valid (subst (λ (ls : List CopyLine). IsIn l ls) those among) in
+    (there-by object from v l k.0 named (eqb-true k.0.pool from k.4) k.1 k.3).copy
+
+-- where the copy was there before, a ticket for its move is refused so only since the pool isn't there
+pub no-pool-since : (actor object from placed to : ℕ) (along : Bool) (c d : Core) → Grows c d → is_some (copy_of object from (inventory c)) ≡ true
+    → foremost (copy_refused_by object (aim.Move from placed to along) (sight actor d)) ≡ Some refused.NotFound → has_pool to (inventory d) ≡ false
+no-pool-since actor object from placed to along c d grown there h =
+    let own : List Refusal = copy_refused_by object (aim.Move from placed to along) (sight 0 d) in
+    no-pool-by object from placed to along d (told-of object from c d grown there) (foremost-all (λ x. IsIn x own) own (all-in own own (λ x i. i)) refused.NotFound h)
 
 -- ---- a valid database stays so
 
