@@ -7,6 +7,7 @@ pub mod BySteps
 pub mod Came
 pub mod Changed
 pub mod Completing
+pub mod Copyable
 pub mod Drawn
 pub mod Ended
 pub mod Entering
