@@ -67,7 +67,7 @@ use Rattle.machine.specs.Causes.{change_illegal, change_refused, is_plain, liste
 use Rattle.machine.specs.Changes.{filled}
 use Rattle.machine.specs.Machine.{Asks, Commits, Forces, Reuses, ended, has_file, held_by, held_refused, written_by}
 use Rattle.machine.specs.State.{Core, Image, Machine, Ticket, inventory, sight}
-use Rattle.machine.proofs.Elsewhere.{append-all, append-none, ended-all, foremost-all, none-held, unless-all}
+use Rattle.machine.proofs.Elsewhere.{append-all, ended-all, foremost-all, unless-all}
 use Rattle.line_results.proofs.Unfound.{IsFound, answered-found}
 
 -- ---- what rows refuse
@@ -458,17 +458,6 @@ valid-none : (o : Option Refusal) (valid : Bool) → then_valid o valid ≡ None
 valid-none (Some e) valid is = absurd cc
 valid-none None true is = (refl, refl)
 valid-none None false is = absurd cc
-
-unless-none : (b : Bool) (e : Refusal) → unless b e ≡ [] → b ≡ true
-unless-none true e is = refl
-unless-none false e is = absurd cc
-
-pub legal-few : (j : Journal) (w : Change) (v : Inv) → refused_by j w v ≡ None → IsFew (effect w v)
-unfolding refused_by
-legal-few j w v legal =
-    let all = none-held (causes j w v ++ sizes_refused w v) (valid-none (foremost (causes j w v ++ sizes_refused w v)) (is_valid (effect w v)) legal).0 in
-    let sizes = append-none (causes j w v) (sizes_refused w v) all in
-    unless-none (nat_le (count_items (effect w v)) most_items) refused.InventoryFull (append-none (unless (nat_le (count_items (effect w v)) most_items) refused.InventoryFull) (full_at v.number (2 ^ 62)) sizes.1).0
 
 pub legal-valid : (j : Journal) (w : Change) (v : Inv) → refused_by j w v ≡ None → is_valid (effect w v) ≡ true
 unfolding refused_by

@@ -619,10 +619,9 @@ abbrev IsBehind : (between mid : Machine) → Type 0
 IsBehind between mid = Onward between mid × Grows between.core mid.core
 
 reaches-on : (old between mid : Machine) → IsBehind between mid → ReachesBound old between → ReachesBound old mid
-reaches-on old between mid on (inl many) = inl many
-reaches-on old between mid on (inr last) =
+reaches-on old between mid on last =
     let more : (database between).number ≤ (database mid).number = grown-number between.core mid.core on.1 in
-    inr (omega (arith, last, more))
+    omega (arith, last, more)
 
 some-not : (f : Refusal) (how : Halt) → halt_by f ≡ None → halt_by f ≡ Some how → ⊥
 some-not f how mild halts = (let odd : None ≡ Some how = sym mild ∙ halts in cc)

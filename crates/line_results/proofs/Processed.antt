@@ -19,6 +19,7 @@ use Rattle.entries.specs.declared.change.Change.TheVariants as change
 use Rattle.entries.specs.declared.entry.Entry.{Entry}
 use Rattle.inventory_rows.specs.State.{Inv}
 use Rattle.inventory_rows.specs.version_groups.Entries.{on_ok}
+use Rattle.inventory_rules.specs.Valid.{is_valid}
 use Rattle.admin_words.specs.declared.command.Command.{Command}
 use Rattle.admin_words.specs.declared.files.IncrementalBackup.{IncrementalBackup}
 use Rattle.admin_commands.specs.declared.work.Work.{Work}
@@ -94,8 +95,9 @@ use Rattle.line_results.proofs.BackupReason.{backup-reason, follow-reason}
 use Rattle.line_results.proofs.BackupRefused.{backup-refused}
 use Rattle.line_results.proofs.Copying.{AllCopy, Copies, IsCopy, MayJoin, copied-none, copies-idle, copies-walk, settled-free}
 use Rattle.line_results.proofs.Free.{free-walk}
+use Rattle.line_results.proofs.Growing.{Makes}
 use Rattle.line_results.proofs.Idle.{still-idle}
-use Rattle.line_results.proofs.Processing.{IsProcess, IsProcessOwn, IsProcessTree, IsRowless}
+use Rattle.line_results.proofs.Processing.{HasReuse, IsProcess, IsProcessOwn, IsProcessTree, IsRowless}
 use Rattle.line_results.proofs.Leaving.{Left}
 use Rattle.line_results.proofs.Mild.{is_common}
 use Rattle.line_results.proofs.Needs.{IsPlainWork}
@@ -106,7 +108,7 @@ use Rattle.line_results.proofs.CopyReason.{copy-reason}
 use Rattle.line_results.proofs.MigrateReason.{all-reason, migrate-reason, migrations-try, sweeps-try}
 use Rattle.line_results.proofs.MoveReason.{move-reason, moves-try, reclaim-reason, reclaims-try}
 use Rattle.line_results.proofs.ReturnReason.{restore-pool-reason, restore-volume-reason, restores-try}
-use Rattle.line_results.proofs.Reasons.{audit-reason, copy-reasoned, copy-unreasoned, expire-reason, filespace-reason, history-reason, reasoned, reuses-reason, unreasoned, volume-reason}
+use Rattle.line_results.proofs.Reasons.{IsAny, audit-reason, copy-reasoned, copy-unreasoned, expire-reason, filespace-reason, history-reason, reasoned, reuses-reason, unreasoned, valid-behind, volume-reason}
 use Rattle.line_results.proofs.Runs.{alone-none, alone-parts, onward-none}
 use Rattle.line_results.proofs.Sending.{Sends, Stored, has-tickets, sends-walk, stored-none}
 use Rattle.line_results.proofs.Settling.{Settled, may_stay, settles}
@@ -306,9 +308,6 @@ backup-settled : (primary copy : ℕ) (events : List Event) (answer : Result Mov
 backup-settled primary copy events (Ok m) said h is leave = h.settled
 backup-settled primary copy events (Err e) said h is leave = h.settled (ap may_stay (sym is) ∙ leave)
 
-abbrev IsAny : Change → Type 0
-IsAny c = Unit {0}
-
 changing-walks : (what : Change) (d : Deed) → IsOf what d → Walks IsAny d
 changing-walks what (Commit asked tickets answer) h = (h.1, λ c core joins. tt)
 changing-walks what (Force answer) h = tt
@@ -459,7 +458,7 @@ module _ (trusted : Type 0) (places : Places) (choice : List Rule) (b : Behind) 
   alone-began : NobodyHolds places → RefusesElsewhere places → (own : Own) (numbers : List ℕ) (said : Result Outcome Refusal) (events : List Event) (old mid : Machine) → IsProcessOwn own → IsAtRest old.core → HasSoundRows (database old) → DoesAloneBy choice own numbers events said
       → Alone trusted places 0 events old mid → OwnBegan trusted places (λ added. DoesAlone trusted places choice numbers own old mid said added) b old mid said
   alone-began nobody lawful expire numbers said events old mid so rest sound h f = process-began numbers expire said events old mid rest h (all-walk IsExpiring (MayMake numbers expire) (expiring-walks numbers) events h.1.only)
-      (reasoned numbers expire old mid (λ expired. Said (Expired expired 0)) h.0 said h.2 (λ e is mild. expire-reason trusted places old mid e mild events (subst (λ (r : Result ℕ Refusal). Expiration events r) is h.1) f), copy-unreasoned places numbers expire old said (λ e. tt)) f
+      (reasoned numbers expire old mid (λ expired. Said (Expired expired 0)) h.0 said h.2 (λ e is mild. expire-reason trusted places old mid e mild sound.valid events (subst (λ (r : Result ℕ Refusal). Expiration events r) is h.1) f), copy-unreasoned places numbers expire old said (λ e. tt)) f
   alone-began nobody lawful empty_filespace numbers said events old mid so rest sound h f =
       process-began numbers empty_filespace said events old mid rest h (all-walk (filespaces.IsDeleting (the_number numbers)) (MayMake numbers empty_filespace) (filespace-walks numbers) events h.1.only) (
         reasoned numbers empty_filespace old mid (λ discarded. Said (DiscardedFilespace discarded 0)) h.0 said h.2
@@ -490,7 +489,7 @@ module _ (trusted : Type 0) (places : Places) (choice : List Rule) (b : Behind) 
   alone-began nobody lawful (delete_history to) numbers said events old mid so rest sound h f =
       process-began numbers (delete_history to) said events old mid rest h (all-walk (IsDeleting (due_files to h.1.lines)) (MayMake numbers (delete_history to)) (history-walks to numbers (due_files to h.1.lines)) events h.1.only) (
         reasoned numbers (delete_history to) old mid (λ deleted. Said (DeletedHistory deleted)) h.0 said h.2
-            (λ e is mild. history-reason trusted places to events e old mid mild (rest.tickets, rest.image) (subst (λ (r : Result ℕ Refusal). HistoryDeletion to events r) is h.1) f),
+            (λ e is mild. history-reason trusted places to events e old mid mild (rest.tickets, rest.image) sound.valid (subst (λ (r : Result ℕ Refusal). HistoryDeletion to events r) is h.1) f),
         copy-unreasoned places numbers (delete_history to) old said (λ e. tt),
       ) f
   alone-began nobody lawful (audit_volume fix) numbers said events old mid so rest sound h f =
@@ -593,6 +592,50 @@ module _ (trusted : Type 0) (places : Places) (nobody : NobodyHolds places) (law
       let r = own-began (own_of c) numbers said events old mid own rest sound h f in
       record { first = r.first; does = r.does; grew = r.grew; free = r.free; idle = r.idle }
 
+-- ---- a valid database
+
+walks-make : (P : Change → Type 0) (d : Deed) → Walks P d → Makes IsAny d
+walks-make P (Commit asked tickets answer) h = λ c core is. tt
+walks-make P (Image kind answer) h = absurd h
+walks-make P d h = tt
+
+copies-make : (P : Change → Type 0) (d : Deed) → Copies true P d → Makes IsAny d
+copies-make P (Commit asked tickets answer) h = λ c core is. tt
+copies-make P (Image kind answer) h = absurd h
+copies-make P d h = tt
+
+-- where volumes may be reused behind work, that leaves a valid database so
+module _ (trusted : Type 0) (places : Places) (events : List Event) (old mid : Machine) (valid : is_valid (database old) ≡ true) (f : Alone trusted places 0 events old mid) where
+  walks-valid : (P : Change → Type 0) (K : Deed → Type 0) → ((d : Deed) → K d → Walks P d) → AllByRecursion (λ e. K e.deed) events → is_valid (database mid) ≡ true
+  walks-valid P K walks all = valid-behind trusted places K (λ d so. walks-make P d (walks d so)) events old mid all valid f
+
+  copies-valid : (P : Change → Type 0) (K : Deed → Type 0) → ((d : Deed) → K d → Copies true P d) → AllByRecursion (λ e. K e.deed) events → is_valid (database mid) ≡ true
+  copies-valid P K copies all = valid-behind trusted places K (λ d so. copies-make P d (copies d so)) events old mid all valid f
+
+  none-valid : events ≡ [] → is_valid (database mid) ≡ true
+  none-valid none = ap (λ (m : Machine). is_valid (database m)) (alone-none trusted places 0 events old mid none f) ∙ valid
+
+  moves-valid : (mover : Mover) (first second : ℕ) (answer : Result Moved Refusal) → MovesSo mover first second events answer → is_valid (database mid) ≡ true
+  moves-valid data_mover first second answer h = copies-valid NoOther (IsMoving first second) (data-moves first second) h.only
+  moves-valid reclaimer first second answer h = copies-valid NoOther (IsReclaiming h.files first) (reclaim-moves h.files first) h.only
+  moves-valid pool_restorer first second answer h = copies-valid NoOther IsRestore (restore-moves NoOther) h.only
+  moves-valid volume_restorer first second answer h = copies-valid (IsLoss first) (IsVolumeRestore first) (volume-moves first) h.only
+  moves-valid migrator first second answer h = copies-valid NoOther (IsMigration first) (migration-moves first) h.only
+  moves-valid all_migrator first second answer h = copies-valid NoOther IsSweep sweep-moves h.only
+
+  own-valid : (k : Client) (own : Own) (numbers : List ℕ) (said : Result Outcome Refusal) → HasReuse own → DoesOwnBy k own numbers events said → is_valid (database mid) ≡ true
+  own-valid k expire numbers said so (kept, h) = walks-valid (MayMake numbers expire) IsExpiring (expiring-walks numbers) h.1.only
+  own-valid k empty_filespace numbers said so (kept, h) = walks-valid (MayMake numbers empty_filespace) (filespaces.IsDeleting (the_number numbers)) (filespace-walks numbers) h.1.only
+  own-valid k (moves mover) numbers said so (kept, h) = moves-valid mover (the_number numbers) (the_second numbers) h.0 h.1
+  own-valid k none_but_reuse numbers said so (kept, h) = none-valid h.0
+  own-valid k none_yet numbers said so (kept, h) = none-valid h.0
+  own-valid k own numbers said so h = absurd so
+
+  work-valid : (k : Client) (c : Command) (w : Work) (said : Result Outcome Refusal) → HasReuse (own_of c) → IsRowless (Ok w) → DoesBy k c w events said → is_valid (database mid) ≡ true
+  work-valid k c (CommitWork what) said so rowless (kept, (answer, called, is)) = walks-valid IsAny (IsOf what) (changing-walks what) called.only
+  work-valid k c (Show q) said so rowless h = absurd rowless
+  work-valid k c (Run numbers) said so rowless h = own-valid k (own_of c) numbers said so h
+
 -- ---- what comes behind it
 
 -- All that came of it, and what is left.
@@ -663,14 +706,14 @@ module _ (trusted : Type 0) (places : Places) (nobody : NobodyHolds places) (law
   since-bytes : (added : List Entry) (old mid new : Machine) (result : Result Outcome Refusal) → Settled added (since_of old mid) new result → SameBytes mid new
   since-bytes added old mid new result s = s.bytes
 
-  behind-did : (b : Behind) (said result : Result Outcome Refusal) (events : List Event) (old mid new : Machine) → (b ≡ no_more → ⊥) → IsAtRest old.core → Began trusted places k c w b old mid said → EndsWork b said events result
+  behind-did : (b : Behind) (said result : Result Outcome Refusal) (events : List Event) (old mid new : Machine) → (b ≡ no_more → ⊥) → (b ≡ reuses → is_valid (database mid) ≡ true) → IsAtRest old.core → Began trusted places k c w b old mid said → EndsWork b said events result
       → Alone trusted places 0 events mid new → Processed trusted places k c w b old new result
-  behind-did no_more said result events old mid new some rest g h f = absurd (some refl)
-  behind-did forces said result events old mid new some rest g h f =
+  behind-did no_more said result events old mid new some valid rest g h f = absurd (some refl)
+  behind-did forces said result events old mid new some valid rest g h f =
       let s = settles trusted places (IsReuse forces) g.first [] said result events (since_of old mid) mid new rest g.grew g.free g.idle h f in
       ended forces said result events old mid new g [] tt
       (events, f, h, since-image (g.first ++ []) forces g.first old mid new result g.grew s, since-bytes (g.first ++ []) old mid new result s, tt) s
-  behind-did reuses said result events old mid new some rest g (came, (xs, ys, cut, reusing, forcing)) f =
+  behind-did reuses said result events old mid new some valid rest g (came, (xs, ys, cut, reusing, forcing)) f =
       let parts = alone-parts trusted places 0 events xs ys mid new cut f in
       let r = reused-grew trusted places g.first said came xs (since_of old mid) mid parts.0 g.grew g.free g.idle reusing parts.1 in
       let s = settles trusted places (IsReuse reuses) g.first r.0 came result ys (since_of old mid) parts.0 new rest r.1 r.2 r.3 forcing parts.2 in
@@ -681,7 +724,7 @@ module _ (trusted : Type 0) (places : Places) (nobody : NobodyHolds places) (law
         since-image (g.first ++ r.0) reuses g.first old mid new result g.grew s,
         since-bytes (g.first ++ r.0) old mid new result s,
         reuses-reason trusted places said came result xs ys mid parts.0 new
-            (λ it same. (g.free (ap may_stay same), g.idle (ap (λ (x : Result Outcome Refusal). has_ended x) same))) reusing forcing parts.1 parts.2,
+            (λ it same. (g.free (ap may_stay same), g.idle (ap (λ (x : Result Outcome Refusal). has_ended x) same))) (valid refl) reusing forcing parts.1 parts.2,
       ) s
 
   pub processed : (result : Result Outcome Refusal) (events : List Event) (old new : Machine) → IsProcess c → IsRowless (Ok w) → IsPlainWork (Ok w) → IsAtRest old.core → HasSoundRows (database old) → DoesWork k c (Ok w) events result
@@ -689,4 +732,4 @@ module _ (trusted : Type 0) (places : Places) (nobody : NobodyHolds places) (law
   processed result events old new p rowless plain rest sound (said, (xs, ys, cut, does, ends)) f =
       let parts = alone-parts trusted places 0 events xs ys old new cut f in
       let g = began trusted places nobody lawful k (behind c) c w said xs old parts.0 p.own rowless plain rest sound does parts.1 in
-      behind-did (behind c) said result ys old parts.0 new p.some rest g ends parts.2
+      behind-did (behind c) said result ys old parts.0 new p.some (λ is. work-valid trusted places xs old parts.0 sound.valid parts.1 k c w said (p.reused is) rowless does) rest g ends parts.2

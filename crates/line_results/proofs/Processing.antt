@@ -66,6 +66,15 @@ IsPlainOwn (delete_history to) = ⊥
 IsPlainOwn (audit_volume fix) = ⊥
 IsPlainOwn own = Unit {0}
 
+-- work of a command's own behind which volumes may be reused, or that isn't done so far
+abbrev pub HasReuse : Own → Type 0
+HasReuse expire = Unit {0}
+HasReuse empty_filespace = Unit {0}
+HasReuse (moves mover) = Unit {0}
+HasReuse none_but_reuse = Unit {0}
+HasReuse none_yet = Unit {0}
+HasReuse own = ⊥
+
 -- it shows no rows
 abbrev pub IsRowless : Result Work Refusal → Type 0
 IsRowless (Ok (work.Show q)) = ⊥
@@ -74,6 +83,7 @@ IsRowless w = Unit {0}
 pub record IsProcess (c : Command) : Type 0 where
   pub some : behind c ≡ no_more → ⊥
   pub own : IsProcessOwn (own_of c)
+  pub reused : behind c ≡ reuses → HasReuse (own_of c)
   pub rowless : (answers : List Answer) → IsRowless (work_of c answers)
 
 -- nothing comes behind a command's work, or it is a process
@@ -89,7 +99,7 @@ policy-kind (ValidateSet s) = inl (refl, tt)
 policy-kind c = inl (refl, tt)
 
 node-kind : (c : NodeCommand) → Kind (commands.Node c)
-node-kind (DeleteFilespace f) = inr (record { some = λ is. cc; own = tt; rowless = λ answers. found-rowless (filespace_named f.filespace answers) (λ it. run (it.number ∷ [])) (λ it. tt) })
+node-kind (DeleteFilespace f) = inr (record { some = λ is. cc; own = tt; reused = λ is. tt; rowless = λ answers. found-rowless (filespace_named f.filespace answers) (λ it. run (it.number ∷ [])) (λ it. tt) })
 node-kind c = inl (refl, tt)
 
 moved-rowless : (b : Bool) (w : Work) → IsRowless (Ok w) → IsRowless (if b then Ok w else Err BadHierarchy)
@@ -100,22 +110,25 @@ pool-kind : (c : PoolCommand) → Kind (commands.Pool c)
 pool-kind (BackupPool b) = inr (record {
   some = λ is. cc;
   own = tt;
+  reused = λ is. cc;
   rowless = λ answers. found-rowless (number_found answers) (λ primary. if_found (number_found (others answers)) (λ copy. run (primary ∷ copy ∷ [])))
       (λ primary. found-rowless (number_found (others answers)) (λ copy. run (primary ∷ copy ∷ [])) (λ copy. tt));
 })
-pool-kind MigrateAll = inr (record { some = λ is. cc; own = tt; rowless = λ answers. tt })
+pool-kind MigrateAll = inr (record { some = λ is. cc; own = tt; reused = λ is. tt; rowless = λ answers. tt })
 pool-kind (MigratePool m) = inr (record {
   some = λ is. cc;
   own = tt;
+  reused = λ is. tt;
   rowless = λ answers. found-rowless (the_pool answers) (λ p. if is_some p.settings.next then run (p.number ∷ unwrap_or m.low p.settings.low ∷ []) else Err BadHierarchy)
       (λ p. moved-rowless (is_some p.settings.next) (work.Run (p.number ∷ unwrap_or m.low p.settings.low ∷ [])) tt);
 })
 pool-kind (ReclaimPool r) = inr (record {
   some = λ is. cc;
   own = tt;
+  reused = λ is. tt;
   rowless = λ answers. found-rowless (the_pool answers) (λ p. run (p.number ∷ unwrap_or r.threshold p.settings.reclaim ∷ [])) (λ p. tt);
 })
-pool-kind (RestorePool p) = inr (record { some = λ is. cc; own = tt; rowless = λ answers. found-rowless (number_found answers) (λ number. run (number ∷ [])) (λ number. tt) })
+pool-kind (RestorePool p) = inr (record { some = λ is. cc; own = tt; reused = λ is. tt; rowless = λ answers. found-rowless (number_found answers) (λ number. run (number ∷ [])) (λ number. tt) })
 pool-kind c = inl (refl, tt)
 
 -- DELETE VOLUME is one where its data goes
@@ -128,10 +141,10 @@ deleted_own discard = if discard then empty_volume else none_yet
 abbrev DeletedKind : (discard : Bool) → (work : List Answer → Result Work Refusal) → Type 0
 DeletedKind discard work =
     ((deleted_behind discard ≡ no_more) × IsPlainOwn (deleted_own discard))
-    ⊎ ((deleted_behind discard ≡ no_more → ⊥) × IsProcessOwn (deleted_own discard) × ((answers : List Answer) → IsRowless (work answers)))
+    ⊎ ((deleted_behind discard ≡ no_more → ⊥) × IsProcessOwn (deleted_own discard) × (deleted_behind discard ≡ reuses → HasReuse (deleted_own discard)) × ((answers : List Answer) → IsRowless (work answers)))
 
 deleted-kind : (discard : Bool) (volume : List ℕ) → DeletedKind discard (λ answers. if discard then run_found answers else delete_volume volume answers)
-deleted-kind true volume = inr (λ is. cc, tt, λ answers. found-rowless (number_found answers) (λ number. run (number ∷ [])) (λ number. tt))
+deleted-kind true volume = inr (λ is. cc, tt, λ is. cc, λ answers. found-rowless (number_found answers) (λ number. run (number ∷ [])) (λ number. tt))
 deleted-kind false volume = inl (refl, tt)
 
 data-rowless : (pool : Option (List ℕ)) (answers : List Answer) → IsRowless (move_data pool answers)
@@ -144,12 +157,12 @@ data-rowless (Some name) answers =
 volume-kind : (c : VolumeCommand) → Kind (commands.Volume c)
 volume-kind (DeleteVolume d) = elim (deleted-kind d.discard_data d.volume) as (λ _. Kind (commands.Volume (DeleteVolume d))) [
   | inl plain ↦ inl plain
-  | inr process ↦ inr (record { some = process.0; own = process.1; rowless = process.2 })
+  | inr process ↦ inr (record { some = process.0; own = process.1; reused = process.2; rowless = process.3 })
 ]
-volume-kind (MoveData m) = inr (record { some = λ is. cc; own = tt; rowless = λ answers. data-rowless m.pool answers })
-volume-kind (RestoreVolume v) = inr (record { some = λ is. cc; own = tt; rowless = λ answers. found-rowless (number_found answers) (λ number. run (number ∷ [])) (λ number. tt) })
-volume-kind (AuditVolume a) = inr (record { some = λ is. cc; own = tt; rowless = λ answers. found-rowless (number_found answers) (λ number. run (number ∷ [])) (λ number. tt) })
-volume-kind ReuseVolumes = inr (record { some = λ is. cc; own = tt; rowless = λ answers. tt })
+volume-kind (MoveData m) = inr (record { some = λ is. cc; own = tt; reused = λ is. tt; rowless = λ answers. data-rowless m.pool answers })
+volume-kind (RestoreVolume v) = inr (record { some = λ is. cc; own = tt; reused = λ is. tt; rowless = λ answers. found-rowless (number_found answers) (λ number. run (number ∷ [])) (λ number. tt) })
+volume-kind (AuditVolume a) = inr (record { some = λ is. cc; own = tt; reused = λ is. cc; rowless = λ answers. found-rowless (number_found answers) (λ number. run (number ∷ [])) (λ number. tt) })
+volume-kind ReuseVolumes = inr (record { some = λ is. cc; own = tt; reused = λ is. tt; rowless = λ answers. tt })
 volume-kind c = inl (refl, tt)
 
 file-kind : (c : FileCommand) → Kind (commands.File c)
@@ -158,7 +171,7 @@ file-kind (Get g) = inl (refl, tt)
 file-kind (Write w) = inl (refl, tt)
 file-kind (Erase e) = inl (refl, tt)
 file-kind (RestoreFiles r) = inl (refl, tt)
-file-kind (Incremental i) = inr (record { some = λ is. cc; own = tt; rowless = λ answers. found-rowless (number_found answers) (λ number. run (number ∷ [])) (λ number. tt) })
+file-kind (Incremental i) = inr (record { some = λ is. cc; own = tt; reused = λ is. cc; rowless = λ answers. found-rowless (number_found answers) (λ number. run (number ∷ [])) (λ number. tt) })
 file-kind c = inl (refl, tt)
 
 -- BACKUP DB is one, of whichever type, whether a device class is named or not
@@ -171,10 +184,10 @@ in-rowless None answers = tt
 in-rowless (Some class) answers = found-rowless (device_found answers) (λ device. run []) (λ device. tt)
 
 database-kind : (c : DatabaseCommand) → Kind (commands.Database c)
-database-kind (BackupDatabase b) = inr (record { some = λ is. cc; own = backup-process b.backup_type; rowless = λ answers. in-rowless b.dev_class answers })
-database-kind (DeleteHistory h) = inr (record { some = λ is. cc; own = tt; rowless = λ answers. tt })
-database-kind (Day d) = inr (record { some = λ is. cc; own = tt; rowless = λ answers. tt })
-database-kind ExpireInventory = inr (record { some = λ is. cc; own = tt; rowless = λ answers. tt })
+database-kind (BackupDatabase b) = inr (record { some = λ is. cc; own = backup-process b.backup_type; reused = λ is. absurd cc; rowless = λ answers. in-rowless b.dev_class answers })
+database-kind (DeleteHistory h) = inr (record { some = λ is. cc; own = tt; reused = λ is. cc; rowless = λ answers. tt })
+database-kind (Day d) = inr (record { some = λ is. cc; own = tt; reused = λ is. tt; rowless = λ answers. tt })
+database-kind ExpireInventory = inr (record { some = λ is. cc; own = tt; reused = λ is. tt; rowless = λ answers. tt })
 database-kind Checkpoint = inl (refl, tt)
 database-kind c = inl (refl, tt)
 

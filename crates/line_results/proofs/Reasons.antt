@@ -1,6 +1,5 @@
 -- Why processes without tickets and images are refused where one actor has the machine alone, if no run ends.
 use Rattle.std.proofs.Common.{◌≡◌, ◌⊎◌, inl, inr, ℕ, ◌+◌, ◌^◌, ◌≤◌, ◌==◌, nat_le, Bool, true, false, if◌then◌else◌, List, [], ◌∷◌, ◌++◌, map, Option, None, Some, Result, Ok, Err, refl, sym, ap, subst, ◌∙◌, arith}
-use Rattle.std.proofs.lemmas.Bool.{leb-false}
 use Rattle.std.proofs.lemmas.Option.{same_Some}
 use Rattle.std.specs.List.{AllByRecursion}
 use Rattle.kinds.specs.Names.{is_same_name}
@@ -19,7 +18,7 @@ use Rattle.entries.specs.change_items.declared.lists.DroppedCopies.{DroppedCopie
 use Rattle.entries.specs.change_items.declared.lists.NamedVersions.{NamedVersions}
 use Rattle.entries.specs.declared.change.Change.{Change}
 use Rattle.entries.specs.declared.change.Change.TheVariants as change
-use Rattle.inventory_rows.specs.Items.{count_items, most_items}
+use Rattle.inventory_rows.specs.Items.{count_items}
 use Rattle.inventory_rows.specs.Search.{version}
 use Rattle.inventory_rows.specs.version_groups.Entries.{on_ok}
 use Rattle.inventory_rows.specs.version_groups.declared.versions.Version.{Version}
@@ -60,7 +59,7 @@ use Rattle.command_steps.specs.expiration.Expiring as expiring
 use Rattle.command_steps.specs.reuse_delay.Reusing.{IsReusing, VolumeReuse}
 use Rattle.command_steps.specs.volume_audits.Auditing.{IsAuditing, VolumeAudit}
 use Rattle.command_steps.specs.volume_audits.Mending.{discarding, dropping}
-use Rattle.machine.specs.Alone.{Alone}
+use Rattle.machine.specs.Alone.{Alone, with_contents}
 use Rattle.machine.specs.Causes.{has_copy_in, most_bytes, read_refused}
 use Rattle.machine.specs.Machine.{Asks, Case, Forces, Places, Reads, Reuses, ended, halting, made, stamped}
 use Rattle.machine.specs.State.{Core, Machine, inventory, sight}
@@ -75,12 +74,12 @@ use Rattle.line_results.specs.Moving.{HasCopyReason, IsCopyReasoned}
 use Rattle.line_results.specs.Removing.{IsAbsent, IsUnremoved, has_filespace}
 use Rattle.line_results.specs.Resting.{database}
 use Rattle.line_results.proofs.Clearing.{IsSound}
-use Rattle.line_results.proofs.Bounds.{filespace-takes, volume-takes, Common, IsFew, IsNoHolder, Takes, ask-all, ask-other, ask-unheld, commit-full, commit-unheld, delete-takes, discard-takes, drop-takes, expire-takes, force-other, force-unheld, legal-few, legal-valid, reuse-full, reuse-unheld}
+use Rattle.line_results.proofs.Bounds.{filespace-takes, volume-takes, Common, IsFew, IsNoHolder, Takes, ask-all, ask-other, ask-unheld, commit-full, commit-unheld, delete-takes, discard-takes, drop-takes, expire-takes, force-other, force-unheld, legal-valid, reuse-full, reuse-unheld}
 use Rattle.line_results.proofs.Emptying.{unbarred}
 use Rattle.line_results.proofs.ForceEnds.{forced-done, forced-same}
 use Rattle.line_results.proofs.Growing.{Goes, Grows, Makes, grown-number, step-goes}
 use Rattle.line_results.proofs.Handling.{IsFree, commit-free, same-free}
-use Rattle.line_results.proofs.Meeting.{MetAt, alone-grows, met-at}
+use Rattle.line_results.proofs.Meeting.{MetAt, alone-grows, met-at, passes}
 use Rattle.line_results.proofs.Removable.{unbarred-volume}
 use Rattle.line_results.proofs.Stopping.{Ends, ends-halt}
 use Rattle.line_results.proofs.VolumesThere.{discarded-stays, dropped-stays}
@@ -159,16 +158,22 @@ asking-answered trusted places events e old new mild (inr (stops, met), asks) f 
 
 -- ---- what stays
 
-abbrev IsAny : Change → Type 0
+abbrev pub IsAny : Change → Type 0
 IsAny w = Unit {0}
-
-few-goes : (P : Change → Type 0) (c d : Core) → Goes P c d → IsFew (inventory c) → IsFew (inventory d)
-few-goes P c d (inl same) few = subst IsFew (sym same) few
-few-goes P c d (inr (w, so, legal, is)) few = subst IsFew (sym is) (legal-few (sight 0 c).journal w (inventory c) legal)
 
 pub valid-goes : (P : Change → Type 0) (c d : Core) → Goes P c d → is_valid (inventory c) ≡ true → is_valid (inventory d) ≡ true
 valid-goes P c d (inl same) valid = ap is_valid same ∙ valid
 valid-goes P c d (inr (w, so, legal, is)) valid = ap is_valid is ∙ legal-valid (sight 0 c).journal w (inventory c) legal
+
+-- so it is behind steps of one kind, none of which begins an image
+pub valid-behind : (trusted : Type 0) (places : Places) (K : Deed → Type 0) → ((d : Deed) → K d → Makes IsAny d) → (events : List Event) (m new : Machine) → AllByRecursion (λ e. K e.deed) events → is_valid (database m) ≡ true
+    → Alone trusted places 0 events m new → is_valid (database new) ≡ true
+valid-behind trusted places K makes [] m new all valid same = ap (λ (x : Machine). is_valid (database x)) same ∙ valid
+valid-behind trusted places K makes (e ∷ events) m new all valid (next, moved, rest) =
+    let p = passes trusted places e m next moved in
+    let now : is_valid (inventory moved.next.core) ≡ true =
+    valid-goes IsAny m.core moved.next.core (step-goes IsAny places e.deed (with_contents moved.seen m) moved.next (makes e.deed all.0) moved.made.step) valid in
+    valid-behind trusted places K makes events next new all.1 (subst (λ (c : Core). is_valid (inventory c) ≡ true) (sym p.core) now) rest
 
 ask-free : (q : Query) (answer : Result Answer Refusal) (m next : Machine) → Asks 0 q m next answer → IsFree m.core → IsFree next.core
 ask-free q (Ok a) m next h free = same-free m.core m.core next.core h.1.1.core refl refl free
@@ -199,14 +204,7 @@ ending-makes P d (inr (answer, is)) = subst (λ (x : Deed). Makes P x) (sym is) 
 last-number : (old before new : Machine) (e : Refusal) → e ≡ refused.InventoryFull → Grows before.core new.core → 2 ^ 62 ≤ (inventory before.core).number + 1 → IsBounded old new e
 last-number old before new e full grown last =
     let more : (inventory before.core).number ≤ (inventory new.core).number = grown-number before.core new.core grown in
-    (full, inr (omega (arith, last, more)))
-
--- there are too many items, or so few as may be
-by-items : (old new : Machine) (e : Refusal) → e ≡ refused.InventoryFull → (IsFew (database old) → IsBounded old new e) → IsBounded old new e
-by-items old new e full h = elim (nat_le (count_items (database old)) most_items) as (λ b. nat_le (count_items (database old)) most_items ≡ b → IsBounded old new e) [
-  | true ↦ λ few. h few
-  | false ↦ λ many. (full, inl (leb-false (count_items (database old)) most_items many))
-] refl
+    (full, omega (arith, last, more))
 
 -- ---- EXPIRE INVENTORY
 
@@ -221,31 +219,28 @@ expiring-makes (Force answer) h = tt
 expiring-makes (Commit asked tickets answer) h = λ c core is. tt
 expiring-makes d h = absurd h
 
-expiring-full : (places : Places) (d : Deed) (m next : Machine) (e : Refusal) → IsExpiring d → Refuses e d → Case places 0 d m next → IsFew (inventory m.core) → e ≡ refused.InventoryFull
+expiring-full : (places : Places) (d : Deed) (m next : Machine) (e : Refusal) → IsExpiring d → Refuses e d → Case places 0 d m next → is_valid (inventory m.core) ≡ true → e ≡ refused.InventoryFull
     → 2 ^ 62 ≤ (inventory m.core).number + 1
-expiring-full places (Ask q answer) m next e so why step few full = absurd ((ask-plain q answer m next e why step).0 full)
-expiring-full places (Force answer) m next e so why step few full = absurd ((force-plain answer m next e why step).0 full)
-expiring-full places (Commit asked tickets answer) m next e (filespace, lines, is, none) why step few full =
+expiring-full places (Ask q answer) m next e so why step valid full = absurd ((ask-plain q answer m next e why step).0 full)
+expiring-full places (Force answer) m next e so why step valid full = absurd ((force-plain answer m next e why step).0 full)
+expiring-full places (Commit asked tickets answer) m next e (filespace, lines, is, none) why step valid full =
     let c : NamedVersions = record { filespace = filespace; items = map named lines } in
-    plain-full places m next e (change.Expire c) answer (Commit asked tickets answer) (expire-takes c) (expire_takes c (inventory m.core)) few
+    plain-full places m next e (change.Expire c) answer (Commit asked tickets answer) (expire-takes c) (expire_takes c (inventory m.core)) (facts_of (inventory m.core) valid).few_items
     (ap (λ (a : Asked). Commit a tickets answer) is ∙ ap (λ (ts : List ℕ). Commit (Plain (change.Expire c)) ts answer) none) why step full
-expiring-full places d m next e so why step few full = absurd so
+expiring-full places d m next e so why step valid full = absurd so
 
-module _ (trusted : Type 0) (places : Places) (old new : Machine) (e : Refusal) (mild : halt_by e ≡ None) where
+module _ (trusted : Type 0) (places : Places) (old new : Machine) (e : Refusal) (mild : halt_by e ≡ None) (valid : is_valid (database old) ≡ true) where
   pub expire-reason : (events : List Event) → Expiration events (Err e) → Alone trusted places 0 events old new → IsBounded old new e
   expire-reason events h f = elim h.cause as (λ _. IsBounded old new e) [
     | inl memory ↦ absurd (no-memory e memory mild)
-    | inr met ↦ (let full : e ≡ refused.InventoryFull = full-mild e met.0 mild in by-items old new e full (λ few. by-step full (met-at trusted places IsExpiring (λ c. IsFew (inventory c))
-        (λ d m next so step few_there. few-goes IsAny m.core next.core (step-goes IsAny places d m next (expiring-makes d so) step) few_there) (Refuses e) events old new h.only few f (met-so e events met.1))))
+    | inr met ↦ (let full : e ≡ refused.InventoryFull = full-mild e met.0 mild in by-step full (met-at trusted places IsExpiring (λ c. is_valid (inventory c) ≡ true)
+        (λ d m next so step there. valid-goes IsAny m.core next.core (step-goes IsAny places d m next (expiring-makes d so) step) there) (Refuses e) events old new h.only valid f (met-so e events met.1)))
   ]
     where
-      by-step : e ≡ refused.InventoryFull → MetAt places IsExpiring (λ c. IsFew (inventory c)) (Refuses e) old new → IsBounded old new e
+      by-step : e ≡ refused.InventoryFull → MetAt places IsExpiring (λ c. is_valid (inventory c) ≡ true) (Refuses e) old new → IsBounded old new e
       by-step full at = last-number old at.before new e full at.grown (expiring-full places at.deed at.before at.after e at.kind at.is at.step at.holds full)
 
 -- ---- DELETE VOLHISTORY
-
-abbrev IsFewFree : Core → Type 0
-IsFewFree c = IsFew (inventory c) × IsFree c
 
 deleting-makes : (files : List ℕ) (d : Deed) → IsDeleting files d → Makes IsAny d
 deleting-makes files d (inl h) = ending-makes IsAny d h
@@ -256,11 +251,11 @@ deleting-free places files d m next (inl h) step free = ending-free places m nex
 deleting-free places files d m next (inr (file, answer, among, is)) step free =
     commit-free (Plain (change.DbDelete file)) answer m next (subst (λ (x : Deed). Case places 0 x m next) is step) free
 
-deleting-full : (places : Places) (files : List ℕ) (d : Deed) (m next : Machine) (e : Refusal) → IsDeleting files d → Refuses e d → Case places 0 d m next → IsFew (inventory m.core) → e ≡ refused.InventoryFull
+deleting-full : (places : Places) (files : List ℕ) (d : Deed) (m next : Machine) (e : Refusal) → IsDeleting files d → Refuses e d → Case places 0 d m next → is_valid (inventory m.core) ≡ true → e ≡ refused.InventoryFull
     → 2 ^ 62 ≤ (inventory m.core).number + 1
-deleting-full places files d m next e (inl h) why step few full = absurd ((ending-plain places m next e d h why step).0 full)
-deleting-full places files d m next e (inr (file, answer, among, is)) why step few full =
-    plain-full places m next e (change.DbDelete file) answer d (delete-takes file) (delete_takes file (inventory m.core)) few is why step full
+deleting-full places files d m next e (inl h) why step valid full = absurd ((ending-plain places m next e d h why step).0 full)
+deleting-full places files d m next e (inr (file, answer, among, is)) why step valid full =
+    plain-full places m next e (change.DbDelete file) answer d (delete-takes file) (delete_takes file (inventory m.core)) (facts_of (inventory m.core) valid).few_items is why step full
 
 deleting-unheld : (places : Places) (files : List ℕ) (d : Deed) (m next : Machine) (e : Refusal) → IsDeleting files d → Refuses e d → Case places 0 d m next → IsFree m.core → IsNoHolder e
 deleting-unheld places files d m next e (inl h) why step free = (ending-plain places m next e d h why step).1
@@ -269,36 +264,12 @@ deleting-unheld places files d m next e (inr (file, answer, among, is)) why step
 -- ---- steps of one kind, of which each keeps this
 
 module _ (trusted : Type 0) (places : Places) (K : Deed → Type 0) (makes : (d : Deed) → K d → Makes IsAny d) (frees : (d : Deed) (m next : Machine) → K d → Case places 0 d m next → IsFree m.core → IsFree next.core)
-    (fills : (d : Deed) (m next : Machine) (e : Refusal) → K d → Refuses e d → Case places 0 d m next → IsFew (inventory m.core) → e ≡ refused.InventoryFull → 2 ^ 62 ≤ (inventory m.core).number + 1)
-    (holds : (d : Deed) (m next : Machine) (e : Refusal) → K d → Refuses e d → Case places 0 d m next → IsFree m.core → IsNoHolder e) where
-  few-step : (d : Deed) (m next : Machine) → K d → Case places 0 d m next → IsFew (inventory m.core) → IsFew (inventory next.core)
-  few-step d m next so step few = few-goes IsAny m.core next.core (step-goes IsAny places d m next (makes d so) step) few
-
-  full-met : (events : List Event) (e : Refusal) (old new : Machine) → AllByRecursion (λ x. K x.deed) events → MetBy (Refuses e) events → Alone trusted places 0 events old new → e ≡ refused.InventoryFull → IsBounded old new e
-  full-met events e old new all met f full =
-      by-items old new e full
-      (λ few. (let at = met-at trusted places K (λ c. IsFew (inventory c)) few-step (Refuses e) events old new all few f met in
-      last-number old at.before new e full at.grown (fills at.deed at.before at.after e at.kind at.is at.step at.holds full)))
-
-  held-met : (events : List Event) (e : Refusal) (old new : Machine) → IsFree old.core → AllByRecursion (λ x. K x.deed) events → MetBy (Refuses e) events → Alone trusted places 0 events old new → IsNoHolder e
-  held-met events e old new free all met f =
-      (let at = met-at trusted places K IsFree frees (Refuses e) events old new all free f met in holds at.deed at.before at.after e at.kind at.is at.step at.holds)
-
-  -- what stopped them is a bound
-  pub stopped-bounded : (events : List Event) (e : Refusal) (old new : Machine) → halt_by e ≡ None → IsFree old.core → AllByRecursion (λ x. K x.deed) events → IsStopped events e → Alone trusted places 0 events old new → IsBounded old new e
-  stopped-bounded events e old new mild free all (inl memory) f = absurd (no-memory e memory mild)
-  stopped-bounded events e old new mild free all (inr (stops, met)) f = elim (stopping-mild e stops mild) as (λ _. IsBounded old new e) [
-    | inl full ↦ full-met events e old new all met f full
-    | inr busy ↦ absurd (held-met events e old new free all met f busy.0 busy.1)
-  ]
-
--- the same in a valid database, where only there is a bound
-module _ (trusted : Type 0) (places : Places) (K : Deed → Type 0) (makes : (d : Deed) → K d → Makes IsAny d) (frees : (d : Deed) (m next : Machine) → K d → Case places 0 d m next → IsFree m.core → IsFree next.core)
     (fills : (d : Deed) (m next : Machine) (e : Refusal) → K d → Refuses e d → Case places 0 d m next → is_valid (inventory m.core) ≡ true → e ≡ refused.InventoryFull → 2 ^ 62 ≤ (inventory m.core).number + 1)
     (holds : (d : Deed) (m next : Machine) (e : Refusal) → K d → Refuses e d → Case places 0 d m next → IsFree m.core → IsNoHolder e) where
   valid-step : (d : Deed) (m next : Machine) → K d → Case places 0 d m next → is_valid (inventory m.core) ≡ true → is_valid (inventory next.core) ≡ true
   valid-step d m next so step valid = valid-goes IsAny m.core next.core (step-goes IsAny places d m next (makes d so) step) valid
 
+  -- what stopped them is the bound, in a valid database
   pub stopped-valid : (events : List Event) (e : Refusal) (old new : Machine) → halt_by e ≡ None → IsFree old.core → is_valid (database old) ≡ true → AllByRecursion (λ x. K x.deed) events → IsStopped events e
       → Alone trusted places 0 events old new → IsBounded old new e
   stopped-valid events e old new mild free valid all (inl memory) f = absurd (no-memory e memory mild)
@@ -309,11 +280,11 @@ module _ (trusted : Type 0) (places : Places) (K : Deed → Type 0) (makes : (d 
         absurd (holds at.deed at.before at.after e at.kind at.is at.step at.holds busy.0 busy.1))
   ]
 
-pub history-reason : (trusted : Type 0) (places : Places) (to : ℕ) (events : List Event) (e : Refusal) (old new : Machine) → halt_by e ≡ None → IsFree old.core → HistoryDeletion to events (Err e) → Alone trusted places 0 events old new
+pub history-reason : (trusted : Type 0) (places : Places) (to : ℕ) (events : List Event) (e : Refusal) (old new : Machine) → halt_by e ≡ None → IsFree old.core → is_valid (database old) ≡ true → HistoryDeletion to events (Err e) → Alone trusted places 0 events old new
     → IsBounded old new e
-history-reason trusted places to events e old new mild free h f =
+history-reason trusted places to events e old new mild free valid h f =
     let files : List ℕ = due_files to h.lines in
-    stopped-bounded trusted places (IsDeleting files) (deleting-makes files) (deleting-free places files) (deleting-full places files) (deleting-unheld places files) events e old new mild free h.only h.came f
+    stopped-valid trusted places (IsDeleting files) (deleting-makes files) (deleting-free places files) (deleting-full places files) (deleting-unheld places files) events e old new mild free valid h.only h.came f
 
 -- ---- the reuse of volumes
 
@@ -325,29 +296,29 @@ reusing-free : (places : Places) (files : List ℕ) (d : Deed) (m next : Machine
 reusing-free places files d m next (inl h) step free = ending-free places m next d h step free
 reusing-free places files d m next (inr (file, answer, among, is)) step free = reuse-free file answer m next (subst (λ (x : Deed). Case places 0 x m next) is step) free
 
-reused-full : (file : ℕ) (answer : Result ℕ Refusal) (m next : Machine) (e : Refusal) → Refuses e (Reuse file answer) → Reuses 0 file m next answer → IsFew (inventory m.core) → e ≡ refused.InventoryFull
+reused-full : (file : ℕ) (answer : Result ℕ Refusal) (m next : Machine) (e : Refusal) → Refuses e (Reuse file answer) → Reuses 0 file m next answer → is_valid (inventory m.core) ≡ true → e ≡ refused.InventoryFull
     → 2 ^ 62 ≤ (inventory m.core).number + 1
-reused-full file (Ok number) m next e why step few full = absurd cc
-reused-full file (Err x) m next e why step few full = reuse-full file m next x few step (same_Some x e why ∙ full)
+reused-full file (Ok number) m next e why step valid full = absurd cc
+reused-full file (Err x) m next e why step valid full = reuse-full file m next x (facts_of (inventory m.core) valid).few_items step (same_Some x e why ∙ full)
 
 reused-unheld : (file : ℕ) (answer : Result ℕ Refusal) (m next : Machine) (e : Refusal) → Refuses e (Reuse file answer) → Reuses 0 file m next answer → IsFree m.core → IsNoHolder e
 reused-unheld file (Ok number) m next e why step free = absurd cc
 reused-unheld file (Err x) m next e why step free = subst IsNoHolder (same_Some x e why) (reuse-unheld file m next x free.0 step)
 
-reusing-full : (places : Places) (files : List ℕ) (d : Deed) (m next : Machine) (e : Refusal) → IsReusing files d → Refuses e d → Case places 0 d m next → IsFew (inventory m.core) → e ≡ refused.InventoryFull
+reusing-full : (places : Places) (files : List ℕ) (d : Deed) (m next : Machine) (e : Refusal) → IsReusing files d → Refuses e d → Case places 0 d m next → is_valid (inventory m.core) ≡ true → e ≡ refused.InventoryFull
     → 2 ^ 62 ≤ (inventory m.core).number + 1
-reusing-full places files d m next e (inl h) why step few full = absurd ((ending-plain places m next e d h why step).0 full)
-reusing-full places files d m next e (inr (file, answer, among, is)) why step few full =
-    reused-full file answer m next e (subst (Refuses e) is why) (subst (λ (x : Deed). Case places 0 x m next) is step) few full
+reusing-full places files d m next e (inl h) why step valid full = absurd ((ending-plain places m next e d h why step).0 full)
+reusing-full places files d m next e (inr (file, answer, among, is)) why step valid full =
+    reused-full file answer m next e (subst (Refuses e) is why) (subst (λ (x : Deed). Case places 0 x m next) is step) valid full
 
 reusing-unheld : (places : Places) (files : List ℕ) (d : Deed) (m next : Machine) (e : Refusal) → IsReusing files d → Refuses e d → Case places 0 d m next → IsFree m.core → IsNoHolder e
 reusing-unheld places files d m next e (inl h) why step free = (ending-plain places m next e d h why step).1
 reusing-unheld places files d m next e (inr (file, answer, among, is)) why step free =
     reused-unheld file answer m next e (subst (Refuses e) is why) (subst (λ (x : Deed). Case places 0 x m next) is step) free
 
-pub reuse-reason : (trusted : Type 0) (places : Places) (events : List Event) (e : Refusal) (old new : Machine) → halt_by e ≡ None → IsFree old.core → VolumeReuse events (Err e) → Alone trusted places 0 events old new → IsBounded old new e
-reuse-reason trusted places events e old new mild free h f =
-    stopped-bounded trusted places (IsReusing h.files) (reusing-makes h.files) (reusing-free places h.files) (reusing-full places h.files) (reusing-unheld places h.files) events e old new mild free h.only h.came f
+pub reuse-reason : (trusted : Type 0) (places : Places) (events : List Event) (e : Refusal) (old new : Machine) → halt_by e ≡ None → IsFree old.core → is_valid (database old) ≡ true → VolumeReuse events (Err e) → Alone trusted places 0 events old new → IsBounded old new e
+reuse-reason trusted places events e old new mild free valid h f =
+    stopped-valid trusted places (IsReusing h.files) (reusing-makes h.files) (reusing-free places h.files) (reusing-full places h.files) (reusing-unheld places h.files) events e old new mild free valid h.only h.came f
 
 -- ---- AUDIT VOLUME
 
@@ -511,10 +482,10 @@ removing-makes reason d (objects, answer, is) = subst (λ (x : Deed). Makes IsAn
 removing-free : (places : Places) (reason : DiscardReason) (d : Deed) (m next : Machine) → IsDiscarding reason d → Case places 0 d m next → IsFree m.core → IsFree next.core
 removing-free places reason d m next (objects, answer, is) step free = commit-free (removing reason objects) answer m next (subst (λ (x : Deed). Case places 0 x m next) is step) free
 
-removing-full : (places : Places) (reason : DiscardReason) (d : Deed) (m next : Machine) (e : Refusal) → IsDiscarding reason d → Refuses e d → Case places 0 d m next → IsFew (inventory m.core) → e ≡ refused.InventoryFull
+removing-full : (places : Places) (reason : DiscardReason) (d : Deed) (m next : Machine) (e : Refusal) → IsDiscarding reason d → Refuses e d → Case places 0 d m next → is_valid (inventory m.core) ≡ true → e ≡ refused.InventoryFull
     → 2 ^ 62 ≤ (inventory m.core).number + 1
-removing-full places reason d m next e (objects, answer, is) why step few full =
-    plain-full places m next e _ answer d (discard-takes _) (discard_all_takes _ (inventory m.core)) few is why step full
+removing-full places reason d m next e (objects, answer, is) why step valid full =
+    plain-full places m next e _ answer d (discard-takes _) (discard_all_takes _ (inventory m.core)) (facts_of (inventory m.core) valid).few_items is why step full
 
 removing-unheld : (places : Places) (reason : DiscardReason) (d : Deed) (m next : Machine) (e : Refusal) → IsDiscarding reason d → Refuses e d → Case places 0 d m next → IsFree m.core → IsNoHolder e
 removing-unheld places reason d m next e (objects, answer, is) why step free = plain-unheld places m next e _ answer d (discard-takes _) free is why step
@@ -530,11 +501,11 @@ module _ (places : Places) (filespace : ℕ) where
   space-free d m next (inr (inl h)) step free = removing-free places (filespaces.reason_of filespace) d m next h step free
   space-free d m next (inr (inr (name, answer, is))) step free = commit-free (filespaces.deleting name filespace) answer m next (subst (λ (x : Deed). Case places 0 x m next) is step) free
 
-  space-full : (d : Deed) (m next : Machine) (e : Refusal) → filespaces.IsDeleting filespace d → Refuses e d → Case places 0 d m next → IsFew (inventory m.core) → e ≡ refused.InventoryFull → 2 ^ 62 ≤ (inventory m.core).number + 1
-  space-full d m next e (inl h) why step few full = absurd ((ending-plain places m next e d h why step).0 full)
-  space-full d m next e (inr (inl h)) why step few full = removing-full places (filespaces.reason_of filespace) d m next e h why step few full
-  space-full d m next e (inr (inr (name, answer, is))) why step few full =
-      plain-full places m next e _ answer d (filespace-takes name filespace) (clients_take (client.Filespace two.Delete 0 name filespace) (inventory m.core) refl) few is why step full
+  space-full : (d : Deed) (m next : Machine) (e : Refusal) → filespaces.IsDeleting filespace d → Refuses e d → Case places 0 d m next → is_valid (inventory m.core) ≡ true → e ≡ refused.InventoryFull → 2 ^ 62 ≤ (inventory m.core).number + 1
+  space-full d m next e (inl h) why step valid full = absurd ((ending-plain places m next e d h why step).0 full)
+  space-full d m next e (inr (inl h)) why step valid full = removing-full places (filespaces.reason_of filespace) d m next e h why step valid full
+  space-full d m next e (inr (inr (name, answer, is))) why step valid full =
+      plain-full places m next e _ answer d (filespace-takes name filespace) (clients_take (client.Filespace two.Delete 0 name filespace) (inventory m.core) refl) (facts_of (inventory m.core) valid).few_items is why step full
 
   space-unheld : (d : Deed) (m next : Machine) (e : Refusal) → filespaces.IsDeleting filespace d → Refuses e d → Case places 0 d m next → IsFree m.core → IsNoHolder e
   space-unheld d m next e (inl h) why step free = (ending-plain places m next e d h why step).1
@@ -544,8 +515,8 @@ module _ (places : Places) (filespace : ℕ) where
 pub filespace-reason : (trusted : Type 0) (places : Places) (filespace : ℕ) (events : List Event) (e : Refusal) (old new : Machine) → halt_by e ≡ None → IsFree old.core → is_valid (database old) ≡ true → IsOrdered (database old) → FilespaceDeletion filespace events (Err e)
     → Alone trusted places 0 events old new → IsAbsent (has_filespace filespace (database old)) e ⊎ IsBounded old new e
 filespace-reason trusted places filespace events e old new mild free valid ordered h f = elim h.came as (λ _. IsAbsent (has_filespace filespace (database old)) e ⊎ IsBounded old new e) [
-  | inl stopped ↦ inr (stopped-bounded trusted places (filespaces.IsDeleting filespace) (space-makes places filespace) (space-free places filespace) (space-full places filespace) (space-unheld places filespace)
-      events e old new mild free h.only stopped f)
+  | inl stopped ↦ inr (stopped-valid trusted places (filespaces.IsDeleting filespace) (space-makes places filespace) (space-free places filespace) (space-full places filespace) (space-unheld places filespace)
+      events e old new mild free valid h.only stopped f)
   | inr other ↦ (elim other as (λ _. IsAbsent (has_filespace filespace (database old)) e ⊎ IsBounded old new e) [
     | inl missing ↦ (let one : IsUnremoved e = missing-so e missing.0 in inl (one, not-there (has_filespace filespace (database old)) (unbarred trusted places filespace events e old new one h.place f valid ordered)))
     | inr kept ↦ (let one : IsUnremoved e = kept-so e kept.0 in inl (one, not-there (has_filespace filespace (database old)) (unbarred trusted places filespace events e old new one h.place f valid ordered)))
@@ -574,7 +545,7 @@ module _ (places : Places) (file : ℕ) where
   volume-full d m next e (inr (inl (lines, answer, is))) why step valid full =
       let facts = facts_of (inventory m.core) valid in
       plain-full places m next e _ answer d (drop-takes _) (drops_take _ (inventory m.core) facts.objects_apart) facts.few_items is why step full
-  volume-full d m next e (inr (inr h)) why step valid full = removing-full places (for_volume file) d m next e h why step (facts_of (inventory m.core) valid).few_items full
+  volume-full d m next e (inr (inr h)) why step valid full = removing-full places (for_volume file) d m next e h why step valid full
 
   volume-unheld : (d : Deed) (m next : Machine) (e : Refusal) → volumes.IsDeleting true file d → Refuses e d → Case places 0 d m next → IsFree m.core → IsNoHolder e
   volume-unheld d m next e (inl (inl h)) why step free = (ending-plain places m next e d h why step).1
@@ -627,26 +598,25 @@ unreasoned numbers own old new (Err e) h = inl (h e)
 -- ---- what comes behind work
 
 bounded-on : (old mid new : Machine) (e f : Refusal) → e ≡ f → Grows mid.core new.core → IsBounded old mid f → IsBounded old new e
-bounded-on old mid new e f same grown (full, inl many) = (same ∙ full, inl many)
-bounded-on old mid new e f same grown (full, inr last) =
+bounded-on old mid new e f same grown (full, last) =
     let more : (inventory mid.core).number ≤ (inventory new.core).number = grown-number mid.core new.core grown in
-    (same ∙ full, inr (omega (arith, last, more)))
+    (same ∙ full, omega (arith, last, more))
 
-module _ (trusted : Type 0) (places : Places) (it : Outcome) (e : Refusal) (old mid new : Machine) (mild : halt_by e ≡ None) (free : IsFree old.core) where
+module _ (trusted : Type 0) (places : Places) (it : Outcome) (e : Refusal) (old mid new : Machine) (mild : halt_by e ≡ None) (free : IsFree old.core) (valid : is_valid (database old) ≡ true) where
   reused-behind : (answer : Result ℕ Refusal) (came : Result Outcome Refusal) (xs ys : List Event) → VolumeReuse xs answer → came ≡ on_ok (λ number. with_reused number it) answer → Forcing came ys (Err e)
       → Alone trusted places 0 xs old mid → Alone trusted places 0 ys mid new → IsBounded old new e
   reused-behind (Ok number) came xs ys called is forcing f g = absurd (forced-done (with_reused number it) e ys (subst (λ (r : Result Outcome Refusal). Forcing r ys (Err e)) is forcing) mild)
   reused-behind (Err x) came xs ys called is forcing f g =
       let same : e ≡ x = forced-same x e ys (subst (λ (r : Result Outcome Refusal). Forcing r ys (Err e)) is forcing) mild in
       bounded-on old mid new e x same (alone-grows trusted places ys mid new g).1
-      (reuse-reason trusted places xs x old mid (subst (λ (y : Refusal). halt_by y ≡ None) same mild) free called f)
+      (reuse-reason trusted places xs x old mid (subst (λ (y : Refusal). halt_by y ≡ None) same mild) free valid called f)
 
 -- where volumes are reused behind work that was done
-pub reuses-reason : (trusted : Type 0) (places : Places) (said came result : Result Outcome Refusal) (xs ys : List Event) (old mid new : Machine) → ((it : Outcome) → said ≡ Ok it → (old.core.tickets ≡ []) × (old.core.image ≡ None))
+pub reuses-reason : (trusted : Type 0) (places : Places) (said came result : Result Outcome Refusal) (xs ys : List Event) (old mid new : Machine) → ((it : Outcome) → said ≡ Ok it → (old.core.tickets ≡ []) × (old.core.image ≡ None)) → is_valid (database old) ≡ true
     → Reusing said xs came → Forcing came ys result → Alone trusted places 0 xs old mid → Alone trusted places 0 ys mid new → IsReused reuses said old new result
-reuses-reason trusted places (Err x) came result xs ys old mid new free reusing forcing f g = tt
-reuses-reason trusted places (Ok it) came (Ok other) xs ys old mid new free reusing forcing f g = tt
-reuses-reason trusted places (Ok it) came (Err e) xs ys old mid new free (answer, called, is) forcing f g = elim (halt_by e) as (λ o. halt_by e ≡ o → IsReused reuses (Ok it) old new (Err e)) [
-  | None ↦ λ mild. inl (reused-behind trusted places it e old mid new mild (free it refl) answer came xs ys called is forcing f g)
+reuses-reason trusted places (Err x) came result xs ys old mid new free valid reusing forcing f g = tt
+reuses-reason trusted places (Ok it) came (Ok other) xs ys old mid new free valid reusing forcing f g = tt
+reuses-reason trusted places (Ok it) came (Err e) xs ys old mid new free valid (answer, called, is) forcing f g = elim (halt_by e) as (λ o. halt_by e ≡ o → IsReused reuses (Ok it) old new (Err e)) [
+  | None ↦ λ mild. inl (reused-behind trusted places it e old mid new mild (free it refl) valid answer came xs ys called is forcing f g)
   | Some how ↦ λ halts. inr (how, halts)
 ] refl

@@ -6,7 +6,6 @@ use Rattle.std.specs.Option.{option_map_or, option_or}
 use Rattle.kinds.specs.Refusals.{foremost, number_of, unless}
 use Rattle.kinds.specs.declared.refusal.Refusal.{Refusal}
 use Rattle.kinds.specs.declared.refusal.Refusal.TheVariants as refused
-use Rattle.entries.specs.declared.change.Change.{Change}
 use Rattle.entries.specs.declared.entry.Entry.{Entry}
 use Rattle.inventory_answers.specs.Answered.{rows_of}
 use Rattle.inventory_answers.specs.declared.query.Query.{Query}
@@ -40,7 +39,7 @@ use Rattle.space.specs.declared.aim.Aim.{Aim}
 use Rattle.space.specs.declared.aim.Aim.TheVariants as aim
 use Rattle.steps.specs.Events.{Deed, Event}
 use Rattle.steps.specs.Events.Deed.{Ask, Commit, CopyPiece, DropTicket, Force, OpenCopy, Seal}
-use Rattle.machine.specs.Alone.{Alone, with_contents}
+use Rattle.machine.specs.Alone.{Alone}
 use Rattle.machine.specs.Causes.{copy_refused_by}
 use Rattle.machine.specs.Laws.{RefusesElsewhere}
 use Rattle.machine.specs.Machine.{Asks, Case, OpensCopy, Places, can_place_copy, ended, placing_refused, size_of, space}
@@ -53,9 +52,9 @@ use Rattle.line_results.proofs.CopiesStay.{grew-pools}
 use Rattle.line_results.proofs.Copying.{copied-none, copies-walk}
 use Rattle.line_results.proofs.CopyReason.{NotTen, answer_in, elsewhere-not, ended-not, placed-not, ten-is}
 use Rattle.line_results.proofs.Cutting.{all-first, cut-at, loose-moved}
-use Rattle.line_results.proofs.Growing.{Grows, Makes, step-goes}
-use Rattle.line_results.proofs.Meeting.{alone-grows, passes}
-use Rattle.line_results.proofs.Reasons.{ending-makes, valid-goes}
+use Rattle.line_results.proofs.Growing.{Grows, Makes}
+use Rattle.line_results.proofs.Meeting.{alone-grows}
+use Rattle.line_results.proofs.Reasons.{IsAny, ending-makes, valid-behind}
 use Rattle.line_results.proofs.Runs.{alone-cut, alone-parts}
 use Rattle.line_results.proofs.Spent.{HasTickets, ticket-step}
 use Rattle.line_results.proofs.Trying.{AreTrying, IsTrying, NoOther, all-copies, all-tickets}
@@ -273,11 +272,8 @@ no-pool-since actor object from placed to along c d grown there h =
 
 -- ---- a valid database stays so
 
-abbrev Any : Change → Type 0
-Any w = Unit {0}
-
-trying-makes : (moves : Bool) (d : Deed) → IsTrying moves d → Makes Any d
-trying-makes moves d (inl h) = ending-makes Any d h
+trying-makes : (moves : Bool) (d : Deed) → IsTrying moves d → Makes IsAny d
+trying-makes moves d (inl h) = ending-makes IsAny d h
 trying-makes moves (OpenCopy number to other answer) (inr h) = tt
 trying-makes moves (CopyPiece number answer) (inr h) = tt
 trying-makes moves (Seal number answer) (inr h) = tt
@@ -287,12 +283,7 @@ trying-makes moves (Commit asked tickets answer) (inr h) = λ c core is. tt
 trying-makes moves d (inr (object, a, avoid, so, h)) = absurd h
 
 pub valid-along : (trusted : Type 0) (places : Places) (moves : Bool) (events : List Event) (m new : Machine) → AreTrying moves events → is_valid (database m) ≡ true → Alone trusted places 0 events m new → is_valid (database new) ≡ true
-valid-along trusted places moves [] m new tries valid same = ap (λ (x : Machine). is_valid (database x)) same ∙ valid
-valid-along trusted places moves (e ∷ events) m new tries valid (next, moved, rest) =
-    let p = passes trusted places e m next moved in
-    let now : is_valid (inventory moved.next.core) ≡ true =
-    valid-goes Any m.core moved.next.core (step-goes Any places e.deed (with_contents moved.seen m) moved.next (trying-makes moves e.deed tries.0) moved.made.step) valid in
-    valid-along trusted places moves events next new tries.1 (subst (λ (c : Core). is_valid (inventory c) ≡ true) (sym p.core) now) rest
+valid-along trusted places moves events m new tries valid f = valid-behind trusted places (IsTrying moves) (trying-makes moves) events m new tries valid f
 
 -- ---- where it was cut
 

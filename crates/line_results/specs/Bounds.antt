@@ -1,11 +1,10 @@
--- The bounds of the database, and why a process is refused where the run goes on.
-use Rattle.std.specs.Prelude.{◌≡◌, ◌⊎◌, ℕ, ◌+◌, ◌-◌, ◌^◌, ◌<◌, ◌≤◌, ◌&&◌, nat_le, nat_lt, Bool, true, false, List, Option, None, Some, Result, Ok, Err}
+-- The bound of the database, and why a process is refused where the run goes on.
+use Rattle.std.specs.Prelude.{◌≡◌, ◌⊎◌, ℕ, ◌+◌, ◌-◌, ◌^◌, ◌≤◌, ◌&&◌, nat_le, nat_lt, Bool, true, false, List, Option, None, Some, Result, Ok, Err}
 use Rattle.std.specs.Option.{option_map_or}
 use Rattle.kinds.specs.declared.refusal.Refusal.{Refusal}
 use Rattle.kinds.specs.declared.refusal.Refusal.TheVariants.{InventoryFull, NotFound}
 use Rattle.entries.specs.declared.change.Change.{Change}
 use Rattle.entries.specs.declared.change.Change.TheVariants as change
-use Rattle.inventory_rows.specs.Items.{count_items, most_items}
 use Rattle.inventory_rows.specs.declared.backup.Backup.{Backup}
 use Rattle.inventory_rules.specs.Backups.{backup_at, is_done}
 use Rattle.inventory_rules.specs.Transactions.{refused}
@@ -23,11 +22,11 @@ use Rattle.command_steps.specs.declared.outcome.Outcome.{Outcome}
 use Rattle.line_results.specs.Removing.{IsAbsent, has_filespace}
 use Rattle.line_results.specs.Resting.{RoseFrom, database}
 
--- ---- bounds
+-- ---- the bound
 
--- A bound of the database's is reached: the lists of the earlier one have more items than those of a database may have, or behind the later one no other transaction has a number.
+-- The bound of the database's is reached: behind the later one no other transaction has a number.
 abbrev pub ReachesBound : (old new : Machine) → Type 0
-ReachesBound old new = (most_items < count_items (database old)) ⊎ (2 ^ 62 ≤ (database new).number + 1)
+ReachesBound old new = 2 ^ 62 ≤ (database new).number + 1
 
 -- it is refused for that
 abbrev pub IsBounded : (old new : Machine) → Refusal → Type 0
@@ -82,7 +81,7 @@ IsUnfollowed old new why =
 
 -- ---- processes
 
--- The volume isn't there; or, where damaged copies are to go, a bound of the database's is reached.
+-- The volume isn't there; or, where damaged copies are to go, the bound of the database's is reached.
 abbrev pub IsUnaudited : (fix : Bool) → (file : ℕ) → (old new : Machine) → Refusal → Type 0
 IsUnaudited fix file old new why =
     ((why ≡ NotFound) × (has_volume file (database old) ≡ false)) ⊎ ((fix ≡ true) × IsBounded old new why)
@@ -103,7 +102,7 @@ abbrev pub IsReasoned : (numbers : List ℕ) → Own → (old new : Machine) →
 IsReasoned numbers own old new (Ok it) = Unit {0}
 IsReasoned numbers own old new (Err why) = HasReason numbers own old new why ⊎ ((how : Halt) × (halt_by why ≡ Some how))
 
--- The reuse of volumes behind work that was done is refused for a bound of the database's alone, or the run ended.
+-- The reuse of volumes behind work that was done is refused for the bound of the database's alone, or the run ended.
 abbrev pub IsReused : Behind → (said : Result Outcome Refusal) → (mid new : Machine) → Result Outcome Refusal → Type 0
 IsReused reuses (Ok it) mid new (Err why) = IsBounded mid new why ⊎ ((how : Halt) × (halt_by why ≡ Some how))
 IsReused b said mid new result = Unit {0}

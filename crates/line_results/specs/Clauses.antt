@@ -329,7 +329,7 @@ MayOn k (erase e) old = IsSound e.tree k
 MayOn k (restore r) old = MayGive r (database old) × (r.tree < length k.old)
 MayOn k (back_up i) old = MayBackUp i old × IsSound i.tree k
 
--- No bound of the database's is reached from the one state to the other: its lists have no more items than those of a database may have, and behind the last transaction another one has a number.
+-- The bound of the database's isn't reached from the one state to the other: behind the last transaction another one has a number.
 abbrev pub StaysWithin : (old mid : Machine) → Type 0
 StaysWithin old mid = ReachesBound old mid → ⊥
 
@@ -342,7 +342,7 @@ abbrev pub MayFollow : (old : Machine) → Type 0
 MayFollow old =
     (file : ℕ) × (newest_file (backup_lines (database old).backups) ≡ Some file) × (is_of_run file old.core ≡ true) × (is_near file old.core ≡ true) × MayBackUpDatabase (Some file) old
 
--- a volume that is there may be audited; and where damaged copies are to go, so it is within the database's bounds
+-- a volume that is there may be audited; and where damaged copies are to go, so it is within the database's bound
 abbrev pub MayAudit : (fix : Bool) → (file : ℕ) → (old mid : Machine) → Type 0
 MayAudit fix file old mid = (has_volume file (database old) ≡ true) × (fix ≡ true → StaysWithin old mid)
 
@@ -378,7 +378,7 @@ IsLegal places k comment old mid = Unit {0}
 IsLegal places k (refused why) old mid = ⊥
 IsLegal places k (asks command) old mid = MayBy places k (own_of command) (work_over command (database old)) old mid
 
--- what comes behind its work, which was done, was refused for a bound of the database's
+-- what comes behind its work, which was done, was refused for the bound of the database's
 abbrev pub IsRefusedBehind : (trusted : Type 0) → Places → Client → (n : ℕ) → Command → Behind → (old mid : Machine) → Answer → Type 0
 IsRefusedBehind trusted places k n c b old mid answer =
     (why : Refusal) × (answer ≡ refusal n why) × (it : Outcome) × (between : Machine) × (first : List Entry)
