@@ -4,7 +4,7 @@ use Rattle.std.proofs.lemmas.Bool.{false≢true}
 use Rattle.std.proofs.lemmas.Option.{same_Some}
 use Rattle.std.specs.Prelude.{is_some}
 use Rattle.std.specs.List.{AllByRecursion, find, flat_map, list_any}
-use Rattle.kinds.specs.Refusals.{refusal_of, unless}
+use Rattle.kinds.specs.Refusals.{number_of, refusal_of, unless}
 use Rattle.kinds.specs.declared.change.DefineOrDelete.TheVariants as two
 use Rattle.kinds.specs.declared.change.ObjectChange.TheVariants as client
 use Rattle.kinds.specs.declared.refusal.Refusal.{Refusal}
@@ -48,7 +48,7 @@ use Rattle.machine.specs.Alone.{Alone}
 use Rattle.machine.specs.Machine.{Asks, Case, Commits, Places, answer_with, ended}
 use Rattle.machine.specs.State.{Core, Machine, inventory, sight}
 use Rattle.machine.proofs.Elsewhere.{append-all, ended-all, foremost-all, unless-all}
-use Rattle.line_results.specs.Removing.{IsUnremoved, has_filespace}
+use Rattle.line_results.specs.Removing.{IsAbsent, IsUnremoved, has_filespace}
 use Rattle.line_results.specs.Resting.{database}
 use Rattle.line_results.proofs.Bounds.{Common, commit-all, filespace-takes}
 use Rattle.line_results.proofs.Emptied.{Going, handled}
@@ -140,6 +140,18 @@ names-shown filespace clients (e ∷ es) x at =
           ∙ ap (λ (y : Filespace). with_node y.name (name_of_node y.node clients)) (same_Some e.1 x is)
       | false ↦ λ other is. ap (λ (b : Bool). names_found (if b then Some (filespace_line clients e) else rest)) (sym (at-eqb filespace e.0) ∙ other) ∙ names-shown filespace clients es x is
     ] refl at
+
+-- one that they tell is there
+names-there : (filespace : ℕ) (clients : Clients) (es : List (ℕ × Filespace)) (names : Names) → names_in filespace (flat_map (filespace_lines_of clients None) es) ≡ Ok names → is_some (filespace_at filespace es) ≡ true
+names-there filespace clients [] names is = absurd cc
+names-there filespace clients (e ∷ es) names is =
+    let rest : Option FilespaceLine = find (λ l. l.number == filespace) (flat_map (filespace_lines_of clients None) es) in
+    elim (at_number filespace e.0) as (λ b. at_number filespace e.0 ≡ b → is_some (cond b (Some e.1) (filespace_at filespace es)) ≡ true) [
+      | true ↦ λ here. refl
+      | false ↦ λ other.
+          names-there filespace clients es names
+          (ap (λ (b : Bool). names_found (if b then Some (filespace_line clients e) else rest)) (sym (sym (at-eqb filespace e.0) ∙ other)) ∙ is)
+    ] refl
 
 abbrev lines-of : Rows → List FilespaceLine
 lines-of (rows.Filespaces lines) = lines
@@ -288,3 +300,30 @@ module _ (trusted : Type 0) (places : Places) (filespace : ℕ) (e : Refusal) (u
 pub unbarred : (trusted : Type 0) (places : Places) (filespace : ℕ) (events : List Event) (e : Refusal) (old new : Machine) → IsUnremoved e → IsInPlace filespace events e → Alone trusted places 0 events old new
     → is_valid (database old) ≡ true → IsOrdered (database old) → has_filespace filespace (database old) ≡ true → ⊥
 unbarred trusted places filespace events e old new one place f valid ordered there = placed trusted places filespace e (kept-of e one) (database old) (there, valid, ordered) events old new refl one place f
+
+pub not-there : (b : Bool) → (b ≡ true → ⊥) → b ≡ false
+not-there true never = absurd (never refl)
+not-there false never = refl
+
+pub missing-so : (e : Refusal) → (number_of e == 10) ≡ true → e ≡ refused.NotFound
+missing-so refused.NotFound h = refl
+missing-so e h = absurd cc
+
+module _ (trusted : Type 0) (places : Places) (filespace : ℕ) (events : List Event) (e : Refusal) (old new : Machine) (one : IsUnremoved e) (f : Alone trusted places 0 events old new) (valid : is_valid (database old) ≡ true) (ordered : IsOrdered (database old)) where
+  found-there : (names : Names) (xs ys : List Event) → events ≡ xs ++ ys → Found filespace xs names → has_filespace filespace (database old) ≡ true
+  found-there names xs ys cut (answer, lines, asked, shown, told) =
+      let parts = alone-parts trusted places 0 events xs ys old new cut f in
+      let a = asked-rows trusted places (query.Filespaces None) (rows.Filespaces lines) answer xs old parts.0 (λ n a. refl) shown asked parts.1 in
+      let all : lines ≡ filespace_lines (database old).clients None =
+      same-ok lines-of (rows.Filespaces lines) (rows.Filespaces (filespace_lines (database old).clients None)) (rows_of (query.Filespaces None) (database old)) a.1 refl in
+      names-there filespace (database old).clients (database old).clients.filespaces names (ap (names_in filespace) (sym all) ∙ told)
+
+  -- one that is refused so isn't there, and no other refusal says so
+  pub absent : IsInPlace filespace events e → IsAbsent (has_filespace filespace (database old)) e
+  absent (inl stopped) = absurd (unstopped e events one stopped)
+  absent (inr (inl missing)) = (
+    missing-so e missing.0,
+    not-there (has_filespace filespace (database old)) (unbarred trusted places filespace events e old new one (inr (inl missing)) f valid ordered),
+  )
+  absent (inr (inr (names, (xs, ys, cut, found, rest)))) =
+      absurd (unbarred trusted places filespace events e old new one (inr (inr (names, (xs, ys, cut, found, rest)))) f valid ordered (found-there names xs ys cut found))

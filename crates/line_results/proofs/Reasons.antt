@@ -75,12 +75,12 @@ use Rattle.line_results.specs.Removing.{IsAbsent, IsUnremoved, has_filespace}
 use Rattle.line_results.specs.Resting.{database}
 use Rattle.line_results.proofs.Clearing.{IsSound}
 use Rattle.line_results.proofs.Bounds.{filespace-takes, volume-takes, Common, IsFew, IsNoHolder, Takes, ask-all, ask-other, ask-unheld, commit-full, commit-unheld, delete-takes, discard-takes, drop-takes, expire-takes, force-other, force-unheld, legal-valid, reuse-full, reuse-unheld}
-use Rattle.line_results.proofs.Emptying.{unbarred}
+use Rattle.line_results.proofs.Emptying.{absent, missing-so}
 use Rattle.line_results.proofs.ForceEnds.{forced-done, forced-same}
 use Rattle.line_results.proofs.Growing.{Goes, Grows, Makes, grown-number, step-goes}
 use Rattle.line_results.proofs.Handling.{IsFree, commit-free, same-free}
 use Rattle.line_results.proofs.Meeting.{MetAt, alone-grows, met-at, passes}
-use Rattle.line_results.proofs.Removable.{unbarred-volume}
+use Rattle.line_results.proofs.Removable.{absent-volume}
 use Rattle.line_results.proofs.Stopping.{Ends, ends-halt}
 use Rattle.line_results.proofs.VolumesThere.{discarded-stays, dropped-stays}
 use Rattle.line_results.proofs.Walking.{force-free, force-image}
@@ -468,14 +468,6 @@ kept-so (refused.InUse user) h = inr (inl (user, refl))
 kept-so (refused.NotYet file day) h = inr (inr (file, day, refl))
 kept-so e h = absurd cc
 
-not-there : (b : Bool) → (b ≡ true → ⊥) → b ≡ false
-not-there true never = absurd (never refl)
-not-there false never = refl
-
-missing-so : (e : Refusal) → (number_of e == 10) ≡ true → IsUnremoved e
-missing-so refused.NotFound h = inl refl
-missing-so e h = absurd cc
-
 removing-makes : (reason : DiscardReason) (d : Deed) → IsDiscarding reason d → Makes IsAny d
 removing-makes reason d (objects, answer, is) = subst (λ (x : Deed). Makes IsAny x) (sym is) (λ c core so. tt)
 
@@ -518,8 +510,8 @@ filespace-reason trusted places filespace events e old new mild free valid order
   | inl stopped ↦ inr (stopped-valid trusted places (filespaces.IsDeleting filespace) (space-makes places filespace) (space-free places filespace) (space-full places filespace) (space-unheld places filespace)
       events e old new mild free valid h.only stopped f)
   | inr other ↦ (elim other as (λ _. IsAbsent (has_filespace filespace (database old)) e ⊎ IsBounded old new e) [
-    | inl missing ↦ (let one : IsUnremoved e = missing-so e missing.0 in inl (one, not-there (has_filespace filespace (database old)) (unbarred trusted places filespace events e old new one h.place f valid ordered)))
-    | inr kept ↦ (let one : IsUnremoved e = kept-so e kept.0 in inl (one, not-there (has_filespace filespace (database old)) (unbarred trusted places filespace events e old new one h.place f valid ordered)))
+    | inl missing ↦ inl (absent trusted places filespace events e old new (inl (missing-so e missing.0)) f valid ordered h.place)
+    | inr kept ↦ inl (absent trusted places filespace events e old new (kept-so e kept.0) f valid ordered h.place)
   ])
 ]
 
@@ -559,8 +551,8 @@ volume-reason trusted places file events e old new mild free sound h f = elim h.
   | inl stopped ↦ inr (stopped-valid trusted places (volumes.IsDeleting true file) (volume-makes places file) (volume-free places file) (volume-full places file) (volume-unheld places file)
       events e old new mild free sound.0 h.only stopped f)
   | inr other ↦ (elim other as (λ _. IsAbsent (has_volume file (database old)) e ⊎ IsBounded old new e) [
-    | inl missing ↦ (let one : IsUnremoved e = missing-so e missing.0 in inl (one, not-there (has_volume file (database old)) (unbarred-volume trusted places file events e old new free one h.place f sound)))
-    | inr kept ↦ (let one : IsUnremoved e = kept-so e kept.0 in inl (one, not-there (has_volume file (database old)) (unbarred-volume trusted places file events e old new free one h.place f sound)))
+    | inl missing ↦ inl (absent-volume trusted places file events e old new free (inl (missing-so e missing.0)) f sound h.place)
+    | inr kept ↦ inl (absent-volume trusted places file events e old new free (kept-so e kept.0) f sound h.place)
   ])
 ]
 

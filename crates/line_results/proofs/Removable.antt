@@ -40,16 +40,16 @@ use Rattle.command_steps.specs.copy_runs.Ends.{IsAsking}
 use Rattle.command_steps.specs.deletions.declared.copies.Removed.{Removed}
 use Rattle.command_steps.specs.deletions.Dropping.{doomed}
 use Rattle.command_steps.specs.deletions.Filespaces.{is_kept_by}
-use Rattle.command_steps.specs.deletions.Volumes.{Cleared, HasNotFound, HasNotGone, HasNotListed, IsInPlace, IsRefusedLast, IsUnfound, Taken, TakenFrom, TakenOf, Waited, deleting, is_copy_pool, pool_of, row_found, row_in}
+use Rattle.command_steps.specs.deletions.Volumes.{Cleared, Found, HasNotFound, HasNotGone, HasNotListed, IsInPlace, IsRefusedLast, IsUnfound, Taken, TakenFrom, TakenOf, Waited, deleting, is_copy_pool, pool_of, row_found, row_in}
 use Rattle.machine.specs.Alone.{Alone}
 use Rattle.machine.specs.Machine.{Case, Commits, Places}
 use Rattle.machine.specs.State.{Core, Machine, inventory, sight}
-use Rattle.line_results.specs.Removing.{IsUnremoved, IsVolume}
+use Rattle.line_results.specs.Removing.{IsAbsent, IsUnremoved, IsVolume}
 use Rattle.line_results.specs.Resting.{database}
 use Rattle.line_results.proofs.Bounds.{commit-all, commit-unheld, volume-takes}
 use Rattle.line_results.proofs.Cited.{IsOf, are-listed, in-its-pool, line-pool, primary-there}
 use Rattle.line_results.proofs.Clearing.{IsSound, Leaving, cleared, is-copy-pool, none-left, not-copy-pool}
-use Rattle.line_results.proofs.Emptying.{IsBare, ask-rows, ask-told, asked-rows, asking-same, bare-common, bare-sizes, kept-of, no-both, ok-same, same-ok, shape, unstopped}
+use Rattle.line_results.proofs.Emptying.{IsBare, ask-rows, ask-told, asked-rows, asking-same, bare-common, bare-sizes, kept-of, missing-so, no-both, not-there, ok-same, same-ok, shape, unstopped}
 use Rattle.line_results.proofs.Handling.{IsFree}
 use Rattle.line_results.proofs.Lying.{on-list}
 use Rattle.line_results.proofs.Meeting.{met-at}
@@ -75,6 +75,16 @@ row-shown file s (e ∷ es) x at =
           ∙ ap row-told (same_Some e.1 x is)
       | false ↦ λ other is. ap (λ (b : Bool). row_found (if b then Some (volume_line s e) else rest)) (sym (at-eqb file e.0) ∙ other) ∙ row-shown file s es x is
     ] refl at
+
+-- one that they tell is there
+row-there : (file : ℕ) (s : PoolRows) (es : List (ℕ × Volume)) (row : Row) → row_found (find (λ l. l.file == file) (flat_map (volume_lines_of s None) es)) ≡ Ok row → is_some (row_at file es) ≡ true
+row-there file s [] row is = absurd cc
+row-there file s (e ∷ es) row is =
+    let rest : Option VolumeLine = find (λ l. l.file == file) (flat_map (volume_lines_of s None) es) in
+    elim (at_number file e.0) as (λ b. at_number file e.0 ≡ b → is_some (cond b (Some e.1) (row_at file es)) ≡ true) [
+      | true ↦ λ here. refl
+      | false ↦ λ other. row-there file s es row (ap (λ (b : Bool). row_found (if b then Some (volume_line s e) else rest)) (sym (sym (at-eqb file e.0) ∙ other)) ∙ is)
+    ] refl
 
 abbrev volumes-in : Rows → List VolumeLine
 volumes-in (rows.Volumes lines) = lines
@@ -274,3 +284,22 @@ pub unbarred-volume : (trusted : Type 0) (places : Places) (file : ℕ) (events 
     → IsSound (database old) → has_volume file (database old) ≡ true → ⊥
 unbarred-volume trusted places file events e old new free one place f sound there =
     placed trusted places file e (kept-of e one) (database old) (volume-shown file (database old) sound.0 there) sound events old new refl free one place f
+
+module _ (trusted : Type 0) (places : Places) (file : ℕ) (events : List Event) (e : Refusal) (old new : Machine) (free : IsFree old.core) (one : IsUnremoved e) (f : Alone trusted places 0 events old new) (sound : IsSound (database old)) where
+  found-there : (row : Row) (xs ys : List Event) → events ≡ xs ++ ys → Found file xs row → has_volume file (database old) ≡ true
+  found-there row xs ys cut (answer, lines, asked, shown, told) =
+      let parts = alone-parts trusted places 0 events xs ys old new cut f in
+      let a = asked-rows trusted places (query.Volumes None None) (rows.Volumes lines) answer xs old parts.0 (λ n b. refl) shown asked parts.1 in
+      let all : lines ≡ volume_lines None None (database old).stores =
+      same-ok volumes-in (rows.Volumes lines) (rows.Volumes (volume_lines None None (database old).stores)) (rows_of (query.Volumes None None) (database old)) a.1 refl in
+      row-there file (database old).stores (database old).stores.volumes row (ap (row_in file) (sym all) ∙ told)
+
+  -- one that is refused so isn't there, and no other refusal says so
+  pub absent-volume : IsInPlace true file events e → IsAbsent (has_volume file (database old)) e
+  absent-volume (inl stopped) = absurd (unstopped e events one stopped)
+  absent-volume (inr (inl missing)) = (
+    missing-so e missing.0,
+    not-there (has_volume file (database old)) (unbarred-volume trusted places file events e old new free one (inr (inl missing)) f sound),
+  )
+  absent-volume (inr (inr (row, (xs, ys, cut, found, rest)))) =
+      absurd (unbarred-volume trusted places file events e old new free one (inr (inr (row, (xs, ys, cut, found, rest)))) f sound (found-there row xs ys cut found))

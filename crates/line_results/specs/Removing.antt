@@ -13,9 +13,9 @@ use Rattle.inventory_rows.specs.State.{Inv}
 abbrev pub IsUnremoved : Refusal → Type 0
 IsUnremoved why = (why ≡ NotFound) ⊎ ((by : By) × (why ≡ InUse by)) ⊎ ((file : ℕ) × (day : ℕ) × (why ≡ NotYet file day))
 
--- it is refused so, and it isn't there
+-- it isn't there, and is refused for that
 abbrev pub IsAbsent : (is_there : Bool) → Refusal → Type 0
-IsAbsent is_there why = IsUnremoved why × (is_there ≡ false)
+IsAbsent is_there why = (why ≡ NotFound) × (is_there ≡ false)
 
 -- the filespace with this number is there
 abbrev pub has_filespace : (filespace : ℕ) → Inv → Bool
