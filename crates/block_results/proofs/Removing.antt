@@ -60,11 +60,11 @@ use Rattle.line_results.specs.copy_runs.Ends.{IsStopped}
 use Rattle.line_results.specs.deletions.Filespaces.{FilespaceDeletion, Found, IsDeleting, IsInPlace, IsKept, IsRowKept, IsUnfound, IsUnlisted, deleting, is_kept_by, names_in, with_node}
 use Rattle.line_results.specs.deletions.Volumes as volumes
 use Rattle.line_results.specs.deletions.Volumes.{VolumeDeletion, row_in}
-use Rattle.line_results.specs.Removing.{IsUnremoved, IsVolume as IsThere}
+use Rattle.line_results.specs.Removing.{IsVolume as IsThere}
 use Rattle.line_results.specs.Resting.{database}
 use Rattle.line_results.proofs.Asked.{is_log}
 use Rattle.line_results.proofs.Bounds.{discard-takes, drop-takes, filespace-takes, listed-all, refused-all, volume-takes}
-use Rattle.line_results.proofs.Emptying.{bare-sizes, names-shown, unstopped}
+use Rattle.line_results.proofs.Emptying.{IsUnremoved, bare-sizes, names-shown, unstopped}
 use Rattle.line_results.proofs.Reasons.{kept-so}
 use Rattle.line_results.proofs.Removable.{its-row, named-row}
 use Rattle.line_results.proofs.Types.{Names, Row}

@@ -46,16 +46,13 @@ use Rattle.line_results.specs.Moving.{IsUncopied}
 use Rattle.line_results.specs.Resting.{IsAtRest, NobodyHolds, database}
 use Rattle.line_results.proofs.CopiesStay.{grew-pools, grew-there}
 use Rattle.line_results.proofs.Cutting.{CutAt, at-one}
+use Rattle.line_results.proofs.Emptying.{ten-is}
 use Rattle.line_results.proofs.Reasons.{stopping-mild}
 use Rattle.line_results.proofs.Runs.{onward-none}
 use Rattle.line_results.proofs.Stopping.{Ends, ends-halt}
 use Rattle.line_results.proofs.Trying.{AreTrying, IsTrying, Refuses, cut-of, full-at-step, grew-at, never-held}
 
 -- ---- refusals
-
-pub ten-is : (e : Refusal) → (number_of e == 10) ≡ true → e ≡ refused.NotFound
-ten-is refused.NotFound h = refl
-ten-is e h = absurd cc
 
 abbrev pub NotTen : Refusal → Type 0
 NotTen e = (number_of e == 10) ≡ true → ⊥

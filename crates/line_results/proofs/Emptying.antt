@@ -7,6 +7,7 @@ use Rattle.std.specs.List.{AllByRecursion, find, flat_map, list_any}
 use Rattle.kinds.specs.Refusals.{number_of, refusal_of, unless}
 use Rattle.kinds.specs.declared.change.DefineOrDelete.TheVariants as two
 use Rattle.kinds.specs.declared.change.ObjectChange.TheVariants as client
+use Rattle.kinds.specs.declared.refusal.By.{By}
 use Rattle.kinds.specs.declared.refusal.Refusal.{Refusal}
 use Rattle.kinds.specs.declared.refusal.Refusal.TheVariants as refused
 use Rattle.entries.specs.declared.change.Change.{Change}
@@ -48,7 +49,7 @@ use Rattle.machine.specs.Alone.{Alone}
 use Rattle.machine.specs.Machine.{Asks, Case, Commits, Places, answer_with, ended}
 use Rattle.machine.specs.State.{Core, Machine, inventory, sight}
 use Rattle.machine.proofs.Elsewhere.{append-all, ended-all, foremost-all, unless-all}
-use Rattle.line_results.specs.Removing.{IsAbsent, IsUnremoved, has_filespace}
+use Rattle.line_results.specs.Removing.{IsAbsent, has_filespace}
 use Rattle.line_results.specs.Resting.{database}
 use Rattle.line_results.proofs.Bounds.{Common, commit-all, filespace-takes}
 use Rattle.line_results.proofs.Emptied.{Going, handled}
@@ -73,6 +74,10 @@ pub bare-sizes : (w : Change) (v : Inv) → AllByRecursion IsBare (sizes_refused
 bare-sizes w v =
     append-all IsBare (unless (nat_le (count_items (effect w v)) most_items) refused.InventoryFull) (full_at v.number (2 ^ 62)) (unless-all IsBare (nat_le (count_items (effect w v)) most_items) refused.InventoryFull refl)
     (unless-all IsBare (nat_lt (v.number + 1) (2 ^ 62)) refused.InventoryFull refl)
+
+-- What it names isn't there, or something uses it still, or may for some days.
+abbrev pub IsUnremoved : Refusal → Type 0
+IsUnremoved why = (why ≡ refused.NotFound) ⊎ ((by : By) × (why ≡ refused.InUse by)) ⊎ ((file : ℕ) × (day : ℕ) × (why ≡ refused.NotYet file day))
 
 pub kept-of : (e : Refusal) → IsUnremoved e → is_kept_by e ≡ true
 kept-of e (inl is) = ap is_kept_by is
@@ -305,9 +310,9 @@ pub not-there : (b : Bool) → (b ≡ true → ⊥) → b ≡ false
 not-there true never = absurd (never refl)
 not-there false never = refl
 
-pub missing-so : (e : Refusal) → (number_of e == 10) ≡ true → e ≡ refused.NotFound
-missing-so refused.NotFound h = refl
-missing-so e h = absurd cc
+pub ten-is : (e : Refusal) → (number_of e == 10) ≡ true → e ≡ refused.NotFound
+ten-is refused.NotFound h = refl
+ten-is e h = absurd cc
 
 module _ (trusted : Type 0) (places : Places) (filespace : ℕ) (events : List Event) (e : Refusal) (old new : Machine) (one : IsUnremoved e) (f : Alone trusted places 0 events old new) (valid : is_valid (database old) ≡ true) (ordered : IsOrdered (database old)) where
   found-there : (names : Names) (xs ys : List Event) → events ≡ xs ++ ys → Found filespace xs names → has_filespace filespace (database old) ≡ true
@@ -322,7 +327,7 @@ module _ (trusted : Type 0) (places : Places) (filespace : ℕ) (events : List E
   pub absent : IsInPlace filespace events e → IsAbsent (has_filespace filespace (database old)) e
   absent (inl stopped) = absurd (unstopped e events one stopped)
   absent (inr (inl missing)) = (
-    missing-so e missing.0,
+    ten-is e missing.0,
     not-there (has_filespace filespace (database old)) (unbarred trusted places filespace events e old new one (inr (inl missing)) f valid ordered),
   )
   absent (inr (inr (names, (xs, ys, cut, found, rest)))) =

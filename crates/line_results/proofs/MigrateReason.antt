@@ -47,9 +47,10 @@ use Rattle.command_steps.specs.Doing.{first_picks}
 use Rattle.line_results.specs.Migrating.{IsAllMigration, IsPoolMigration, IsWithoutNext, StandByNumber, has_next}
 use Rattle.line_results.specs.Moving.{IsStuck}
 use Rattle.line_results.specs.Resting.{IsAtRest, NobodyHolds, database}
+use Rattle.line_results.proofs.Emptying.{ten-is}
 use Rattle.line_results.proofs.Types.{Due}
 use Rattle.line_results.proofs.CopiesStay.{grew-pools}
-use Rattle.line_results.proofs.CopyReason.{NotTen, answer_in, ended-not, ten-is, told-pools}
+use Rattle.line_results.proofs.CopyReason.{NotTen, answer_in, ended-not, told-pools}
 use Rattle.line_results.proofs.Cutting.{CutAt}
 use Rattle.line_results.proofs.MoveReason.{stuck-by}
 use Rattle.line_results.proofs.Ticketed.{no-target}

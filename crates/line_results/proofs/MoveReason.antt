@@ -45,8 +45,9 @@ use Rattle.machine.proofs.Elsewhere.{append-all, foremost-all}
 use Rattle.command_steps.specs.Answers.{halt_by}
 use Rattle.line_results.specs.Moving.{ComesBy, IsDataMove, IsReclamation, IsStuck, IsUnmoved, IsUnreclaimed, goes_in, is_sequential_there}
 use Rattle.line_results.specs.Resting.{IsAtRest, NobodyHolds, database}
-use Rattle.line_results.proofs.CopyReason.{NotTen, answer_in, ended-not, ten-is, told-pools}
+use Rattle.line_results.proofs.CopyReason.{NotTen, answer_in, ended-not, told-pools}
 use Rattle.line_results.proofs.Cutting.{CutAt, all-first}
+use Rattle.line_results.proofs.Emptying.{ten-is}
 use Rattle.line_results.proofs.Reasons.{stopping-mild, volume-missing}
 use Rattle.line_results.proofs.Runs.{onward-none}
 use Rattle.line_results.proofs.Spent.{HasTickets, ticket-step}

@@ -71,11 +71,11 @@ use Rattle.command_steps.specs.Owns.{Own}
 use Rattle.command_steps.specs.declared.outcome.Outcome.{Outcome}
 use Rattle.line_results.specs.Bounds.{HasReason, IsBounded, IsReasoned, IsReused, IsUnaudited}
 use Rattle.line_results.specs.Moving.{HasCopyReason, IsCopyReasoned}
-use Rattle.line_results.specs.Removing.{IsAbsent, IsUnremoved, has_filespace}
+use Rattle.line_results.specs.Removing.{IsAbsent, has_filespace}
 use Rattle.line_results.specs.Resting.{database}
 use Rattle.line_results.proofs.Clearing.{IsSound}
 use Rattle.line_results.proofs.Bounds.{filespace-takes, volume-takes, Common, IsFew, IsNoHolder, Takes, ask-all, ask-other, ask-unheld, commit-full, commit-unheld, delete-takes, discard-takes, drop-takes, expire-takes, force-other, force-unheld, legal-valid, reuse-full, reuse-unheld}
-use Rattle.line_results.proofs.Emptying.{absent, missing-so}
+use Rattle.line_results.proofs.Emptying.{IsUnremoved, absent, ten-is}
 use Rattle.line_results.proofs.ForceEnds.{forced-done, forced-same}
 use Rattle.line_results.proofs.Growing.{Goes, Grows, Makes, grown-number, step-goes}
 use Rattle.line_results.proofs.Handling.{IsFree, commit-free, same-free}
@@ -510,7 +510,7 @@ filespace-reason trusted places filespace events e old new mild free valid order
   | inl stopped ↦ inr (stopped-valid trusted places (filespaces.IsDeleting filespace) (space-makes places filespace) (space-free places filespace) (space-full places filespace) (space-unheld places filespace)
       events e old new mild free valid h.only stopped f)
   | inr other ↦ (elim other as (λ _. IsAbsent (has_filespace filespace (database old)) e ⊎ IsBounded old new e) [
-    | inl missing ↦ inl (absent trusted places filespace events e old new (inl (missing-so e missing.0)) f valid ordered h.place)
+    | inl missing ↦ inl (absent trusted places filespace events e old new (inl (ten-is e missing.0)) f valid ordered h.place)
     | inr kept ↦ inl (absent trusted places filespace events e old new (kept-so e kept.0) f valid ordered h.place)
   ])
 ]
@@ -551,7 +551,7 @@ volume-reason trusted places file events e old new mild free sound h f = elim h.
   | inl stopped ↦ inr (stopped-valid trusted places (volumes.IsDeleting true file) (volume-makes places file) (volume-free places file) (volume-full places file) (volume-unheld places file)
       events e old new mild free sound.0 h.only stopped f)
   | inr other ↦ (elim other as (λ _. IsAbsent (has_volume file (database old)) e ⊎ IsBounded old new e) [
-    | inl missing ↦ inl (absent-volume trusted places file events e old new free (inl (missing-so e missing.0)) f sound h.place)
+    | inl missing ↦ inl (absent-volume trusted places file events e old new free (inl (ten-is e missing.0)) f sound h.place)
     | inr kept ↦ inl (absent-volume trusted places file events e old new free (kept-so e kept.0) f sound h.place)
   ])
 ]

@@ -44,12 +44,12 @@ use Rattle.command_steps.specs.deletions.Volumes.{Cleared, Found, HasNotFound, H
 use Rattle.machine.specs.Alone.{Alone}
 use Rattle.machine.specs.Machine.{Case, Commits, Places}
 use Rattle.machine.specs.State.{Core, Machine, inventory, sight}
-use Rattle.line_results.specs.Removing.{IsAbsent, IsUnremoved, IsVolume}
+use Rattle.line_results.specs.Removing.{IsAbsent, IsVolume}
 use Rattle.line_results.specs.Resting.{database}
 use Rattle.line_results.proofs.Bounds.{commit-all, commit-unheld, volume-takes}
 use Rattle.line_results.proofs.Cited.{IsOf, are-listed, in-its-pool, line-pool, primary-there}
 use Rattle.line_results.proofs.Clearing.{IsSound, Leaving, cleared, is-copy-pool, none-left, not-copy-pool}
-use Rattle.line_results.proofs.Emptying.{IsBare, ask-rows, ask-told, asked-rows, asking-same, bare-common, bare-sizes, kept-of, missing-so, no-both, not-there, ok-same, same-ok, shape, unstopped}
+use Rattle.line_results.proofs.Emptying.{IsBare, IsUnremoved, ask-rows, ask-told, asked-rows, asking-same, bare-common, bare-sizes, kept-of, no-both, not-there, ok-same, same-ok, shape, ten-is, unstopped}
 use Rattle.line_results.proofs.Handling.{IsFree}
 use Rattle.line_results.proofs.Lying.{on-list}
 use Rattle.line_results.proofs.Meeting.{met-at}
@@ -298,7 +298,7 @@ module _ (trusted : Type 0) (places : Places) (file : ℕ) (events : List Event)
   pub absent-volume : IsInPlace true file events e → IsAbsent (has_volume file (database old)) e
   absent-volume (inl stopped) = absurd (unstopped e events one stopped)
   absent-volume (inr (inl missing)) = (
-    missing-so e missing.0,
+    ten-is e missing.0,
     not-there (has_volume file (database old)) (unbarred-volume trusted places file events e old new free one (inr (inl missing)) f sound),
   )
   absent-volume (inr (inr (row, (xs, ys, cut, found, rest)))) =

@@ -50,8 +50,9 @@ use Rattle.line_results.specs.Resting.{IsAtRest, database}
 use Rattle.line_results.proofs.Asked.{is_log}
 use Rattle.line_results.proofs.CopiesStay.{grew-pools}
 use Rattle.line_results.proofs.Copying.{copied-none, copies-walk}
-use Rattle.line_results.proofs.CopyReason.{NotTen, answer_in, elsewhere-not, ended-not, placed-not, ten-is}
+use Rattle.line_results.proofs.CopyReason.{NotTen, answer_in, elsewhere-not, ended-not, placed-not}
 use Rattle.line_results.proofs.Cutting.{all-first, cut-at, loose-moved}
+use Rattle.line_results.proofs.Emptying.{ten-is}
 use Rattle.line_results.proofs.Growing.{Grows, Makes}
 use Rattle.line_results.proofs.Meeting.{alone-grows}
 use Rattle.line_results.proofs.Reasons.{IsAny, ending-makes, valid-behind}

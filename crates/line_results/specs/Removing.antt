@@ -1,17 +1,12 @@
--- What the deletions of a filespace and of a volume need to be there, and with what they are refused elsewhere.
-use Rattle.std.specs.Prelude.{◌≡◌, ◌⊎◌, ℕ, Bool, false, is_some, Some}
-use Rattle.kinds.specs.declared.refusal.By.{By}
+-- What the deletions of a filespace and of a volume need to be there, and with what they are refused where it isn't.
+use Rattle.std.specs.Prelude.{◌≡◌, ℕ, Bool, false, is_some, Some}
 use Rattle.kinds.specs.declared.refusal.Refusal.{Refusal}
-use Rattle.kinds.specs.declared.refusal.Refusal.TheVariants.{InUse, NotFound, NotYet}
+use Rattle.kinds.specs.declared.refusal.Refusal.TheVariants.{NotFound}
 use Rattle.inventory_rows.specs.object_rows.Filespaces.{filespace_at}
 use Rattle.inventory_rows.specs.pool_rows.PoolRows.{volume_named}
 use Rattle.inventory_rows.specs.pool_tables.Rows.{row_at}
 use Rattle.inventory_rows.specs.volume_rows.declared.volume.Volume.{Volume}
 use Rattle.inventory_rows.specs.State.{Inv}
-
--- What it names isn't there, or something uses it still, or may for some days.
-abbrev pub IsUnremoved : Refusal → Type 0
-IsUnremoved why = (why ≡ NotFound) ⊎ ((by : By) × (why ≡ InUse by)) ⊎ ((file : ℕ) × (day : ℕ) × (why ≡ NotYet file day))
 
 -- it isn't there, and is refused for that
 abbrev pub IsAbsent : (is_there : Bool) → Refusal → Type 0
