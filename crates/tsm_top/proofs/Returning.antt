@@ -1,12 +1,13 @@
 -- A backup that an image keeps comes back with its copies in sequential pools where it is restored.
-use Rattle.std.proofs.Common.{◌≡◌, inl, inr, ℕ, ◌<◌, ◌≤◌, zero, suc, true, List, [], ◌∷◌, length, Some, Result, Ok, Err, refl, sym, subst, ◌∙◌, arith}
+use Rattle.std.proofs.Common.{◌≡◌, inl, inr, ℕ, ◌-◌, ◌<◌, ◌≤◌, zero, suc, true, List, [], ◌∷◌, length, take, Option, Some, Result, Ok, Err, refl, sym, subst, ◌∙◌, arith}
 use Rattle.std.specs.BTreeMap.{is_at}
 use Rattle.std.specs.List.{AllByRecursion, slice_index_or}
 use Rattle.std.specs.Map.{lookup}
 use Rattle.std.specs.Ordering.{nat_cmp}
-use Rattle.store_api.specs.Disk.{History, now, reads}
+use Rattle.store_api.specs.Disk.{History, ImageAt, now, reads}
 use Rattle.store_api.proofs.Pieces.{image_reads}
 use Rattle.contents.specs.Contents.{InImage}
+use Rattle.entries.specs.declared.entry.Entry.{Entry}
 use Rattle.inventory.specs.Meaningful.{is_meaning}
 use Rattle.inventory.specs.Meant.{meaning}
 use Rattle.inventory_rows.specs.declared.backup.Backup.{Backup}
@@ -18,10 +19,11 @@ use Rattle.vault.specs.Recovery.{Recovers}
 use Rattle.vault.proofs.Sounding.{within_recovers}
 use Rattle.vault.proofs.Unique.{one_database}
 use Rattle.hall.specs.Opening.{IsSound}
-use Rattle.hall.specs.Protected.{AlwaysBacked, Backs, EachSequential, GivesBack, HadBackups, HasCopy, IsProtected, IsRow, Taken, files_of}
+use Rattle.hall.specs.Protected.{AlwaysBacked, Backs, EachSequential, GivesBack, HadBackups, HasCopy, HoldsIn, IsProtected, IsRow, Taken, files_of}
 use Rattle.hall.proofs.BackedUp.{also_sequential}
 use Rattle.hall.proofs.BackupsOpened.{gives_alike, gives_valid}
 use Rattle.hall.proofs.Sound.{vault_sound}
+use Rattle.machine.specs.State.{after}
 use Rattle.hall_turns.specs.Runs.{HasOwnBackups, IsBacked}
 use Rattle.hall_turns.proofs.Openings.{backed_since, copies_alike, one_backed}
 use Rattle.backup_payloads.specs.Increments.{Increment}
@@ -39,7 +41,8 @@ use Rattle.db_restore.specs.declared.refused.RestoreRefused.{RestoreRefused}
 use Rattle.db_restore.specs.declared.refused.NotRestored.TheVariants.{Chain, Database}
 use Rattle.db_restore.proofs.Standing.{found}
 use Rattle.db_restore.proofs.Staying.{sequentials_stay}
-use Rattle.tsm_top.specs.Restored.{ComesBack, FindsKept, FindsSequential, IsRestored}
+use Rattle.tsm_top.specs.Restored.{ComesBack, ComesBackAs, FindsKept, FindsSequential, IsLeftOf, IsRestored, ReturnsAs}
+use Rattle.tsm_top.specs.Serve.{Command, Had, KeepsBacked, RanSafe, Sure}
 
 -- ---- lists
 
@@ -155,3 +158,43 @@ returns file day skipped came old new from =
 pub kept_returns : (image : ℕ → List ℕ) (v : Inv) (file : ℕ) (b : Backup) → Backs image v → IsProtected v file b → (day : ℕ) (skipped : List ℕ) (came : Result RestoreDone NotRestored) (old new : History)
     → ((other : ℕ) → 4 ≤ other → reads old other ≡ image other) → IsRestored file day skipped came old new → (t : Taken) × IsRow b t × ComesBack file day skipped t came new
 kept_returns image v file b backs listed day skipped came old new same is = is.kept image v b (λ other row p. (let it = backs.each other row p in (it.0, it.1))) listed same
+
+-- ---- a backup's own database
+
+module _ (file day : ℕ) (skipped : List ℕ) (old new : History) (p : Inv) (given : IsGiven meaning (reads old) file p) where
+  leaves : (done : RestoreDone) (q : Inv) → q ≡ p → IsInstalled q file day skipped done old new → IsLeftOf file day skipped p old new
+  leaves done q is installed =
+      let own : IsInstalled p file day skipped done old new = subst (λ (v : Inv). IsInstalled v file day skipped done old new) is installed in
+      record { losses = own.losses; judged = own.judged; recovers = read_back p file day skipped done old new own }
+
+  comes_as : (came : Result RestoreDone NotRestored) → RestoresFrom file day skipped came old new → ComesBackAs file day skipped p came old new
+  comes_as (Ok done) from = leaves done from.0 (one is_meaning (reads old) file from.0 p from.1 given) from.2.1.installed
+  comes_as (Err (Chain (chain.NotABackup at))) from = absurd (whole is_meaning (reads old) file at p given from.1)
+  comes_as (Err (Chain (chain.ReadFault at))) from = tt
+  comes_as (Err (Chain chain.RunFull)) from = tt
+  comes_as (Err (Chain chain.Memory)) from = tt
+  comes_as (Err (Database why)) from = tt
+
+-- a backup whose file holds a database comes back as that one
+held_returns : (image : ℕ → List ℕ) (file : ℕ) (b : Backup) (p : Inv) → HoldsIn image file b p → (day : ℕ) (skipped : List ℕ) (came : Result RestoreDone NotRestored) (old new : History)
+    → ((other : ℕ) → 4 ≤ other → reads old other ≡ image other) → IsRestored file day skipped came old new → ReturnsAs file day skipped b p came old new
+held_returns image file b p holds day skipped came old new same is =
+    let given : IsGiven meaning (reads old) file p = record { number = b.number; increments = holds.increments; gives = gives_there image (reads old) same file b.number holds.increments p holds.gives } in
+    record { number = holds.number; taken = holds.taken; left = comes_as file day skipped old new p given came is.from }
+
+same_base : (a b : Inv) → (let x : Option Inv = Some a in let y : Option Inv = Some b in x ≡ y) → b ≡ a
+same_base a b is = cc
+
+-- what a run keeps, of the base that is told
+keeps_base : (command : Command) (contents : ℕ → List ℕ) (told : Option History) (h : History) (opened : ℕ) (journal : List Entry) (stamps : List ℕ) (base : Inv) → RanSafe command told (Some h) opened journal stamps (Some base)
+    → Sure command contents told → Had command told → KeepsBacked base journal opened h
+keeps_base command contents told h opened journal stamps base ran sure had = subst (λ (v : Inv). KeepsBacked v journal opened h) (same_base base ran.database ran.base_is) (ran.backups contents sure had)
+
+-- one that began in a run comes back as the run's database behind the transaction by which it began
+pub own_returns : (command : Command) (contents : ℕ → List ℕ) (told : Option History) (h : History) (opened : ℕ) (journal : List Entry) (stamps : List ℕ) (base : Inv) → RanSafe command told (Some h) opened journal stamps (Some base)
+    → Sure command contents told → Had command told → (image : ℕ → List ℕ) → ImageAt h (now h) image → (v : Inv) → Recovers meaning image v → (file : ℕ) (b : Backup) → backup_at file v ≡ Some b → b.is_done ≡ true → base.number ≤ b.number
+    → (day : ℕ) (skipped : List ℕ) (came : Result RestoreDone NotRestored) (old new : History) → ((other : ℕ) → 4 ≤ other → reads old other ≡ image other) → IsRestored file day skipped came old new
+    → ReturnsAs file day skipped b (after base (take (b.number - base.number) journal)) came old new
+own_returns command contents told h opened journal stamps base ran sure had image here v recovers file b listed done from day skipped came old new same is =
+    let keeps : KeepsBacked base journal opened h = keeps_base command contents told h opened journal stamps base ran sure had in
+    held_returns image file b (after base (take (b.number - base.number) journal)) (keeps.hold image here v recovers file b listed done from) day skipped came old new same is

@@ -14,6 +14,7 @@ use Rattle.hall_turns.specs.Runs.{HasOwnBackups, IsBacked}
 use Rattle.db_chains.specs.declared.refused.ChainRefused.TheVariants as chain
 use Rattle.db_losses.specs.Losses.{Losses, restored}
 use Rattle.db_restore.specs.Chained.{RestoresFrom}
+use Rattle.db_restore.specs.Missing.{AreJudged}
 use Rattle.db_restore.specs.Restoring.{AreAlike}
 use Rattle.db_restore.specs.Sequential.{SparesSequential, with_sequential}
 use Rattle.db_restore.specs.declared.done.RestoreDone.{RestoreDone}
@@ -48,6 +49,25 @@ ComesBack file day skipped t (Err why) new = IsElsewhere why
 abbrev pub FindsKept : (file day : ℕ) → List ℕ → Result RestoreDone NotRestored → (old new : History) → Type 0
 FindsKept file day skipped came old new =
     (image : ℕ → List ℕ) (v : Inv) (b : Backup) → KeepsBackups image v → IsProtected v file b → ((other : ℕ) → 4 ≤ other → reads old other ≡ image other) → (t : Taken) × IsRow b t × ComesBack file day skipped t came new
+
+-- ---- a backup's own database
+
+-- The files recover to what is left of this database on the day, with no database backup listed (`restored`): of its copies those are lost that lie in a file that is passed over, or that didn't stand in their frames, with their objects' sizes and digests.
+pub record IsLeftOf (file day : ℕ) (skipped : List ℕ) (database : Inv) (old new : History) : Type 0 where
+  pub losses : Losses
+  pub judged : AreJudged (reads old) skipped losses database
+  pub recovers : Recovers meaning (reads new) (restored losses file day database)
+
+-- what came of restoring a backup that holds this database
+abbrev pub ComesBackAs : (file day : ℕ) → List ℕ → Inv → Result RestoreDone NotRestored → (old new : History) → Type 0
+ComesBackAs file day skipped database (Ok done) old new = IsLeftOf file day skipped database old new
+ComesBackAs file day skipped database (Err why) old new = IsElsewhere why
+
+-- A backup comes back as this database: that is of the number and of the day of the backup's row; and what is restored is what is left of it, or nothing was restored, and it isn't for what a file is.
+pub record ReturnsAs (file day : ℕ) (skipped : List ℕ) (b : Backup) (database : Inv) (came : Result RestoreDone NotRestored) (old new : History) : Type 0 where
+  pub number : database.number ≡ b.number
+  pub taken : database.today ≡ b.taken
+  pub left : ComesBackAs file day skipped database came old new
 
 -- ---- a restore
 

@@ -1,20 +1,21 @@
 // What the definitions mean, as laws. Each stands on a function that does nothing.
-ghost use Rattle.std.specs.Prelude.{◌≡◌, ℕ, ◌≤◌, List, [], Option, Some, Result};
+ghost use Rattle.std.specs.Prelude.{◌≡◌, ℕ, ◌-◌, ◌≤◌, true, List, [], take, Option, Some, Result};
 ghost use Rattle.std.specs.Str.Lines.{lines};
 ghost use Rattle.store_api.specs.Disk.{History, ImageAt, now, reads};
 ghost use Rattle.entries.specs.declared.entry.Entry.{Entry};
 ghost use Rattle.inventory.specs.Meant.{meaning};
 ghost use Rattle.inventory_rows.specs.declared.backup.Backup.{Backup};
 ghost use Rattle.inventory_rows.specs.State.{Inv};
+ghost use Rattle.inventory_rules.specs.Backups.{backup_at};
 ghost use Rattle.script_loop.specs.declared.ends.End.{End};
 ghost use Rattle.vault.specs.Recovery.{Recovers};
-ghost use Rattle.machine.specs.State.{Machine};
+ghost use Rattle.machine.specs.State.{Machine, after};
 ghost use Rattle.hall.specs.Protected.{AlwaysBacked, IsProtected, IsRow, Taken};
 ghost use Rattle.block_results.specs.command_steps.Clients.{Client};
 ghost use Rattle.db_restore.specs.declared.done.RestoreDone.{RestoreDone};
 ghost use Rattle.db_restore.specs.declared.refused.NotRestored.{NotRestored};
 ghost use Rattle.tsm_top.specs.Legal.{AreLegal, EndsWell, IsPlain, NoneRose, StartsWith};
-ghost use Rattle.tsm_top.specs.Restored.{ComesBack, IsRestored};
+ghost use Rattle.tsm_top.specs.Restored.{ComesBack, IsRestored, ReturnsAs};
 ghost use Rattle.tsm_top.specs.Serve.{Command, Had, RanSafe, RanScript, Sure};
 ghost use Rattle.tsm_top.specs.Sites.{site};
 ghost use Rattle.tsm_top.specs.declared.note.Note.{Note};
@@ -31,6 +32,17 @@ pub fn kept_backups_return()
     ensures always { (since : ℕ) (h : History) → AlwaysBacked since h → (moment : ℕ) (image : ℕ → List ℕ) → since ≤ moment → moment ≤ now h → ImageAt h moment image → (v : Inv) → Recovers meaning image v → (file : ℕ) (b : Backup) → IsProtected v file b
         → (day : ℕ) (skipped : List ℕ) (came : Result RestoreDone NotRestored) (old new : History) → ((other : ℕ) → 4 ≤ other → reads old other ≡ image other) → IsRestored file day skipped came old new
         → (t : Taken) × IsRow b t × ComesBack file day skipped t came new }
+{}
+
+/// A database backup that began in a run, once restored, brings back the run's database behind the transaction by which it began, and no later one, whether it is protected or not. What `serve` says of a run and of a restore is joined here: the run was over a
+/// store that was sound and had its backups; an image that a stop may have left at the moment of the return recovers to a database that lists the backup as whole; its number, that of the transaction by which it began, isn't below the one of the
+/// database that was run; and the backup is restored where the files of volumes and of backups read as in that image. Then what the restore leaves recovers to what is left of the database behind so many of the journal's transactions; or nothing was
+/// restored, and it isn't for what a file is (`ReturnsAs`).
+pub fn own_backups_return()
+    ensures { (command : Command) (contents : ℕ → List ℕ) (told : Option History) (h : History) (opened : ℕ) (journal : List Entry) (stamps : List ℕ) (base : Inv) → RanSafe command told (Some h) opened journal stamps (Some base) → Sure command contents told → Had command told
+        → (image : ℕ → List ℕ) → ImageAt h (now h) image → (v : Inv) → Recovers meaning image v → (file : ℕ) (b : Backup) → backup_at file v ≡ Some b → b.is_done ≡ true → base.number ≤ b.number
+        → (day : ℕ) (skipped : List ℕ) (came : Result RestoreDone NotRestored) (old new : History) → ((other : ℕ) → 4 ≤ other → reads old other ≡ image other) → IsRestored file day skipped came old new
+        → ReturnsAs file day skipped b (after base (take (b.number - base.number) journal)) came old new }
 {}
 
 /// A script whose lines are legal in turn, with room, ends well. What `serve` says of a run (`RanScript`) is joined here, line by line: the source tells the script, which is within its limits and has no block (`IsPlain`);
