@@ -2,6 +2,7 @@ pub mod Backing
 pub mod Blocked
 pub mod Causes
 pub mod Completing
+pub mod Formatting
 pub mod Making
 pub mod Noted
 pub mod Noting

@@ -1,5 +1,5 @@
 -- A script each line of which is legal where it runs, with room: when it ends well.
-use Rattle.std.specs.Prelude.{◌≡◌, ℕ, ◌+◌, ◌-◌, ◌^◌, ◌≤◌, false, Option, None, Some, List, [], ◌∷◌, Ok}
+use Rattle.std.specs.Prelude.{◌≡◌, ◌⊎◌, ℕ, ◌+◌, ◌-◌, ◌^◌, ◌≤◌, false, Option, None, Some, List, [], ◌∷◌, Ok}
 use Rattle.std.specs.List.{AllByRecursion}
 use Rattle.std.specs.Str.Lines.{lines}
 use Rattle.store_api.specs.Cause.{Rose}
@@ -24,7 +24,7 @@ use Rattle.block_results.specs.line_results.Commands.{Does, work_over}
 use Rattle.block_results.specs.line_results.Resting.{RoseFrom, database}
 use Rattle.block_results.specs.line_results.Room.{HasRoomFor}
 use Rattle.blocks.specs.Parts.{begins}
-use Rattle.tsm_top.specs.Serve.{Begins, Command, RunsOver, StartsAt}
+use Rattle.tsm_top.specs.Serve.{Begins, Closing, Command, RunsOver, StartsAt, formatted}
 use Rattle.tsm_top.specs.Sites.{RepliesAt, Site, between}
 
 -- ---- a line
@@ -92,3 +92,9 @@ EndsWell (Halted (LogFault file)) status last = ⊥
 EndsWell (Halted RunFull) status last = (status ≡ 9) × (2 ^ 62 - 2 ^ 24 ≤ last)
 EndsWell (Halted Memory) status last = status ≡ 8
 EndsWell (TooLong n) status last = ⊥
+
+-- ---- a new database
+
+-- A call that was to make a database ended with status 0, and made one; or with 8, where memory was wanted; or with 4, where the sink failed; or with 9, where the moment was all but the last.
+abbrev pub FormatsWell : Closing → (sink_rose : Type 0) → (status last : ℕ) → Type 0
+FormatsWell why sink_rose status last = ((why ≡ formatted) × (status ≡ 0)) ⊎ ((status ≡ 8) ⊎ (((status ≡ 4) × sink_rose) ⊎ ((status ≡ 9) × (2 ^ 62 - 2 ^ 24 ≤ last))))

@@ -1,6 +1,8 @@
 // What the definitions mean, as laws. Each stands on a function that does nothing.
-ghost use Rattle.std.specs.Prelude.{◌≡◌, ℕ, ◌-◌, ◌≤◌, true, List, [], take, Option, Some, Result};
+ghost use Rattle.std.specs.Prelude.{◌≡◌, ℕ, ◌-◌, ◌≤◌, true, false, List, [], take, Option, Some, Result, String};
+ghost use Rattle.std.specs.declared.alloc.Global.{Global};
 ghost use Rattle.std.specs.Str.Lines.{lines};
+ghost use Rattle.tree_api.specs.Cause.{Rose as RoseIn};
 ghost use Rattle.store_api.specs.Disk.{History, ImageAt, now, reads};
 ghost use Rattle.entries.specs.declared.entry.Entry.{Entry};
 ghost use Rattle.inventory.specs.Meant.{meaning};
@@ -8,15 +10,16 @@ ghost use Rattle.inventory_rows.specs.declared.backup.Backup.{Backup};
 ghost use Rattle.inventory_rows.specs.State.{Inv};
 ghost use Rattle.inventory_rules.specs.Backups.{backup_at};
 ghost use Rattle.script_loop.specs.declared.ends.End.{End};
+ghost use Rattle.vault.specs.Openings.{is_formatted};
 ghost use Rattle.vault.specs.Recovery.{Recovers};
 ghost use Rattle.machine.specs.State.{Machine, after};
 ghost use Rattle.hall.specs.Protected.{AlwaysBacked, IsProtected, IsRow, Taken};
 ghost use Rattle.block_results.specs.command_steps.Clients.{Client};
 ghost use Rattle.db_restore.specs.declared.done.RestoreDone.{RestoreDone};
 ghost use Rattle.db_restore.specs.declared.refused.NotRestored.{NotRestored};
-ghost use Rattle.tsm_top.specs.Legal.{AreLegal, EndsWell, IsPlain, NoneRose, StartsWith};
+ghost use Rattle.tsm_top.specs.Legal.{AreLegal, EndsWell, FormatsWell, IsPlain, NoneRose, StartsWith};
 ghost use Rattle.tsm_top.specs.Restored.{ComesBack, IsRestored, ReturnsAs};
-ghost use Rattle.tsm_top.specs.Serve.{Command, Had, RanSafe, RanScript, Sure};
+ghost use Rattle.tsm_top.specs.Serve.{Asks, Closing, Command, Had, HasCauseOf, RanSafe, RanScript, Shuts, Sure, format};
 ghost use Rattle.tsm_top.specs.Sites.{site};
 ghost use Rattle.tsm_top.specs.declared.note.Note.{Note};
 
@@ -55,4 +58,12 @@ pub fn legal_scripts_end_well()
     ensures sound { (command : Command) (k : Client) (told left_told : Option History) (before after : ℕ → ℕ) (opened last : ℕ) (end : End) (status : ℕ) (journal : List Entry) (stamps : List ℕ) (notes : List Note) (base : Option Inv) (generation : ℕ) (script left was is : Option (List ℕ)) → RanScript command k told left_told before after opened last end status journal stamps notes base generation script left was is
         → (all : List ℕ) → IsPlain script all → NoneRose before after → (contents : ℕ → List ℕ) → Sure command contents told
         → ((first : Machine) → StartsWith command told base opened before first → first.contents ≡ contents → AreLegal (Unit {0}) k.choice left_told 1 (site first k.old []) (lines all)) → EndsWell end status last }
+{}
+
+/// Where a new database is asked for, the store tells its bytes and has no image with an open gate, and no file's count of faults rose, one is made, with status 0; or memory was wanted, with status 8; or the sink failed,
+/// with 4; or the moment was all but the last, with 9 (`FormatsWell`). What `serve` says of a call that ran no script is joined here (`HasCauseOf`, `Shuts`).
+pub fn formatting_ends_well()
+    ensures { (words : List (String Global)) (why : Closing) (told left : Option History) (last : ℕ) (before after : ℕ → ℕ) (put_before put_after : Option (List ℕ)) (sink_before sink_after : ℕ) (status : ℕ) (journal : List Entry) (stamps : List ℕ) (notes : List Note) (base : Option Inv) (generation opened : ℕ)
+        → HasCauseOf why words told left last before after → Shuts why put_before put_after (RoseIn sink_before sink_after) status journal stamps notes base generation opened last
+        → Asks words format → (h : History) → told ≡ Some h → is_formatted (reads h) ≡ false → NoneRose before after → FormatsWell why (RoseIn sink_before sink_after) status last }
 {}
