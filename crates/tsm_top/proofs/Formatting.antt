@@ -1,9 +1,8 @@
 -- A call that is to make a database makes one, where the store has none, no count of faults rose and there is memory.
-use Rattle.std.proofs.Common.{◌≡◌, ◌⊎◌, ⊎_elim, inl, inr, ℕ, ◌-◌, ◌^◌, Bool, true, false, Option, None, Some, List, [], ◌∷◌, length, map, codes, refl, sym, ◌∙◌, ap, subst, arith}
-use Rattle.std.specs.Prelude.{◌≤◌, IfSome, String, string_bytes}
+use Rattle.std.proofs.Common.{◌≡◌, ◌⊎◌, ⊎_elim, inl, inr, ℕ, ◌-◌, ◌^◌, true, false, Option, None, Some, List, [], ◌∷◌, length, map, codes, refl, sym, ◌∙◌, ap, subst, arith}
+use Rattle.std.specs.Prelude.{◌≤◌, String, string_bytes}
 use Rattle.std.specs.declared.alloc.Global.{Global}
 use Rattle.store_api.specs.Disk.{History, reads}
-use Rattle.kinds.specs.declared.refusal.OpenRefused.{OpenRefused}
 use Rattle.kinds.specs.declared.refusal.OpenRefused.TheVariants as opening
 use Rattle.entries.specs.declared.entry.Entry.{Entry}
 use Rattle.inventory_rows.specs.State.{Inv}

@@ -1,4 +1,4 @@
--- A script each line of which is legal where it runs, with room: when it ends well.
+-- A script each line of which is legal where it runs, with room, and a database that is to be made: when they end well.
 use Rattle.std.specs.Prelude.{◌≡◌, ◌⊎◌, ℕ, ◌+◌, ◌-◌, ◌^◌, ◌≤◌, false, Option, None, Some, List, [], ◌∷◌, Ok}
 use Rattle.std.specs.List.{AllByRecursion}
 use Rattle.std.specs.Str.Lines.{lines}
