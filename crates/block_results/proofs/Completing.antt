@@ -155,14 +155,14 @@ use Rattle.line_results.specs.Files.{filespace_defined}
 use Rattle.line_results.specs.Resting.{Onward, RoseFrom, database}
 use Rattle.block_results.specs.Filled.{IsFilled, IsInUse}
 use Rattle.block_results.specs.Gone.{IsPoolGone, IsUnopened}
-use Rattle.block_results.specs.Legal.{AreAnswers, AreThere, HasRoom, IsAnswered, IsAnsweredWith, IsBound, IsComplete, IsHome, IsKeptIn, IsLegal, IsNoBackup, IsReadable, IsThereOrDefined, MayBackUp, MayBy, MayCheckpoint, MayCommit, MayDo, MayGet, MayLose, MayOn, MayOwn, MayPut, MayStore, OpensAt, Passes, Remains, StaysKept, stored_with}
+use Rattle.block_results.specs.Legal.{AreAnswers, AreThere, BringsTo, HasRoom, IsAnswered, IsAnsweredWith, IsBound, IsComplete, IsHome, IsKeptIn, IsLegal, IsNoBackup, IsReadable, IsThereOrDefined, MayBackUp, MayBy, MayCheckpoint, MayCommit, MayDo, MayGet, MayLose, MayOn, MayOwn, MayPut, MayStore, OpensAt, Passes, Remains, StaysKept, stored_with}
 use Rattle.block_results.specs.Processes.{HaveNumbers, MayProcess}
 use Rattle.block_results.specs.Refusing.{HasNoPlace, IsRefusedFor, IsUnended, IsUnread, bounds, held_reasons, own_reasons}
 use Rattle.block_results.proofs.Came.{Said as SaidOf}
 use Rattle.block_results.proofs.Fitting.{met-first, met-next}
 use Rattle.block_results.proofs.BySteps.{core-left}
 use Rattle.block_results.proofs.Filespaces.{exists-so}
-use Rattle.block_results.proofs.InOrder.{Stood, Two, moved-number, passes-after, passes-before, stood, stood-within, turned-grows, turned-number}
+use Rattle.block_results.proofs.InOrder.{Stood, Two, moved-number, passes-after, passes-before, split, stood, stood-within, turned-grows, turned-number}
 use Rattle.block_results.proofs.Looking.{told-as}
 use Rattle.block_results.proofs.Mild.{not-memory}
 use Rattle.block_results.proofs.Moving.{no-ticket, numbers-of, unmoved, unrestored-volume}
@@ -174,6 +174,7 @@ use Rattle.block_results.proofs.Attempting.{none-full}
 use Rattle.line_jobs.specs.Jobs.{is_held}
 use Rattle.block_results.proofs.Processes.{AllStood, unaudited, unbacked-whole, uncopied, undeleted, unexpired, unfollowed}
 use Rattle.block_results.proofs.Reasons.{moved-for}
+use Rattle.block_results.proofs.Brought.{kept-brought}
 use Rattle.block_results.proofs.Removing.{unemptied, unremoved}
 use Rattle.block_results.proofs.Rows.{limited-same, rows-told as rows-of-told}
 use Rattle.block_results.proofs.Single.{validity-is}
@@ -298,59 +299,11 @@ module _ (trusted : Type 0) (places : Places) (actor : ℕ) where
         | false ↦ λ e m. stands-more Is t turns old next new made (stands Is turns next new rest m)
       ] refl met
 
-  -- the turns of some of the actor's steps, and those behind them
-  pub record Split (xs ys : List Event) (turns : List Turn) (old new : Machine) : Type 0 where
-    pub mine : List Turn
-    pub others : List Turn
-    pub mid : Machine
-    pub parts : turns ≡ mine ++ others
-    pub own : events_of actor mine ≡ xs
-    pub rest : events_of actor others ≡ ys
-    pub led : Turned trusted places mine old mid
-    pub leads : Turned trusted places others mid new
-
-  -- one more turn in front
-  split-more : (t : Turn) (turns : List Turn) (xs ys zs : List Event) (old next new : Machine) → Moves trusted places t.actor t.did old next → ((mine : List Turn) → events_of actor mine ≡ xs → events_of actor (t ∷ mine) ≡ zs)
-      → Split xs ys turns next new → Split zs ys (t ∷ turns) old new
-  split-more t turns xs ys zs old next new made own s = record {
-    mine = t ∷ s.mine;
-    others = s.others;
-    mid = s.mid;
-    parts = ap (λ (l : List Turn). t ∷ l) s.parts;
-    own = own s.mine s.own;
-    rest = s.rest;
-    led = (next, made, s.led);
-    leads = s.leads;
-  }
-
-  own-turn : (t : Turn) (x : Event) (xs : List Event) → (t.actor == actor) ≡ true → t.did ≡ x → (mine : List Turn) → events_of actor mine ≡ xs → events_of actor (t ∷ mine) ≡ x ∷ xs
-  own-turn t x xs is same mine h = ap (λ (b : Bool). if b then t.did ∷ events_of actor mine else events_of actor mine) is ∙ ap (λ (e : Event). e ∷ events_of actor mine) same ∙ ap (λ (l : List Event). x ∷ l) h
-
-  other-turn : (t : Turn) (xs : List Event) → (t.actor == actor) ≡ false → (mine : List Turn) → events_of actor mine ≡ xs → events_of actor (t ∷ mine) ≡ xs
-  other-turn t xs is mine h = ap (λ (b : Bool). if b then t.did ∷ events_of actor mine else events_of actor mine) is ∙ h
-
-  head-same : (a b : Event) (xs ys : List Event) → a ∷ xs ≡ b ∷ ys → a ≡ b
-  head-same a b xs ys h = cc
-
-  tail-same : (a b : Event) (xs ys : List Event) → a ∷ xs ≡ b ∷ ys → xs ≡ ys
-  tail-same a b xs ys h = cc
-
-  pub split : (xs ys : List Event) (turns : List Turn) (old new : Machine) → events_of actor turns ≡ xs ++ ys → Turned trusted places turns old new → Split xs ys turns old new
-  split [] ys turns old new is h = record { mine = []; others = turns; mid = old; parts = refl; own = refl; rest = is; led = refl; leads = h }
-  split (x ∷ xs) ys [] old new is h = absurd cc
-  split (x ∷ xs) ys (t ∷ turns) old new is (next, made, rest) =
-      elim (t.actor == actor) as (λ b. (t.actor == actor) ≡ b → (if b then t.did ∷ events_of actor turns else events_of actor turns) ≡ x ∷ (xs ++ ys) → Split (x ∷ xs) ys (t ∷ turns) old new) [
-        | true ↦ λ e same.
-            split-more t turns xs ys (x ∷ xs) old next new made (own-turn t x xs e (head-same t.did x (events_of actor turns) (xs ++ ys) same))
-            (split xs ys turns next new (tail-same t.did x (events_of actor turns) (xs ++ ys) same) rest)
-        | false ↦ λ e same. split-more t turns (x ∷ xs) ys (x ∷ xs) old next new made (other-turn t (x ∷ xs) e) (split (x ∷ xs) ys turns next new same rest)
-      ] refl is
-
   -- two of the actor's steps, of which the one comes among these and the other among those behind them
   pub two-of : (P Q : Deed → Type 0) (xs ys : List Event) (turns : List Turn) (old new : Machine) → events_of actor turns ≡ xs ++ ys → Turned trusted places turns old new → MetBy P xs → MetBy Q ys
       → Two trusted places actor P Q turns old new
   two-of P Q xs ys turns old new is ran first next =
-      let s = split xs ys turns old new is ran in
+      let s = split trusted places actor xs ys turns old new is ran in
       let a = stood trusted places actor P s.mine old s.mid s.led (subst (λ (l : List Event). MetBy P l) (sym s.own) first) in
       let b = stood trusted places actor Q s.others s.mid new s.leads (subst (λ (l : List Event). MetBy Q l) (sym s.rest) next) in
       let low = turned-number trusted places a.meets.back a.meets.after s.mid a.meets.leads in
@@ -384,7 +337,7 @@ module _ (trusted : Type 0) (places : Places) (actor : ℕ) where
   pub spent-of : (D : Deed → Type 0) (number : ℕ) (front fills rest : List Event) (o c : Event) (turns : List Turn) (old new : Machine) → Turned trusted places turns old new → Opens number o.deed → AllByRecursion (λ e. Keeps e.deed) fills → MetBy D front
       → events_of actor turns ≡ front ++ (o ∷ (fills ++ (c ∷ rest))) → Spent D c.deed number turns old new
   spent-of D number front fills rest o c turns old new ran opens keep met is =
-      let s = split front (o ∷ (fills ++ (c ∷ rest))) turns old new is ran in
+      let s = split trusted places actor front (o ∷ (fills ++ (c ∷ rest))) turns old new is ran in
       let a = stood trusted places actor D s.mine old s.mid s.led (subst (λ (l : List Event). MetBy D l) (sym s.own) met) in
       let b = opened-to trusted places actor number [] fills rest o c s.others s.mid new s.leads opens keep s.rest in
       let low = turned-number trusted places a.meets.back a.meets.after s.mid a.meets.leads in
@@ -405,7 +358,7 @@ module _ (trusted : Type 0) (places : Places) (actor : ℕ) where
   pub followed-by : (D Q : Deed → Type 0) (number : ℕ) (front fills rest : List Event) (o c : Event) (turns : List Turn) (old new : Machine) → Turned trusted places turns old new → Opens number o.deed → AllByRecursion (λ e. Keeps e.deed) fills
       → MetBy D front → MetBy Q rest → events_of actor turns ≡ (front ++ (o ∷ (fills ++ (c ∷ [])))) ++ rest → Followed D c.deed number Q turns old new
   followed-by D Q number front fills rest o c turns old new ran opens keep met later is =
-      let s = split (front ++ (o ∷ (fills ++ (c ∷ [])))) rest turns old new is ran in
+      let s = split trusted places actor (front ++ (o ∷ (fills ++ (c ∷ [])))) rest turns old new is ran in
       let t = spent-of D number front fills [] o c s.mine old s.mid s.led opens keep met s.own in
       let q = stood trusted places actor Q s.others s.mid new s.leads (subst (λ (l : List Event). MetBy Q l) (sym s.rest) later) in
       let low = turned-number trusted places t.two.meets.back t.two.meets.after s.mid t.two.meets.leads in
@@ -426,6 +379,9 @@ module _ (trusted : Type 0) (places : Places) (actor : ℕ) where
   module _ (turns : List Turn) (old new : Machine) (ran : Turned trusted places turns old new) (sounds : AreSound old.core) (unrisen : (file : ℕ) → RoseFrom old new file → ⊥) where
     abbrev Is : Machine → Type 0
     Is m = Passes trusted places turns old new m
+
+    abbrev Brings : (Deed → Type 0) → (Inv → Bool) → Machine → Type 0
+    Brings So is_there m = BringsTo trusted places actor turns old new So is_there m
 
     -- no fault has halted the hall, or its rows are sound
     passed-sound : (m : Machine) → Is m → AreSound m.core
@@ -820,8 +776,8 @@ module _ (trusted : Type 0) (places : Places) (actor : ℕ) where
     abbrev IsBusyBy : Own → Refusal → Type 0
     IsBusyBy (on_tree work) e = IsBusyOn work e
     IsBusyBy checkpoint e = IsBusy e
-    IsBusyBy empty_filespace e = IsFilled Is empty_filespace (events_of actor turns) e
-    IsBusyBy empty_volume e = IsBusy e ⊎ IsFilled Is empty_volume (events_of actor turns) e
+    IsBusyBy empty_filespace e = IsFilled Is Brings empty_filespace (events_of actor turns) e
+    IsBusyBy empty_volume e = IsBusy e ⊎ IsFilled Is Brings empty_volume (events_of actor turns) e
     IsBusyBy (moves mover) e = IsBusy e
     IsBusyBy back_up_pool e = IsBusy e
     IsBusyBy back_up_database e = IsBusy e
@@ -1357,7 +1313,7 @@ module _ (trusted : Type 0) (places : Places) (actor : ℕ) where
         let Opens : Deed → Type 0 = (λ d. d ≡ OpenCopy object a_move avoid (Err refused.NotFound)) in
         let all : events_of actor turns ≡ (front ++ xs) ++ (ys ++ back) =
         cut ∙ ap (λ (l : List Event). front ++ (l ++ back)) apart ∙ ap (λ (l : List Event). front ++ l) (append_assoc xs ys back) ∙ sym (append_assoc front xs (ys ++ back)) in
-        let s = split (front ++ xs) (ys ++ back) turns old new all ran in
+        let s = split trusted places actor (front ++ xs) (ys ++ back) turns old new all ran in
         let a = stood trusted places actor Lists s.mine old s.mid s.led (subst (λ (l : List Event). MetBy Lists l) (sym s.own) (met-next front xs Lists listed)) in
         let b = stood trusted places actor Opens s.others s.mid new s.leads (subst (λ (l : List Event). MetBy Opens l) (sym s.rest) (met-first ys back Opens met)) in
         let one = stands-as Lists turns old new (stood-within trusted places actor Lists [] s.mine s.others turns old old s.mid new s.parts refl s.leads a) in
@@ -1397,7 +1353,8 @@ module _ (trusted : Type 0) (places : Places) (actor : ℕ) where
         absurd (unaudited places actor Is did (all-stood front did back cut) e mild fix (the_number numbers) may (gives-err (VolumeAudit fix (the_number numbers)) Audited did e h.1))
     unrun k empty_filespace numbers e front did back cut mild may h =
         let it = unemptied places actor Is did (all-stood front did back cut) e mild (the_number numbers) may (gives-err (FilespaceDeletion (the_number numbers)) _ did e h.1) in
-        inl (the_number numbers, it.0, front, did, back, cut, it.1, it.2, it.3)
+        let still = kept-brought trusted places actor (the_number numbers) turns old new ran sounds may front did back e cut it.0 it.1 in
+        inl (the_number numbers, still.0, front, did, back, cut, still.1, (may.0, may.1, it.1), still.2)
     unrun k empty_volume numbers e front did back cut mild may h =
         inl (elim (unremoved places actor Is did (all-stood front did back cut) e mild (the_number numbers) may (gives-err (VolumeDeletion true (the_number numbers)) _ did e h.1)) as (λ _. IsBusyBy empty_volume e) [
           | inl busy ↦ inl busy
@@ -2180,7 +2137,7 @@ module _ (trusted : Type 0) (places : Places) (actor : ℕ) where
     not-held-on (back_up i) e unheld h = not-held e unheld h
     not-held-on work e unheld h = h
 
-    in-use : (own : Own) (n : ℕ) (e : Refusal) (answer : Answer) → answer ≡ answer_refused n e → is_held (Some e) ≡ false → IsBusyBy own e → IsInUse Is own n (events_of actor turns) answer
+    in-use : (own : Own) (n : ℕ) (e : Refusal) (answer : Answer) → answer ≡ answer_refused n e → is_held (Some e) ≡ false → IsBusyBy own e → IsInUse Is Brings own n (events_of actor turns) answer
     in-use (on_tree work) n e answer said unheld h = absurd (not-held-on work e unheld h)
     in-use checkpoint n e answer said unheld h = absurd (not-held e unheld h)
     in-use (put p) n e answer said unheld h = absurd (not-held e unheld h)
@@ -2195,7 +2152,7 @@ module _ (trusted : Type 0) (places : Places) (actor : ℕ) where
     in-use own n e answer said unheld h = absurd h
 
     abbrev Answered : (n : ℕ) → Command → Answer → Type 0
-    Answered n c answer = IsAnsweredWith (behind c) n (events_of actor turns) answer ⊎ IsInUse Is (own_of c) n (events_of actor turns) answer ⊎ IsUnopened Is (own_of c) n (events_of actor turns) answer
+    Answered n c answer = IsAnsweredWith (behind c) n (events_of actor turns) answer ⊎ IsInUse Is Brings (own_of c) n (events_of actor turns) answer ⊎ IsUnopened Is (own_of c) n (events_of actor turns) answer
 
     unopened-so : (own : Own) (n : ℕ) (e : Refusal) (answer : Answer) → answer ≡ answer_refused n e → IsUnopenedBy own e → IsUnopened Is own n (events_of actor turns) answer
     unopened-so (moves mover) n e answer said (missing, object, a, avoid, met, m, at, gone) = (said ∙ ap (answer_refused n) missing, object, a, avoid, met, m, at, gone)
@@ -2210,7 +2167,7 @@ module _ (trusted : Type 0) (places : Places) (actor : ℕ) where
         let same : e ≡ f = ends-same (behind c) f e ys mild ends in
         let busy = does-none k c work f front xs ys (cut ∙ ap (λ (l : List Event). front ++ l) apart) plain (subst (λ (x : Refusal). halt_by x ≡ None) same mild) may does in
         let as_is : answer ≡ answer_refused n f = said ∙ ap (answer_refused n) same in
-        inr (elim busy as (λ _. IsInUse Is (own_of c) n (events_of actor turns) answer ⊎ IsUnopened Is (own_of c) n (events_of actor turns) answer) [
+        inr (elim busy as (λ _. IsInUse Is Brings (own_of c) n (events_of actor turns) answer ⊎ IsUnopened Is (own_of c) n (events_of actor turns) answer) [
           | inl held ↦ inl (in-use (own_of c) n f answer as_is (subst (λ (x : Refusal). is_held (Some x) ≡ false) same unheld) held)
           | inr unopened ↦ inr (unopened-so (own_of c) n f answer as_is unopened)
         ])
@@ -2230,7 +2187,7 @@ module _ (trusted : Type 0) (places : Places) (actor : ℕ) where
         doing-none k n c e answer ends.0 (subst (λ (w : Option Refusal). is_held w ≡ false) (ap (λ (p : Answer × Option Refusal). p.1) ends.1) unheld) (ap (λ (p : Answer × Option Refusal). p.0) ends.1) may doing
 
     in-job-complete : (k : Client) (in_use : Option ℕ) (n : ℕ) (line : Line) (answer : Answer) (why : Option Refusal) → is_held why ≡ false → IsLegal places Is Opening actor k in_use line → DoesInJob k in_use n line (events_of actor turns) (Ok (answer, why))
-        → IsAnswered Is n line (events_of actor turns) answer
+        → IsAnswered Is Brings n line (events_of actor turns) answer
     in-job-complete k None n comment answer why unheld may (kept, none, is) = (let same : ◌≡◌ {A = Answer × Option Refusal} (answer, why) (nothing, None) = cc in ap (λ (p : Answer × Option Refusal). p.0.tally.refused) same)
     in-job-complete k (Some number) n comment answer why unheld may (kept, none, is) = (let same : ◌≡◌ {A = Answer × Option Refusal} (answer, why) (nothing, None) = cc in ap (λ (p : Answer × Option Refusal). p.0.tally.refused) same)
     in-job-complete k None n (refused_line given) answer why unheld may h = absurd may

@@ -1,5 +1,5 @@
 -- Where an actor's steps stand among the turns of several, one after the other; and that the number of the database doesn't fall.
-use Rattle.std.proofs.Common.{◌≡◌, ◌∙◌, inl, inr, ℕ, ◌+◌, ◌≤◌, ◌==◌, true, false, if◌then◌else◌, Result, Ok, Err, List, [], ◌∷◌, ◌++◌, length, refl, sym, ap, subst, append_assoc, arith}
+use Rattle.std.proofs.Common.{◌≡◌, ◌∙◌, inl, inr, ℕ, ◌+◌, ◌≤◌, ◌==◌, Bool, true, false, if◌then◌else◌, Result, Ok, Err, List, [], ◌∷◌, ◌++◌, length, refl, sym, ap, subst, append_assoc, arith}
 use Rattle.std.proofs.lemmas.Bool.{eqb-true}
 use Rattle.std.proofs.lemmas.List.{append-nil, length-append}
 use Rattle.entries.specs.declared.entry.Entry.{Entry}
@@ -163,3 +163,51 @@ module _ (trusted : Type 0) (places : Places) (actor : ℕ) where
     pub one : Stood P turns old new
     pub two : Stood Q turns old new
     pub rises : (database one.meets.after).number ≤ (database two.meets.before).number
+
+  -- the turns of some of the actor's steps, and those behind them
+  pub record Split (xs ys : List Event) (turns : List Turn) (old new : Machine) : Type 0 where
+    pub mine : List Turn
+    pub others : List Turn
+    pub mid : Machine
+    pub parts : turns ≡ mine ++ others
+    pub own : events_of actor mine ≡ xs
+    pub rest : events_of actor others ≡ ys
+    pub led : Turned trusted places mine old mid
+    pub leads : Turned trusted places others mid new
+
+  -- one more turn in front
+  split-more : (t : Turn) (turns : List Turn) (xs ys zs : List Event) (old next new : Machine) → Moves trusted places t.actor t.did old next → ((mine : List Turn) → events_of actor mine ≡ xs → events_of actor (t ∷ mine) ≡ zs)
+      → Split xs ys turns next new → Split zs ys (t ∷ turns) old new
+  split-more t turns xs ys zs old next new made own s = record {
+    mine = t ∷ s.mine;
+    others = s.others;
+    mid = s.mid;
+    parts = ap (λ (l : List Turn). t ∷ l) s.parts;
+    own = own s.mine s.own;
+    rest = s.rest;
+    led = (next, made, s.led);
+    leads = s.leads;
+  }
+
+  own-turn : (t : Turn) (x : Event) (xs : List Event) → (t.actor == actor) ≡ true → t.did ≡ x → (mine : List Turn) → events_of actor mine ≡ xs → events_of actor (t ∷ mine) ≡ x ∷ xs
+  own-turn t x xs is same mine h = ap (λ (b : Bool). if b then t.did ∷ events_of actor mine else events_of actor mine) is ∙ ap (λ (e : Event). e ∷ events_of actor mine) same ∙ ap (λ (l : List Event). x ∷ l) h
+
+  other-turn : (t : Turn) (xs : List Event) → (t.actor == actor) ≡ false → (mine : List Turn) → events_of actor mine ≡ xs → events_of actor (t ∷ mine) ≡ xs
+  other-turn t xs is mine h = ap (λ (b : Bool). if b then t.did ∷ events_of actor mine else events_of actor mine) is ∙ h
+
+  head-same : (a b : Event) (xs ys : List Event) → a ∷ xs ≡ b ∷ ys → a ≡ b
+  head-same a b xs ys h = cc
+
+  tail-same : (a b : Event) (xs ys : List Event) → a ∷ xs ≡ b ∷ ys → xs ≡ ys
+  tail-same a b xs ys h = cc
+
+  pub split : (xs ys : List Event) (turns : List Turn) (old new : Machine) → events_of actor turns ≡ xs ++ ys → Turned trusted places turns old new → Split xs ys turns old new
+  split [] ys turns old new is h = record { mine = []; others = turns; mid = old; parts = refl; own = refl; rest = is; led = refl; leads = h }
+  split (x ∷ xs) ys [] old new is h = absurd cc
+  split (x ∷ xs) ys (t ∷ turns) old new is (next, made, rest) =
+      elim (t.actor == actor) as (λ b. (t.actor == actor) ≡ b → (if b then t.did ∷ events_of actor turns else events_of actor turns) ≡ x ∷ (xs ++ ys) → Split (x ∷ xs) ys (t ∷ turns) old new) [
+        | true ↦ λ e same.
+            split-more t turns xs ys (x ∷ xs) old next new made (own-turn t x xs e (head-same t.did x (events_of actor turns) (xs ++ ys) same))
+            (split xs ys turns next new (tail-same t.did x (events_of actor turns) (xs ++ ys) same) rest)
+        | false ↦ λ e same. split-more t turns (x ∷ xs) ys (x ∷ xs) old next new made (other-turn t (x ∷ xs) e) (split (x ∷ xs) ys turns next new same rest)
+      ] refl is

@@ -21,7 +21,8 @@ use Rattle.line_jobs.specs.Jobs.{AnswersFate, AreAnswered, DoesLines, JobLine, b
 use Rattle.line_jobs.specs.Shares.{AreDone, Came}
 use Rattle.line_jobs.specs.declared.job.Said.{Said}
 use Rattle.block_results.specs.Legal.{AreComplete, FateComplete, JobsComplete}
-use Rattle.block_results.proofs.Completing.{line-complete, split}
+use Rattle.block_results.proofs.Completing.{line-complete}
+use Rattle.block_results.proofs.InOrder.{split}
 use Rattle.block_results.proofs.Sounding.{AreSound, turned-sound}
 
 module _ (trusted : Type 0) (places : Places) (choice : List Rule) where

@@ -3,6 +3,7 @@ pub use Rattle.line_jobs.proofs as of_line_jobs
 pub mod Acked
 pub mod Attempting
 pub mod Based
+pub mod Brought
 pub mod BySteps
 pub mod Came
 pub mod Changed
@@ -16,6 +17,7 @@ pub mod Fitting
 pub mod Following
 pub mod Imaged
 pub mod InOrder
+pub mod Inside
 pub mod Jobs
 pub mod JobsComplete
 pub mod Journal

@@ -77,7 +77,7 @@ use Rattle.block_results.proofs.Mild.{not-memory}
 use Rattle.block_results.proofs.Processes.{AllStood, IsBusy, Stops, ending-never, missing-is, missing-never, stopping-stops, take-held, volume-there}
 
 -- an object of which this holds uses it still
-abbrev IsUsed : (Uses : ℕ → Type 0) → Refusal → Type 0
+abbrev pub IsUsed : (Uses : ℕ → Type 0) → Refusal → Type 0
 IsUsed Uses e = (object : ℕ) × (e ≡ refused.InUse (by.Object object)) × Uses object
 
 -- a refusal of a row's own transaction is that one uses it
@@ -131,7 +131,7 @@ module _ (places : Places) (actor : ℕ) (before after : Machine) where
   kept-for Uses d e kept own held bound place (inr (inr (inr (inr (inr (inl h)))))) = absurd (failed-kept d e (kept-so e kept) h)
   kept-for Uses d e kept own held bound place (inr (inr (inr (inr (inr (inr h)))))) = (let odd : is_kept_by refused.Memory ≡ true = subst (λ (y : Refusal). is_kept_by y ≡ true) h kept in absurd cc)
 
-  row-used : (name : List ℕ) (filespace : ℕ) (x : Filespace) (e : Refusal) → filespace_at filespace v.clients.filespaces ≡ Some x → is_kept_by e ≡ true
+  pub row-used : (name : List ℕ) (filespace : ℕ) (x : Filespace) (e : Refusal) → filespace_at filespace v.clients.filespaces ≡ Some x → is_kept_by e ≡ true
       → IsRefusedFor places actor (Commit (deleting name filespace) [] (Err e)) before after e → IsUsed (λ object. IsLeastIn filespace object v) e
   row-used name filespace x e at kept for =
       kept-for (λ object. IsLeastIn filespace object v) (Commit (deleting name filespace) [] (Err e)) e kept (change-used (λ object. IsLeastIn filespace object v) (change.Object (client.Filespace two.Delete 0 name filespace)) (row-own name filespace x at)) tt refl (λ h. h) for
@@ -278,7 +278,7 @@ module _ (places : Places) (actor : ℕ) (Is : Machine → Type 0) (events : Lis
       cc
 
   abbrev pub IsKeptStill : Type 0
-  IsKeptStill = (object : ℕ) × (e ≡ refused.InUse (by.Object object)) × IsKeptBehind filespace events e × ((m : Machine) × Is m × IsLeastIn filespace object (database m))
+  IsKeptStill = (is_kept_by e ≡ true) × Then (λ l. Found filespace l its) (λ l. IsKept filespace its l e) events
 
   -- what it names is there, so that only its own transaction was refused, behind all that comes before it
   row-kept : is_kept_by e ≡ true → IsInPlace filespace events e → IsKeptStill
@@ -289,14 +289,9 @@ module _ (places : Places) (actor : ℕ) (Is : Machine → Type 0) (events : Lis
       (unlisted-not names (found-its names xs ys cut found) (missing-is e ten)
       (subst (λ (l : List Event). MetBy (IsUnlisted filespace names e) l) (sym cut) (met-next xs ys (IsUnlisted filespace names e) met)))
   row-kept kept (inr (inr (names, (xs, ys, cut, found, inr (count, (us, ws, apart, cleared, (n, name, one))))))) =
-      let met : MetBy (IsRowKept filespace e) ws = subst (λ (l : List Event). MetBy (IsRowKept filespace e) l) (sym one) (inl (name, refl)) in
-      let more : MetBy (IsRowKept filespace e) ys = subst (λ (l : List Event). MetBy (IsRowKept filespace e) l) (sym apart) (met-next us ws (IsRowKept filespace e) met) in
-      let s = stood (IsDeleting filespace) (IsRowKept filespace e) did.only (subst (λ (l : List Event). MetBy (IsRowKept filespace e) l) (sym cut) (met-next xs ys (IsRowKept filespace e) more)) in
-      let used = row-used places actor s.before s.after s.is.0.0 filespace (may.2 s.before s.passes).0.0 e (may.2 s.before s.passes).0.1 kept
-      (subst (λ (d : Deed). IsRefusedFor places actor d s.before s.after e) s.is.0.1 (s.for e (ap refusal s.is.0.1))) in
       let all : Then (λ l. Found filespace l its) (λ l. IsKept filespace its l e) events =
       subst (λ (x : Names). Then (λ l. Found filespace l x) (λ l. IsKept filespace x l e) events) (found-its names xs ys cut found) (xs, ys, cut, found, (count, (us, ws, apart, cleared, (n, name, one)))) in
-      (used.0, used.1, (may.0, may.1, all), (s.before, s.passes, used.2))
+      (kept, all)
 
   pub unemptied : IsKeptStill
   unemptied = elim did.came as (λ _. IsKeptStill) [

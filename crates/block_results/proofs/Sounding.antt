@@ -73,7 +73,7 @@ none-first : (first own : List Refusal) → foremost (first ++ own) ≡ None →
 none-first first own h = ap foremost (append-none first own (none-held (first ++ own) h)).1
 
 -- a transaction that wasn't refused is legal
-legal-commit : (actor : ℕ) (asked : Asked) (numbers : List ℕ) (others : List Refusal) (m : Machine) (w : Change) → asked_change actor asked numbers m.core ≡ Some w
+pub legal-commit : (actor : ℕ) (asked : Asked) (numbers : List ℕ) (others : List Refusal) (m : Machine) (w : Change) → asked_change actor asked numbers m.core ≡ Some w
     → foremost (ended m ++ (commit_refused actor asked numbers (sight actor m.core) ++ others)) ≡ None → refused_by (sight actor m.core).journal w (inventory m.core) ≡ None
 legal-commit actor asked numbers others m w is none =
     let own : List Refusal = commit_refused actor asked numbers (sight actor m.core) in
@@ -263,7 +263,7 @@ halted-first : (b : Bool) (file count : ℕ) (others : List Refusal) (e : Refusa
 halted-first true file count others e is mild = log-first file count (foremost others) e is mild
 halted-first false file count others e is mild = full-first (foremost (refused.LogFault file count ∷ others)) e is mild
 
-halted-none : (b : Bool) (o : Option (ℕ × ℕ)) (others : List Refusal) → (unless b refused.RunFull ++ halted o) ++ others ≡ [] → o ≡ None
+pub halted-none : (b : Bool) (o : Option (ℕ × ℕ)) (others : List Refusal) → (unless b refused.RunFull ++ halted o) ++ others ≡ [] → o ≡ None
 halted-none b None others h = refl
 halted-none true (Some f) others h = absurd cc
 halted-none false (Some f) others h = absurd cc

@@ -1,7 +1,7 @@
 -- When a line of a job isn't refused. A line stands among turns of several actors, which lead from the state behind its actor's last step before it to the one behind its own last step: other actors' turns may be between two of its
 -- steps. It is legal where it would be at each of the states that these turns pass, as a line outside blocks is at the one before it.
 -- A line that makes its transaction passes states behind it too, at which it may not be legal any more: it wasn't refused. A change that is refused makes none, so where no other actor's transaction concerns what it names it stays legal.
-use Rattle.std.specs.Prelude.{◌≡◌, ◌⊎◌, ℕ, ◌+◌, ◌^◌, ◌<◌, ◌≤◌, true, Contains, List, [], ◌∷◌, ◌++◌, length, Option, None, Some, Result, Ok, Err}
+use Rattle.std.specs.Prelude.{◌≡◌, ◌⊎◌, ℕ, ◌+◌, ◌^◌, ◌<◌, ◌≤◌, Bool, false, true, Contains, List, [], ◌∷◌, ◌++◌, length, Option, None, Some, Result, Ok, Err}
 use Rattle.std.specs.List.{AllByRecursion}
 use Rattle.sha2.specs.Sha256.{sha256}
 use Rattle.kinds.specs.Refusals.{foremost}
@@ -45,7 +45,7 @@ use Rattle.admin_commands.specs.declared.work.Work.TheVariants.{Commit, Show, Ru
 use Rattle.script_loop.specs.Reply.{Answer}
 use Rattle.line_results.specs.pool_restores.Listing.{destroying_of}
 use Rattle.line_results.specs.reuse_delay.Reusing.{VolumeReuse}
-use Rattle.steps.specs.Events.{Event}
+use Rattle.steps.specs.Events.{Deed, Event}
 use Rattle.steps.specs.Events.Deed.{OpenNew}
 use Rattle.machine.specs.Causes.{change_refused, new_refused}
 use Rattle.machine.specs.Machine.{IsAnswer, Places, held_refused, IsTicket, space}
@@ -76,6 +76,13 @@ use Rattle.block_results.specs.Refusing.{Meets}
 -- the turns pass this state: some lead to it, and the others on from there
 abbrev pub Passes : (trusted : Type 0) → Places → List Turn → (old new m : Machine) → Type 0
 Passes trusted places turns old new m = (front : List Turn) × (back : List Turn) × (turns ≡ front ++ back) × Turned trusted places front old m × Turned trusted places back m new
+
+-- A step of the actor that was so (`So`) stands among the turns. Behind it a step of another turn, of whichever actor, met a state at which this wasn't there, and left one at which it was; and turns led on from there to this state.
+abbrev pub BringsTo : (trusted : Type 0) → Places → (actor : ℕ) → List Turn → (old new : Machine) → (So : Deed → Type 0) → (is_there : Inv → Bool) → Machine → Type 0
+BringsTo trusted places actor turns old new So is_there m =
+    (t : Turn) × (at : Meets trusted places turns old new t) × (t.actor ≡ actor) × So t.did.deed
+    × (front : List Turn) × (back : List Turn) × (at.back ≡ front ++ back) × Turned trusted places back m new
+    × (b : Turn) × (by : Meets trusted places front at.after m b) × (is_there (database by.before) ≡ false) × (is_there (database by.after) ≡ true)
 
 -- a step of the actor that opens a ticket for a new object of this size in this pool met this state
 abbrev pub OpensAt : (trusted : Type 0) → Places → (actor : ℕ) → List Turn → (old new : Machine) → (pool size : ℕ) → Machine → Type 0
@@ -241,14 +248,14 @@ IsAnsweredWith reuses n events answer = (answer.tally.refused ≡ 0) ⊎ IsRefus
 IsAnsweredWith b n events answer = answer.tally.refused ≡ 0
 
 -- It doesn't count as refused, unless the reuse of volumes behind its work was, or since something is kept in a filespace, or lies on a volume, when it is to go, behind steps that took away what they had found there (`IsInUse` of Filled), or a copy that is to move got no ticket, as its pool isn't there (`IsUnopened` of Gone).
-abbrev pub IsAnswered : (Is : Machine → Type 0) → (n : ℕ) → Line → List Event → Answer → Type 0
-IsAnswered Is n (asks c) events answer = IsAnsweredWith (behind c) n events answer ⊎ IsInUse Is (own_of c) n events answer ⊎ IsUnopened Is (own_of c) n events answer
-IsAnswered Is n line events answer = answer.tally.refused ≡ 0
+abbrev pub IsAnswered : (Is : Machine → Type 0) → (Brings : (Deed → Type 0) → (Inv → Bool) → Machine → Type 0) → (n : ℕ) → Line → List Event → Answer → Type 0
+IsAnswered Is Brings n (asks c) events answer = IsAnsweredWith (behind c) n events answer ⊎ IsInUse Is Brings (own_of c) n events answer ⊎ IsUnopened Is (own_of c) n events answer
+IsAnswered Is Brings n line events answer = answer.tally.refused ≡ 0
 
 -- A line that stands among these turns and was answered so: where it is legal, and no count of faults rose in them, it isn't refused.
 abbrev pub IsComplete : (trusted : Type 0) → Places → (actor : ℕ) → Client → (in_use : Option ℕ) → (n : ℕ) → Line → List Turn → (old new : Machine) → Answer → Type 0
 IsComplete trusted places actor k in_use n line turns old new answer =
-    ((file : ℕ) → RoseFrom old new file → ⊥) → IsLegal places (Passes trusted places turns old new) (OpensAt trusted places actor turns old new) actor k in_use line → IsAnswered (Passes trusted places turns old new) n line (events_of actor turns) answer
+    ((file : ℕ) → RoseFrom old new file → ⊥) → IsLegal places (Passes trusted places turns old new) (OpensAt trusted places actor turns old new) actor k in_use line → IsAnswered (Passes trusted places turns old new) (BringsTo trusted places actor turns old new) n line (events_of actor turns) answer
 
 -- ---- a job, and all of a block
 

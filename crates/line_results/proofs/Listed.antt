@@ -76,13 +76,13 @@ any-map f p (x ∷ xs) h = elim (p (f x)) as (λ b. (b || list_any (λ y. p (f y
 
 -- ---- the lists of a filespace
 
-abbrev IsLine : ℕ → VersionLine → Bool
+abbrev pub IsLine : ℕ → VersionLine → Bool
 IsLine m l = eqb l.object m
 
-abbrev IsHeldLine : ℕ → HeldLine → Bool
+abbrev pub IsHeldLine : ℕ → HeldLine → Bool
 IsHeldLine m l = eqb l.object m
 
-lines-have : (m today : ℕ) (path : List ℕ) (g : Group) (rule : Option RuleFound) (place : ℕ) (ws : List Version) → has_object m ws ≡ true → list_any (IsLine m) (lines_from (version_line_at rule today path g) place ws) ≡ true
+pub lines-have : (m today : ℕ) (path : List ℕ) (g : Group) (rule : Option RuleFound) (place : ℕ) (ws : List Version) → has_object m ws ≡ true → list_any (IsLine m) (lines_from (version_line_at rule today path g) place ws) ≡ true
 lines-have m today path g rule place [] h = absurd (false≢true h)
 lines-have m today path g rule place (w ∷ ws) h =
     elim (eqb w.object m) as (λ b. (b || has_object m ws) ≡ true → (b || list_any (IsLine m) (lines_from (version_line_at rule today path g) (suc place) ws)) ≡ true) [
@@ -114,7 +114,7 @@ held-have m filespace today v (e ∷ held) row number found is =
         let there : eqb e.1.filespace filespace ≡ true = eq-eqb e.1.filespace filespace (ap (λ (r : HeldRow). r.filespace) same ∙ is) in
         ap (λ (b : Bool). list_any (IsHeldLine m) (only b (held_line today e.1))) there ∙ ap (λ (b : Bool). b || false) (eq-eqb e.1.held.version.object m number)
 
-abbrev IsDoomed : ℕ → Doomed → Bool
+abbrev pub IsDoomed : ℕ → Doomed → Bool
 IsDoomed m d = eqb d.object m
 
 -- the objects that are listed of a filespace
@@ -172,10 +172,10 @@ is-legal filespace n j it v f o is =
     ∙ ap (λ (k : Option ℕ). unless (is_in filespace k) refused.NotFound ++ []) is
     ∙ ap (λ (b : Bool). unless b refused.NotFound ++ []) (eq-eqb filespace filespace refl)
 
-abbrev IsBare : Refusal → Type 0
+abbrev pub IsBare : Refusal → Type 0
 IsBare e = is_passed e ≡ true → ⊥
 
-bare-common : Common IsBare
+pub bare-common : Common IsBare
 bare-common = record { full = λ is. cc; fault = λ file count is. cc; memory = λ is. cc; bad = λ is. cc; long = λ is. cc }
 
 -- it isn't passed over

@@ -36,6 +36,53 @@ use Rattle.inventory_laws.proofs.Kept.{is_held_there}
 use Rattle.inventory_laws.proofs.Others.{place_of_path}
 use Rattle.line_results.proofs.Discarded.{apart-after, none-of}
 
+-- ---- held objects
+
+module _ (n : ℕ) (v : Inv) (f : VersionFacts n v) where
+  apart-lists : (k : ℕ) (vs ws : List Version) → are_distinct (vs ++ ws) ≡ true → has_object k ws ≡ true → has_object k vs ≡ false
+  apart-lists k [] ws apart has = refl
+  apart-lists k (w ∷ vs) ws apart has =
+      let t = and_parts (list_all (λ (x : Version). not (eqb x.object w.object)) (vs ++ ws)) (are_distinct (vs ++ ws)) apart in
+      elim (eqb w.object k) as (λ b. eqb w.object k ≡ b → (b || has_object k vs) ≡ false) [
+        | true ↦ λ same. (let one : w.object ≡ k = eqb-true w.object k same in
+            let missing : (has_object w.object vs || has_object w.object ws) ≡ false = sym (has-append w.object vs ws) ∙ apart-after w (vs ++ ws) t.0 in
+            absurd (false≢true (sym (right-false (has_object w.object vs) (has_object w.object ws) missing) ∙ subst (λ (m : ℕ). has_object m ws ≡ true) (sym one) has)))
+        | false ↦ λ other. apart-lists k vs ws t.1 has
+      ] refl
+    where
+      right-false : (a b : Bool) → (a || b) ≡ false → b ≡ false
+      right-false true b h = absurd (false≢true (sym h))
+      right-false false b h = h
+
+  -- it is kept in the filespace of its row
+  pub row-kept : (filespace k : ℕ) (row : HeldRow) → held_at k v.clients.held ≡ Some row → row.filespace ≡ filespace → filespace_of k v ≡ Some filespace
+  row-kept filespace k row found is =
+      let there : has_object k (held_versions v.clients.held) ≡ true = has-held k v.clients.filespaces v.clients.held f.held ∙ ap is_some found in
+      let place : place_of k v.clients.filespaces ≡ None =
+      none-of (place_of k v.clients.filespaces) (has-listed k v.clients.filespaces ∙ apart-lists k (versions_of v.clients.filespaces) (held_versions v.clients.held) f.objects_apart there) in
+      ap (λ (p : Option Place). option_or (option_map (λ (place : Place). place.filespace) p) (option_map (λ (row : HeldRow). row.filespace) (held_at k v.clients.held))) place
+      ∙ ap (λ (r : Option HeldRow). option_or (option_map (λ (place : Place). place.filespace) None) (option_map (λ (row : HeldRow). row.filespace) r)) found
+      ∙ ap (λ (m : ℕ). Some m) is
+
+  -- the row that stands first is found by its number alone
+  pub skips : (e : ℕ × HeldRow) (held : List (ℕ × HeldRow)) (k : ℕ) (row : HeldRow) → list_all (is_held_there v.clients.filespaces) (e ∷ held) ≡ true → are_distinct (held_versions (e ∷ held)) ≡ true → held_at k held ≡ Some row
+      → at_number k e.0 ≡ false
+  skips e held k row all apart found =
+      let hs = and_parts (is_held_there v.clients.filespaces e) (list_all (is_held_there v.clients.filespaces) held) all in
+      let ds = and_parts (list_all (λ (w : Version). not (eqb w.object e.1.held.version.object)) (held_versions held)) (are_distinct (held_versions held)) apart in
+      let number : e.1.held.version.object ≡ e.0 = held_object e.0 v.clients.filespaces (e ∷ held) e.1 all (ap (λ (b : Bool). cond b (Some e.1) (held_at e.0 held)) (at_itself e.0)) in
+      let there : has_object k (held_versions held) ≡ true = has-held k v.clients.filespaces held hs.1 ∙ ap is_some found in
+      elim (at_number k e.0) as (λ b. at_number k e.0 ≡ b → b ≡ false) [
+        | true ↦ λ at. (let same : e.0 ≡ k = eqb-true e.0 k (sym (at-eqb k e.0) ∙ at) in
+            let missing : has_object k (held_versions held) ≡ false = subst (λ (m : ℕ). has_object m (held_versions held) ≡ false) (number ∙ same) (apart-after e.1.held.version (held_versions held) ds.0) in
+            absurd (false≢true (sym missing ∙ there)))
+        | false ↦ λ at. refl
+      ] refl
+
+  pub back-distinct : (vs ws : List Version) → are_distinct (vs ++ ws) ≡ true → are_distinct ws ≡ true
+  back-distinct [] ws h = h
+  back-distinct (w ∷ vs) ws h = back-distinct vs ws (and_parts (list_all (λ (x : Version). not (eqb x.object w.object)) (vs ++ ws)) (are_distinct (vs ++ ws)) h).1
+
 -- nothing is kept in the filespace
 abbrev pub NoneIn : (filespace : ℕ) → Inv → Type 0
 NoneIn filespace v = (m : ℕ) → filespace_of m v ≡ Some filespace → ⊥
@@ -82,45 +129,8 @@ module _ (filespace n : ℕ) (v : Inv) (f : VersionFacts n v) (none : NoneIn fil
 
   -- ---- what is held in it
 
-  apart-lists : (k : ℕ) (vs ws : List Version) → are_distinct (vs ++ ws) ≡ true → has_object k ws ≡ true → has_object k vs ≡ false
-  apart-lists k [] ws apart has = refl
-  apart-lists k (w ∷ vs) ws apart has =
-      let t = and_parts (list_all (λ (x : Version). not (eqb x.object w.object)) (vs ++ ws)) (are_distinct (vs ++ ws)) apart in
-      elim (eqb w.object k) as (λ b. eqb w.object k ≡ b → (b || has_object k vs) ≡ false) [
-        | true ↦ λ same. (let one : w.object ≡ k = eqb-true w.object k same in
-            let missing : (has_object w.object vs || has_object w.object ws) ≡ false = sym (has-append w.object vs ws) ∙ apart-after w (vs ++ ws) t.0 in
-            absurd (false≢true (sym (right-false (has_object w.object vs) (has_object w.object ws) missing) ∙ subst (λ (m : ℕ). has_object m ws ≡ true) (sym one) has)))
-        | false ↦ λ other. apart-lists k vs ws t.1 has
-      ] refl
-    where
-      right-false : (a b : Bool) → (a || b) ≡ false → b ≡ false
-      right-false true b h = absurd (false≢true (sym h))
-      right-false false b h = h
-
   row-none : (k : ℕ) (row : HeldRow) → held_at k v.clients.held ≡ Some row → row.filespace ≡ filespace → ⊥
-  row-none k row found is =
-      let there : has_object k (held_versions v.clients.held) ≡ true = has-held k v.clients.filespaces v.clients.held f.held ∙ ap is_some found in
-      let place : place_of k v.clients.filespaces ≡ None =
-      none-of (place_of k v.clients.filespaces) (has-listed k v.clients.filespaces ∙ apart-lists k (versions_of v.clients.filespaces) (held_versions v.clients.held) f.objects_apart there) in
-      none k
-      (ap (λ (p : Option Place). option_or (option_map (λ (place : Place). place.filespace) p) (option_map (λ (row : HeldRow). row.filespace) (held_at k v.clients.held))) place
-      ∙ ap (λ (r : Option HeldRow). option_or (option_map (λ (place : Place). place.filespace) None) (option_map (λ (row : HeldRow). row.filespace) r)) found
-      ∙ ap (λ (m : ℕ). Some m) is)
-
-  -- the row that stands first is found by its number alone
-  skips : (e : ℕ × HeldRow) (held : List (ℕ × HeldRow)) (k : ℕ) (row : HeldRow) → list_all (is_held_there v.clients.filespaces) (e ∷ held) ≡ true → are_distinct (held_versions (e ∷ held)) ≡ true → held_at k held ≡ Some row
-      → at_number k e.0 ≡ false
-  skips e held k row all apart found =
-      let hs = and_parts (is_held_there v.clients.filespaces e) (list_all (is_held_there v.clients.filespaces) held) all in
-      let ds = and_parts (list_all (λ (w : Version). not (eqb w.object e.1.held.version.object)) (held_versions held)) (are_distinct (held_versions held)) apart in
-      let number : e.1.held.version.object ≡ e.0 = held_object e.0 v.clients.filespaces (e ∷ held) e.1 all (ap (λ (b : Bool). cond b (Some e.1) (held_at e.0 held)) (at_itself e.0)) in
-      let there : has_object k (held_versions held) ≡ true = has-held k v.clients.filespaces held hs.1 ∙ ap is_some found in
-      elim (at_number k e.0) as (λ b. at_number k e.0 ≡ b → b ≡ false) [
-        | true ↦ λ at. (let same : e.0 ≡ k = eqb-true e.0 k (sym (at-eqb k e.0) ∙ at) in
-            let missing : has_object k (held_versions held) ≡ false = subst (λ (m : ℕ). has_object m (held_versions held) ≡ false) (number ∙ same) (apart-after e.1.held.version (held_versions held) ds.0) in
-            absurd (false≢true (sym missing ∙ there)))
-        | false ↦ λ at. refl
-      ] refl
+  row-none k row found is = none k (row-kept n v f filespace k row found is)
 
   numbers-go : (held : List (ℕ × HeldRow)) → list_all (is_held_there v.clients.filespaces) held ≡ true → are_distinct (held_versions held) ≡ true → ((k : ℕ) (row : HeldRow) → held_at k held ≡ Some row → row.filespace ≡ filespace → ⊥)
       → numbers_in filespace held ≡ []
@@ -129,18 +139,14 @@ module _ (filespace n : ℕ) (v : Inv) (f : VersionFacts n v) (none : NoneIn fil
       let hs = and_parts (is_held_there v.clients.filespaces e) (list_all (is_held_there v.clients.filespaces) held) all in
       let ds = and_parts (list_all (λ (w : Version). not (eqb w.object e.1.held.version.object)) (held_versions held)) (are_distinct (held_versions held)) apart in
       let rest : numbers_in filespace held ≡ [] =
-      numbers-go held hs.1 ds.1 (λ k row found is. unkept k row (ap (λ (b : Bool). cond b (Some e.1) (held_at k held)) (skips e held k row all apart found) ∙ found) is) in
+      numbers-go held hs.1 ds.1 (λ k row found is. unkept k row (ap (λ (b : Bool). cond b (Some e.1) (held_at k held)) (skips n v f e held k row all apart found) ∙ found) is) in
       elim (eqb e.1.filespace filespace) as (λ b. eqb e.1.filespace filespace ≡ b → (if b then e.0 ∷ numbers_in filespace held else numbers_in filespace held) ≡ []) [
         | true ↦ λ here. absurd (unkept e.0 e.1 (ap (λ (b : Bool). cond b (Some e.1) (held_at e.0 held)) (at_itself e.0)) (eqb-true e.1.filespace filespace here))
         | false ↦ λ other. rest
       ] refl
 
-  back-distinct : (vs ws : List Version) → are_distinct (vs ++ ws) ≡ true → are_distinct ws ≡ true
-  back-distinct [] ws h = h
-  back-distinct (w ∷ vs) ws h = back-distinct vs ws (and_parts (list_all (λ (x : Version). not (eqb x.object w.object)) (vs ++ ws)) (are_distinct (vs ++ ws)) h).1
-
   numbers-none : numbers_in filespace v.clients.held ≡ []
-  numbers-none = numbers-go v.clients.held f.held (back-distinct (versions_of v.clients.filespaces) (held_versions v.clients.held) f.objects_apart) row-none
+  numbers-none = numbers-go v.clients.held f.held (back-distinct n v f (versions_of v.clients.filespaces) (held_versions v.clients.held) f.objects_apart) row-none
 
   -- ---- its row
 
