@@ -4,7 +4,7 @@ use Rattle.std.proofs.lemmas.Bool.{eqb-true, false≢true}
 use Rattle.std.proofs.lemmas.List.{append-nil}
 use Rattle.std.proofs.lemmas.Option.{same_Some}
 use Rattle.std.specs.List.{AllByRecursion, list_any}
-use Rattle.kinds.specs.Refusals.{bad_value, foremost, unless}
+use Rattle.kinds.specs.Refusals.{unless}
 use Rattle.kinds.specs.declared.refusal.By.TheVariants as by
 use Rattle.kinds.specs.declared.refusal.Refusal.{Refusal}
 use Rattle.kinds.specs.declared.refusal.Refusal.TheVariants as refused
@@ -61,7 +61,7 @@ use Rattle.line_results.proofs.Types.{Doomed}
 use Rattle.block_results.specs.Filled.{IsBroughtIn, IsLeastIn, IsListing, is_held_in, is_version_in}
 use Rattle.block_results.specs.Legal.{BringsTo, Passes}
 use Rattle.block_results.specs.Processes.{IsFilespace, MayEmpty}
-use Rattle.block_results.specs.Refusing.{Failed, IsRefusedFor, Meets, bounds, held_reasons, own_reasons}
+use Rattle.block_results.specs.Refusing.{Failed, IsRefusedFor, Meets}
 use Rattle.block_results.proofs.BySteps.{core-left}
 use Rattle.block_results.proofs.Fitting.{met-first, met-next}
 use Rattle.block_results.proofs.InOrder.{Split, Stood, passes-before, split, stood, stood-within}

@@ -5,7 +5,7 @@ use Rattle.std.proofs.lemmas.Option.{same_Some}
 use Rattle.std.specs.Cmp.Lexicographic.{slice_cmp}
 use Rattle.std.specs.List.{AllByRecursion, list_all, list_any}
 use Rattle.std.specs.List.Sorted.{IsStrictlySortedBy}
-use Rattle.std.specs.Map.{keys_of, lookup}
+use Rattle.std.specs.Map.{keys_of}
 use Rattle.std.specs.Option.{option_map, option_or}
 use Rattle.std.specs.Ordering.{is_eq, nat_cmp}
 use Rattle.std.specs.Prelude.{min, nat_lt}
@@ -34,9 +34,7 @@ use Rattle.inventory_laws.proofs.Kept.{is_held_there}
 use Rattle.inventory_laws.proofs.Others.{place_of_path}
 use Rattle.inventory_laws.proofs.VersionsWhole.{begins}
 use Rattle.inventory_answers.specs.Clients.{group_versions, version_lines}
-use Rattle.inventory_answers.specs.Clients as lines
-use Rattle.inventory_answers.specs.Held.{held_line, held_lines, held_lines_of}
-use Rattle.inventory_answers.specs.declared.lines.HeldLine.{HeldLine}
+use Rattle.inventory_answers.specs.Held.{held_line, held_lines}
 use Rattle.inventory_answers.specs.declared.lines.VersionLine.{VersionLine}
 use Rattle.inventory_work.specs.Lists.{only}
 use Rattle.line_results.specs.Sound.{HasSoundRows}

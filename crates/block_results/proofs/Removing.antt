@@ -57,7 +57,7 @@ use Rattle.machine.proofs.Elsewhere.{append-all, ended-all, foremost-all, unless
 use Rattle.line_results.specs.command_steps.Answers.{halt_by}
 use Rattle.line_results.specs.copy_attempts.Outcomes.{MetBy}
 use Rattle.line_results.specs.copy_runs.Ends.{IsStopped}
-use Rattle.line_results.specs.deletions.Filespaces.{FilespaceDeletion, Found, IsDeleting, IsInPlace, IsKept, IsRowKept, IsUnfound, IsUnlisted, deleting, is_kept_by, names_in, with_node}
+use Rattle.line_results.specs.deletions.Filespaces.{FilespaceDeletion, Found, IsDeleting, IsInPlace, IsKept, IsUnfound, IsUnlisted, deleting, is_kept_by, names_in, with_node}
 use Rattle.line_results.specs.deletions.Volumes as volumes
 use Rattle.line_results.specs.deletions.Volumes.{VolumeDeletion, row_in}
 use Rattle.line_results.specs.Removing.{IsVolume as IsThere}
@@ -68,7 +68,7 @@ use Rattle.line_results.proofs.Emptying.{IsUnremoved, bare-sizes, names-shown, u
 use Rattle.line_results.proofs.Reasons.{kept-so}
 use Rattle.line_results.proofs.Removable.{its-row, named-row}
 use Rattle.line_results.proofs.Types.{Names, Row}
-use Rattle.block_results.specs.Filled.{IsKeptBehind, IsLeastIn, IsLeastOn, IsLeftBehind}
+use Rattle.block_results.specs.Filled.{IsLeastIn, IsLeastOn, IsLeftBehind}
 use Rattle.block_results.specs.Processes.{IsFilespace, IsWithin, MayEmpty, MayRemove}
 use Rattle.block_results.specs.Refusing.{Failed, HasNoPlace, IsRefusedFor, bounds, held_reasons, own_reasons}
 use Rattle.block_results.proofs.Attempting.{none-first}
@@ -277,6 +277,7 @@ module _ (places : Places) (actor : ℕ) (Is : Machine → Type 0) (events : Lis
       let both : ◌≡◌ {A = Result Names Refusal} (Ok names) (Ok its) = sym told ∙ names-told answer lines s.before s.passes (s.answers (query.Filespaces None) answer refl s.is.0) shown in
       cc
 
+  -- its own transaction was refused, behind the steps that listed what is there and took it away
   abbrev pub IsKeptStill : Type 0
   IsKeptStill = (is_kept_by e ≡ true) × Then (λ l. Found filespace l its) (λ l. IsKept filespace its l e) events
 

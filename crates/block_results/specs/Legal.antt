@@ -247,7 +247,7 @@ abbrev pub IsAnsweredWith : Behind → (n : ℕ) → List Event → Answer → T
 IsAnsweredWith reuses n events answer = (answer.tally.refused ≡ 0) ⊎ IsRefusedBehind n events answer
 IsAnsweredWith b n events answer = answer.tally.refused ≡ 0
 
--- It doesn't count as refused, unless the reuse of volumes behind its work was, or since something is kept in a filespace, or lies on a volume, when it is to go, behind steps that took away what they had found there (`IsInUse` of Filled), or a copy that is to move got no ticket, as its pool isn't there (`IsUnopened` of Gone).
+-- It doesn't count as refused, unless the reuse of volumes behind its work was, or since something is kept in a filespace, or lies on a volume, when it is to go, behind steps that took away what they had found there, into the filespace by a step meanwhile (`IsInUse` of Filled), or a copy that is to move got no ticket, as its pool isn't there (`IsUnopened` of Gone).
 abbrev pub IsAnswered : (Is : Machine → Type 0) → (Brings : (Deed → Type 0) → (Inv → Bool) → Machine → Type 0) → (n : ℕ) → Line → List Event → Answer → Type 0
 IsAnswered Is Brings n (asks c) events answer = IsAnsweredWith (behind c) n events answer ⊎ IsInUse Is Brings (own_of c) n events answer ⊎ IsUnopened Is (own_of c) n events answer
 IsAnswered Is Brings n line events answer = answer.tally.refused ≡ 0

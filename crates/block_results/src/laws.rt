@@ -68,7 +68,7 @@ pub fn transactions_are_by_steps()
         → AreBySteps ⊥ hall_places turns old new (inventory old.core).number added }
 {}
 
-/// Where the rows of the database are sound before a block, a line of a job of it that is legal, and in which no count of faults rose, isn't refused, unless the reuse of volumes behind its work is, or a filespace or a volume is in use when it is to go, behind steps that took away what they had found there, or the pool that a copy is to move to isn't there.
+/// Where the rows of the database are sound before a block, a line of a job of it that is legal, and in which no count of faults rose, isn't refused, unless the reuse of volumes behind its work is, or a filespace or a volume is in use when it is to go, behind steps that took away what they had found there, and for a filespace since a step brought an object there meanwhile, or the pool that a copy is to move to isn't there.
 pub fn blocks_are_complete()
     ensures trusted { (choice : List Rule) (all : List Placed) (job first : ℕ) (turns : List Turn) (old new : Machine) (trees : List (List Known)) (came : List Came) → HasSoundRows (database old) → Turned (Unit {0}) hall_places turns old new
         → AreDone choice all job first turns trees came → JobsComplete (Unit {0}) hall_places choice all job first turns old new trees came }
